@@ -6,7 +6,8 @@ use Rattle.std.proofs.lemmas.Bool.{ltb-false}
 use Rattle.std.specs.List.{AllByRecursion}
 use Rattle.bufr_tables.specs.Prelude.{IsLegal, Record, Row, AreRows, Tree}
 use Rattle.bufr_walk.specs.Prelude.{FieldSpec, IsSpec, Content, bits_for, FieldFault, found, content_at, Course, Next, take_next, at_end, astray, refused, next_item, max_values, Item, DataCoding, plain, packed, ReadsPass}
-use Rattle.bufr_fill.specs.Prelude.{Draft, Subset, DraftFaultKind, FaultAt, at_line, too_many_values, content_of, plainly, plain_filler, RowCell, ItemRow, cells_at, rows, longest, at_line_if_fault, content_here, contents_here, packed_to, are_many, pack_across, packed_filler, plain_data, packed_data, first_line, ◌>>=◌, WrittenItem, written_item, Filler, fill, fill_one, fill_none, filled, with_bits_before, packing, Fits, AllFit, HasOctets, AllHaveOctets, IsSaid, AreSaidFrom, IsReadBack, IsPackedReadBack, AreDrafts, items_of_subset}
+use Rattle.bufr_fill.specs.Prelude.{Draft, Subset, DraftFaultKind, FaultAt, at_line, too_many_values, content_of, plainly, plain_filler, RowCell, ItemRow, cells_at, rows, longest, at_line_if_fault, content_here, contents_here, packed_to, are_many, pack_across, packed_filler, plain_data, packed_data, first_line, ◌>>=◌, WrittenItem, written_item, Filler, fill, with_bits_before, packing, Fits, AllFit, HasOctets, AllHaveOctets, IsSaid, AreSaidFrom, IsReadBack, IsPackedReadBack, AreDrafts, items_of_subset}
+use Rattle.bufr_fill.proofs.FillSteps.{filled, bits_with, fill_at}
 use Rattle.bufr_walk.proofs.NextField.{table_read, IsGoodCourse, next_field}
 use Rattle.bufr_walk.specs.Prelude.{IsWithin}
 use Rattle.bufr_fill.proofs.GoodReads.{draft_fits, answer_within}
@@ -29,7 +30,7 @@ pub record IsOneBack {C D : Type 0} (form : DataCoding C) (of_item : Item C → 
 module _ {C D E : Type 0} (form : DataCoding C) (filler : Filler D C E) (of_item : Item C → D → Type 0) (HasText : D → Type 0)
     (same_answer : (spec : FieldSpec) (c : C) → filler.gives spec c ≡ form.gives spec c)
     (one : (spec : FieldSpec) (d : D) (w : WrittenItem C) → IsSpec spec → HasText d → filler.fills spec d ≡ Ok w → IsOneBack form of_item spec d w) where
-  back_end : (course : Course) (out : List Bool) (n : Next) → (course []).next ≡ n → fill_none filler n ≡ Ok out → IsBack form of_item course [] out
+  back_end : (course : Course) (out : List Bool) (n : Next) → (course []).next ≡ n → fill_at filler course [] n ≡ Ok out → IsBack form of_item course [] out
   back_end course out (take_next spec) q e = cc
   back_end course out at_end q e = record { items = []; said = tt; read = λ more. (ap (λ x. x ++ more) (sym (same_ok [] out e)), q) }
   back_end course out astray q e = cc
@@ -60,8 +61,8 @@ module _ {C D E : Type 0} (form : DataCoding C) (filler : Filler D C E) (of_item
         back_rest spec w q here (fill filler (λ answers. course (form.gives spec w.content ∷ answers)) ds) refl
         (subst (λ t. with_bits_before filler w.bits (fill filler (λ answers. course (t ∷ answers)) ds) ≡ Ok out) (same_answer spec w.content) e)
 
-    back_next : (n : Next) → (course []).next ≡ n → fill_one filler n d (λ t. fill filler (λ answers. course (t ∷ answers)) ds) ≡ Ok out → IsBack form of_item course (d ∷ ds) out
-    back_next (take_next spec) q e = back_fill spec q (filler.fills spec d) refl e
+    back_next : (n : Next) → (course []).next ≡ n → fill_at filler course (d ∷ ds) n ≡ Ok out → IsBack form of_item course (d ∷ ds) out
+    back_next (take_next spec) q e = back_fill spec q (filler.fills spec d) refl (sym (bits_with filler course d ds spec (filler.fills spec d)) ∙ e)
     back_next at_end q e = cc
     back_next astray q e = cc
     back_next (refused why) q e = cc

@@ -4,7 +4,8 @@ use Rattle.std.proofs.Common.{◌≡◌, ℕ, ◌+◌, ◌*◌, ◌≤◌, Bool,
 use Rattle.std.specs.List.{AllByRecursion, AllZip}
 use Rattle.std.proofs.lemmas.Bool.{le-ltb}
 use Rattle.bufr_walk.specs.Prelude.{FieldSpec, IsSpec, Content, found, bits_for, answer_by_role, answer_of, FieldFault, plain_field, missing, data_end, increment, unequal_factor, packed_field, answer_first, max_values, Item, packed, plain, after, ReadsPass, ReadsSubsets, IsPackedReading, content_at, Course, take_next, at_end}
-use Rattle.bufr_fill.specs.Prelude.{Taken, Role, packing, same, are_same, packed_bits, packed_unlike, written_item, fill, fill_one, fill_none, filled, with_bits_before, plain_filler, RowCell, ItemRow, at_line_if_fault, content_here, contents_here, packed_to, pack_across, packed_filler, first_line, ◌>>=◌, plain_data, item_row, cells_at, rows, longest, packing_fault, are_many, packed_data, Fits, AllFit, subsets_from, IsWrittenApart, IsDumped, AreDrafts, AreDumped, AreDumpedFrom, items_of_subset, IsUnlike, IsTogetherOrNot, Draft, Subset, at_line, too_many_values, FaultAt, content_of}
+use Rattle.bufr_fill.specs.Prelude.{plainly, Taken, Role, packing, same, are_same, packed_bits, packed_unlike, written_item, fill, with_bits_before, plain_filler, RowCell, ItemRow, at_line_if_fault, content_here, contents_here, packed_to, pack_across, packed_filler, first_line, ◌>>=◌, plain_data, item_row, cells_at, rows, longest, packing_fault, are_many, packed_data, Fits, AllFit, subsets_from, IsWrittenApart, IsDumped, AreDrafts, AreDumped, AreDumpedFrom, items_of_subset, IsUnlike, IsTogetherOrNot, Draft, Subset, at_line, too_many_values, FaultAt, content_of}
+use Rattle.bufr_fill.proofs.FillSteps.{filled, fill_more, fill_end}
 use Rattle.bufr_fill.proofs.PlainLaws.{IsCellOf, AreCellsOf, IsDumpedAcross, IsRewritten, draft_again, same_draft, AllSpecs, plain_again, EachSpecs, width_least, plain_read}
 use Rattle.bufr_fill.proofs.PackedLaws.{packed_again, packed_count, fitting_again}
 use Rattle.bufr_bits.proofs.DecimalLemmas.{and_first, and_second}
@@ -67,12 +68,14 @@ pub record IsPlainSubset (end_line : ℕ) (course : Course) (items : List (Item 
 join : (end_line : ℕ) (course : Course) (i : Item Content) (d : Draft) (ds : List Draft) (w out : List Bool) → (course []).next ≡ take_next i.spec → content_of i.spec d ≡ Ok i.content
     → bits_for i.spec.width i.content ≡ w
     → fill (plain_filler end_line) (after plain course i) ds ≡ Ok out → fill (plain_filler end_line) course (d ∷ ds) ≡ Ok (w ++ out)
-join end_line course i d ds w out next fills bits rest = grind (arith, common_steps)
+join end_line course i d ds w out next fills bits rest =
+    fill_more (plain_filler end_line) course d ds i.spec (plainly d.line i.spec (Ok i.content)) next (ap (plainly d.line i.spec) fills)
+    ∙ ap (with_bits_before (plain_filler end_line) (bits_for i.spec.width i.content)) rest ∙ ap (λ x. Ok (x ++ out)) bits
 
 pub plain_subset : (end_line : ℕ) (course : Course) (items : List (Item Content)) (ds : List Draft) → Follows course items → AreDrafts IsDumped items ds → IsPlainSubset end_line course items ds
 plain_subset end_line course [] [] h dumped = record {
   out = [];
-  fills = ap (fill_none (plain_filler end_line)) h;
+  fills = fill_end (plain_filler end_line) course h;
   again = λ more. (refl, h);
 }
 plain_subset end_line course [] (d ∷ ds) h dumped = absurd dumped
@@ -391,10 +394,7 @@ module _ (end_line : ℕ) (many : Bool) where
       → pack_across spec a ≡ packed_to cs a.cells r
       → fill (packed_filler end_line many) course (a ∷ more) ≡ filled (packed_filler end_line many) spec (packed_to cs a.cells r)
       (λ t. fill (packed_filler end_line many) (λ answer_of. course (t ∷ answer_of)) more)
-  fill_first course spec a more r cs next gives =
-      let filler = packed_filler end_line many in
-      ap (λ n. fill_one filler n a (λ t. fill filler (λ answer_of. course (t ∷ answer_of)) more)) next
-      ∙ ap (λ x. filled filler spec x (λ t. fill filler (λ answer_of. course (t ∷ answer_of)) more)) gives
+  fill_first course spec a more r cs next gives = fill_more (packed_filler end_line many) course a more spec (packed_to cs a.cells r) next gives
 
   fault_unlike : (cs : List Content) (cells : List RowCell) (why : FieldFault) → IsUnlike (packing_fault cs cells why).fault
   fault_unlike cs cells data_end = tt
@@ -447,7 +447,7 @@ module _ (end_line : ℕ) (many : Bool) where
         items = [];
         parts = none.0;
         out = [];
-        fills = ap (fill_none (packed_filler end_line many)) f.0;
+        fills = fill_end (packed_filler end_line many) course f.0;
         again = λ more. (refl, f.0);
         few = omega arith;
       }))

@@ -2,6 +2,7 @@ mod ExampleTables
 mod PlainExamples
 mod PackedExamples
 mod ReadBackExamples
+pub mod FillSteps
 pub mod WalkLemmas
 pub mod PlainLaws
 pub mod FieldLemmas

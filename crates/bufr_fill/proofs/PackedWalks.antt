@@ -3,7 +3,8 @@ use Rattle.std.proofs.lemmas.Grind.{common_steps}
 use Rattle.std.proofs.Common.{◌≡◌, ℕ, zero, suc, ◌+◌, ◌-◌, ◌<◌, Bool, true, false, List, [], ◌∷◌, ◌++◌, length, Option, Some, None, Result, Ok, Err, refl, sym, ◌∙◌, ap, arith, ◌≤◌, max, slice_get, if◌then◌else◌}
 use Rattle.std.proofs.lemmas.List.{append-nil}
 use Rattle.bufr_walk.specs.Prelude.{FieldSpec, Content, Course, Next, take_next, at_end, astray, refused, TakenField, Takes, course_after, oks, answers_of}
-use Rattle.bufr_fill.specs.Prelude.{Taken, Draft, Subset, FaultAt, at_line, too_many_values, item_too_many, walk_refused, WrittenItem, written_item, fill, with_bits_before, Filler, fill_one, fill_none, item_row, cells_at, rows, longest, are_many, content_here, contents_here, packed_to, pack_across, packed_filler, ◌>>=◌, ItemRow, first_there, line_in, packed_data, packing, PackedOutModel, IsPacked, PackedFills, rows_left, new_packed_out, and_end, all_at_end, first_line_at, IsFaultHere}
+use Rattle.bufr_fill.specs.Prelude.{Taken, Draft, Subset, FaultAt, at_line, too_many_values, item_too_many, walk_refused, WrittenItem, written_item, fill, with_bits_before, Filler, item_row, cells_at, rows, longest, are_many, content_here, contents_here, packed_to, pack_across, packed_filler, ◌>>=◌, ItemRow, first_there, line_in, packed_data, packing, PackedOutModel, IsPacked, PackedFills, rows_left, new_packed_out, and_end, all_at_end, first_line_at, IsFaultHere}
+use Rattle.bufr_fill.proofs.FillSteps.{fill_at, fill_end}
 use Rattle.bufr_fill.proofs.WalkLemmas.{HasFilled, walk_fills, after_answers, unfilled}
 use Rattle.bufr_fill.proofs.EntryLemmas.{length-cells}
 use Rattle.bufr_walk.specs.declared.spec.TurnRefusal.TheVariants as refusal
@@ -150,11 +151,11 @@ module _ (course : Course) (s : Subset) (more : List Subset) where
       by : (left : ℕ) → longest (s ∷ more) - place ≡ left → fill_from c place ≡ Err (at_line (first_line_at place (s ∷ more)) (walk_refused why))
       by zero l =
           ap (λ k. fill filler c (rows k place (s ∷ more))) l
-          ∙ ap (fill_none filler) e
+          ∙ ap (fill_at filler c []) e
           ∙ ap (λ o. Err (at_line (line_in o s.end_line) (walk_refused why))) (sym (none_past s.items place (omega (arith, l, h))))
       by (suc k) l =
           ap (λ k. fill filler c (rows k place (s ∷ more))) l
-          ∙ ap (λ x. fill_one filler x (item_row place (s ∷ more)) (λ t. fill filler (λ answers. c (t ∷ answers)) (rows k (place + 1) (s ∷ more)))) e
+          ∙ ap (fill_at filler c (item_row place (s ∷ more) ∷ rows k (place + 1) (s ∷ more))) e
 
   -- where an item is at fault
   fault_here : (c : Course) (place : ℕ) (spec : FieldSpec) (f : FaultAt) → (c []).next ≡ take_next spec → place ≤ longest (s ∷ more) → pack_across spec (item_row place (s ∷ more)) ≡ Err f
@@ -176,7 +177,7 @@ module _ (course : Course) (s : Subset) (more : List Subset) where
       by zero l =
           let at : place ≡ longest (s ∷ more) = omega (arith, l, h) in
           ap (λ k. fill filler c (rows k place (s ∷ more))) l
-          ∙ ap (fill_none filler) e
+          ∙ ap (fill_at filler c []) e
           ∙ ap Err (past (are_many place (length (cells_at place (s ∷ more)))) (are_many (longest (s ∷ more)) (length (s ∷ more))) (slice_get s.items place)
           (ap (are_many place) (length-cells place (s ∷ more)) ∙ ap (λ x. are_many x (length (s ∷ more))) at) (none_past s.items place (omega (arith, l, h))) p)
       by (suc k) l =
@@ -189,7 +190,7 @@ module _ (course : Course) (s : Subset) (more : List Subset) where
   over_here c place f e p =
       let b = ends_before place (s ∷ more) f p in
       ap (fill filler c) (row_first (longest (s ∷ more)) place (s ∷ more) b.0)
-      ∙ ap (λ x. fill_one filler x (item_row place (s ∷ more)) (λ t. fill filler (λ answers. c (t ∷ answers)) (rows (longest (s ∷ more) - (place + 1)) (place + 1) (s ∷ more)))) e
+      ∙ ap (fill_at filler c (item_row place (s ∷ more) ∷ rows (longest (s ∷ more) - (place + 1)) (place + 1) (s ∷ more))) e
       ∙ ap Err (sym b.1)
 
   later : (items : List TakenField) (mid : PackedOutModel) → Came items mid → (f : FaultAt) → fill_from (course_after course items) mid.place ≡ Err f → packed_data course (s ∷ more) ≡ Err f
@@ -214,7 +215,7 @@ module _ (course : Course) (s : Subset) (more : List Subset) where
       let k = came items mid h in
       let past = ends_past mid.place (s ∷ more) (ap (λ ss. all_at_end (cells_at mid.place ss)) (sym k.subsets) ∙ x) in
       let none : fill_from (course_after course items) mid.place ≡ Ok [] =
-      ap (fill filler (course_after course items)) (no_row mid.place (s ∷ more) past) ∙ ap (fill_none filler) (ap (λ a. a.next) (after_answers course items) ∙ e) in
+      ap (fill filler (course_after course items)) (no_row mid.place (s ∷ more) past) ∙ fill_end filler (course_after course items) (ap (λ a. a.next) (after_answers course items) ∙ e) in
       k.is ∙ ap (with_bits_before filler k.bits) none ∙ ap Ok (append-nil k.bits ∙ sym k.are)
 
 pub fault_as_defined : (course : Course) (subsets : List Subset) (items : List TakenField) (s : PackedOutModel) (f : FaultAt) → 1 ≤ length subsets

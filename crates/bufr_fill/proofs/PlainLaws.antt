@@ -1,8 +1,9 @@
 -- A plain field that was read is written from the item that a dump writes, and read again.
 use Rattle.std.proofs.lemmas.Grind.{common_steps}
 use Rattle.std.proofs.lemmas.Bool.{eqb-true, le-ltb, lt-ltb, eq-eqb}
-use Rattle.bufr_walk.specs.Prelude.{FieldSpec, IsSpec, HasWidth, HasRole, HasMissing, is_reference, Content, found, number, text, missing, reference, content_by, content_in, bits_for, data_end, FieldRead, plain_field, signed_by, said_by, sign_bit, max_values, Item, DataCoding, ReadsItems, ReadsPass, after, plain, Course, Next, take_next, at_end}
-use Rattle.bufr_fill.specs.Prelude.{DraftFaultKind, Role, Kind, Draft, DraftValue, number_token, text_form, missing_form, reference_token, wrong_number, out_of_range, text_long, missing_forbidden, draft_value_of, content_of, content_by_form, raw_within, raw_of, reference_of, text_within, is_marked, wrong_for, IsMinusZero, is_of, decimal_again, normal_form, raw_limit, plainly, plain_filler, RowCell, ItemRow, written_item, Filler, fill, fill_one, fill_none, filled, with_bits_before, AreDrafts, FitsText, FitsKind, FitsRole, Fits, IsDumped}
+use Rattle.bufr_walk.specs.Prelude.{FieldSpec, IsSpec, HasWidth, HasRole, HasMissing, is_reference, Content, found, number, text, missing, reference, content_by, content_in, bits_for, data_end, FieldRead, plain_field, signed_by, said_by, sign_bit, max_values, Item, DataCoding, ReadsItems, ReadsPass, after, plain, Course, take_next}
+use Rattle.bufr_fill.specs.Prelude.{DraftFaultKind, Role, Kind, Draft, DraftValue, number_token, text_form, missing_form, reference_token, wrong_number, out_of_range, text_long, missing_forbidden, draft_value_of, content_of, content_by_form, raw_within, raw_of, reference_of, text_within, is_marked, wrong_for, IsMinusZero, is_of, decimal_again, normal_form, raw_limit, plainly, plain_filler, RowCell, ItemRow, written_item, Filler, fill, with_bits_before, AreDrafts, FitsText, FitsKind, FitsRole, Fits, IsDumped}
+use Rattle.bufr_fill.proofs.FillSteps.{fill_more, fill_end}
 use Rattle.std.proofs.Common.{Bool, ◌++◌, Ok, refl, sym, ◌∙◌, ap, subst, arith, append_assoc, suc, ◌-◌, ◌/◌, ◌^◌, ◌<◌, ◌&&◌, ltb, true, false, not, replicate, Err, ℤ, pos, negsuc, ◌+ℤ◌, ◌-ℤ◌, nat_abs, pow_mono, take, drop, Result, zero, neg_ℤ, ◌≡◌, ℕ, ◌+◌, ◌*◌, ◌≤◌, List, [], ◌∷◌, length, Option, Some, None, ◌==◌, nat_lt, if◌then◌else◌, unsigned_abs}
 use Rattle.std.proofs.lemmas.List.{length-append, append-nil, take_at, drop_at, length-take-le, length-drop}
 use Rattle.std.specs.List.{list_all, AllByRecursion, AllZip}
@@ -67,22 +68,18 @@ module _ {C D E : Type 0} (form : DataCoding C) (filler : Filler D C E) (same_an
   pub join : (course : Course) (i : Item C) (d : D) (ds : List D) (w out : List Bool) → (course []).next ≡ take_next i.spec → filler.fills i.spec d ≡ Ok (written_item i.content w)
       → fill filler (after form course i) ds ≡ Ok out → fill filler course (d ∷ ds) ≡ Ok (w ++ out)
   join course i d ds w out next fills rest =
-      ap (λ n. fill_one filler n d (λ t. fill filler (λ answers. course (t ∷ answers)) ds)) next
-      ∙ ap (λ r. filled filler i.spec r (λ t. fill filler (λ answers. course (t ∷ answers)) ds)) fills
+      fill_more filler course d ds i.spec (Ok (written_item i.content w)) next fills
       ∙ ap (λ t. with_bits_before filler w (fill filler (λ answers. course (t ∷ answers)) ds)) (same_answer i.spec i.content)
       ∙ ap (with_bits_before filler w) rest
 
 module _ {C D E : Type 0} (form : DataCoding C) (filler : Filler D C E) (of_item : Item C → D → Type 0)
     (same_answer : (spec : FieldSpec) (c : C) → filler.gives spec c ≡ form.gives spec c)
     (one : (i : Item C) (d : D) (bits mid : List Bool) → IsSpec i.spec → of_item i d → form.field i.spec bits ≡ Ok (found i.content mid) → IsRewritten form filler i d bits mid) where
-  fill_end : (n : Next) → n ≡ at_end → fill_none filler n ≡ Ok []
-  fill_end n e = ap (fill_none filler) e
-
   pub rewritten : (course : Course) (items : List (Item C)) (ds : List D) (bits suffix : List Bool) → AllSpecs items → AreDrafts of_item items ds → ReadsPass form course items bits suffix
       → AreRewritten form filler course items ds bits suffix
   rewritten course [] [] bits suffix specs drafts h = record {
     out = [];
-    fills = fill_end (course []).next h.1;
+    fills = fill_end filler course h.1;
     again = λ more. refl;
     short = omega (arith, ap length h.0);
   }

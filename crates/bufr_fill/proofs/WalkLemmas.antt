@@ -1,6 +1,7 @@
 -- A walk over the items of one subset writes as the definition does.
 use Rattle.bufr_walk.specs.Prelude.{FieldSpec, bits_for, Course, take_next, Next, at_end, astray, refused, TakenField, Takes, course_after, answers_of, oks}
-use Rattle.bufr_fill.specs.Prelude.{Taken, WrittenItem, Filler, fill, fill_one, fill_none, filled, with_bits_before, written_item, plainly, plain_filler, DraftEntry, Holds, Ends, FaultAt, at_line, item_too_many, walk_refused, PlainOutModel, PlainFills, IsFaultOf, IsFaultNext, after_end, line_at, items_left, end_left}
+use Rattle.bufr_fill.specs.Prelude.{Taken, WrittenItem, Filler, fill, with_bits_before, written_item, plainly, plain_filler, DraftEntry, Holds, Ends, FaultAt, at_line, item_too_many, walk_refused, PlainOutModel, PlainFills, IsFaultOf, IsFaultNext, after_end, line_at, items_left, end_left}
+use Rattle.bufr_fill.proofs.FillSteps.{fill_more, fill_at}
 use Rattle.std.proofs.Common.{Result, refl, sym, ◌∙◌, ap, append_assoc, ℕ, ◌≤◌, length, arith, ◌≡◌, Bool, List, [], ◌∷◌, ◌++◌, Ok, Err}
 use Rattle.std.proofs.lemmas.List.{append-nil}
 use Rattle.bufr_walk.specs.declared.spec.TurnRefusal.TheVariants as refusal
@@ -32,8 +33,7 @@ module _ {D C E S : Type 0} (filler : Filler D C E) (left : S → List D) (out :
       → fill filler course (left s) ≡ with_bits_before filler h.item.bits (fill filler (λ answers. course (t ∷ answers)) (left mid))
   one course s spec t mid next h =
       ap (fill filler course) h.here
-      ∙ ap (λ n. fill_one filler n h.draft (λ x. fill filler (λ answers. course (x ∷ answers)) (left mid))) next
-      ∙ ap (λ r. filled filler spec r (λ x. fill filler (λ answers. course (x ∷ answers)) (left mid))) h.fills
+      ∙ fill_more filler course h.draft (left mid) spec (Ok h.item) next h.fills
       ∙ ap (λ x. with_bits_before filler h.item.bits (fill filler (λ answers. course (x ∷ answers)) (left mid))) (sym h.gives)
 
   twice : (a b : List Bool) (r : Result (List Bool) E) → with_bits_before filler a (with_bits_before filler b r) ≡ with_bits_before filler (a ++ b) r
@@ -60,10 +60,8 @@ module _ {D C E S : Type 0} (filler : Filler D C E) (left : S → List D) (out :
 
   -- the fault of a field that could not be written is that of the definition
   pub unfilled : (course : Course) (ds : List D) (spec : FieldSpec) (e : E) → (course []).next ≡ take_next spec → IsUnfilled filler ds spec e → fill filler course ds ≡ Err e
-  unfilled course [] spec e next h = ap (fill_none filler) next ∙ ap Err (sym h)
-  unfilled course (d ∷ ds) spec e next h =
-      ap (λ n. fill_one filler n d (λ t. fill filler (λ answers. course (t ∷ answers)) ds)) next
-      ∙ ap (λ r. filled filler spec r (λ t. fill filler (λ answers. course (t ∷ answers)) ds)) h
+  unfilled course [] spec e next h = ap (fill_at filler course []) next ∙ ap Err (sym h)
+  unfilled course (d ∷ ds) spec e next h = fill_more filler course d ds spec (Err e) next h
 
 -- ---- A walk over the items of one subset writes what the definition makes of them.
 
@@ -97,16 +95,17 @@ fault_of_items course left spec f next h = unfilled (plain_filler (end_left left
 -- and so is each other fault where a walk stops
 pub at_refused : (course : Course) (left : List DraftEntry) (why : refusal.the_data) → (course []).next ≡ refused why
     → fill (plain_filler (end_left left)) course (items_left left) ≡ Err (at_line (line_at left) (walk_refused why))
-at_refused course [] why h = ap (fill_none (plain_filler 0)) h
-at_refused course (Ends line ∷ left) why h = ap (fill_none (plain_filler line)) h
-at_refused course (Holds d ∷ left) why h = ap (λ n. fill_one (plain_filler (end_left left)) n d (λ t. fill (plain_filler (end_left left)) (λ answers. course (t ∷ answers)) (items_left left))) h
+at_refused course [] why h = ap (fill_at (plain_filler 0) course []) h
+at_refused course (Ends line ∷ left) why h = ap (fill_at (plain_filler line) course []) h
+at_refused course (Holds d ∷ left) why h =
+    ap (fill_at (plain_filler (end_left left)) course (d ∷ items_left left)) h
 
 left_over : (course : Course) (left : List DraftEntry) (f : FaultAt) → (course []).next ≡ at_end → 1 ≤ length left → after_end left ≡ Err f
     → fill (plain_filler (end_left left)) course (items_left left) ≡ Err f
 left_over course [] f h some e = absurd (omega (arith, some))
 left_over course (Ends line ∷ left) f h some e = absurd cc e
 left_over course (Holds d ∷ left) f h some e =
-    ap (λ n. fill_one (plain_filler (end_left left)) n d (λ t. fill (plain_filler (end_left left)) (λ answers. course (t ∷ answers)) (items_left left))) h ∙ same e
+    ap (fill_at (plain_filler (end_left left)) course (d ∷ items_left left)) h ∙ same e
   where
     same : after_end (Holds d ∷ left) ≡ Err f → ◌≡◌ {A = Result (List Bool) FaultAt} (Err (at_line d.line item_too_many)) (Err f)
     same e = let x : at_line d.line item_too_many ≡ f = cc in ap Err x

@@ -4,7 +4,8 @@ use Rattle.bufr_fill.proofs.EntryLemmas.{length-cells}
 use Rattle.std.proofs.lemmas.Bool.{le-ltb}
 use Rattle.std.proofs.Math.Nat.{mul-le-mul_right}
 use Rattle.bufr_walk.specs.Prelude.{Content, bits_for, FieldFault, found, plain_field, FieldSpec, IsSpec, packed_field, max_values, Item, plain, packed, ReadsSubsets, ReadsItems, after, IsPackedReading, DataCoding, ReadsPass, content_at, Course, next_item}
-use Rattle.bufr_fill.specs.Prelude.{IsAlike, Draft, Subset, at_line, too_many_values, cells_at, rows, longest, plain_data, packed_filler, are_many, ◌>>=◌, ItemRow, at_line_if_fault, content_here, contents_here, packed_to, pack_across, packed_data, first_line, plain_filler, plainly, written_item, Filler, fill, fill_none, packing, IsDumped, AreDrafts, items_of_subset, AreDumpedFrom, AreDumped, IsWrittenAgain, IsPackedAgain, IsWrittenApart, IsTogetherOrNot, IsSaid, AreSaid, AreSaidFrom, subsets_from, AllAlike, AllHaveOctets, content_of}
+use Rattle.bufr_fill.specs.Prelude.{IsAlike, Draft, Subset, at_line, too_many_values, cells_at, rows, longest, plain_data, packed_filler, are_many, ◌>>=◌, ItemRow, at_line_if_fault, content_here, contents_here, packed_to, pack_across, packed_data, first_line, plain_filler, plainly, written_item, Filler, fill, packing, IsDumped, AreDrafts, items_of_subset, AreDumpedFrom, AreDumped, IsWrittenAgain, IsPackedAgain, IsWrittenApart, IsTogetherOrNot, IsSaid, AreSaid, AreSaidFrom, subsets_from, AllAlike, AllHaveOctets, content_of}
+use Rattle.bufr_fill.proofs.FillSteps.{fill_end}
 use Rattle.bufr_fill.proofs.PlainLaws.{IsCellOf, AreCellsOf, IsDumpedAcross, HaveContents, AllSpecs, EachSpecs, rewritten, plain_rewritten, join, draft_again, same_draft}
 use Rattle.std.proofs.lemmas.List.{length-append}
 use Rattle.std.specs.List.{AllZip}
@@ -182,7 +183,7 @@ module _ {C D E : Type 0} (form : DataCoding C) (filler : Filler D C E) (of_item
     → filler.fills i.spec d ≡ Ok (written_item i.content (encoded i))) where
   all_encoded : (course : Course) (items : List (Item C)) (ds : List D) (bits suffix : List Bool) → AllSpecs items → AreDrafts of_item items ds → ReadsPass form course items bits suffix
       → fill filler course ds ≡ Ok (flat_map encoded items)
-  all_encoded course [] [] bits suffix specs said h = ap (fill_none filler) h.1
+  all_encoded course [] [] bits suffix specs said h = fill_end filler course h.1
   all_encoded course [] (d ∷ ds) bits suffix specs said h = absurd said
   all_encoded course (i ∷ items) [] bits suffix specs said h = absurd said
   all_encoded course (i ∷ items) (d ∷ ds) bits suffix specs said h =

@@ -4,7 +4,7 @@
 -- Cited by public contracts.
 use Rattle.std.specs.Prelude.{Bool, List, [], ◌∷◌, ◌++◌, Result, Ok, Err, ℕ, zero, suc, ◌+◌, ◌-◌, ◌*◌, ◌==◌, ◌&&◌, nat_lt, nat_le, min, not, true, false, if◌then◌else◌, take, replicate, length, Option, Some, None, unwrap_or, ◌≡◌, ◌≤◌, drop, max, slice_get}
 pub use Rattle.bufr_walk.specs.declared.spec.Taken.{Taken}
-use Rattle.bufr_walk.specs.Prelude.{FieldSpec, Content, number, text, missing, reference, bits_for, FieldFault, increment, unequal_factor, found, answer_of, packed_field, answer_first, Course, Next, take_next, at_end, astray, refused, max_values}
+use Rattle.bufr_walk.specs.Prelude.{FieldSpec, Content, number, text, missing, reference, bits_for, FieldFault, increment, unequal_factor, found, answer_of, packed_field, answer_first, Course, Item, Step, Passing, Pass, pass, max_values}
 use Rattle.std.specs.List.{list_all, flat_map}
 use Rattle.std.specs.Str.{bytes_eq}
 use Rattle.std.specs.Ordering.{int_eq}
@@ -39,32 +39,56 @@ module _ {D C E : Type 0} (filler : Filler D C E) where
   with_bits_before bits (Err why) = Err why
   with_bits_before bits (Ok suffix) = Ok (bits ++ suffix)
 
-  -- one item that was written, and the rest
-  abbrev pub filled : FieldSpec → Result (WrittenItem C) E → (Taken → Result (List Bool) E)
-      → Result (List Bool) E
-  filled spec (Err why) rest = Err why
-  filled spec (Ok w) rest = with_bits_before w.bits (rest (filler.gives spec w.content))
+  -- a draft that was written, or its fault
+  abbrev pub draft_written : FieldSpec → List D → Result (WrittenItem C) E
+      → Result (Step (List D) (WrittenItem C)) E
+  draft_written spec left (Err why) = Err why
+  draft_written spec left (Ok w) = Ok (record {
+    content = w;
+    returned = filler.gives spec w.content;
+    state = left;
+  })
 
-  -- what comes next, where there is a draft
-  abbrev pub fill_one : Next → D → (Taken → Result (List Bool) E) → Result (List Bool) E
-  fill_one (take_next spec) d rest = filled spec (filler.fills spec d) rest
-  fill_one at_end d rest = Err (filler.left_over d)
-  fill_one (refused why) d rest = Err (filler.refused_at d why)
-  fill_one astray d rest = Err filler.lost
+  -- the first draft that is left, written as a field
+  abbrev pub write_first : FieldSpec → List D → Result (Step (List D) (WrittenItem C)) E
+  write_first spec [] = Err (filler.none_left spec)
+  write_first spec (d ∷ left) = draft_written spec left (filler.fills spec d)
 
-  -- what comes next, where there is no draft
-  abbrev pub fill_none : Next → Result (List Bool) E
-  fill_none (take_next spec) = Err (filler.none_left spec)
-  fill_none at_end = Ok []
-  fill_none (refused why) = Err (filler.refused_at_end why)
-  fill_none astray = Err filler.lost
+  abbrev pub refused_first : TurnRefusal → List D → E
+  refused_first why [] = filler.refused_at_end why
+  refused_first why (d ∷ left) = filler.refused_at d why
 
-  -- the bits of drafts, each at the field that comes next, to the end; or the first fault
+  abbrev pub none_over : List D → Option E
+  none_over [] = None
+  none_over (d ∷ left) = Some (filler.left_over d)
+
+  -- how drafts are written, each as the field that comes next; none may be left at the end
   -- rule: fault-62-first
-  abbrev pub fill : Course → List D → Result (List Bool) E
-  fill course [] = fill_none (course []).next
-  fill course (d ∷ ds) =
-      fill_one (course []).next d (λ t. fill (λ answers. course (t ∷ answers)) ds)
+  abbrev pub filling : Passing (List D) (WrittenItem C) E
+  filling = record {
+    step = write_first;
+    refuses = refused_first;
+    ends = none_over;
+    lost = Some filler.lost;
+  }
+
+  -- the pass that writes drafts
+  abbrev pub fill_pass : Course → List D → Pass (List D) (WrittenItem C) E
+  fill_pass course drafts = pass filling (suc (length drafts)) course drafts
+
+-- the bits of items that were written
+abbrev pub bits_written : {C : Type 0} → List (Item (WrittenItem C)) → List Bool
+bits_written [] = []
+bits_written (i ∷ items) = i.content.bits ++ bits_written items
+
+abbrev pub bits_or : {E : Type 0} → List Bool → Option E → Result (List Bool) E
+bits_or bits None = Ok bits
+bits_or bits (Some why) = Err why
+
+-- the bits of drafts, or what stops their pass
+abbrev pub fill : {D C E : Type 0} → Filler D C E → Course → List D → Result (List Bool) E
+fill filler course drafts =
+    let p = fill_pass filler course drafts in bits_or (bits_written p.items) p.stop
 
 -- whether two contents are the same
 abbrev pub same : Content → Content → Bool

@@ -85,7 +85,7 @@ pub fn data_are_written_in_the_other_form()
 /// Law: a walk over the items of one subset, or of all, writes what the definition makes of them,
 /// up to those that are left. Where the walk over all subsets ends and no item is left over, the
 /// bits that were written are the data of all subsets.
-#[tactic(auto, using(crate::proofs::WalkLemmas::walk_of_items, crate::proofs::PackedWalks::walk_of_rows, crate::proofs::PackedWalks::written_as_defined))]
+#[tactic(auto, using(crate::proofs::PackedWalks::written_as_defined))]
 pub fn walks_write_as_defined()
     ensures plain { (end : ℕ) (course : Course) (s : PlainOutModel) (items : List TakenField)
         (s' : PlainOutModel)

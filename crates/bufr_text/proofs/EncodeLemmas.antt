@@ -2,9 +2,10 @@
 use Rattle.std.proofs.Common.{◌≡◌, ◌+◌, ℕ, suc, Bool, List, [], ◌∷◌, ◌++◌, length, length-append, Option, Some, None, Result, Ok, Err, refl, sym, ◌∙◌, ap, subst, arith, ◌<◌, get_or, true, false, ◌≤◌, zero, ◌-◌, ◌*◌, append_assoc, if◌then◌else◌}
 use Rattle.bufr_walk.specs.declared.spec.Taken.{Taken}
 use Rattle.bufr_walk.specs.Prelude.{FieldSpec, octets_in, Course, Next, take_next, at_end, astray, refused, NextTurn, asked, operated, ahead, counts_of, next_item, Turns, finish, open_end, group, pass_end, factor_turn, element_turn, operator_turn, Rest, passes, unroll, TakenField, Takes, course_after, ticked, answers_of, oks, StopsWalk, Walked, element_spec, factor_spec, inserted_spec, OperatorModel, after_operator, after_field}
-use Rattle.bufr_fill.specs.Prelude.{FaultAt, at_line, draft_fault, Draft, DraftEntry, Holds, Ends, Subset, subset, prepend_to_subset, subsets_of, WrittenItem, Filler, fill, fill_one, fill_none, filled, with_bits_before, plainly, plain_filler, plain_data, ◌>>=◌, cells_at, rows, longest, are_many, packed_filler, packed_data, AreOctets, PlainOutModel, PlainFills, IsFaultNext, after_end, line_at, items_left, end_left, ends_of, PackedOutModel, new_packed_out, PackedFills, IsFaultHere, all_at_end, first_line_at, rows_left}
+use Rattle.bufr_fill.specs.Prelude.{FaultAt, at_line, draft_fault, Draft, DraftEntry, Holds, Ends, Subset, subset, prepend_to_subset, subsets_of, WrittenItem, Filler, fill_pass, bits_written, bits_or, fill, with_bits_before, plainly, plain_filler, plain_data, ◌>>=◌, cells_at, rows, longest, are_many, packed_filler, packed_data, AreOctets, PlainOutModel, PlainFills, IsFaultNext, after_end, line_at, items_left, end_left, ends_of, PackedOutModel, new_packed_out, PackedFills, IsFaultHere, all_at_end, first_line_at, rows_left}
+use Rattle.bufr_fill.proofs.FillSteps.{pass_at, pass_with, pass_more, fill_end}
 use Rattle.bufr_fill.proofs.WalkLemmas.{HasFilled, after_answers, fills, walk_of_items, fault_as_defined}
-use Rattle.bufr_text.specs.Prelude.{RefusedAt, report_of_items, octets_of_bits, message_of, IsDocumentRefusal, report_of_draft, reported_stop, AreOctetsOf, counted_one, counted_at, count_filled, turned_one, turned_at, turns_filled, CountsSteps, reported_refusal, IsData, IsNoData, count_plain, turns_plain, count_after, count_packed, turns_packed, DocumentFault}
+use Rattle.bufr_text.specs.Prelude.{RefusedAt, report_of_items, octets_of_bits, message_of, IsDocumentRefusal, report_of_draft, reported_stop, AreOctetsOf, count_filled, turns_filled, CountsSteps, reported_refusal, IsData, IsNoData, count_plain, turns_plain, count_after, count_packed, turns_packed, DocumentFault}
 use Rattle.std.specs.Option.{option_map}
 use Rattle.bufr_bits.specs.Prelude.{padding, bits_of}
 use Rattle.bufr_fill.proofs.FieldLemmas.{octets_again}
@@ -30,8 +31,8 @@ module _ {D C E S : Type 0} (filler : Filler D C E) (left : S → List D) (out :
       → count_filled filler course (left s) ≡ length h.item.bits + count_filled filler (λ results. course (t ∷ results)) (left mid)
   one course s spec t mid next h =
       ap (count_filled filler course) h.here
-      ∙ ap (λ n. counted_at filler n h.draft (λ x. count_filled filler (λ results. course (x ∷ results)) (left mid))) next
-      ∙ ap (λ r. counted_one filler r filler.gives spec (λ x. count_filled filler (λ results. course (x ∷ results)) (left mid))) h.fills
+      ∙ ap (λ p. length (bits_written p.items)) (pass_more filler course h.draft (left mid) spec (Ok h.item) next h.fills)
+      ∙ length-append h.item.bits (bits_written (fill_pass filler (λ results. course (filler.gives spec h.item.content ∷ results)) (left mid)).items)
       ∙ ap (λ x. length h.item.bits + count_filled filler (λ results. course (x ∷ results)) (left mid)) (sym h.gives)
 
   -- the bits that a walk wrote, and those that are left, are those of all
@@ -48,35 +49,11 @@ module _ {D C E S : Type 0} (filler : Filler D C E) (left : S → List D) (out :
 module _ {D C E : Type 0} (filler : Filler D C E) where
   -- where nothing is refused all bits count
   pub all_counted : (course : Course) (ds : List D) (bits : List Bool) → fill filler course ds ≡ Ok bits → count_filled filler course ds ≡ length bits
-  all_counted course [] bits h = by (course []).next h
+  all_counted course ds bits h = let p = fill_pass filler course ds in by (bits_written p.items) p.stop h
     where
-      by : (n : Next) → fill_none filler n ≡ Ok bits → 0 ≡ length bits
-      by (take_next spec) h = absurd cc h
-      by at_end h = let e : [] ≡ bits = cc in ap length e
-      by astray h = absurd cc h
-      by (refused why) h = absurd cc h
-  all_counted course (d ∷ ds) bits h = by (course []).next h (λ t b e. all_counted (λ results. course (t ∷ results)) ds b e)
-    where
-      rest : Taken → Result (List Bool) E
-      rest t = fill filler (λ results. course (t ∷ results)) ds
-
-      count : Taken → ℕ
-      count t = count_filled filler (λ results. course (t ∷ results)) ds
-
-      suffix : (item : List Bool) (r : Result (List Bool) E) (n : ℕ) → ((b : List Bool) → r ≡ Ok b → n ≡ length b) → with_bits_before filler item r ≡ Ok bits → length item + n ≡ length bits
-      suffix item (Ok b) n g e = let same : item ++ b ≡ bits = cc in omega (arith, g b refl, length-append item b, ap length same)
-      suffix item (Err why) n g e = absurd cc e
-
-      one : (spec : FieldSpec) (r : Result (WrittenItem C) E) → filled filler spec r rest ≡ Ok bits → ((t : Taken) (b : List Bool) → rest t ≡ Ok b → count t ≡ length b)
-          → counted_one filler r filler.gives spec count ≡ length bits
-      one spec (Ok w) e g = suffix w.bits (rest (filler.gives spec w.content)) (count (filler.gives spec w.content)) (g (filler.gives spec w.content)) e
-      one spec (Err why) e g = absurd cc e
-
-      by : (n : Next) → fill_one filler n d rest ≡ Ok bits → ((t : Taken) (b : List Bool) → rest t ≡ Ok b → count t ≡ length b) → counted_at filler n d count ≡ length bits
-      by (take_next spec) h g = one spec (filler.fills spec d) h g
-      by at_end h g = absurd cc h
-      by astray h g = absurd cc h
-      by (refused why) h g = absurd cc h
+      by : (all : List Bool) (stop : Option E) → bits_or all stop ≡ Ok bits → length all ≡ length bits
+      by all None h = let same : all ≡ bits = cc in ap length same
+      by all (Some why) h = absurd cc h
 
 -- a fault that is reported is the definition's
 pub refuses_so : (o : Option FaultAt) (results : Option RefusedAt) (r : Result (List Bool) FaultAt) → results ≡ option_map report_of_draft o → ((f : FaultAt) → o ≡ Some f → r ≡ Err f)
@@ -215,8 +192,7 @@ module _ {D C E S : Type 0} (filler : Filler D C E) (left : S → List D) (out :
       → turns_filled filler course (left s) ≡ turns_filled filler (λ results. course (t ∷ results)) (left mid)
   turns_of_one course s spec t mid next h =
       ap (turns_filled filler course) h.here
-      ∙ ap (λ n. turned_at filler n (course []).turns h.draft (λ x. turns_filled filler (λ results. course (x ∷ results)) (left mid))) next
-      ∙ ap (λ r. turned_one filler r spec (course []).turns (λ x. turns_filled filler (λ results. course (x ∷ results)) (left mid))) h.fills
+      ∙ ap (λ p. p.turns) (pass_more filler course h.draft (left mid) spec (Ok h.item) next h.fills)
       ∙ ap (λ x. turns_filled filler (λ results. course (x ∷ results)) (left mid)) (sym h.gives)
 
   -- the turns of all drafts are those of the drafts that a walk left, after its items
@@ -235,28 +211,33 @@ module _ {D C E : Type 0} (filler : Filler D C E) where
   IsLast astray ds = Unit {0}
 
   here : (course : Course) (ds : List D) (n : Next) → (course []).next ≡ n → IsLast n ds → turns_filled filler course ds ≡ (course []).turns
-  here course [] n e h = refl
-  here course (d ∷ ds) n e h = ap (λ x. turned_at filler x (course []).turns d (λ t. turns_filled filler (λ results. course (t ∷ results)) ds)) e ∙ by n h
+  here course ds n e h = ap (λ n. (pass_at filler course ds n).turns) e ∙ by n ds h
     where
-      by : (n : Next) → IsLast n (d ∷ ds) → turned_at filler n (course []).turns d (λ t. turns_filled filler (λ results. course (t ∷ results)) ds) ≡ (course []).turns
-      by (take_next spec) h = ap (λ r. turned_one filler r spec (course []).turns (λ t. turns_filled filler (λ results. course (t ∷ results)) ds)) h.1
-      by at_end h = refl
-      by (refused why) h = refl
-      by astray h = refl
+      by : (n : Next) (ds : List D) → IsLast n ds → (pass_at filler course ds n).turns ≡ (course []).turns
+      by (take_next spec) [] h = refl
+      by (take_next spec) (d ∷ ds) h = ap (λ r. (pass_with filler course d ds spec r).turns) h.1
+      by at_end ds h = refl
+      by (refused why) ds h = refl
+      by astray ds h = refl
 
   at_least : (course : Course) (ds : List D) → AddsTurns course → (course []).turns ≤ turns_filled filler course ds
-  at_least course [] g = omega arith
-  at_least course (d ∷ ds) g = by (course []).next (λ t. omega (arith, g [] (t ∷ []), at_least (λ results. course (t ∷ results)) ds (λ results more. g (t ∷ results) more)))
+  at_least course [] g = by (course []).next
     where
-      rest : Taken → ℕ
-      rest t = turns_filled filler (λ results. course (t ∷ results)) ds
+      by : (n : Next) → (course []).turns ≤ (pass_at filler course [] n).turns
+      by (take_next spec) = omega arith
+      by at_end = omega arith
+      by (refused why) = omega arith
+      by astray = omega arith
+  at_least course (d ∷ ds) g =
+      by (course []).next (λ t. omega (arith, g [] (t ∷ []), at_least (λ results. course (t ∷ results)) ds (λ results more. g (t ∷ results) more)))
+    where
+      at_field : (spec : FieldSpec) (r : Result (WrittenItem C) E) → ((t : Taken) → (course []).turns ≤ turns_filled filler (λ results. course (t ∷ results)) ds)
+          → (course []).turns ≤ (pass_with filler course d ds spec r).turns
+      at_field spec (Ok w) h = h (filler.gives spec w.content)
+      at_field spec (Err why) h = omega arith
 
-      turns_of_one : (spec : FieldSpec) (r : Result (WrittenItem C) E) → ((t : Taken) → (course []).turns ≤ rest t) → (course []).turns ≤ turned_one filler r spec (course []).turns rest
-      turns_of_one spec (Ok w) h = h (filler.gives spec w.content)
-      turns_of_one spec (Err why) h = omega arith
-
-      by : (n : Next) → ((t : Taken) → (course []).turns ≤ rest t) → (course []).turns ≤ turned_at filler n (course []).turns d rest
-      by (take_next spec) h = turns_of_one spec (filler.fills spec d) h
+      by : (n : Next) → ((t : Taken) → (course []).turns ≤ turns_filled filler (λ results. course (t ∷ results)) ds) → (course []).turns ≤ (pass_at filler course (d ∷ ds) n).turns
+      by (take_next spec) h = at_field spec (filler.fills spec d) h
       by at_end h = omega arith
       by (refused why) h = omega arith
       by astray h = omega arith
@@ -385,7 +366,11 @@ all_turns course s c mid c' w =
 -- at the end of the template
 at_end_none : (end : ℕ) (course : Course) (left more : List DraftEntry) → (course []).next ≡ at_end → after_end left ≡ Ok more
     → (fill (plain_filler end) course (items_left left) ≡ Ok []) × (left_after left ≡ more)
-at_end_none end course left more h1 h2 = grind (arith, nat_tests, common_steps)
+at_end_none end course [] more h1 h2 =
+    let same : [] ≡ more = cc in (fill_end (plain_filler end) course h1, same)
+at_end_none end course (Ends line ∷ left) more h1 h2 =
+    let same : left ≡ more = cc in (fill_end (plain_filler end) course h1, same)
+at_end_none end course (Holds d ∷ left) more h1 h2 = absurd cc h2
 
 some_left : (left : List DraftEntry) → 1 ≤ length (subsets_of left) → 1 ≤ length left
 some_left [] h = absurd (omega (arith, h))

@@ -5,7 +5,8 @@ use Rattle.std.proofs.lemmas.List.{take-append-drop}
 use Rattle.bufr_bits.specs.Prelude.{bits_of, padding}
 use Rattle.bufr_tables.specs.Prelude.{Row, AreRows, Sequence, Tree, IsLegal, tables_of, Record}
 use Rattle.bufr_walk.specs.Prelude.{FieldSpec, IsSpec, Content, content_in, bits_for, FieldFault, found, plain_field, Course, next_item, Item, plain, packed, ReadsItems, ReadsPass, ReadsSubsets, IsPackedReading, after, apart, together, Values, IsReading, max_values, IsPlainReading, data_of, View}
-use Rattle.bufr_fill.specs.Prelude.{IsMinusZero, content_of, plain_filler, plainly, written_item, Filler, fill, fill_none, plain_data, ◌>>=◌, ItemRow, RowCell, rows, longest, are_many, packed_filler, packed_data, pack_across, packed_to, contents_here, first_line, packing, FaultAt, at_line, too_many_values, Subset, subsets_of, Draft, DraftEntry, AreDrafts, AreDumped, IsDumped, AreDumpedFrom, subsets_from, IsUnlike, IsTogetherOrNot}
+use Rattle.bufr_fill.specs.Prelude.{IsMinusZero, content_of, plain_filler, plainly, written_item, Filler, fill, plain_data, ◌>>=◌, ItemRow, RowCell, rows, longest, are_many, packed_filler, packed_data, pack_across, packed_to, contents_here, first_line, packing, FaultAt, at_line, too_many_values, Subset, subsets_of, Draft, DraftEntry, AreDrafts, AreDumped, IsDumped, AreDumpedFrom, subsets_from, IsUnlike, IsTogetherOrNot}
+use Rattle.bufr_fill.proofs.FillSteps.{fill_end}
 use Rattle.bufr_fill.proofs.PlainLaws.{AllSpecs, EachSpecs, draft_again, plain_read, same_draft, same_bits, IsDumpedAcross, HaveContents, join}
 use Rattle.bufr_frame.specs.Prelude.{with_even_length, message_octets, message_size, max_octets, MessageParts, parts_of, sections_from, Sections, sections_of}
 use Rattle.bufr_frame.proofs.AgainLemmas.{not-too-long, written-again, fitting-writable}
@@ -53,7 +54,7 @@ record AreFilled {C D E : Type 0} (filler : Filler D C E) (course : Course) (ds 
 
 items_filled : (line : ℕ) (course : Course) (items : List (Item Content)) (ds : List Draft) (bits suffix : List Bool) → AllSpecs items → AreDrafts IsDumped items ds
     → ReadsPass plain course items bits suffix → HaveNoMinusZero items bits → AreFilled (plain_filler line) course ds bits suffix
-items_filled line course [] [] bits suffix specs drafts h plus = record { out = []; fills = ap (fill_none (plain_filler line)) h.1; splits = h.0 }
+items_filled line course [] [] bits suffix specs drafts h plus = record { out = []; fills = fill_end (plain_filler line) course h.1; splits = h.0 }
 items_filled line course [] (d ∷ ds) bits suffix specs drafts h plus = absurd drafts
 items_filled line course (i ∷ items) [] bits suffix specs drafts h plus = absurd drafts
 items_filled line course (i ∷ items) (d ∷ ds) bits suffix specs drafts h plus =
@@ -119,7 +120,7 @@ packed_as spec cs a out e = by (are_many a.place (length a.cells)) (contents_her
 packed_filled : (n line : ℕ) (many : Bool) → 1 ≤ n → (course : Course) (items : List (Item (List Content))) (ds : List ItemRow) (bits suffix read left : List Bool) → AllSpecs items
     → AreDrafts (IsDumpedAcross n) items ds
     → ReadsPass (packed n) course items read left → ArePacked items bits suffix → AreFilled (packed_filler line many) course ds bits suffix
-packed_filled n line many some course [] [] bits suffix read left specs drafts h c = record { out = []; fills = ap (fill_none (packed_filler line many)) h.1; splits = c }
+packed_filled n line many some course [] [] bits suffix read left specs drafts h c = record { out = []; fills = fill_end (packed_filler line many) course h.1; splits = c }
 packed_filled n line many some course [] (d ∷ ds) bits suffix read left specs drafts h c = absurd drafts
 packed_filled n line many some course (i ∷ items) [] bits suffix read left specs drafts h c = absurd drafts
 packed_filled n line many some course (i ∷ items) (d ∷ ds) bits suffix read left specs drafts h c =

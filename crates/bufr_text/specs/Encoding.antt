@@ -8,13 +8,12 @@ use Rattle.bufr_tables.specs.declared.fault.TemplateFault.{TemplateFault}
 use Rattle.bufr_tables.specs.Prelude.{tree_of, tables_of, Row, Sequence, Tree, places}
 use Rattle.bufr_frame.specs.declared.section1.Head.{Head}
 use Rattle.bufr_frame.specs.Prelude.{MessageParts, parts_of, message_octets, message_size, max_octets}
-use Rattle.bufr_walk.specs.Prelude.{octets_in, FieldSpec, Course, next_item, Next, take_next, ticked}
-use Rattle.bufr_fill.specs.Prelude.{plain_data, packed_data, packed_filler, rows, longest, are_many, plain_filler, WrittenItem, Filler, fill, Subset, subsets_of, DraftFaultKind, FaultAt, wrong_number, out_of_range, text_long, missing_forbidden, unequal_factors, uneven_increment, walk_refused, too_many_values, other_than, at_line, draft_fault}
+use Rattle.bufr_walk.specs.Prelude.{octets_in, Course, next_item, ticked}
+use Rattle.bufr_fill.specs.Prelude.{plain_data, packed_data, packed_filler, rows, longest, are_many, plain_filler, Filler, fill_pass, bits_written, fill, Subset, subsets_of, DraftFaultKind, FaultAt, wrong_number, out_of_range, text_long, missing_forbidden, unequal_factors, uneven_increment, walk_refused, too_many_values, other_than, at_line, draft_fault}
 use Rattle.bufr_text.specs.declared.encode.Form.TheVariants.{AsWritten}
 use Rattle.bufr_text.specs.Documents.{Document, subsets_in, head_from_values, key_value, compressed_in, section2_in}
 use Rattle.bufr_text.specs.declared.fault.DocumentFault.{DocumentFault}
 use Rattle.bufr_text.specs.declared.fault.WalkRefusal.{WalkRefusal}
-use Rattle.bufr_walk.specs.declared.spec.Taken.{Taken}
 use Rattle.std.specs.Global.{Global}
 use Rattle.bufr_walk.specs.declared.walker.WalkStop.{WalkStop}
 use Rattle.bufr_fill.specs.declared.fault.DraftFault.{DraftFault}
@@ -156,22 +155,9 @@ IsDocumentRefusal (Some f) defined = defined ≡ Err f
 
 -- ---- the bits before the first refusal
 
-module _ {D C E : Type 0} (filler : Filler D C E) where
-  -- the bits of an item that can be written, and of those after it
-  abbrev pub counted_one : Result (WrittenItem C) E → (FieldSpec → C → Taken) → FieldSpec
-      → (Taken → ℕ) → ℕ
-  counted_one (Err why) gives spec rest = 0
-  counted_one (Ok w) gives spec rest = length w.bits + rest (gives spec w.content)
-
-  abbrev pub counted_at : Next → D → (Taken → ℕ) → ℕ
-  counted_at (take_next spec) d rest = counted_one (filler.fills spec d) filler.gives spec rest
-  counted_at _ d rest = 0
-
-  -- how many bits the drafts are, up to the first that is refused
-  abbrev pub count_filled : Course → List D → ℕ
-  count_filled course [] = 0
-  count_filled course (d ∷ ds) =
-      counted_at (course []).next d (λ t. count_filled (λ results. course (t ∷ results)) ds)
+-- how many bits the drafts are, up to the first that is refused
+abbrev pub count_filled : {D C E : Type 0} → Filler D C E → Course → List D → ℕ
+count_filled filler course drafts = length (bits_written (fill_pass filler course drafts).items)
 
 -- the bits of the subsets after one, which count where this one is not refused
 abbrev pub count_after : Result (List Bool) FaultAt → (more : ℕ) → ℕ
@@ -213,23 +199,9 @@ bits_by form table sequences d =
 -- unroll it (WMO-No. 306, Volume I.2, FM 94: section 3, replications; that they are counted is a
 -- choice of this project)
 
-module _ {D C E : Type 0} (filler : Filler D C E) where
-  -- after a draft that can be written there are more turns; one that is refused is the last of so
-  -- many
-  abbrev pub turned_one : Result (WrittenItem C) E → FieldSpec → (here : ℕ) → (Taken → ℕ) → ℕ
-  turned_one (Err why) spec here more = here
-  turned_one (Ok w) spec here more = more (filler.gives spec w.content)
-
-  -- a draft too many is reported at the end of the template, which is a turn too
-  abbrev pub turned_at : Next → (here : ℕ) → D → (Taken → ℕ) → ℕ
-  turned_at (take_next spec) here d more = turned_one (filler.fills spec d) spec here more
-  turned_at _ here d more = here
-
-  -- how many turns drafts take, from the beginning of the template on
-  abbrev pub turns_filled : Course → List D → ℕ
-  turns_filled course [] = (course []).turns
-  turns_filled course (d ∷ ds) = turned_at (course []).next (course []).turns d
-      (λ t. turns_filled (λ results. course (t ∷ results)) ds)
+-- how many turns drafts take, from the beginning of the template on
+abbrev pub turns_filled : {D C E : Type 0} → Filler D C E → Course → List D → ℕ
+turns_filled filler course drafts = (fill_pass filler course drafts).turns
 
 -- one pass for each subset, up to one that is refused
 abbrev pub turns_plain : Course → List Subset → ℕ

@@ -12,7 +12,7 @@ pub use Rattle.bufr_text.specs.Spelling.{NumberedLine, numbered_line, onto_heard
 unfoldable pub use Rattle.bufr_text.specs.Spelling.{numbered_lines}
 pub use Rattle.bufr_text.specs.Taking.{IsBare, IsParserState, ParsesHeldLines, ReadsMoreText, TakesHeldLines, FillsBuffer, text_input, stopped, place_with, line_fault_of, turned, step_results, position_with, position_after_take, TakesLines, IsTaking, place_following, WantsAt, ends_by_feed, place_now, IsProgress, IsReader, WantsHere, read_fault_at, HasLineGroups, EntryHasOctets, HasSubsets, meaning, part_number}
 pub use Rattle.bufr_bits.specs.Prelude.{◌>>=◌}
-pub use Rattle.bufr_text.specs.Encoding.{bits_by, places_by, WritesData, data_bits, octets_of_bits, encoding_of, by_item, too_long, RefusedAt, refused_at, report_of_items, parts_as, compressed_as, message_of, IsDocumentRefusal, WritesForm, reported_refusal, compressed_by, form_of_flag, by_template, turns_by, report_of_template, AreOctetsOf, IsData, report_of_draft, reported_stop, counted_one, counted_at, count_filled, turned_one, turned_at, turns_filled, CountsSteps, IsNoData, count_plain, turns_plain, count_after, count_packed, turns_packed, DocumentRefusal, number_of_walk_refusal, walk_report, number_of_document_fault}
+pub use Rattle.bufr_text.specs.Encoding.{bits_by, places_by, WritesData, data_bits, octets_of_bits, encoding_of, by_item, too_long, RefusedAt, refused_at, report_of_items, parts_as, compressed_as, message_of, IsDocumentRefusal, WritesForm, reported_refusal, compressed_by, form_of_flag, by_template, turns_by, report_of_template, AreOctetsOf, IsData, report_of_draft, reported_stop, count_filled, turns_filled, CountsSteps, IsNoData, count_plain, turns_plain, count_after, count_packed, turns_packed, DocumentRefusal, number_of_walk_refusal, walk_report, number_of_document_fault}
 unfoldable pub use Rattle.bufr_text.specs.Encoding.{encoding_in}
 pub use Rattle.bufr_text.specs.RoundTrip.{IsCanonical, IsAccepted, HaveNoMinusZero, ArePacked, AreWritten, IsEncodedAgain, HasReadingIn, IsForForm, IsFormed, IsFaultIn, EncodesForm, extra_octets, SaySame, HasSameReading, AreValuesOf, IsReadAs}
 pub use Rattle.bufr_text.specs.declared.encode.Form.{Form}

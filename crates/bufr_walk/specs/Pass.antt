@@ -19,11 +19,13 @@ pub record Step (S C : Type 0) : Type 0 where
   pub returned : Taken
   pub state : S
 
--- how a pass is made: the step at a field, why a refused turn stops it, and whether it may end
+-- how a pass is made: the step at a field, why a refused turn stops it, and whether it may end, at
+-- the end of the template or where a factor returned no count
 pub record Passing (S C E : Type 0) : Type 0 where
   pub step : FieldSpec → S → Result (Step S C) E
   pub refuses : TurnRefusal → S → E
   pub ends : S → Option E
+  pub lost : Option E
 
 -- a pass: its items, how many turns it took, the state after them, and what stopped it, if anything
 pub record Pass (S C E : Type 0) : Type 0 where
@@ -59,7 +61,7 @@ module _ {S C E : Type 0} (how : Passing S C E) where
   pass_next turn at_end s rest = last_turn turn s (how.ends s)
   pass_next turn (refused why) s rest = last_turn turn s (Some (how.refuses why s))
   -- never, since each factor returns its count
-  pass_next turn astray s rest = last_turn turn s None
+  pass_next turn astray s rest = last_turn turn s how.lost
 
   -- A pass: each item by what comes next after those before it. No pass over data reaches `most`,
   -- which is more than they have bits.
@@ -97,6 +99,7 @@ reading form many = record {
       else read_field form spec p.items (form.field spec p.left);
   refuses = λ why p. walk_stop why;
   ends = λ p. None;
+  lost = None;
 }
 
 -- one pass over bits, from the beginning of the template; each item takes a bit at least

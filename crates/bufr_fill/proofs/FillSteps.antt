@@ -1,0 +1,51 @@
+-- A pass that writes, step by step.
+use Rattle.std.proofs.Common.{Result, Ok, Err, Option, Some, None, Bool, List, [], ◌∷◌, ◌++◌, ◌≡◌, refl, ◌∙◌, ap, suc, length}
+use Rattle.bufr_walk.specs.Prelude.{FieldSpec, Course, Next, take_next, at_end, Pass, pass}
+use Rattle.bufr_walk.specs.Pass.{pass_next, pass_field}
+use Rattle.bufr_fill.specs.Prelude.{Taken, WrittenItem, Filler, draft_written, filling, fill_pass, bits_written, bits_or, fill, with_bits_before}
+
+module _ {D C E : Type 0} (filler : Filler D C E) where
+  -- one item that was written, and the rest
+  abbrev pub filled : FieldSpec → Result (WrittenItem C) E → (Taken → Result (List Bool) E) → Result (List Bool) E
+  filled spec (Err why) rest = Err why
+  filled spec (Ok w) rest = with_bits_before filler w.bits (rest (filler.gives spec w.content))
+
+  -- the pass of drafts, by what comes next
+  abbrev pub pass_at : Course → List D → Next → Pass (List D) (WrittenItem C) E
+  pass_at course ds n = pass_next (filling filler) (course []).turns n ds (λ f. pass (filling filler) (length ds) (λ answers. course (f.returned ∷ answers)) f.state)
+
+  -- the same at a field, by what is made of the first draft
+  abbrev pub pass_with : Course → D → List D → FieldSpec → Result (WrittenItem C) E → Pass (List D) (WrittenItem C) E
+  pass_with course d ds spec r =
+      pass_field (filling filler) (course []).turns spec (d ∷ ds) (draft_written filler spec ds r)
+      (λ f. pass (filling filler) (suc (length ds)) (λ answers. course (f.returned ∷ answers)) f.state)
+
+  -- what a pass wrote
+  abbrev pub bits_of_pass : Pass (List D) (WrittenItem C) E → Result (List Bool) E
+  bits_of_pass p = bits_or (bits_written p.items) p.stop
+
+  before : (w bits : List Bool) (o : Option E) → bits_or (w ++ bits) o ≡ with_bits_before filler w (bits_or bits o)
+  before w bits None = refl
+  before w bits (Some why) = refl
+
+  module _ (course : Course) (d : D) (ds : List D) (spec : FieldSpec) where
+    pub bits_with : (r : Result (WrittenItem C) E) → bits_of_pass (pass_with course d ds spec r) ≡ filled spec r (λ t. fill filler (λ answers. course (t ∷ answers)) ds)
+    bits_with (Err why) = refl
+    bits_with (Ok w) = let p = fill_pass filler (λ answers. course (filler.gives spec w.content ∷ answers)) ds in before w.bits (bits_written p.items) p.stop
+
+    -- a pass at a field
+    pub pass_more : (r : Result (WrittenItem C) E) → (course []).next ≡ take_next spec → filler.fills spec d ≡ r → fill_pass filler course (d ∷ ds) ≡ pass_with course d ds spec r
+    pass_more r next e = ap (pass_at course (d ∷ ds)) next ∙ ap (pass_with course d ds spec) e
+
+    -- drafts are written as the first of them, and then the rest
+    pub fill_more : (r : Result (WrittenItem C) E) → (course []).next ≡ take_next spec → filler.fills spec d ≡ r
+        → fill filler course (d ∷ ds) ≡ filled spec r (λ t. fill filler (λ answers. course (t ∷ answers)) ds)
+    fill_more r next e = ap bits_of_pass (pass_more r next e) ∙ bits_with r
+
+  -- what drafts are written to, by what comes next
+  abbrev pub fill_at : Course → List D → Next → Result (List Bool) E
+  fill_at course ds n = bits_of_pass (pass_at course ds n)
+
+  -- at the end of the template
+  pub fill_end : (course : Course) → (course []).next ≡ at_end → fill filler course [] ≡ Ok []
+  fill_end course h = ap (fill_at course []) h
