@@ -352,6 +352,7 @@ def leave(number: int, _frame) -> None:
     stop()
     Progress.clear()
     signal.signal(number, signal.SIG_DFL)
+    signal.pthread_sigmask(signal.SIG_UNBLOCK, [number])  # or else it ends the script behind the next start
     os.kill(os.getpid(), number)
 
 

@@ -219,7 +219,8 @@ def signals(trial: Trial) -> None:
     for name in (signal.SIGINT, signal.SIGTERM, signal.SIGHUP):
         number.unlink(missing_ok=True)
         run = subprocess.Popen(
-            [*trial.words, SYNOP], stdout=subprocess.DEVNULL, stderr=subprocess.PIPE, env={**trial.environment, **slow}
+            [*trial.words, SYNOP], stdout=subprocess.DEVNULL, stderr=subprocess.PIPE, env={**trial.environment, **slow},
+            preexec_fn=lambda: signal.signal(name, signal.SIG_DFL),  # a shell ignores SIGINT for what it runs behind it
         )
         is_begun = wait_until(number.exists)
         run.send_signal(name)
