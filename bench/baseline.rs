@@ -1,5 +1,5 @@
 //! A lister written by hand in plain Rust, to measure `bufr ls` against: it maps the file, looks for
-//! messages 64 octets at once, checks the sections and lays the same lines in one buffer. No proof, no
+//! messages 64 octets at once, checks the sections and writes the same lines into one buffer. No proof, no
 //! stream, no tests: only a yardstick.
 mod by_hand;
 use by_hand::{mapped, Message, Messages, Out, Pen};

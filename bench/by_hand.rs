@@ -1,8 +1,8 @@
 //! What the lister, the dumper and the encoder by hand share: a file that is mapped, the messages in
-//! it, the numbers of section 1, the tables, a list of descriptors laid out, and an output that is put
-//! together in one buffer.
+//! it, the numbers of section 1, the tables, the steps of a list of descriptors, and an output that is
+//! put together in one buffer.
 #![allow(dead_code)] // each of them has no use for some of it
-use std::cell::OnceCell;
+use std::cell::{Cell, OnceCell};
 use std::fs::File;
 use std::io::Write as _;
 use std::mem::ManuallyDrop;
@@ -66,8 +66,8 @@ fn eight_digits(n: u32) -> u64 {
 /// The room that lines are put together in.
 type Room = [u8; HELD + LINE];
 
-/// Where a line is put together. Its place is kept here and not beside the room, so that it can stay in
-/// a register.
+/// Where a line is put together. Its place is its own and not the room's, so that it can be in a
+/// register.
 pub struct Pen<'r> {
     room: &'r mut Room,
     at: usize,
@@ -86,7 +86,7 @@ impl Pen<'_> {
         self.put_first(octets, N);
     }
 
-    /// Puts so many octets that stand in blocks.
+    /// Puts so many octets of some blocks.
     #[inline(always)]
     pub fn put_blocks(&mut self, blocks: &[Block], many: usize) {
         let mut place = self.at;
@@ -118,16 +118,16 @@ impl Pen<'_> {
         }
     }
 
-    /// Puts a number under 100,000,000 in at least so many digits, the last of them behind a point.
+    /// Puts a number under 100,000,000 in at least so many digits, so many of them `after` the point.
     #[inline(always)]
-    fn put_decimal(&mut self, n: u32, behind: u32, least: u32) {
+    fn put_decimal(&mut self, n: u32, after: u32, least: u32) {
         let digits = eight_digits(n);
         let many = (8 - digits.trailing_zeros() / 8).max(least);
         let text = (digits | ZEROS) >> (8 * (8 - many));
-        self.put_first(&text.to_le_bytes(), (many - behind) as usize);
-        if behind > 0 {
+        self.put_first(&text.to_le_bytes(), (many - after) as usize);
+        if after > 0 {
             self.put(b".");
-            self.put_first(&(text >> (8 * (many - behind))).to_le_bytes(), behind as usize);
+            self.put_first(&(text >> (8 * (many - after))).to_le_bytes(), after as usize);
         }
     }
 
@@ -139,15 +139,15 @@ impl Pen<'_> {
             self.at = put_long(self.room, self.at, n.unsigned_abs(), scale);
             return;
         }
-        let behind = scale.max(0) as u32;
-        self.put_decimal(n.unsigned_abs() as u32, behind, behind + 1);
+        let after = scale.max(0) as u32;
+        self.put_decimal(n.unsigned_abs() as u32, after, after + 1);
         if scale < 0 && n != 0 {
             self.put_first(&ZEROS.to_le_bytes(), -scale as usize);
         }
     }
 }
 
-/// Puts the decimal of a number of any size and scale; the place behind it.
+/// Puts the decimal of a number of any size and scale; the place after it.
 #[cold]
 fn put_long(room: &mut Room, at: usize, n: u64, scale: i32) -> usize {
     let mut pen = Pen { room, at };
@@ -203,8 +203,8 @@ impl Out {
     pub fn made(&mut self, put: impl FnOnce(&mut Pen)) -> &[u8] {
         let mut pen = Pen { room: &mut self.room, at: self.at };
         put(&mut pen);
-        let behind = pen.at;
-        &self.room[self.at..behind]
+        let end = pen.at;
+        &self.room[self.at..end]
     }
 
     /// Puts octets of any length.
@@ -267,7 +267,7 @@ fn put_fault(out: &mut Out, offset: usize, text: &str, inside: Option<u8>, rest:
     });
 }
 
-/// A message: its octets with all that stands behind them, and where its sections begin.
+/// A message: its octets with all that come after them, and where its sections begin.
 pub struct Message {
     pub offset: usize,
     pub length: usize,
@@ -370,7 +370,7 @@ impl Message {
 
     /// The numbers of section 1 in the order of a dump's header, from the master table to the second.
     pub fn head(&self) -> [u64; 15] {
-        let s: &[u8; 22] = self.octets[8..].first_chunk().expect("more behind section 1");
+        let s: &[u8; 22] = self.octets[8..].first_chunk().expect("more after section 1");
         let one = |at: usize| u64::from(s[at]);
         let two = |at: usize| u64::from(s[at]) << 8 | u64::from(s[at + 1]);
         if self.edition == 3 {
@@ -386,7 +386,7 @@ impl Message {
         }
     }
 
-    /// Section 3 behind its length.
+    /// Section 3 without its length.
     pub fn subsets(&self) -> usize {
         number(&self.octets[self.three + 4..self.three + 6])
     }
@@ -408,27 +408,27 @@ impl Message {
 
 // ---------------------------------------------------------------- the header of a text
 
-/// What stands before the numbers of a header, from the line feed in front on: 24 octets each, and how
-/// many of them count.
-pub const FRONTS: [([u8; 24], usize); 19] = fronts();
+/// What comes before the numbers of a header, the line feed first: 24 octets each, and how many of them
+/// count.
+pub const KEYS: [([u8; 24], usize); 19] = padded_keys();
 
-const fn fronts() -> [([u8; 24], usize); 19] {
+const fn padded_keys() -> [([u8; 24], usize); 19] {
     let keys = [
         "\nmaster ", "\ncentre ", "\nsubcentre ", "\nupdate ", "\ncategory ", "\nsubcategory ", "\nlocalsubcategory ",
         "\nmasterversion ", "\nlocalversion ", "\nyear ", "\nmonth ", "\nday ", "\nhour ", "\nminute ", "\nsecond ",
         "\nobserved ", "\ncompressed ", "\noptional ", "\nsubsets ",
     ];
-    let mut fronts = [([0; 24], 0); 19];
+    let mut padded = [([0; 24], 0); 19];
     let mut key = 0;
     while key < 19 {
         let text = keys[key].as_bytes();
-        while fronts[key].1 < text.len() {
-            fronts[key].0[fronts[key].1] = text[fronts[key].1];
-            fronts[key].1 += 1;
+        while padded[key].1 < text.len() {
+            padded[key].0[padded[key].1] = text[padded[key].1];
+            padded[key].1 += 1;
         }
         key += 1;
     }
-    fronts
+    padded
 }
 
 // ---------------------------------------------------------------- the tables
@@ -436,13 +436,14 @@ const fn fronts() -> [([u8; 24], usize); 19] {
 /// What a line of an item needs to know of its element.
 pub struct Element {
     /// The descriptor's six digits and a space, the first digit in the lowest octet.
-    pub front: u64,
+    pub fxy: u64,
     /// The comment and the line feed.
     pub comment: Vec<u8>,
     pub blocks: Vec<Block>,
     pub is_text: bool,
     pub scale: i32,
-    pub reference: i64,
+    /// That of the table, or a new one as long as a subset lasts.
+    pub reference: Cell<i64>,
     pub width: u32,
     /// All ones where they are missing; else a number that no field has.
     pub missing: u64,
@@ -488,15 +489,44 @@ fn element(row: &[u8]) -> Element {
     let is_text = f[2].eq_ignore_ascii_case("CCITT IA5");
     let always = is_text || f[0].starts_with("031");
     Element {
-        front: f[0].bytes().rev().fold(b' '.into(), |n, digit| n << 8 | u64::from(digit)),
+        fxy: f[0].bytes().rev().fold(b' '.into(), |n, digit| n << 8 | u64::from(digit)),
         blocks: blocks(&comment),
         comment,
         is_text,
         scale: f[3].parse().expect("a scale"),
-        reference: f[4].parse().expect("a reference"),
+        reference: Cell::new(f[4].parse().expect("a reference")),
         width,
         missing: if always { u64::MAX } else { (1 << width) - 1 },
     }
+}
+
+/// An item. Of a factor the group comes as often as it says. Where `new` is not 0, it is a new reference
+/// of so many bits, that takes the place of `old`.
+pub struct Step<'t> {
+    pub element: &'t Element,
+    /// Whether it is neither of these, nor a text.
+    pub is_number: bool,
+    pub group: Vec<Step<'t>>,
+    pub new: u32,
+    pub old: i64,
+}
+
+impl<'t> Step<'t> {
+    fn of(element: &'t Element, group: Vec<Step<'t>>, new: u32) -> Step<'t> {
+        let is_number = !element.is_text && group.is_empty() && new == 0;
+        Step { element, is_number, group, new, old: element.reference.get() }
+    }
+
+    /// The number of a new reference, whose first bit is the sign.
+    pub fn reference(&self, raw: u64) -> i64 {
+        let sign = 1 << (self.new - 1);
+        if raw & sign == 0 { raw as i64 } else { -((raw ^ sign) as i64) }
+    }
+}
+
+/// Ends a subset: the references are again those of the table.
+pub fn end_subset(steps: &[Step]) {
+    steps.iter().filter(|step| step.new > 0).for_each(|step| step.element.reference.set(step.old));
 }
 
 /// The two tables: rows and members by X and Y, and each element made where it is first met.
@@ -535,34 +565,41 @@ impl Tables {
         self.elements[place].get_or_init(|| Box::new(element(self.rows[place])))
     }
 
-    /// Adds the elements that a list stands for.
-    fn lay<'t>(&'t self, list: &[u16], flat: &mut Vec<&'t Element>) {
-        let mut at = 0;
+    /// Adds the steps of a list.
+    fn add_steps<'t>(&'t self, list: &[u16], steps: &mut Vec<Step<'t>>) {
+        let (mut at, mut new) = (0, 0);
         while at < list.len() {
             let d = list[at];
             at += 1;
             match d >> 14 {
-                0 => flat.push(self.element(d)),
+                0 => steps.push(Step::of(self.element(d), Vec::new(), new)),
                 1 => {
-                    assert!(d & 255 > 0, "no delayed replication");
-                    let group = &list[at..at + usize::from(d >> 8 & 63)];
-                    at += group.len();
-                    (0..d & 255).for_each(|_| self.lay(group, flat));
+                    let delayed = usize::from(d & 255 == 0);
+                    let group = &list[at + delayed..][..usize::from(d >> 8 & 63)];
+                    if delayed == 1 {
+                        steps.push(Step::of(self.element(list[at]), self.steps_of(group), 0));
+                    } else {
+                        (0..d & 255).for_each(|_| self.add_steps(group, steps));
+                    }
+                    at += delayed + group.len();
                 }
-                3 => {
-                    let (from, behind) = self.sequences[usize::from(d & 0x3FFF)];
-                    assert!(from < behind, "a sequence of Table D");
-                    self.lay(&self.members[from as usize..behind as usize], flat);
+                2 => {
+                    assert!(d >> 8 & 63 == 3 && d & 255 > 0, "no operator but 2 03");
+                    new = u32::from(d & 255) % 255;
                 }
-                _ => panic!("no operator"),
+                _ => {
+                    let (from, end) = self.sequences[usize::from(d & 0x3FFF)];
+                    assert!(from < end, "a sequence of Table D");
+                    self.add_steps(&self.members[from as usize..end as usize], steps);
+                }
             }
         }
     }
 
-    /// The elements that a list stands for, laid out.
-    pub fn laid<'t>(&'t self, list: &[u16]) -> Vec<&'t Element> {
-        let mut flat = Vec::new();
-        self.lay(list, &mut flat);
-        flat
+    /// The steps of a list.
+    pub fn steps_of<'t>(&'t self, list: &[u16]) -> Vec<Step<'t>> {
+        let mut steps = Vec::new();
+        self.add_steps(list, &mut steps);
+        steps
     }
 }

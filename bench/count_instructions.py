@@ -5,8 +5,8 @@
     bench/count_instructions.py --update [PROGRAM]    writes the file anew
 
 An item is a line of an element, a message of `ls`, or a stray word. Of these the instructions are less those of the
-same command without input; of "no input" they are those of the whole run. valgrind counts them; without it nothing is
-counted, and that is said.
+same command without input; of "no input" they are those of the whole run. valgrind counts them. Without it nothing is
+counted, and the script prints so.
 """
 import concurrent.futures
 import csv
@@ -24,15 +24,14 @@ from lib import TABLES, finish, program
 FILE = pathlib.Path(__file__).parent / "instructions.csv"
 COLUMNS = ["command", "stream", "instructions"]
 MOST = 1.1
-REPORT = generate.report(4)
 WORDS = b"BUFR\x10\0\0\x04" * 2_000
 STREAMS = {
     "no input": b"",
     "plain": generate.plain(20, 40),
     "compressed": generate.packed(20, 40),
-    "reports": REPORT * 200,
+    "reports": generate.report(4) * 200,
     "compressed reports": generate.packed_reports(200),
-    "lists in turn": generate.lists_in_turn(140),
+    **{name.replace("_", " "): generate.stream(kind) for name, kind in generate.KINDS.items()},
 }
 
 
@@ -42,7 +41,7 @@ def run(words: list, given: bytes) -> bytes:
 
 
 def instructions(words: list, given: bytes) -> int:
-    """The instructions of a run, or the end of the script where valgrind tells none."""
+    """The instructions of a run, or the end of the script where valgrind counts none."""
     with tempfile.NamedTemporaryFile("r") as log, tempfile.TemporaryFile() as stream:
         stream.write(given)
         stream.seek(0)
@@ -58,7 +57,7 @@ def counts() -> dict:
     """The instructions an item by command and stream, and those of a run without input."""
     ls, dump, encode = ([program(), "ls"], [program(), "dump", *TABLES], [program(), "encode", *TABLES])
     texts = {name: run(dump, stream) for name, stream in STREAMS.items()}
-    items = {name: len(re.findall(rb"^[0-9]{6} ", text, re.M)) for name, text in texts.items()}
+    items = {name: len(re.findall(rb"^(?:R )?[0-9]{6} ", text, re.M)) for name, text in texts.items()}
     runs = {("ls", "no input"): (ls, b"", 1), ("ls", "reports"): (ls, STREAMS["reports"], 200)}
     runs |= {("dump", name): (dump, stream, items[name]) for name, stream in STREAMS.items()}
     runs |= {("encode", name): (encode, text, items[name]) for name, text in texts.items()}

@@ -1,11 +1,12 @@
 //! A dumper written by hand in plain Rust, to measure `bufr dump` against: it maps the file and writes
-//! the same text for messages whose templates have elements, fixed replications and sequences, plain or
-//! compressed, of edition 3 or 4. What a template's lines begin and end with stands ready, a template
-//! is kept while the descriptors are the same, and of compressed data a line that all subsets share is
-//! made once. No operators, no section 2, numbers in 64 bits, no check of the data but of their end, no
-//! proof: only a yardstick.
+//! the same text for messages whose templates have elements, replications and sequences, plain or
+//! compressed, of edition 3 or 4. What a template's lines begin and end with is made before, a template
+//! stays while the descriptors are the same, and of compressed data a line that all subsets share is
+//! made once. No operator but 2 03, and in compressed data neither this nor a delayed replication. No
+//! section 2, numbers in 64 bits, no check of the data but of their end, no proof: only a yardstick.
 mod by_hand;
-use by_hand::{blocks, least_first, mapped, number, Block, Element, Message, Messages, Out, Pen, Tables, FRONTS};
+use by_hand::{blocks, end_subset, least_first, mapped, number, KEYS};
+use by_hand::{Block, Element, Message, Messages, Out, Pen, Step, Tables};
 
 /// A field of 1 to 63 bits.
 #[inline(always)]
@@ -22,10 +23,10 @@ fn field(octets: &[u8], at: usize, width: u32) -> u64 {
 /// The same for a wide field, and at the end of the file.
 #[cold]
 fn field_by_octets(octets: &[u8], at: usize, width: u32) -> u64 {
-    let behind = at + width as usize;
-    let octets = octets[at / 8..behind.div_ceil(8)].iter();
+    let end = at + width as usize;
+    let octets = octets[at / 8..end.div_ceil(8)].iter();
     let window = octets.fold(0u128, |n, octet| n << 8 | u128::from(*octet));
-    (window >> ((8 - behind % 8) % 8)) as u64 & ((1 << width) - 1)
+    (window >> ((8 - end % 8) % 8)) as u64 & ((1 << width) - 1)
 }
 
 /// Puts a text of so many octets, which begins at any bit.
@@ -73,37 +74,34 @@ fn put_number(pen: &mut Pen, element: &Element, raw: u64) {
     if raw == element.missing {
         pen.put_first(b"MISSING ", 7);
     } else {
-        pen.put_scaled(raw as i64 + element.reference, element.scale);
+        pen.put_scaled(raw as i64 + element.reference.get(), element.scale);
     }
 }
 
 /// Puts what begins and what ends an item's line around its value.
 #[inline(always)]
 fn put_item(pen: &mut Pen, element: &Element, put_value: impl FnOnce(&mut Pen)) {
-    pen.put_first(&element.front.to_le_bytes(), 7);
+    pen.put_first(&element.fxy.to_le_bytes(), 7);
     put_value(pen);
     pen.put_blocks(&element.blocks, element.comment.len());
 }
 
-/// A list of descriptors, its lines, and the elements that it stands for.
+/// A list of descriptors, its lines and its steps.
 struct Plan<'t> {
     descriptors: &'static [u8],
     lines: Vec<u8>,
-    elements: Vec<&'t Element>,
-    bits: usize,
+    steps: Vec<Step<'t>>,
 }
 
 fn planned<'t>(descriptors: &'static [u8], tables: &'t Tables) -> Plan<'t> {
     let list: Vec<u16> = descriptors.chunks_exact(2).map(|two| number(two) as u16).collect();
-    let elements = tables.laid(&list);
     let mut lines = String::new();
     for eight in list.chunks(8) {
         lines += "descriptors";
         eight.iter().for_each(|d| lines += &format!(" {}{:02}{:03}", d >> 14, d >> 8 & 63, d & 255));
         lines += "\n";
     }
-    let bits = elements.iter().map(|element| element.width as usize).sum();
-    Plan { descriptors, lines: lines.into_bytes(), elements, bits }
+    Plan { descriptors, lines: lines.into_bytes(), steps: tables.steps_of(&list) }
 }
 
 fn put_header(out: &mut Out, message: &Message, plan: &Plan) {
@@ -112,8 +110,8 @@ fn put_header(out: &mut Out, message: &Message, plan: &Plan) {
     out.line(|pen| {
         pen.put(b"message\nedition ");
         pen.put_number(message.edition.into());
-        for ((front, many), value) in FRONTS.iter().zip(message.head().into_iter().chain(flags)) {
-            pen.put_first(front, *many);
+        for ((key, many), value) in KEYS.iter().zip(message.head().into_iter().chain(flags)) {
+            pen.put_first(key, *many);
             pen.put_number(value);
         }
         pen.put(b"\n");
@@ -136,24 +134,48 @@ fn put_subset(out: &mut Out, subset: usize) {
     });
 }
 
-fn put_plain(out: &mut Out, data: &[u8], elements: &[&Element], subsets: usize) {
-    let mut at = 0;
-    for subset in 1..=subsets {
-        put_subset(out, subset);
-        for element in elements {
-            if element.is_text {
-                let many = element.width as usize / 8;
-                out.line(|pen| put_item(pen, element, |pen| put_text(pen, data, at, many)));
-            } else {
-                let raw = field(data, at, element.width);
-                out.line(|pen| put_item(pen, element, |pen| put_number(pen, element, raw)));
-            }
-            at += element.width as usize;
-        }
-    }
+/// Puts a new reference, which holds from now on.
+fn put_reference(out: &mut Out, step: &Step, raw: u64) {
+    let reference = step.reference(raw);
+    step.element.reference.set(reference);
+    out.line(|pen| {
+        pen.put(b"R ");
+        pen.put_first(&step.element.fxy.to_le_bytes(), 7);
+        pen.put_scaled(reference, 0);
+        pen.put(b"\n");
+    });
 }
 
-/// An item of compressed data: what all subsets share, or where the first subset's increment stands.
+/// Puts the items of a subset from a bit on; the bit after them.
+fn put_plain(out: &mut Out, data: &[u8], mut at: usize, steps: &[Step]) -> usize {
+    for step in steps {
+        let element = step.element;
+        if step.new > 0 {
+            put_reference(out, step, field(data, at, step.new));
+            at += step.new as usize;
+        } else if element.is_text {
+            let many = element.width as usize / 8;
+            out.line(|pen| put_item(pen, element, |pen| put_text(pen, data, at, many)));
+            at += element.width as usize;
+        } else {
+            let raw = field(data, at, element.width);
+            out.line(|pen| put_item(pen, element, |pen| put_number(pen, element, raw)));
+            at += element.width as usize;
+            if !step.is_number {
+                at = put_group(out, data, at, &step.group, raw);
+            }
+        }
+    }
+    at
+}
+
+/// Puts a group as often as it comes; the bit after it.
+#[inline(never)]
+fn put_group(out: &mut Out, data: &[u8], at: usize, group: &[Step], times: u64) -> usize {
+    (0..times).fold(at, |at, _| put_plain(out, data, at, group))
+}
+
+/// An item of compressed data: what all subsets share, or where the first subset's increment is.
 struct Column<'t> {
     element: &'t Element,
     shared: Vec<Block>,
@@ -164,11 +186,11 @@ struct Column<'t> {
     missing: u64,
 }
 
-/// The item that stands at a bit, and the bit behind it.
+/// The item at a bit, and the bit after it.
 fn column<'t>(out: &mut Out, data: &[u8], at: usize, element: &'t Element, subsets: usize) -> (Column<'t>, usize) {
-    let behind = at + element.width as usize + 6;
-    let mut step = field(data, behind - 6, 6) as u32 * if element.is_text { 8 } else { 1 };
-    let next = behind + subsets * step as usize;
+    let first = at + element.width as usize + 6;
+    let mut step = field(data, first - 6, 6) as u32 * if element.is_text { 8 } else { 1 };
+    let next = first + subsets * step as usize;
     let base = if element.is_text { 0 } else { field(data, at, element.width) };
     if base == element.missing {
         step = 0;
@@ -182,10 +204,10 @@ fn column<'t>(out: &mut Out, data: &[u8], at: usize, element: &'t Element, subse
         _ => &[],
     };
     let missing = if element.missing == u64::MAX { u64::MAX } else { (1 << step.min(63)) - 1 };
-    (Column { element, shared: blocks(line), many: line.len(), base, at: behind, step, missing }, next)
+    (Column { element, shared: blocks(line), many: line.len(), base, at: first, step, missing }, next)
 }
 
-/// Puts one subset's text of an item, with spaces behind.
+/// Puts one subset's text of an item, with spaces after it.
 fn put_short_text(pen: &mut Pen, data: &[u8], at: usize, many: usize, whole: usize) {
     let mut octets = [b' '; 256];
     for (i, octet) in octets[..many].iter_mut().enumerate() {
@@ -209,12 +231,13 @@ fn put_increased(out: &mut Out, data: &[u8], column: &Column, subset: usize) {
     }
 }
 
-fn put_compressed(out: &mut Out, data: &[u8], most: usize, elements: &[&Element], subsets: usize) {
+fn put_compressed(out: &mut Out, data: &[u8], most: usize, steps: &[Step], subsets: usize) {
     let mut at = 0;
-    let mut columns = Vec::with_capacity(elements.len());
-    for element in elements {
-        assert!(at + element.width as usize + 6 <= most, "data that do not end");
-        let (column, next) = column(out, data, at, element, subsets);
+    let mut columns = Vec::with_capacity(steps.len());
+    for step in steps {
+        assert!(step.is_number || step.element.is_text, "no delayed replication, no new reference");
+        assert!(at + step.element.width as usize + 6 <= most, "data that do not end");
+        let (column, next) = column(out, data, at, step.element, subsets);
         columns.push(column);
         at = next;
     }
@@ -244,10 +267,15 @@ fn main() {
         let (most, subsets) = (8 * (message.section(message.four).len() - 4), message.subsets());
         put_header(&mut out, &message, &plan);
         if message.compressed() {
-            put_compressed(&mut out, data, most, &plan.elements, subsets);
+            put_compressed(&mut out, data, most, &plan.steps, subsets);
         } else {
-            assert!(subsets * plan.bits <= most, "data that do not end");
-            put_plain(&mut out, data, &plan.elements, subsets);
+            let mut at = 0;
+            for subset in 1..=subsets {
+                put_subset(&mut out, subset);
+                at = put_plain(&mut out, data, at, &plan.steps);
+                end_subset(&plan.steps);
+            }
+            assert!(at <= most, "data that do not end");
         }
         out.put_all(b"end\n");
     }

@@ -1,13 +1,13 @@
 //! An encoder written by hand in plain Rust, to measure `bufr encode` against: it maps the text, goes
 //! over it once and writes the same octets for documents as `bufr dump` writes them, whose templates
-//! have elements, fixed replications and sequences, plain or compressed, of edition 3 or 4. A template
-//! is kept while the descriptors are the same, and no document is kept. No operators, no section 2, no
-//! comments between the lines, numbers in 64 bits, no proof, and of bad input it panics: only a
-//! yardstick.
+//! have elements, replications and sequences, plain or compressed, of edition 3 or 4. A template stays
+//! while the descriptors are the same, and no document does. No operator but 2 03, and in compressed
+//! data neither this nor a delayed replication. No section 2, no comments between the lines, numbers in
+//! 64 bits, no proof, and of bad input it panics: only a yardstick.
 mod by_hand;
-use by_hand::{digits, least_first, mapped, word, Element, Out, Tables, FRONTS};
+use by_hand::{digits, end_subset, least_first, mapped, word, Element, Out, Step, Tables, KEYS};
 
-/// What stands in a column for a value that is missing.
+/// What a column has for a value that is missing.
 const MISSING: u64 = u64::MAX;
 
 /// A text, and how far it was read.
@@ -47,12 +47,12 @@ impl Text {
         digits(&rest[..end])
     }
 
-    /// The descriptor of an item, and the space behind it.
+    /// The descriptor of an item, and the space after it.
     #[inline(always)]
     fn item(&mut self, element: &Element) {
         let eight = self.rest().first_chunk().expect("an item");
-        let front = u64::from_le_bytes(*eight);
-        assert!((front ^ element.front) << 8 == 0, "the descriptor that comes next, at {}", self.at);
+        let fxy = u64::from_le_bytes(*eight);
+        assert!((fxy ^ element.fxy) << 8 == 0, "the descriptor that comes next, at {}", self.at);
         self.at += 7;
     }
 
@@ -89,9 +89,9 @@ impl Text {
         }
         assert!(0 < place && place < 19, "a number of 64 bits");
         self.at += place;
-        let behind = if point == usize::MAX { 0 } else { (place - point) as i32 };
-        let n = if behind == element.scale { n } else { scaled(n, behind, element.scale) };
-        let raw = (if is_negative { -n } else { n } - element.reference) as u64;
+        let after = if point == usize::MAX { 0 } else { (place - point) as i32 };
+        let n = if after == element.scale { n } else { scaled(n, after, element.scale) };
+        let raw = (if is_negative { -n } else { n } - element.reference.get()) as u64;
         assert!(raw >> element.width == 0 && raw != element.missing, "in the element's width");
         raw
     }
@@ -137,13 +137,13 @@ impl Text {
     }
 }
 
-/// A number with so many digits behind the point, at another scale.
+/// A number with so many digits after the point, at another scale.
 #[cold]
-fn scaled(mut n: i64, behind: i32, scale: i32) -> i64 {
-    for _ in behind..scale {
+fn scaled(mut n: i64, after: i32, scale: i32) -> i64 {
+    for _ in after..scale {
         n = n.checked_mul(10).expect("64 bits");
     }
-    for _ in scale..behind {
+    for _ in scale..after {
         assert!(n % 10 == 0, "of the element's scale");
         n /= 10;
     }
@@ -211,21 +211,21 @@ fn put_numbers(bits: &mut Bits, values: &[u64], element: &Element) {
     }
 }
 
-/// How many octets tell a text: those before its last spaces, and one more where they read as missing.
+/// How many octets a text needs: those before its last spaces, and one more where they read as missing.
 fn needed(text: &[u8]) -> usize {
-    let told = text.iter().rposition(|octet| *octet != b' ').map_or(0, |last| last + 1);
-    told + usize::from(text[..told].iter().all(|octet| *octet == 255))
+    let many = text.iter().rposition(|octet| *octet != b' ').map_or(0, |last| last + 1);
+    many + usize::from(text[..many].iter().all(|octet| *octet == 255))
 }
 
-/// A compressed item of texts, which stand at these places.
+/// A compressed item of the texts at these places.
 fn put_texts(bits: &mut Bits, text: &mut Text, places: &[u64], element: &Element) {
-    let (behind, whole) = (text.at, element.width as usize / 8);
+    let (next, whole) = (text.at, element.width as usize / 8);
     let mut texts = Vec::with_capacity(whole * places.len());
     for place in places {
         text.at = *place as usize;
         text.quoted(whole, &mut texts);
     }
-    text.at = behind;
+    text.at = next;
     let texts = || texts.chunks_exact(whole);
     let first = texts().next().unwrap_or(&[]);
     if texts().all(|text| text == first) {
@@ -240,23 +240,53 @@ fn put_texts(bits: &mut Bits, text: &mut Text, places: &[u64], element: &Element
     texts().for_each(|text| bits.put_octets(&text[..many]));
 }
 
-/// Puts the items of subsets that are not compressed.
-fn put_plain(bits: &mut Bits, text: &mut Text, elements: &[&Element], subsets: usize) {
-    let mut octets = Vec::new();
-    for subset in 1..=subsets {
-        begin_subset(text, subset);
-        for element in elements {
-            text.item(element);
-            if element.is_text {
-                octets.clear();
-                text.quoted(element.width as usize / 8, &mut octets);
-                bits.put_octets(&octets);
-            } else {
-                let raw = text.raw(element);
-                bits.put(if raw == MISSING { element.missing } else { raw }, element.width);
-            }
-            text.comment(element);
+/// Puts a new reference, which holds from now on.
+fn put_reference(bits: &mut Bits, text: &mut Text, step: &Step) {
+    text.expect(b"R ");
+    text.item(step.element);
+    let sign = u64::from(text.skip(b"-")) << (step.new - 1);
+    let raw = sign | text.number();
+    text.expect(b"\n");
+    step.element.reference.set(step.reference(raw));
+    bits.put(raw, step.new);
+}
+
+/// Puts the items of a subset that is not compressed.
+fn put_plain(bits: &mut Bits, text: &mut Text, steps: &[Step], quoted: &mut Vec<u8>) {
+    for step in steps {
+        if step.is_number {
+            put_number(bits, text, step.element);
+        } else {
+            put_other(bits, text, step, quoted);
         }
+    }
+}
+
+/// Puts a number; what it is.
+#[inline(always)]
+fn put_number(bits: &mut Bits, text: &mut Text, element: &Element) -> u64 {
+    text.item(element);
+    let raw = text.raw(element);
+    bits.put(if raw == MISSING { element.missing } else { raw }, element.width);
+    text.comment(element);
+    raw
+}
+
+/// Puts a new reference, a text, or a factor with its group.
+#[inline(never)]
+fn put_other(bits: &mut Bits, text: &mut Text, step: &Step, quoted: &mut Vec<u8>) {
+    let element = step.element;
+    if step.new > 0 {
+        put_reference(bits, text, step);
+    } else if element.is_text {
+        text.item(element);
+        quoted.clear();
+        text.quoted(element.width as usize / 8, quoted);
+        bits.put_octets(quoted);
+        text.comment(element);
+    } else {
+        let times = put_number(bits, text, element);
+        (0..times).for_each(|_| put_plain(bits, text, &step.group, quoted));
     }
 }
 
@@ -266,12 +296,14 @@ fn begin_subset(text: &mut Text, subset: usize) {
     text.expect(b"\n");
 }
 
-/// Puts the items of compressed subsets: of each item the values stand together, or where they are.
-fn put_compressed(bits: &mut Bits, text: &mut Text, elements: &[&Element], subsets: usize, columns: &mut Vec<u64>) {
-    columns.resize(elements.len() * subsets, 0);
+/// Puts the items of compressed subsets: of each item the values are together, or their places.
+fn put_compressed(bits: &mut Bits, text: &mut Text, steps: &[Step], subsets: usize, columns: &mut Vec<u64>) {
+    let is_known = |step: &Step| step.is_number || step.element.is_text;
+    assert!(steps.iter().all(is_known), "no delayed replication, no new reference");
+    columns.resize(steps.len() * subsets, 0);
     for subset in 0..subsets {
         begin_subset(text, subset + 1);
-        for (at, element) in elements.iter().enumerate() {
+        for (at, &Step { element, .. }) in steps.iter().enumerate() {
             text.item(element);
             columns[at * subsets + subset] = if element.is_text {
                 let place = text.at as u64;
@@ -283,7 +315,7 @@ fn put_compressed(bits: &mut Bits, text: &mut Text, elements: &[&Element], subse
             text.comment(element);
         }
     }
-    for (values, element) in columns.chunks_exact(subsets.max(1)).zip(elements) {
+    for (values, &Step { element, .. }) in columns.chunks_exact(subsets.max(1)).zip(steps) {
         match element.is_text {
             true => put_texts(bits, text, values, element),
             false => put_numbers(bits, values, element),
@@ -301,7 +333,7 @@ fn even(edition: u8, many: usize) -> usize {
     if edition == 3 { many + many % 2 } else { many }
 }
 
-/// Section 1 behind its length and before its local use.
+/// Section 1 without its length and its local use.
 fn put_head(out: &mut Vec<u8>, edition: u8, values: &[u64; 19]) {
     let one = |at: usize| u8::try_from(values[at]).expect("an octet");
     let two = |at: usize| u16::try_from(values[at]).expect("two octets").to_be_bytes();
@@ -319,8 +351,8 @@ fn put_head(out: &mut Vec<u8>, edition: u8, values: &[u64; 19]) {
     }
 }
 
-/// All that stands before the data, with the lengths that come of their octets.
-fn put_front(out: &mut Vec<u8>, edition: u8, values: &[u64; 19], local: &[u8], list: &[u16], data: usize) {
+/// All that comes before the data, with the lengths that come of their octets.
+fn put_head_sections(out: &mut Vec<u8>, edition: u8, values: &[u64; 19], local: &[u8], list: &[u16], data: usize) {
     assert!(edition == 3 || edition == 4, "edition 3 or 4");
     let first = least_first(edition) + local.len();
     let (third, fourth) = (even(edition, 7 + 2 * list.len()), even(edition, 4 + data));
@@ -330,13 +362,13 @@ fn put_front(out: &mut Vec<u8>, edition: u8, values: &[u64; 19], local: &[u8], l
     out.extend(three(first));
     put_head(out, edition, values);
     out.extend(local);
-    let behind = out.len() + third;
+    let end = out.len() + third;
     out.extend(three(third));
     out.push(0);
     out.extend((values[18] as u16).to_be_bytes());
     out.push((values[15] << 7 | values[16] << 6) as u8);
     out.extend(list.iter().flat_map(|d| d.to_be_bytes()));
-    out.resize(behind, 0);
+    out.resize(end, 0);
     out.extend(three(fourth));
     out.push(0);
 }
@@ -346,11 +378,11 @@ fn hex(digits: &[u8]) -> impl Iterator<Item = u8> + '_ {
     digits.chunks(2).map(|two| u8::from_str_radix(std::str::from_utf8(two).expect("digits"), 16).expect("digits"))
 }
 
-/// The descriptors that lines of them say, and the elements that they stand for.
+/// The descriptors that lines of them say, and their steps.
 struct Plan<'t> {
     lines: &'static [u8],
     list: Vec<u16>,
-    elements: Vec<&'t Element>,
+    steps: Vec<Step<'t>>,
 }
 
 /// Reads the lines of descriptors; where they are those of the plan it stays.
@@ -365,20 +397,21 @@ fn read_plan<'t>(text: &mut Text, tables: &'t Tables, plan: &mut Plan<'t>) {
         plan.list.extend(text.line().split(|octet| *octet == b' ').map(word));
     }
     plan.lines = &text.octets[from..text.at];
-    plan.elements = tables.laid(&plan.list);
+    plan.steps = tables.steps_of(&plan.list);
 }
 
 fn encode(octets: &'static [u8], tables: &Tables) {
     let mut out = Out::to(1);
     let mut text = Text { octets, at: 0 };
-    let mut plan = Plan { lines: b"none", list: Vec::new(), elements: Vec::new() };
-    let (mut local, mut front, mut bits, mut columns) = (Vec::new(), Vec::new(), Bits::default(), Vec::new());
+    let mut plan = Plan { lines: b"none", list: Vec::new(), steps: Vec::new() };
+    let (mut local, mut head, mut quoted, mut columns) = (Vec::new(), Vec::new(), Vec::new(), Vec::new());
+    let mut bits = Bits::default();
     while text.at < octets.len() {
         text.expect(b"message\nedition ");
         let edition = text.number() as u8;
         let mut values = [0; 19];
-        for (value, (front, many)) in values.iter_mut().zip(&FRONTS) {
-            text.expect(&front[..*many]);
+        for (value, (key, many)) in values.iter_mut().zip(&KEYS) {
+            text.expect(&key[..*many]);
             *value = text.number();
         }
         text.expect(b"\n");
@@ -389,16 +422,20 @@ fn encode(octets: &'static [u8], tables: &Tables) {
         read_plan(&mut text, tables, &mut plan);
         bits.octets.clear();
         match values[16] {
-            0 => put_plain(&mut bits, &mut text, &plan.elements, values[18] as usize),
-            _ => put_compressed(&mut bits, &mut text, &plan.elements, values[18] as usize, &mut columns),
+            0 => (1..=values[18] as usize).for_each(|subset| {
+                begin_subset(&mut text, subset);
+                put_plain(&mut bits, &mut text, &plan.steps, &mut quoted);
+                end_subset(&plan.steps);
+            }),
+            _ => put_compressed(&mut bits, &mut text, &plan.steps, values[18] as usize, &mut columns),
         }
         text.expect(b"end\n");
         bits.end();
         let many = bits.octets.len();
         bits.octets.resize(even(edition, many), 0);
-        front.clear();
-        put_front(&mut front, edition, &values, &local, &plan.list, many);
-        out.put_all(&front);
+        head.clear();
+        put_head_sections(&mut head, edition, &values, &local, &plan.list, many);
+        out.put_all(&head);
         out.put_all(&bits.octets);
         out.put_all(b"7777");
     }

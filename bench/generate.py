@@ -1,116 +1,208 @@
 #!/usr/bin/env python3
 """Writes the streams that measure.py times, into the folder that is named.
 
-Each stream is made again only where it is missing. Sizes are in octets.
+Each stream is made again only where it is missing. Sizes are in octets. A `Kind` says what its messages are like.
 """
+import argparse
+import csv
+import functools
 import pathlib
 import random
 import sys
+from typing import NamedTuple
 
 sys.path.insert(0, str(pathlib.Path(__file__).resolve().parent.parent / "tests"))
 
-from lib import Bits, message, words
+from lib import TABLES, Bits, asking, message, words
 
-# five elements that every version of WMO's Table B has, with their widths: a hundred times a subset
+
+class Kind(NamedTuple):
+    """What the messages of a stream are like."""
+
+    lists: list  # of descriptors, which come in turn
+    subsets: int = 1  # of a message
+    messages: int = 1
+    is_packed: bool = False
+    missing: float = 0  # the share of the items that no subset of a message has
+    alike: float = 0  # the share of those that all have with the same value
+
+
+class Item(NamedTuple):
+    """A field of the data. Of a factor and of a new reference the value is fixed."""
+
+    width: int
+    is_text: bool = False
+    fixed: int | None = None
+
+
+def rows(file: str) -> list:
+    """The rows of a table."""
+    with open(file, encoding="utf-8", newline="") as table:
+        return list(csv.DictReader(table))
+
+
+VERSION = int(pathlib.Path(TABLES[1]).parent.name.removeprefix("wmo-"))
+ELEMENTS = {row["fxy"]: Item(int(row["width"]), row["unit"] == "CCITT IA5") for row in rows(TABLES[1])}
+MEMBERS: dict = {}
+for row in rows(TABLES[3]):
+    MEMBERS.setdefault(row["fxy"], []).append(row["member"])
+
+
+@functools.cache
+def items_of(descriptors: str) -> list:
+    """The items of a list of descriptors. A delayed group comes once or twice. The one operator is 2 03."""
+    todo, items, new_width = descriptors.split(), [], 0
+    while todo:
+        first = todo.pop(0)
+        f, x, y = int(first[0]), int(first[1:3]), int(first[3:])
+        if f == 3:
+            todo[:0] = MEMBERS[first]
+        elif f == 2:
+            assert x == 3, first
+            new_width = y % 255
+        elif f == 1:
+            if y == 0:
+                factor = ELEMENTS[todo.pop(0)]
+                y = min(2, factor.width)
+                items.append(factor._replace(fixed=y))
+            todo[:x] = todo[:x] * y
+        elif new_width:
+            items.append(Item(new_width, fixed=1 << new_width - 1 | y))
+        else:
+            items.append(ELEMENTS[first])
+    return items
+
+
+def has_operator(descriptor: str) -> bool:
+    """Whether an operator is among the members of a descriptor, or is it."""
+    return descriptor[0] == "2" or any(has_operator(member) for member in MEMBERS.get(descriptor, []))
+
+
+# five elements that every version of WMO's Table B has
 FIVE = "012101 010004 011001 011002 020003"
-WIDTHS = (16, 14, 9, 12, 9)
+# the elements that get new references, and the lists of one sequence each
+FORTY = " ".join([element for element in ELEMENTS if element.startswith("012")][:40])
+SEQUENCES = [it for it in MEMBERS if not has_operator(it) and 20 <= len(items_of(it)) <= 200]
 
 
-def value(subset: int, item: int, width: int) -> int:
+def turned(turn: int) -> str:
+    """One of 14 lists of 100 of the five elements."""
+    elements = FIVE.split()
+    order = (elements[turn % 5 :] + elements[: turn % 5]) * (1, 2, 4)[turn // 5]
+    return f"1{len(order):02}{100 // len(order):03} {' '.join(order)}"
+
+
+# README.md has what of these is in numbers, beside real messages. Each is a row of instructions.csv.
+KINDS = {
+    "half_missing": Kind(["307080"], 8, 10, missing=0.52),
+    "mostly_alike": Kind(["312071"], 128, 1, True, missing=0.31, alike=0.41),
+    "all_missing": Kind([f"001015 005001 006001 {FIVE}"], 1_000, missing=1),
+    "compressed_all_missing": Kind([f"108005 001015 005001 006001 {FIVE}"], 640, 1, True, missing=1),
+    "texts": Kind(["106005 001015 001019 001011 001063 001096 025061"], 300),
+    "new_references": Kind([f"203016 {FORTY} 203255 140004 {FORTY}"], 1, 40),
+    "twelve_lists": Kind([f"3070{y}" for y in (71, 73, 76, 78, 79, 80, 81, 82, 83, 86, 87, 90)], 2, 36, missing=0.05),
+    "lists_in_turn": Kind([turned(turn) for turn in range(14)], 1, 140),
+    "hundred_lists": Kind(SEQUENCES[:100], 2, 300, missing=0.05),
+}
+
+
+def value(item: Item, place: int, subset: int):
     """A value that changes a little from subset to subset; each 50th is missing."""
-    if (subset + item) % 50 == 0:
-        return (1 << width) - 1
-    return (1 << width - 1) + (subset * 7 + item * 13) % 60
+    number = 7 * subset + 13 * place
+    if item.fixed is not None or (subset + place) % 50 == 0:
+        return item.fixed
+    if item.is_text:
+        return (b"%d STATION" % number)[: item.width // 8].rstrip()
+    return ((1 << item.width - 1) + number % 60) % ((1 << item.width) - 1)
 
 
-def plain(subsets: int, times: int) -> bytes:
-    bits = Bits()
-    for subset in range(subsets):
-        for item in range(5 * times):
-            bits.put(value(subset, item, WIDTHS[item % 5]), WIDTHS[item % 5])
-    return message(bits.octets(), words(f"105{times:03} {FIVE}"), subsets)
+def column(kind: Kind, item: Item, place: int, subsets: range) -> list:
+    """The values of an item in all subsets. Items that are missing or alike are neighbours: four at a time."""
+    share = (place // 4 + 1) * 0.618034 % 1  # multiples of the golden ratio are spread evenly from 0 to 1
+    if share < kind.missing and item.fixed is None:
+        return [None] * kind.subsets
+    if share < kind.missing + kind.alike:
+        return [value(item, place, subsets[0])] * kind.subsets
+    return [value(item, place, subset) for subset in subsets]
 
 
-def packed(subsets: int, times: int) -> bytes:
-    bits = Bits()
-    for item in range(5 * times):
-        width = WIDTHS[item % 5]
-        bits.put(1 << width - 1, width)
-        bits.put(6, 6)
-        for subset in range(subsets):
-            there = value(subset, item, width)
-            bits.put(63 if there == (1 << width) - 1 else there - (1 << width - 1), 6)
-    return message(bits.octets(), words(f"105{times:03} {FIVE}"), subsets, 0xC0)
-
-
-def lists_in_turn(messages: int) -> bytes:
-    """Messages of 100 items each, which have 14 lists of descriptors in turn."""
-    made, elements = [], FIVE.split()
-    for number in range(messages):
-        turn, bits = number % 14, Bits()
-        order = [(turn + place) % 5 for place in range(5)] * (1, 2, 4)[turn // 5]
-        for item in range(100):
-            width = WIDTHS[order[item % 5]]
-            bits.put(value(number, item, width), width)
-        replication = f"1{len(order):02}{100 // len(order):03}"
-        made.append(message(bits.octets(), words(" ".join([replication, *(elements[place] for place in order)]))))
+def stream(kind: Kind) -> bytes:
+    """The messages of a kind. They ask for the version of the tables."""
+    made = []
+    for number in range(kind.messages):
+        descriptors, first = kind.lists[number % len(kind.lists)], number * kind.subsets
+        subsets = range(first, first + kind.subsets)
+        columns = [column(kind, item, place, subsets) for place, item in enumerate(items_of(descriptors))]
+        made.append(asking(built(descriptors, columns, kind.is_packed), VERSION))
     return b"".join(made)
 
 
-def pack_numbers(bits: Bits, values: list, width: int) -> None:
-    """A compressed item of numbers, `None` where they are missing."""
+def raw(value, width: int) -> int:
+    """What a field of some bits has: of a missing value ones, of a text its octets and spaces."""
+    if value is None:
+        return (1 << width) - 1
+    return int.from_bytes(value.ljust(width // 8), "big") if isinstance(value, bytes) else value
+
+
+def pack(bits: Bits, values: list, width: int) -> None:
+    """Puts a compressed item, with the shortest increments."""
     there = [value for value in values if value is not None]
-    base = min(there, default=(1 << width) - 1)
-    k = 0 if not there or set(values) == {base} else (max(there) - base + 1).bit_length()
+    if all(value == values[0] for value in values):
+        bits.put(raw(values[0], width), width)
+        bits.put(0, 6)
+        return
+    if isinstance(there[0], bytes):
+        base, step = 0, max(map(len, there))
+        step_bits = 8 * step
+    else:
+        base, step = min(there), (max(there) - min(there) + 1).bit_length()
+        values, step_bits = [value if value is None else value - base for value in values], step
     bits.put(base, width)
-    bits.put(k, 6)
-    for value in values if k else []:
-        bits.put((1 << k) - 1 if value is None else value - base, k)
+    bits.put(step, 6)
+    for value in values:
+        bits.put(raw(value, step_bits), step_bits)
 
 
-def pack_texts(bits: Bits, texts: list, octets: int) -> None:
-    """A compressed item of texts that differ."""
-    k = max(len(text) for text in texts)
-    bits.put(0, 8 * octets)
-    bits.put(k, 6)
-    for text in texts:
-        bits.put(int.from_bytes(text.ljust(k), "big"), 8 * k)
+def built(descriptors: str, columns: list, is_packed: bool = False, edition: int = 4) -> bytes:
+    """A message of the values of each item in all subsets."""
+    bits, widths = Bits(), [item.width for item in items_of(descriptors)]
+    if is_packed:
+        for values, width in zip(columns, widths):
+            pack(bits, values, width)
+    else:
+        for subset in zip(*columns):
+            for value, width in zip(subset, widths):
+                bits.put(raw(value, width), width)
+    return message(bits.octets(), words(descriptors), len(columns[0]), 0xC0 if is_packed else 0x80, edition)
+
+
+def plain(subsets: int, times: int, is_packed: bool = False) -> bytes:
+    """A message of the five elements, so many times a subset."""
+    return stream(Kind([f"105{times:03} {FIVE}"], subsets, is_packed=is_packed))
+
+
+def packed(subsets: int, times: int) -> bytes:
+    """The same, compressed."""
+    return plain(subsets, times, True)
+
+
+def report(edition: int) -> bytes:
+    """A short report: a station's numbers and name, a time, a place, four measurements."""
+    descriptors = f"001001 001002 001015 004001 004002 004003 004004 004005 005001 006001 {FIVE}"
+    values = [10, 381, b"BERLIN-DAHLEM", 2024, 1, 2, 6, 0, 142500, 193100, 28815, 10132, 270, 53, None]
+    return built(descriptors, [[value] for value in values], edition=edition)
 
 
 def packed_reports(subsets: int) -> bytes:
     """Short reports, compressed: half of the items are the same in all, some are texts, some are missing."""
-    bits, stations = Bits(), range(subsets)
-    pack_numbers(bits, [n // 100 for n in stations], 7)
-    pack_numbers(bits, [n * 5 for n in stations], 10)
-    pack_texts(bits, [b"STATION \\%d\\" % (n * n) for n in stations], 20)
-    bits.put(int.from_bytes(b"EDDB    ", "big"), 64)
-    bits.put(0, 6)
-    bits.put((1 << 72) - 1, 72)
-    bits.put(0, 6)
-    for number, width in [(2024, 12), (1, 4), (2, 6), (6, 5), (0, 6)]:
-        pack_numbers(bits, [number] * subsets, width)
-    pack_numbers(bits, [142500 + 2000 * n for n in stations], 25)
-    pack_numbers(bits, [193100 + 3000 * n for n in stations], 26)
-    for item, width in enumerate(WIDTHS):
-        values = [value(n, item, width) for n in stations]
-        pack_numbers(bits, [None if v == (1 << width) - 1 else v for v in values], width)
-    descriptors = "001001 001002 001015 001063 001011 004001 004002 004003 004004 004005 005001 006001 " + FIVE
-    return message(bits.octets(), words(descriptors), subsets, 0xC0)
-
-
-def report(edition: int) -> bytes:
-    """A short report: a station's numbers and name, a place, a time, four measurements."""
-    bits = Bits()
-    for number, width in [(10, 7), (381, 10)]:
-        bits.put(number, width)
-    for octet in b"BERLIN-DAHLEM".ljust(20):
-        bits.put(octet, 8)
-    for number, width in [(2024, 12), (1, 4), (2, 6), (6, 5), (0, 6), (142500, 25), (193100, 26)]:
-        bits.put(number, width)
-    for number, width in zip((28815, 10132, 270, 53, 511), WIDTHS):
-        bits.put(number, width)
-    descriptors = words("001001 001002 001015 004001 004002 004003 004004 004005 005001 006001 " + FIVE)
-    return message(bits.octets(), descriptors, edition=edition)
+    descriptors = f"001001 001002 001015 001063 001011 004001 004002 004003 004004 004005 005001 006001 {FIVE}"
+    stations = range(subsets)
+    names = [b"STATION \\%d\\" % (n * n) for n in stations]
+    same = [[one] * subsets for one in (b"EDDB", None, 2024, 1, 2, 6, 0)]
+    places = [[142500 + 2000 * n for n in stations], [193100 + 3000 * n for n in stations]]
+    measured = [[value(item, place, n) for n in stations] for place, item in enumerate(items_of(FIVE))]
+    columns = [[n // 100 for n in stations], [n * 5 for n in stations], names, *same, *places, *measured]
+    return built(descriptors, columns, True)
 
 
 def repeated(piece: bytes, times: int):
@@ -143,13 +235,13 @@ def streams():
         # the word every eight octets, each with a stated length of 1 MB, so that nothing is decided at once
         "hostile": lambda: repeated(b"BUFR\x10\x00\x00\x04", 6_000_000),
         # For `dump`: short reports in each edition, and compressed 200 together. Then 1,000 subsets of 500 elements,
-        # plain and compressed, and messages of 100 elements with 14 lists of descriptors in turn.
+        # plain and compressed, and the streams of each kind.
         "dump_reports": lambda: repeated(report(4), 100_000),
         "dump_reports_3": lambda: repeated(report(3), 100_000),
         "dump_packed_reports": lambda: repeated(packed_reports(200), 1_000),
         "dump_plain": lambda: repeated(plain(1000, 100), 10),
         "dump_packed": lambda: repeated(packed(1000, 100), 10),
-        "dump_lists": lambda: repeated(lists_in_turn(700), 40),
+        **{f"dump_{name}": lambda kind=kind: repeated(stream(kind), 100) for name, kind in KINDS.items()},
     }
 
 
@@ -165,4 +257,6 @@ def write_streams(folder: pathlib.Path) -> None:
 
 
 if __name__ == "__main__":
-    write_streams(pathlib.Path(sys.argv[1]))
+    asker = argparse.ArgumentParser(description=__doc__, formatter_class=argparse.RawDescriptionHelpFormatter)
+    asker.add_argument("folder", type=pathlib.Path)
+    write_streams(asker.parse_args().folder)

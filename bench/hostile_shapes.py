@@ -4,8 +4,8 @@ large.
 
     bench/hostile_shapes.py [PROGRAM]        crates/bufr/out/bufr by default
 
-It prints a table in Markdown; measure.py prints it too. A shape whose seconds grow faster than its octets is told with a
-`!`. The tables and streams lie in bench/out/shapes; the tables hold 12,000 elements and 15 sequences of their own.
+It prints a table in Markdown; measure.py prints it too. A shape whose seconds grow faster than its octets is marked with a
+`!`. The tables and streams are in bench/out/shapes; the tables hold 12,000 elements and 15 sequences of their own.
 Outside the gate: it wants Linux, python3 and GNU time.
 """
 import os
@@ -106,7 +106,7 @@ def template(times: int) -> bytes:
 
 
 def expanded(times: int) -> bytes:
-    """100 messages of 47 octets, each with one descriptor that stands for 32,768, and no subsets"""
+    """100 messages of 47 octets, each with one descriptor in place of 32,768, and no subsets"""
     return listed([3 << 14 | 60 << 8 | 1], b"", 0) * (100 * times)
 
 
@@ -152,7 +152,7 @@ def encoded(times: int) -> bytes:
 SHAPES = (references, redefinitions, subsets, dropped, items, template, expanded, encoded, together)
 
 
-def told(words: list) -> tuple:
+def measured(words: list) -> tuple:
     """The least processor seconds of some runs, and the KiB that one had resident at most."""
     seconds = []
     for _ in range(RUNS):
@@ -173,7 +173,7 @@ def row(program: str, words: tuple, shape) -> str:
         if not path.exists():
             path.write_bytes(shape(times))
         command = "encode" if shape is encoded else "dump"
-        least, kib = told([program, command, *words, str(path)])
+        least, kib = measured([program, command, *words, str(path)])
         octets.append(path.stat().st_size)
         seconds.append(least)
         resident.append(kib)

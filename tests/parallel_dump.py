@@ -5,7 +5,7 @@
 
 The made stream has headings, strays, and messages that are refused for their sections or their data. A word in it states
 more octets than its part has. It is given as one file, as three files cut inside a message, and over a pipe, to one
-to five processes. As many dumps run at once as are asked for, and need at most twice the processor time of one.
+to five processes. As many dumps run at once as are asked for, and no octet is dumped twice.
 """
 import os
 import pathlib
@@ -137,23 +137,24 @@ def runs_as_many_as_asked(program: str, folder: pathlib.Path) -> None:
     want(most == 3, f"{most} processes at once, not 3")
 
 
-def needs_at_most_twice_the_time(program: str, folder: pathlib.Path) -> None:
+def reads_each_octet_once(program: str, folder: pathlib.Path) -> None:
+    """The stream is listed once, and no octet of it is dumped twice: so its work is that of one process, and a listing."""
+    (folder / "counting").write_text(
+        f'#!/bin/sh\ncat > $$.part\nwc -c < $$.part >> "$1.octets"\nexec {program} "$@" < $$.part\n'
+    )
+    (folder / "counting").chmod(0o755)
     report = lib.message(bytes(range(250)) * 40, lib.words("101250 012101 101250 012101"), 10)
-    path = folder / "long.bufr"
-    path.write_bytes(report * 2000)
-    commands = [[*PARALLEL, "-P", "4", "dump", *TABLES, path], [program, "dump", *TABLES, path], [program, "ls", path]]
-    rounds = []
-    for _ in range(10):
-        rounds.append([])
-        for words in [*commands, [sys.executable, "-c", "pass"]]:
-            with (folder / "output").open("wb") as output:
-                rounds[-1].append(lib.seconds_of(words, stdout=output))
-        four, one, listing, nothing = map(min, zip(*rounds))
-        if four <= 2 * (one + listing + nothing):
-            break
-    told = f"processor time of four processes {four:.2f} s, of one {one:.2f} s for {path.stat().st_size >> 20} MB"
-    print(f"parallel_dump: {told}")
-    want(four <= 2 * (one + listing + nothing), f"over twice the time: {told}")
+    stream = report * 500 + made_stream() + report * 500
+    (folder / "long.bufr").write_bytes(stream)
+    environment = {**os.environ, "BUFR": str(folder / "counting")}
+    status, output, _ = run([*PARALLEL, "-P", "4", "dump", *TABLES, "long.bufr"], cwd=folder, env=environment)
+    want((status, output) == run([program, "dump", *TABLES, folder / "long.bufr"])[:2], "a long stream is not as by one")
+    listed, dumped = (
+        [int(octets) for octets in (folder / f"{name}.octets").read_text().split()] for name in ("ls", "dump")
+    )
+    want(listed == [len(stream)], f"of {len(stream)} octets {listed} are listed")
+    want(len(report) * 1000 <= sum(dumped) <= len(stream), f"of {len(stream)} octets {dumped} are dumped")
+    want(len(dumped) > 4, f"{len(dumped)} parts for four processes")
 
 
 def main() -> None:
@@ -163,7 +164,7 @@ def main() -> None:
         same_as_one_run(program, pathlib.Path(place))
         tells_what_fails(program, pathlib.Path(place))
         runs_as_many_as_asked(program, pathlib.Path(place))
-        needs_at_most_twice_the_time(program, pathlib.Path(place))
+        reads_each_octet_once(program, pathlib.Path(place))
 
 
 if __name__ == "__main__":

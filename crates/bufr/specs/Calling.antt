@@ -1,9 +1,9 @@
 -- What the process does with its words. (a choice of this project)
 -- Cited by public contracts.
-use Rattle.std.specs.Prelude.{◌≡◌, ◌⊎◌, ℕ, List, None, codes}
+use Rattle.std.specs.Prelude.{◌≡◌, ◌⊎◌, ℕ, List, codes}
 use Rattle.std.specs.Borrow.{Bor}
 use Rattle.bufr_frame.specs.declared.fault.RunFault.TheVariants.{Memory}
-use Rattle.bufr_cli.specs.Prelude.{Writers, WritesLine, last_line, status_of, known, RunsProgram}
+use Rattle.bufr_cli.specs.Prelude.{Known, Writers, WritesLine, last_line, status_of, RunsProgram}
 use Rattle.bufr_cli.specs.declared.outcome.Outcome.{Outcome}
 use Rattle.bufr_cli.specs.declared.outcome.Outcome.TheVariants.{Usage, Run}
 
@@ -14,12 +14,12 @@ IsWordless outcome =
     × (text.now ≡ codes "error: an argument is not UTF-8\n"))
 
 -- What the process does with its words, whichever they are: what a call of the program with them
--- comes to, of whose inputs nothing is known; or they cannot be had, and the last line and the
--- status say so, with no output.
+-- comes to; or they cannot be had, and the last line and the status say so, with no output.
 -- rule: argument-not-utf-8
-pub data RunsArguments (before after : Writers) (status : ℕ) : Type 0 where
-  Calls : (words : List (List ℕ)) → RunsProgram words (known None (λ _. None)) before after status
-      → RunsArguments before after status
+pub data RunsArguments {Standard File : Type 0} (inputs : Known Standard File)
+    (before after : Writers) (status : ℕ) : Type 0 where
+  Calls : (words : List (List ℕ)) → RunsProgram words inputs before after status
+      → RunsArguments inputs before after status
   NoWords : (outcome : Outcome) → IsWordless outcome → after.output ≡ before.output
       → WritesLine before.errors after.errors (last_line outcome) → status ≡ status_of outcome
-      → RunsArguments before after status
+      → RunsArguments inputs before after status

@@ -11,12 +11,12 @@
 #![tactic(auto)]
 
 ghost use Rattle.bufr.specs.Calling.{IsWordless, RunsArguments};
-ghost use Rattle.bufr_cli.specs.Prelude.{writers_of};
+ghost use Rattle.bufr_cli.specs.Prelude.{input_of, known, writers_of};
 
 mod process;
 
 use bufr_bits::{Device, Sink};
-use bufr_cli::{BUFFERED, Buffered, Outcome, finish, run};
+use bufr_cli::{BUFFERED, Buffered, Inputs, Outcome, finish, run};
 use bufr_frame::RunFault;
 use process::Process;
 use std::io::{BufWriter, Error, ErrorKind};
@@ -38,7 +38,10 @@ fn status(rt: &HostRuntime) -> u8 {
     };
     let mut e = Device::new(Buffered::new(errors));
     let status = match BufWriter::with_capacity(rt.alloc(), BUFFERED, rt.stdout()) {
-        Ok(output) => run_words(rt, &mut Device::new(Buffered::new(output)), &mut e),
+        Ok(output) => {
+            let inputs = Process { runtime: rt };
+            run_words(rt, &inputs, &mut Device::new(Buffered::new(output)), &mut e)
+        }
         Err(_) => finish(&Outcome::Run(RunFault::Memory), &mut e),
     };
     let _ = e.flush();
@@ -57,17 +60,18 @@ fn argument_fault(error: &Error) -> Outcome<'static>
     }
 }
 
-/// Runs the words of the command line.
-fn run_words<W: Sink, E: Sink>(rt: &HostRuntime, w: &mut W, e: &mut E) -> u8
-    ensures { RunsArguments (writers_of W.Sink w.old E.Sink e.old)
-        (writers_of W.Sink w.new E.Sink e.new) result }
+/// Runs the words of the command line over these inputs.
+fn run_words<I: Inputs, W: Sink, E: Sink>(rt: &HostRuntime, inputs: &I, w: &mut W, e: &mut E) -> u8
+    ensures { RunsArguments (known (I.standard_octets inputs.now) (I.file_octets inputs.now)
+        (input_of I.Standard.Source) (input_of I.File.Source))
+        (writers_of W.Sink w.old E.Sink e.old) (writers_of W.Sink w.new E.Sink e.new) result }
 {
     let words: Result<Vec<String>, _> = match std::env::args(rt) {
         Ok(words) => words.collect(rt.alloc()),
         Err(error) => return finish(&argument_fault(&error), e),
     };
     match words {
-        Ok(words) => run(rt.alloc(), words.as_slice(), &Process { runtime: rt }, w, e),
+        Ok(words) => run(rt.alloc(), words.as_slice(), inputs, w, e),
         Err(_) => finish(&Outcome::Run(RunFault::Memory), e),
     }
 }

@@ -1,7 +1,9 @@
 //! The process as the program's inputs.
-use bufr_cli::{CannotOpenFile, Inputs};
+use bufr_bits::BufferedDevice;
+use bufr_cli::{BUFFERED, Inputs, OpenFault};
+use std::alloc::AllocError;
 use std::fs::{self, File};
-use std::io::Stdin;
+use std::io::{BufReader, Stdin};
 
 /// The inputs of the process: its standard input, and files by their names. Nothing is known of
 /// their octets before they are read.
@@ -14,22 +16,29 @@ pub struct Process<'a> {
 impl<'a> Inputs for Process<'a> {
     ghost use Rattle.std.specs.Prelude.{None};
 
-    type Standard = Stdin;
+    type Standard = BufferedDevice<Stdin>;
 
-    type File = File;
+    type File = BufferedDevice<File>;
 
     ghost standard_octets = { λ _. None };
 
     ghost file_octets = { λ _ _. None };
 
-    fn standard(&self) -> Stdin {
-        self.runtime.stdin()
+    fn standard(&self) -> Result<BufferedDevice<Stdin>, AllocError> {
+        let stdin = self.runtime.stdin();
+        match BufReader::with_capacity(self.runtime.alloc(), BUFFERED, stdin) {
+            Ok(reader) => Ok(BufferedDevice::new(reader)),
+            Err(_) => Err(AllocError),
+        }
     }
 
-    fn open(&self, name: &str) -> Result<File, CannotOpenFile> {
-        match fs::open(self.runtime, name) {
-            Ok(file) => Ok(file),
-            Err(_) => Err(CannotOpenFile),
+    fn open(&self, name: &str) -> Result<BufferedDevice<File>, OpenFault> {
+        let Ok(file) = fs::open(self.runtime, name) else {
+            return Err(OpenFault::CannotOpen);
+        };
+        match BufReader::with_capacity(self.runtime.alloc(), BUFFERED, file) {
+            Ok(reader) => Ok(BufferedDevice::new(reader)),
+            Err(_) => Err(OpenFault::Memory),
         }
     }
 }

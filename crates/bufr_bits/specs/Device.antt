@@ -1,4 +1,4 @@
--- What a device has counted: failures, empty writes and failed flushes, each up to the greatest u64.
+-- What a device has counted: calls, octets asked for, failures, each up to the greatest u64.
 -- Cited by public contracts.
 use Rattle.std.specs.Prelude.{true, ℕ, zero, suc, ◌+◌, ◌-◌, ◌^◌, min, max, Bool, false, List, [], ◌∷◌, Result, Ok, Err}
 use Rattle.bufr_bits.specs.declared.device.Device.{Device}
@@ -10,6 +10,7 @@ fresh_device inner =
       inner = inner;
       failures = 0;
       reads = 0;
+      asked = 0;
       empty_writes = 0;
       failed_flushes = 0;
       all_flushed = true;

@@ -14,9 +14,9 @@ pub struct Failed;
 
 /// A reader of octets that counts its calls.
 ///
-/// Its contract speaks of three values that no code holds: the octets that are left, where they
-/// are known, how many calls failed, and how many were made. Both counts stop at the greatest
-/// `u64`.
+/// Its contract speaks of values that no code holds: the octets that are left, where they are
+/// known, how many calls failed, how many were made, and for how many octets they asked. The
+/// counts stop at the greatest `u64`.
 pub trait Source {
     /// The octets that reads will give from here on, where they are known.
     ghost left: { Self → Option (List ℕ) };
@@ -26,6 +26,9 @@ pub trait Source {
 
     /// How many reads were made.
     ghost reads: { Self → ℕ };
+
+    /// How many octets all reads had room for, together.
+    ghost asked: { Self → ℕ };
 
     /// Whether the next read may wait for octets that are not there yet, or fail.
     ghost waits: { Self → Bool } = { λ _. true };
@@ -49,6 +52,7 @@ pub trait Source {
         ensures octets { ReadConsumes (left self.old) (left self.new) result buf.new }
         ensures failed { failures self.new ≡ failures_after (failures self.old) result }
         ensures made { reads self.new ≡ counted (reads self.old) 1 }
+        ensures asked { asked self.new ≡ counted (asked self.old) (length buf.new) }
         ensures sure { waits self.old ≡ false → IsOk result };
 }
 
@@ -117,6 +121,7 @@ pub struct Device<T> {
     inner: T,
     failures: u64,
     reads: u64,
+    asked: u64,
     empty_writes: u64,
     failed_flushes: u64,
     all_flushed: bool,
@@ -131,6 +136,7 @@ impl<T> Device<T> {
             inner,
             failures: 0,
             reads: 0,
+            asked: 0,
             empty_writes: 0,
             failed_flushes: 0,
             all_flushed: true,
@@ -145,8 +151,11 @@ impl<T: Read> Source for Device<T> {
 
     ghost reads = { λ d. d.reads };
 
+    ghost asked = { λ d. d.asked };
+
     fn read(&mut self, buf: &mut [u8]) -> Result<usize, Failed> {
         self.reads = self.reads.saturating_add(1);
+        self.asked = self.asked.saturating_add(buf.len() as u64);
         match self.inner.read(buf) {
             Ok(n) => Ok(n),
             Err(_) => {
@@ -181,6 +190,8 @@ impl<T: Read> Source for BufferedDevice<T> {
 
     ghost reads = { λ d. d.device.reads };
 
+    ghost asked = { λ d. d.device.asked };
+
     ghost waits = { λ d. nat_eq (length (reader_buffer d.device.inner)) 0 };
 
     fn may_wait(&self) -> bool {
@@ -194,6 +205,7 @@ impl<T: Read> Source for BufferedDevice<T> {
             buf[..n].copy_from_slice(&held[..n]);
             self.device.inner.consume(n);
             self.device.reads = self.device.reads.saturating_add(1);
+            self.device.asked = self.device.asked.saturating_add(buf.len() as u64);
             return Ok(n);
         }
         self.device.read(buf)

@@ -3,6 +3,7 @@ ghost use Rattle.std.specs.Prelude.{◌≤◌, ◌<◌, vec_len, vec_capacity, �
 ghost use Rattle.std.specs.Io.KnownBytes.{ReadConsumes, WriteAppends, Keeps};
 ghost use Rattle.bufr_bits.specs.Device.{counted, failures_after, empty_writes_after, all_flushed_after_write, all_flushed_after_flush};
 
+use crate::bit_writer::put;
 use crate::{Failed, Sink, Source};
 use std::alloc::{AllocError, Global};
 
@@ -15,6 +16,7 @@ pub struct ScriptIn<'a> {
     step: usize,
     failures: u64,
     reads: u64,
+    asked: u64,
     ghost has_step: { 0 < step },
 }
 
@@ -28,6 +30,7 @@ impl<'a> ScriptIn<'a> {
         ensures fails_at { result.before_failure ≡ fails_at }
         ensures failures { result.failures ≡ 0 }
         ensures reads { result.reads ≡ 0 }
+        ensures asked { result.asked ≡ 0 }
     {
         ScriptIn {
             rest: octets,
@@ -35,6 +38,7 @@ impl<'a> ScriptIn<'a> {
             step,
             failures: 0,
             reads: 0,
+            asked: 0,
         }
     }
 }
@@ -48,12 +52,15 @@ impl<'a> Source for ScriptIn<'a> {
 
     ghost reads = { λ s. s.reads };
 
+    ghost asked = { λ s. s.asked };
+
     fn read(&mut self, buf: &mut [u8]) -> Result<usize, Failed>
         ensures bound { IfOk result (λ n. n ≤ length buf.new) }
         ensures octets { ReadConsumes (Some self.old.rest.now) (Some self.new.rest.now) result
             buf.new }
         ensures failed { self.new.failures ≡ failures_after self.old.failures result }
         ensures made { self.new.reads ≡ counted self.old.reads 1 }
+        ensures asked { self.new.asked ≡ counted self.old.asked (length buf.new) }
         // It may wait at each read.
         ensures sure { true ≡ false → IsOk result }
         // The script is kept to: the answer, the place of failure and the step.
@@ -64,6 +71,7 @@ impl<'a> Source for ScriptIn<'a> {
         ensures step { self.new.step ≡ self.old.step }
     {
         self.reads = self.reads.saturating_add(1);
+        self.asked = self.asked.saturating_add(buf.len() as u64);
         let mut given = self.step.min(buf.len()).min(self.rest.len());
         if let Some(before) = self.before_failure {
             if before == 0 {
@@ -189,10 +197,8 @@ impl Sink for ScriptOut {
             self.empty_writes = self.empty_writes.saturating_add(1);
         }
         self.all_flushed = self.all_flushed && n == 0;
-        match self.taken.extend_from_slice(&buf[..n]) {
-            Ok(()) => Ok(n),
-            Err(_) => unreachable!(),
-        }
+        put(&mut self.taken, &buf[..n]);
+        Ok(n)
     }
 
     fn flush(&mut self) -> Result<(), Failed>

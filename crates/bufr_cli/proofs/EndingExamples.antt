@@ -1,12 +1,19 @@
 -- Last lines and exit statuses, and ends of runs that are refused, computed.
-use Rattle.std.proofs.Common.{if◌then◌else◌, ◌==◌, ◌≡◌, ◌∷◌, ℕ, List, [], map, refl, ap, codes, Option, Some, Result, Ok, Err, sym, subst, arith, inl, inr}
+use Rattle.std.proofs.Common.{if◌then◌else◌, ◌==◌, ◌≡◌, ◌∙◌, None, true, false, ◌∷◌, ℕ, List, [], map, refl, ap, codes, Option, Some, Result, Ok, Err, sym, subst, arith, inl, inr}
 use Rattle.std.specs.Borrow.{Bor}
 use Rattle.std.specs.Fmt.{digits}
 use Rattle.bufr_frame.specs.declared.fault.RunFault.TheVariants.{Read, Write, InputTooLong, Memory}
 use Rattle.bufr_text.specs.Prelude.{joined}
-use Rattle.bufr_cli.specs.Prelude.{last_line, status_of, EndsRun, WantsMemory, Ended, Tally, BlamesWriter, RunPieces, Writer, Writers, event_pieces, holding, ls_piece}
+use Rattle.bufr_cli.specs.Prelude.{last_line, status_of, Answers, AreUnread, ByTables, CommandOutcome, Does, InPart, InWhole, NoTables, RunsProgram, EndsRun, Input, IsNotOpened, Known, NoTableB, NoTableD, RunOutcome, ReadsAtMost, Runs, Tally, BlamesWriter, RunPieces, WantsMemory, Writer, Writers, event_pieces, holding, known, ls_piece}
 use Rattle.bufr_cli.specs.declared.outcome.Outcome.TheVariants.{Ran, Usage, CannotOpen, TableB, TableD, Run}
-use Rattle.bufr_frame.specs.Prelude.{head_by_edition, head_size, scan_from, sections_of, section_end}
+use Rattle.bufr_bits.specs.Prelude.{counted}
+use Rattle.bufr_cli.specs.declared.job.TableNames.{TableNames}
+use Rattle.bufr_cli.specs.declared.job.Subcommand.{Subcommand}
+use Rattle.bufr_cli.specs.declared.job.Subcommand.TheVariants.{Ls, Dump, Encode}
+use Rattle.bufr_cli.specs.declared.job.LineFault.TheVariants as line
+use Rattle.clap.specs.Words.{Text}
+use Rattle.std.proofs.lemmas.Bool.{false≢true}
+use Rattle.bufr_frame.specs.Prelude.{max_reads, read_failures_after, head_by_edition, head_size, scan_from, sections_of, section_end}
 use Rattle.bufr_frame.specs.declared.fault.RunFault.{RunFault}
 use Rattle.bufr_tables.specs.declared.fault.TableFault.TheVariants as table
 
@@ -57,11 +64,10 @@ unfolding IsOk
 ok-is-no-fault tally fault is = subst IsOk is tt
 
 -- a listing of one stray word ends with status 1, and so never with 0
-a-stray-is-refused : (before after : Writers) (tally : Tally) → EndsRun (event_pieces ls_piece) (Some (codes "BUFR")) before after (Ok tally) → status_of (Ran tally) ≡ 1
+a-stray-is-refused : (from to : Input) (before after : Writers) (tally : Tally) → from.left ≡ Some (codes "BUFR") → EndsRun (event_pieces ls_piece) from to before after (Ok tally)
+    → status_of (Ran tally) ≡ 1
 unfolding scan_from sections_of section_end head_by_edition head_size
-a-stray-is-refused before after tally (WantsMemory is same) = absurd (ok-is-no-fault tally Memory is)
-a-stray-is-refused before after tally (Ended from to known between leaves rest errors) =
-    ap (λ n. if n == 0 then 0 else 1) (rw known at (leaves.whole)).1.refused
+a-stray-is-refused from to before after tally known ends = ap (λ n. if n == 0 then 0 else 1) (rw known at ends.leaves.whole).1.refused
 
 -- writers that counted no failure and no empty write are at no fault of a write
 abbrev idle : Writers
@@ -81,6 +87,111 @@ idle-writers-do-not-fail between output errors blames =
     none (inr (same, inl failed)) = absurd (zero-is-not-one failed.0)
     none (inr (same, inr empty)) = absurd (zero-is-not-one empty.1)
 
-no-write-fault : (pieces : RunPieces) (octets : Option (List ℕ)) → EndsRun pieces octets idle idle (Err Write) → ⊥
-no-write-fault pieces octets (WantsMemory is same) = absurd cc
-no-write-fault pieces octets (Ended from to known between leaves rest errors) = idle-writers-do-not-fail between rest errors leaves.writers
+no-write-fault : (pieces : RunPieces) (from to : Input) → EndsRun pieces from to idle idle (Err Write) → ⊥
+no-write-fault pieces from to ends = idle-writers-do-not-fail ends.between ends.rest ends.errors ends.leaves.writers
+
+-- ---- What is refused of a call of the program.
+
+-- an input that counted nothing, and inputs of such types
+abbrev quiet : Input
+quiet = record { left = Some (codes "BUFR"); reads = 0; failures = 0 }
+
+abbrev quiet_inputs : Known (Unit {0}) (Unit {0})
+quiet_inputs = known (Some (codes "BUFR")) (λ name. Some (codes "BUFR")) (λ input. quiet) (λ file. quiet)
+
+-- the faults that a reader's counts show
+abbrev IsOfReads : RunFault → Type 0
+IsOfReads Read = Unit {0}
+IsOfReads Write = ⊥
+IsOfReads InputTooLong = Unit {0}
+IsOfReads Memory = ⊥
+
+few-are-not-most : ◌≡◌ {A = ℕ} 0 (counted 0 max_reads) → ⊥
+few-are-not-most is = omega arith
+
+-- no read of it failed, nor were 2^32 made
+shows-neither : {X : Type 0} (fault : RunFault) → IsOfReads fault → quiet.failures ≡ read_failures_after {X = X} quiet.failures (Err fault)
+    → ReadsAtMost {X = X} quiet.reads quiet.reads (Err fault) → ⊥
+shows-neither Read of failures reads = zero-is-not-one failures
+shows-neither Write of failures reads = absurd of
+shows-neither InputTooLong of failures reads = few-are-not-most (reads.2 ∙ ap (counted 0) (reads.3 refl))
+shows-neither Memory of failures reads = absurd of
+
+no-read-fault : (pieces : RunPieces) (before after : Writers) (fault f : RunFault) → IsOfReads fault → Run fault ≡ Run f → EndsRun pieces quiet quiet before after (Err f) → ⊥
+no-read-fault pieces before after fault f of is ends =
+    let same : f ≡ fault = cc in
+    shows-neither fault of (rw same at ends.leaves.failures) (rw same at ends.leaves.reads)
+
+module _ (pieces : RunPieces) (before after : Writers) where
+  -- so a run over it answers neither 70 nor 72
+  run-is-not-70 : (fault : RunFault) → IsOfReads fault → (file : Option (Bor (List ℕ))) → RunOutcome pieces quiet_inputs file before after (Run fault) → ⊥
+  run-is-not-70 fault of file (IsNotOpened name some closed none same) = absurd cc
+  run-is-not-70 fault of file (WantsMemory is same) = let memory : fault ≡ Memory = cc in subst IsOfReads memory of
+  run-is-not-70 fault of file (Runs (Ok tally) is over) = absurd cc
+  run-is-not-70 fault of None (Runs (Err f) is (from, to, left, ends)) = no-read-fault pieces before after fault f of is ends
+  run-is-not-70 fault of (Some name) (Runs (Err f) is (from, to, left, ends)) = no-read-fault pieces before after fault f of is ends
+
+  -- a run that went through has handed its output on
+  run-is-handed-on : {Standard File : Type 0} (inputs : Known Standard File) (file : Option (Bor (List ℕ))) (tally : Tally) → RunOutcome pieces inputs file before after (Ran tally)
+      → after.output.all_flushed ≡ true
+  run-is-handed-on inputs file tally (IsNotOpened name some closed none same) = absurd cc
+  run-is-handed-on inputs file tally (WantsMemory is same) = absurd cc
+  run-is-handed-on inputs file tally (Runs (Err fault) is over) = absurd cc
+  run-is-handed-on inputs None tally (Runs (Ok tally') is (from, to, left, ends)) = ap (λ w. w.all_flushed) ends.rest ∙ ends.leaves.flushed.0
+  run-is-handed-on inputs (Some name) tally (Runs (Ok tally') is (from, to, left, ends)) = ap (λ w. w.all_flushed) ends.rest ∙ ends.leaves.flushed.0
+
+-- status 0 is refused where the output holds an octet back
+held-back : (pieces : RunPieces) (before after : Writers) (tally : Tally) → after.output.all_flushed ≡ false → RunOutcome pieces quiet_inputs None before after (Ran tally) → ⊥
+held-back pieces before after tally held comes = false≢true (sym held ∙ run-is-handed-on pieces before after quiet_inputs None tally comes)
+
+-- so is a call of the program that ends with status 0: its output is handed on
+tables-are-read : {File : Type 0} (counts : File → Input) (named : List ℕ → Option (List ℕ)) (tables : TableNames) (tally : Tally) → AreUnread counts named tables (Ran tally) → ⊥
+tables-are-read counts named tables tally (NoTableB (inl (inl (inl closed)))) = let is = closed.0 in absurd cc
+tables-are-read counts named tables tally (NoTableB (inl (inl (inr is)))) = absurd cc
+tables-are-read counts named tables tally (NoTableB (inl (inr (fault, is, over)))) = absurd cc
+tables-are-read counts named tables tally (NoTableB (inr (fault, is, reads))) = absurd cc
+tables-are-read counts named tables tally (NoTableD b read (inl (inl (inl closed)))) = let is = closed.0 in absurd cc
+tables-are-read counts named tables tally (NoTableD b read (inl (inl (inr is)))) = absurd cc
+tables-are-read counts named tables tally (NoTableD b read (inl (inr (fault, is, over)))) = absurd cc
+tables-are-read counts named tables tally (NoTableD b read (inr (fault, is, reads))) = absurd cc
+
+module _ {Standard File : Type 0} (inputs : Known Standard File) (before after : Writers) where
+  command-is-handed-on : (command : Subcommand) (file : Option (Bor (List ℕ))) (tally : Tally) → CommandOutcome inputs command file before after (Ran tally) → after.output.all_flushed ≡ true
+  command-is-handed-on Ls file tally ends = run-is-handed-on _ before after inputs file tally ends
+  command-is-handed-on (Dump tables) file tally (NoTables same unread) = absurd (tables-are-read inputs.of_file inputs.named tables tally unread)
+  command-is-handed-on (Dump tables) file tally (ByTables b d are ends) = run-is-handed-on _ before after inputs file tally ends
+  command-is-handed-on (Encode tables form) file tally (NoTables same unread) = absurd (tables-are-read inputs.of_file inputs.named tables tally unread)
+  command-is-handed-on (Encode tables form) file tally (ByTables b d are ends) = run-is-handed-on _ before after inputs file tally ends
+
+  zero-is-not-two : ◌≡◌ {A = ℕ} 0 2 → ⊥
+  zero-is-not-two is = omega arith
+
+status-0-is-handed-on : {Standard File : Type 0} (words : List Text) (inputs : Known Standard File) (before after : Writers) → RunsProgram words inputs before after 0 → after.output.all_flushed ≡ true
+status-0-is-handed-on words inputs before after (Does job is (Ran tally) between comes same line status) =
+    ap (λ w. w.all_flushed) same ∙ command-is-handed-on inputs before between job.command job.file tally comes
+status-0-is-handed-on words inputs before after (Does job is (Usage text) between comes same line status) = absurd (zero-is-not-two inputs before after status)
+status-0-is-handed-on words inputs before after (Does job is (CannotOpen name) between comes same line status) = absurd (zero-is-not-two inputs before after status)
+status-0-is-handed-on words inputs before after (Does job is (TableB fault) between comes same line status) = absurd (zero-is-not-two inputs before after status)
+status-0-is-handed-on words inputs before after (Does job is (TableD fault) between comes same line status) = absurd (zero-is-not-two inputs before after status)
+status-0-is-handed-on words inputs before after (Does job is (Run fault) between comes same line status) = absurd (zero-is-not-two inputs before after status)
+status-0-is-handed-on words inputs before after (Answers (line.Help text) why (InWhole wrote flushed stays errors status)) = flushed
+status-0-is-handed-on words inputs before after (Answers (line.Help text) why (InPart wrote failed line status)) = absurd (zero-is-not-two inputs before after status)
+status-0-is-handed-on words inputs before after (Answers (line.Usage text) why (same, wrote, status)) = absurd (zero-is-not-two inputs before after status)
+status-0-is-handed-on words inputs before after (Answers line.Memory why (same, wrote, status)) = absurd (zero-is-not-two inputs before after status)
+
+-- nor is a table of such a file answered by 70 or 72
+table-is-not-70 : (fault : RunFault) → IsOfReads fault → (named : List ℕ → Option (List ℕ)) (tables : TableNames) → AreUnread (λ (file : Unit {0}). quiet) named tables (Run fault) → ⊥
+table-is-not-70 fault of named tables (NoTableB (inl (inl (inl closed)))) = let is = closed.0 in absurd cc
+table-is-not-70 fault of named tables (NoTableB (inl (inl (inr is)))) = let memory : fault ≡ Memory = cc in subst IsOfReads memory of
+table-is-not-70 fault of named tables (NoTableB (inl (inr (f, is, (from, to, left, fails))))) =
+    let same : f ≡ fault = cc in
+    let reads = rw same at fails.reads in
+    shows-neither fault of (rw same at fails.failures) (reads.0, reads.1, reads.2, reads.3)
+table-is-not-70 fault of named tables (NoTableB (inr (f, is, reads))) = absurd cc
+table-is-not-70 fault of named tables (NoTableD b read (inl (inl (inl closed)))) = let is = closed.0 in absurd cc
+table-is-not-70 fault of named tables (NoTableD b read (inl (inl (inr is)))) = let memory : fault ≡ Memory = cc in subst IsOfReads memory of
+table-is-not-70 fault of named tables (NoTableD b read (inl (inr (f, is, (from, to, left, fails))))) =
+    let same : f ≡ fault = cc in
+    let reads = rw same at fails.reads in
+    shows-neither fault of (rw same at fails.failures) (reads.0, reads.1, reads.2, reads.3)
+table-is-not-70 fault of named tables (NoTableD b read (inr (f, is, reads))) = absurd cc

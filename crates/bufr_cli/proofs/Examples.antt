@@ -1,5 +1,5 @@
 -- The lines computed on worked examples.
-use Rattle.std.proofs.Common.{◌≡◌, ℕ, true, false, List, [], ◌∷◌, ◌++◌, refl, codes, map, slice_set}
+use Rattle.std.proofs.Common.{◌≡◌, ℕ, List, [], ◌∷◌, ◌++◌, refl, codes, map, slice_set}
 use Rattle.std.specs.Fmt.{digits}
 use Rattle.bufr_frame.specs.Prelude.{head_by_edition, head_size, scan, scan_from, sections_of, section_end, cause_report, section_report}
 use Rattle.bufr_frame.specs.declared.fault.Cause.TheVariants.{Cut, ShortLength, NoEnd}
@@ -9,10 +9,14 @@ use Rattle.bufr_tables.specs.declared.fault.TemplateFault.TheVariants as templat
 use Rattle.bufr_walk.specs.Prelude.{data_report, spot}
 use Rattle.bufr_walk.specs.declared.fault.WalkFault.TheVariants as walk
 use Rattle.bufr_walk.specs.declared.spec.TurnRefusal.TheVariants as turn
-use Rattle.bufr_fill.specs.Prelude.{wrong_descriptor, wrong_number, out_of_range, text_long, missing_forbidden, unequal_factors, uneven_increment, item_too_many, walk_refused, too_many_values}
-use Rattle.bufr_text.specs.Prelude.{Refused, NotAllowed, SubsetCount, HeaderRange, by_template, too_long}
+use Rattle.bufr_fill.specs.Prelude.{item_too_many, walk_refused, too_many_values}
+use Rattle.bufr_fill.specs.declared.fault.Expected.TheVariants as expected
+use Rattle.bufr_fill.specs.declared.fault.ItemFault.TheVariants as wrong
+use Rattle.bufr_text.specs.declared.fault.DocumentFault.TheVariants as document
+use Rattle.bufr_text.specs.Prelude.{Refused}
+use Rattle.bufr_text.specs.declared.fault.TextLineFault.TheVariants.{NotAllowed, SubsetCount, HeaderRange}
 use Rattle.bufr_text.specs.declared.encode.Form.TheVariants.{AsWritten}
-use Rattle.bufr_cli.specs.Prelude.{fault_line, refused_line, refusal_line, item_fault_line, OnOutput, OnErrors, ls_piece, encode_pieces, up_to_refused}
+use Rattle.bufr_cli.specs.Prelude.{fault_line, refused_line, refusal_line, OnOutput, OnErrors, ls_piece, encode_pieces, up_to_refused}
 
 -- a message with one block number, 48 octets
 abbrev pub one_block_number : List ℕ
@@ -87,15 +91,16 @@ refused-lines = refl
 
 -- of documents
 -- rule: fault-lines-of-encoding
-document-lines : map (refusal_line 24) (by_template (template.EmptyGroup 0x8100) ∷ too_long ∷ [])
+document-lines : map refusal_line (document.Template 24 (template.EmptyGroup 0x8100) ∷ document.TooLong 24 ∷ [])
     ≡ codes "line 24: 56 template 25 empty group 201000\n" ∷ codes "line 24: 60 too long\n" ∷ []
 unfolding digits
 document-lines = refl
 
 -- of their items
 -- rule: fault-lines-of-encoding
-item-lines : map (item_fault_line 24) (wrong_descriptor 0x0101 false ∷ wrong_descriptor 0x0C65 true ∷ item_too_many ∷ wrong_number ∷ out_of_range ∷ text_long ∷ missing_forbidden ∷ unequal_factors
-    ∷ uneven_increment ∷ walk_refused (turn.Width 0x0101) ∷ walk_refused (turn.Defining 0x010F) ∷ too_many_values 0x0101 ∷ [])
+item-lines : map (λ why. refusal_line (document.Item 24 why)) (wrong.WrongDescriptor (expected.Item 0x0101) ∷ wrong.WrongDescriptor (expected.Reference 0x0C65) ∷ item_too_many
+    ∷ wrong.Number ∷ wrong.OutOfRange ∷ wrong.TextLong ∷ wrong.MissingForbidden ∷ wrong.UnequalFactor ∷ wrong.Increment
+    ∷ walk_refused (turn.Width 0x0101) ∷ walk_refused (turn.Defining 0x010F) ∷ too_many_values 0x0101 ∷ [])
     ≡ codes "line 24: 51 expected 001001\n"
     ∷ codes "line 24: 51 expected R 012101\n"
     ∷ codes "line 24: 51 expected end of subset\n"

@@ -1,13 +1,12 @@
 -- Fault lines that are pushed, and what their sink has then.
-use Rattle.std.proofs.Common.{◌≡◌, ◌∙◌, ◌⊎◌, ℕ, List, [], ◌∷◌, ◌++◌, Option, Some, None, Ok, Err, codes, ap, refl, sym, subst, append-nil, inl, inr, IfSome, Result}
+use Rattle.std.proofs.Common.{◌≡◌, ◌∙◌, ℕ, List, [], ◌∷◌, ◌++◌, Option, Ok, Err, codes, ap, refl, sym, subst, append-nil, Result}
 use Rattle.bufr_frame.specs.declared.fault.RunFault.{RunFault}
-use Rattle.bufr_text.specs.Prelude.{ParseResult, Complete, Refused, TextLineFault, RefusedAt, number_of_walk_refusal, walk_report, LineModel, Pushes, GrowsByPrefix, Writes, joined, parse_results}
-use Rattle.bufr_text.specs.declared.fault.WalkRefusal.{WalkRefusal}
-use Rattle.bufr_text.specs.declared.fault.WalkRefusal.TheVariants as walk
+use Rattle.bufr_text.specs.declared.fault.TextLineFault.{TextLineFault}
+use Rattle.bufr_text.specs.Prelude.{ParseResult, Complete, Refused, LineModel, Pushes, GrowsByPrefix, Writes, joined, parse_results}
 use Rattle.bufr_text.specs.declared.fault.ReadFault.{ReadFault}
 use Rattle.bufr_text.specs.declared.fault.ReadFault.TheVariants as read
 use Rattle.bufr_text.proofs.PushLemmas.{retold, joined_then}
-use Rattle.bufr_cli.specs.Prelude.{document_line, item_fault_line, line_of_read_fault, line_of_refusal, refusal_line, refused_line, walk_text, place_texts}
+use Rattle.bufr_cli.specs.Prelude.{line_of_read_fault, refused_line, place_texts}
 
 -- one text
 pub one_text : {a b : LineModel} {text : List ℕ} → Pushes a text b → Pushes a (joined (text ∷ [])) b
@@ -18,13 +17,6 @@ pub line_pushed : {a b c d : LineModel} (word : List ℕ) (place number : ℕ) (
     → Pushes a (joined (place_texts word place number ++ (text ++ codes "\n" ∷ []))) d
 line_pushed word place number text first second third = joined_then (place_texts word place number) (text ++ codes "\n" ∷ []) first (joined_then text (codes "\n" ∷ []) second third)
 
--- the line of a walk that is refused
-pub walk_line : (place : ℕ) (refusal : WalkRefusal) (fxy : ℕ) → (refusal ≡ walk.Width fxy) ⊎ ((refusal ≡ walk.Defining fxy) ⊎ (refusal ≡ walk.TooManyValues fxy))
-    → document_line place 62 (walk_text (number_of_walk_refusal refusal) fxy) ≡ item_fault_line place (walk_report refusal)
-walk_line place refusal fxy (inl is) = rw is refl
-walk_line place refusal fxy (inr (inl is)) = rw is refl
-walk_line place refusal fxy (inr (inr is)) = rw is refl
-
 -- the line of the first result of a text
 abbrev first_line : List ParseResult → List ℕ
 first_line [] = []
@@ -33,17 +25,10 @@ first_line (Refused line why ∷ rest) = refused_line line why
 
 -- the line of a fault of the reading is that of the line that is refused
 line_of_parsed : (fault : ReadFault) → line_of_read_fault fault ≡ first_line (parse_results (Err fault))
-line_of_parsed (read.Line line) = refl
-line_of_parsed (read.SubsetCount line) = refl
-line_of_parsed (read.HeaderRange line) = refl
+line_of_parsed (read.Line line why) = refl
 line_of_parsed (read.Run fault) = refl
 
 module _ {X : Type 0} (old new : Option (List ℕ)) (r : Result X RunFault) where
-  -- the line of a refusal, where there is one
-  pub where_refused : (o : Option RefusedAt) → Writes old new (line_of_refusal o) r → IfSome o (λ refused. Writes old new (refusal_line refused.line refused.why) r)
-  where_refused (Some refused) writes = writes
-  where_refused None writes = tt
-
   -- the line of a line that is refused
   pub as_read : (fault : ReadFault) (line : ℕ) (why : TextLineFault) → parse_results (Err fault) ≡ Refused line why ∷ [] → Writes old new (line_of_read_fault fault) r
       → Writes old new (refused_line line why) r

@@ -6,7 +6,7 @@ use Rattle.clap.specs.declared.error.Error.{Error}
 use Rattle.clap.specs.declared.error.kind.ErrorKind.{ErrorKind}
 use Rattle.clap.specs.declared.error.kind.ErrorKind.TheVariants.{DisplayHelp, DisplayVersion, OutOfMemory}
 use Rattle.bufr_cli.specs.declared.job.Job.{Job}
-use Rattle.bufr_cli.specs.Prelude.{IsJobOf, HasTables, IsWhyNoJob, SaysWhy, name_of}
+use Rattle.bufr_cli.specs.Prelude.{GivesNoJob, IsJobOf, HasTables, IsWhyNoJob, SaysWhy, name_of}
 use Rattle.bufr_cli.specs.declared.job.NoJob.{NoJob}
 use Rattle.bufr_cli.specs.declared.job.NoJob.TheVariants.{UnknownCommand, MissingTable, UnknownForm}
 use Rattle.bufr_cli.specs.declared.job.Subcommand.{Subcommand}
@@ -64,6 +64,11 @@ why-no-job name rows UnknownForm (named, lacks) job is = no-form job.command is.
     no-form Ls is-ls has = subst HasFiveLetters (sym named ∙ is-ls) tt
     no-form (Dump tables) is-dump has = subst HasFiveLetters (sym named ∙ is-dump) tt
     no-form (Encode tables form) is-encode has = lacks form has.1
+
+-- nor do words of which a usage text of our own is written
+pub no-job : (subcommand : Option (Text × List Row)) (text : Text) → GivesNoJob subcommand text → HasNoJob subcommand
+no-job None text gives = λ job is. is
+no-job (Some (name, rows)) text gives = why-no-job name rows gives.0 gives.1
 
 -- want of memory is no request
 abbrev IsShown : ErrorKind → Type 0

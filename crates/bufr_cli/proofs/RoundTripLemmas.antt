@@ -8,16 +8,17 @@ use Rattle.bufr_tables.proofs.SoundLemmas.{tree_fine}
 use Rattle.bufr_frame.specs.Prelude.{max_octets, StreamEvent, FrameAt, StrayAt, scan, scan_from, Sections, sections_of}
 use Rattle.bufr_frame.specs.declared.fault.SectionFault.{SectionFault}
 use Rattle.bufr_frame.proofs.ScanLemmas.{IsSmall, framed_octets, frames-within, small-frames, scan_from-nil}
-use Rattle.bufr_walk.specs.Prelude.{Values, View, next_item, data_of, reading_of, values_in, walk_fault_of, Stop}
+use Rattle.bufr_walk.specs.Prelude.{Values, View, next_item, data_of, reading_of, fault_at, Stop}
 use Rattle.bufr_walk.proofs.PassLemmas.{legal_sane, reading_is, reads_so}
 use Rattle.bufr_walk.proofs.CourseLemmas.{IsSane}
-use Rattle.bufr_text.specs.Prelude.{Between, lines_of, parse_lines, Document, ParseResult, Complete, Refused, documents_of, dump_lines, dump_text_of, IsOctet, IsAccepted, HasSameReading, dump_items, IsReadAs, RefusedAt, encoding_in, IsProper, AreProper}
+use Rattle.bufr_text.specs.Prelude.{between, lines_of, parse_lines, Document, ParseResult, Complete, Refused, documents_of, dump_lines, dump_text_of, IsOctet, IsAccepted, HasSameReading, dump_items, IsReadAs, encoding_in, IsProper, AreProper}
+use Rattle.bufr_text.specs.declared.fault.DocumentFault.{DocumentFault}
 use Rattle.bufr_text.proofs.FormLemmas.{canonical_encoded}
 use Rattle.bufr_text.proofs.DumpableLemmas.{dumpable}
 use Rattle.bufr_walk.proofs.NextField.{table_read}
 use Rattle.bufr_text.proofs.RoundTripLemmas.{accepted_again, encoded_again, same_text}
 use Rattle.bufr_text.proofs.LawLemmas.{text-spells, spelled-proper}
-use Rattle.bufr_cli.specs.Prelude.{text_or_fault, data_piece, template_piece, message_piece, dump_piece, Piece, OnOutput, OnErrors, output_of, errors_of, is_accepted, is_refused, encoded, result_piece, up_to_refused, accepted_in, accepted_messages, dump_pieces, dumped, longer_by, rebuilding, rebuilt, IsBuiltAgain, IsWholeRound, IsCanonicalMessage, RoundTrips, Written, IsDumpedInOneSpelling, before_refused, built, form_pieces, normal_by, normal_text, normal_texts, holding, Dumps, Encodes, Tallies}
+use Rattle.bufr_cli.specs.Prelude.{text_or_fault, data_piece, template_piece, message_piece, dump_piece, Piece, OnOutput, OnErrors, output_of, errors_of, is_accepted, is_refused, encoded, result_piece, up_to_refused, accepted_in, accepted_messages, dump_pieces, dumped, longer_by, rebuilding, rebuilt, IsBuiltAgain, IsWholeRound, IsCanonicalMessage, RoundTrips, Written, IsDumpedInOneSpelling, before_refused, built, form_pieces, normal_by, normal_text, normal_texts, holding, Tallies, WritesWhole, document_pieces, event_pieces}
 use Rattle.bufr_text.specs.declared.encode.Form.TheVariants.{AsWritten}
 use Rattle.bufr_cli.proofs.DumpLemmas.{read-piece}
 use Rattle.std.proofs.lemmas.List.{length-map}
@@ -73,7 +74,7 @@ accepted-count : (ps : List Piece) → count_by is_refused (filter is_accepted p
 accepted-count ps = sym (length-filter is_refused (filter is_accepted ps)) ∙ ap length (accepted-refused ps)
 
 -- an empty text spells nothing
-pub nothing-spelled : (line : ℕ) → parse_lines line Between (lines_of []) ≡ []
+pub nothing-spelled : (line : ℕ) → parse_lines line between (lines_of []) ≡ []
 unfolding parse_lines lines_of
 nothing-spelled line = refl
 
@@ -120,7 +121,7 @@ module _ (records : List Record) (b : List Row) (d : List Sequence) (rows : AreR
               octets = m;
               sections = s;
               template = template;
-              values = values_in (reading_of (next_item b template) (data_of s)).passes;
+              values = (reading_of (next_item b template) (data_of s)).values;
               used = reads.0;
               is = refl;
               accepted = record { octets = small.0; few = small.1; sections = sections; expands = expands; read = reads.1 };
@@ -130,8 +131,8 @@ module _ (records : List Record) (b : List Row) (d : List Sequence) (rows : AreR
             let r = reading_of (next_item b template) (data_of s) in
             inl (
               _,
-              ap (λ o. text_or_fault offset (option_map (λ why. walk_fault_of why r.subset (length (data_of s).bits - length r.left)) o)
-                  (dump_text_of s (dump_items b s.subsets (values_in r.passes)))) stops,
+              ap (λ o. text_or_fault offset (option_map (λ why. fault_at why r.subset (length (data_of s).bits - length r.left)) o)
+                  (dump_text_of s (dump_items b s.subsets r.values))) stops,
             )
 
     template-kind : (s : Sections) (made : Result Tree TemplateFault) → sections_of m ≡ Ok s → tree_of (tables_of b d) s.descriptors ≡ made
@@ -148,7 +149,7 @@ module _ (records : List Record) (b : List Row) (d : List Sequence) (rows : AreR
   event-kind (FrameAt offset m) small = message-kind offset m small (sections_of m) refl
   event-kind (StrayAt offset cause) small = inl (_, refl)
 
-abbrev octets_or_none : Result (List ℕ) RefusedAt → List ℕ
+abbrev octets_or_none : Result (List ℕ) DocumentFault → List ℕ
 octets_or_none (Ok octets) = octets
 octets_or_none (Err refused) = []
 
@@ -167,18 +168,25 @@ placed-count piece at (m ∷ ms) = ap suc (placed-count piece (at + length m) ms
 abbrev accepted_of : (StreamEvent → Piece) → List StreamEvent → List (List ℕ)
 accepted_of piece es = flat_map (λ here. accepted_in here (piece here)) es
 
--- Events with these pieces, this dump text and these accepted messages. From a line of a text on,
--- the text is encoded to as many messages with the same readings. These are framed one by one and
--- have the same pieces.
-record Built (b : List Row) (d : List Sequence) (piece : StreamEvent → Piece) (text : List ℕ) (accepted : List (List ℕ)) (pieces : List Piece) (most line : ℕ) : Type 0 where
+-- What events come to: their pieces, the dump text and the accepted messages of these, and how many
+-- octets they have.
+record Events : Type 0 where
+  text : List ℕ
+  accepted : List (List ℕ)
+  pieces : List Piece
+  most : ℕ
+
+-- From a line of a text on, the text of events is encoded to as many messages with the same
+-- readings. These are framed one by one and have the same pieces.
+record Built (b : List Row) (d : List Sequence) (events : Events) (line : ℕ) : Type 0 where
   messages : List (List ℕ)
-  readings : AllZip (IsBuiltAgain b d) accepted messages
-  results : map (result_piece AsWritten b d) (parse_lines line Between (lines_of text)) ≡ map OnOutput messages
-  no_longer : length (concat messages) ≤ most + longer_by accepted
+  readings : AllZip (IsBuiltAgain b d) events.accepted messages
+  results : map (result_piece AsWritten b d) (parse_lines line between (lines_of events.text)) ≡ map OnOutput messages
+  no_longer : length (concat messages) ≤ events.most + longer_by events.accepted
   scanned : (at : ℕ) → scan_from 0 at (concat messages) ≡ placed at messages
-  again : (at : ℕ) → map piece (placed at messages) ≡ filter is_accepted pieces
-  listed : (at : ℕ) → accepted_of piece (placed at messages) ≡ messages
-  kept : AllByRecursion (IsCanonicalMessage b d) accepted → messages ≡ accepted
+  again : (at : ℕ) → map (dump_piece b d) (placed at messages) ≡ filter is_accepted events.pieces
+  listed : (at : ℕ) → accepted_of (dump_piece b d) (placed at messages) ≡ messages
+  kept : AllByRecursion (IsCanonicalMessage b d) events.accepted → messages ≡ events.accepted
 
 framed-more : (here : StreamEvent) (es : List StreamEvent) → framed_octets es ≤ framed_octets (here ∷ es)
 framed-more (FrameAt offset m) es = omega arith
@@ -198,8 +206,8 @@ module _ (b : List Row) (d : List Sequence) where
 
   -- an event at fault leaves nothing
   built-fault : (here : StreamEvent) (text' : List ℕ) (text : List ℕ) (accepted : List (List ℕ)) (pieces : List Piece) (most more line : ℕ) → most ≤ more
-      → Built b d piece text accepted pieces most line
-      → Built b d piece text accepted (OnErrors text' ∷ pieces) more line
+      → Built b d (record { text = text; accepted = accepted; pieces = pieces; most = most }) line
+      → Built b d (record { text = text; accepted = accepted; pieces = OnErrors text' ∷ pieces; most = more }) line
   built-fault here text' text accepted pieces most more line le r = record {
     messages = r.messages;
     readings = r.readings;
@@ -213,15 +221,21 @@ module _ (b : List Row) (d : List Sequence) where
 
   -- an accepted message is built again
   built-message : (m : List ℕ) (s : Sections) (template : Tree) (values : Values) (used : ℕ) (records : List Record) (text : List ℕ) (accepted : List (List ℕ)) (pieces : List Piece) (most line : ℕ)
-      → AreRows records b → IsAccepted b d m s template values used → Built b d piece text accepted pieces most (line + length (dump_lines s (dump_items b s.subsets values)))
-      → Built b d piece (dump_text_of s (dump_items b s.subsets values) ++ text) (m ∷ accepted) (OnOutput (dump_text_of s (dump_items b s.subsets values)) ∷ pieces) (length m + most) line
+      → AreRows records b → IsAccepted b d m s template values used
+      → Built b d (record { text = text; accepted = accepted; pieces = pieces; most = most }) (line + length (dump_lines s (dump_items b s.subsets values)))
+      → Built b d (record {
+        text = dump_text_of s (dump_items b s.subsets values) ++ text;
+        accepted = m ∷ accepted;
+        pieces = OnOutput (dump_text_of s (dump_items b s.subsets values)) ∷ pieces;
+        most = length m + most;
+      }) line
   built-message m s template values used records text accepted pieces most line rows a r =
       let items = dump_items b s.subsets values in
       let read = table_read records b rows in
       let legal = (tree_fine (tables_of b d) s.descriptors template a.expands).legal in
       let w = encoded_again b d m s template values used line read legal a in
       let here : (at : ℕ) → piece (FrameAt at w.octets) ≡ OnOutput (dump_text_of s items) = λ at. same-piece records rows m s template values used at w.octets a w.same in
-      let rest = map (result_piece AsWritten b d) (parse_lines (line + length (dump_lines s items)) Between (lines_of text)) in
+      let rest = map (result_piece AsWritten b d) (parse_lines (line + length (dump_lines s items)) between (lines_of text)) in
       record {
         messages = w.octets ∷ r.messages;
         readings = (record { sections = s; template = template; values = values; used = used; accepted = a; same = w.same }, r.readings);
@@ -238,7 +252,7 @@ module _ (b : List Row) (d : List Sequence) where
       }
 
   abbrev BuiltOf : List StreamEvent → (line : ℕ) → Type 0
-  BuiltOf es line = Built b d piece (flat_map output_of (map piece es)) (accepted_of piece es) (map piece es) (framed_octets es) line
+  BuiltOf es line = Built b d (record { text = flat_map output_of (map piece es); accepted = accepted_of piece es; pieces = map piece es; most = framed_octets es }) line
 
   built-more : (records : List Record) (here : StreamEvent) (es : List StreamEvent) (line : ℕ) → AreRows records b → IsFault (piece here) ⊎ IsDumped b d here (piece here) → ((at : ℕ) → BuiltOf es at)
       → BuiltOf (here ∷ es) line
@@ -326,9 +340,9 @@ module _ (b : List Row) (d : List Sequence) where
 -- three runs of the program
 pub three-runs : (records : List Record) (b : List Row) (d : List Sequence) (stream : List ℕ) (text messages again : Written) (e e' : Option (List ℕ)) → AreRows records b
     → AllByRecursion IsOctet stream
-    → Dumps b d (holding (Some []) e) (holding (Some text.output) e') text.tally stream
-    → Encodes AsWritten b d (holding (Some []) (Some [])) (holding (Some messages.output) (Some messages.errors)) messages.tally text.output
-    → Dumps b d (holding (Some []) (Some [])) (holding (Some again.output) (Some again.errors)) again.tally messages.output
+    → WritesWhole (event_pieces (dump_piece b d)) (holding (Some []) e) (holding (Some text.output) e') text.tally stream
+    → WritesWhole (document_pieces AsWritten b d) (holding (Some []) (Some [])) (holding (Some messages.output) (Some messages.errors)) messages.tally text.output
+    → WritesWhole (event_pieces (dump_piece b d)) (holding (Some []) (Some [])) (holding (Some again.output) (Some again.errors)) again.tally messages.output
     → IsWholeRound b d stream text messages again
 three-runs records b d stream text messages again e e' rows octets (wrote, counts) (encodes, counted) (dumps, counts') =
     whole-round b d records stream text messages again rows octets wrote.output counts encodes.output encodes.errors counted dumps.output dumps.errors counts'
@@ -343,7 +357,7 @@ record AreBuilt (b : List Row) (d : List Sequence) (piece : StreamEvent → Piec
   as_many : length (filter is_accepted (up_to_refused pieces)) ≡ length messages
   scanned : (at : ℕ) → scan_from 0 at (concat messages) ≡ placed at messages
   results : (at : ℕ) → map piece (placed at messages) ≡ map OnOutput texts
-  again : (line : ℕ) → map (result_piece AsWritten b d) (parse_lines line Between (lines_of (concat texts))) ≡ map OnOutput messages
+  again : (line : ℕ) → map (result_piece AsWritten b d) (parse_lines line between (lines_of (concat texts))) ≡ map OnOutput messages
 
 -- nothing is built of pieces of which none is written before the first refusal
 none-built : (b : List Row) (d : List Sequence) (piece : StreamEvent → Piece) (pieces : List Piece) → flat_map output_of (up_to_refused pieces) ≡ [] → filter is_accepted (up_to_refused pieces) ≡ []
@@ -379,14 +393,14 @@ module _ (form : Form) (records : List Record) (b : List Row) (d : List Sequence
         accepted-piece records b d rows octets read.sections read.template read.values read.used at read.accepted ∙ ap OnOutput text-is
 
     -- after its text the reading goes on
-    spells : (line : ℕ) (more : List ℕ) → map (result_piece AsWritten b d) (parse_lines line Between (lines_of (normal_text form b d document ++ more)))
-        ≡ OnOutput octets ∷ map (result_piece AsWritten b d) (parse_lines (line + length (dump_lines read.sections items)) Between (lines_of more))
+    spells : (line : ℕ) (more : List ℕ) → map (result_piece AsWritten b d) (parse_lines line between (lines_of (normal_text form b d document ++ more)))
+        ≡ OnOutput octets ∷ map (result_piece AsWritten b d) (parse_lines (line + length (dump_lines read.sections items)) between (lines_of more))
     spells line more =
         let legal = (tree_fine (tables_of b d) read.sections.descriptors read.template read.accepted.expands).legal in
-        ap (λ t. map (result_piece AsWritten b d) (parse_lines line Between (lines_of (t ++ more)))) (sym text-is)
+        ap (λ t. map (result_piece AsWritten b d) (parse_lines line between (lines_of (t ++ more)))) (sym text-is)
         ∙ ap (map (result_piece AsWritten b d)) (text-spells read.sections items line more
         (dumpable b d octets read.sections read.template read.values read.used (table_read records b rows) legal read.accepted))
-        ∙ ap (λ x. encoded x ∷ map (result_piece AsWritten b d) (parse_lines (line + length (dump_lines read.sections items)) Between (lines_of more)))
+        ∙ ap (λ x. encoded x ∷ map (result_piece AsWritten b d) (parse_lines (line + length (dump_lines read.sections items)) between (lines_of more)))
         (encoded_again_same form records b d rows document octets read line proper is)
 
     one-more : (pieces : List Piece) (texts : List (List ℕ)) → AreBuilt b d piece_of pieces texts → AreBuilt b d piece_of (OnOutput octets ∷ pieces) (normal_text form b d document ∷ texts)
@@ -401,7 +415,7 @@ module _ (form : Form) (records : List Record) (b : List Row) (d : List Sequence
     }
 
   -- a document is encoded, or refused
-  document-more : (document : Document) (made : Result (List ℕ) RefusedAt) (pieces : List Piece) (texts : List (List ℕ)) → IsProper document → encoding_in form b d document ≡ made
+  document-more : (document : Document) (made : Result (List ℕ) DocumentFault) (pieces : List Piece) (texts : List (List ℕ)) → IsProper document → encoding_in form b d document ≡ made
       → AreBuilt b d piece_of pieces texts
       → AreBuilt b d piece_of (encoded made ∷ pieces) (before_refused made (normal_text form b d document) texts)
   unfolding up_to_refused
@@ -419,7 +433,7 @@ module _ (form : Form) (records : List Record) (b : List Row) (d : List Sequence
   pub one-spelling : (text : List ℕ) → IsDumpedInOneSpelling form b d text
   one-spelling text =
       let texts = normal_texts form b d (documents_of text) in
-      let r = are-built (documents_of text) (spelled-proper 1 Between (lines_of text) (omega arith) tt) in
+      let r = are-built (documents_of text) (spelled-proper 1 between (lines_of text) (omega arith) refl) in
       let pieces : dump_pieces b d (built form b d text) ≡ map OnOutput texts = ap (map piece_of) (ap scan r.written ∙ r.scanned 0) ∙ r.results 0 in
       let same_text : dumped b d (built form b d text) ≡ concat texts = ap (flat_map output_of) pieces ∙ outputs-octets texts in
       let many : length r.messages ≡ length texts = sym (placed-count piece_of 0 r.messages) ∙ ap length (r.results 0) ∙ length-map texts OnOutput in

@@ -1,14 +1,14 @@
 -- How a run of the program ended, what is flushed after it, its last line, and its exit status. (a
 -- choice of this project)
 -- Cited by public contracts.
-use Rattle.std.specs.Prelude.{◌≡◌, ◌⊎◌, ◌<◌, ◌-◌, ◌^◌, ℕ, true, List, Option, Result, Ok, Err, IfSome, IfOk, ◌≢◌, if◌then◌else◌, ◌==◌, [], ◌∷◌, ◌++◌, codes, decimal}
+use Rattle.std.specs.Prelude.{◌≡◌, ◌⊎◌, ◌<◌, ◌-◌, ◌^◌, ℕ, true, List, Result, Ok, Err, if◌then◌else◌, ◌==◌, [], ◌∷◌, ◌++◌, codes, decimal}
 use Rattle.std.specs.Io.KnownBytes.{Appends, Keeps}
 use Rattle.bufr_bits.specs.Prelude.{counted}
-use Rattle.bufr_frame.specs.Prelude.{read_failures_after, run_report}
+use Rattle.bufr_frame.specs.Prelude.{run_report}
 use Rattle.bufr_frame.specs.declared.fault.RunFault.{RunFault}
 use Rattle.bufr_frame.specs.declared.fault.RunFault.TheVariants.{Read, Write, Memory}
 use Rattle.bufr_text.specs.Prelude.{GrowsByPrefix, joined}
-use Rattle.bufr_cli.specs.Running.{HandsOn, AllHandedOn, BlamesWriter, IsSame, Input, Writer, Writers, ReadsAtMost, RunPieces, RunsPieces, WritesAndCounts}
+use Rattle.bufr_cli.specs.Running.{IsSame, Input, LeavesDevices, Writer, Writers, RunPieces}
 use Rattle.bufr_cli.specs.declared.outcome.Tally.{Tally}
 use Rattle.bufr_tables.specs.Prelude.{table_report}
 use Rattle.bufr_tables.specs.declared.fault.TableFault.{TableFault}
@@ -37,30 +37,13 @@ WritesLine before after line =
     × (before.failures < 2 ^ 64 - 1 → before.empty_writes < 2 ^ 64 - 1 → IsSame before after
     → Appends before.taken after.taken line)
 
--- What a run with these pieces leaves of its devices. At its end all is handed on, the errors only
--- after the output. The input counts a read fault, a writer a write fault.
-pub record LeavesDevices (pieces : RunPieces) (from to : Input) (before after : Writers)
-    (result : Result Tally RunFault) : Type 0 where
-  pub octets : List ℕ
-  pub run : RunsPieces pieces from to before after octets result
-  -- where the whole input is known, its pieces were written and counted
-  pub whole : IfOk result
-      (λ tally. IfSome from.left (λ s. WritesAndCounts before after tally (pieces.whole s)))
-  pub order : after.errors.failed_flushes ≢ before.errors.failed_flushes
-      → after.output.all_flushed ≡ true
-  pub flushed : HandsOn result (AllHandedOn after)
-  pub failures : to.failures ≡ read_failures_after from.failures result
-  pub reads : ReadsAtMost from.reads to.reads result
-  pub writers : BlamesWriter before after result
-
--- How a run ended: memory was wanted before it began; or it left its devices, and then the rest.
-pub data EndsRun (pieces : RunPieces) (octets : Option (List ℕ)) (before after : Writers)
+-- How a run over an input ended: it left its devices, and then the rest was flushed.
+pub record EndsRun (pieces : RunPieces) (from to : Input) (before after : Writers)
     (ran : Result Tally RunFault) : Type 0 where
-  WantsMemory : ran ≡ Err Memory → after ≡ before → EndsRun pieces octets before after ran
-  Ended : (from to : Input) → from.left ≡ octets → (between : Writers)
-      → LeavesDevices pieces from to before between ran
-      → FlushesRest between.output after.output ran → after.errors ≡ between.errors
-      → EndsRun pieces octets before after ran
+  pub between : Writers
+  pub leaves : LeavesDevices pieces from to before between ran
+  pub rest : FlushesRest between.output after.output ran
+  pub errors : after.errors ≡ between.errors
 
 -- a line of a fault without a place: what it is of, its number and its text
 abbrev pub last_fault_line : (name : List ℕ) → (report : ℕ × List (List ℕ)) → List ℕ

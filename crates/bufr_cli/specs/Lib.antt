@@ -2,6 +2,8 @@
 pub mod RoundTrip
 -- what a run leaves: its reads, its writes, its counts, and the devices that a fault is of
 pub mod Running
+-- what one step of a run does
+pub mod Steps
 -- the fault lines of a stream, with its offset, and of a document, with the line of the text
 pub mod FaultLine
 -- a text for one of the two writers, and what each command writes for an input

@@ -1,6 +1,6 @@
 -- The command line of `bufr`, as clap reads it. (a choice of this project)
 -- Cited by public contracts.
-use Rattle.std.specs.Prelude.{◌≡◌, ◌≢◌, ◌⊎◌, ℕ, List, ◌++◌, Option, Some, None, true, codes, option_map}
+use Rattle.std.specs.Prelude.{◌≡◌, ◌≢◌, ◌⊎◌, ℕ, List, ◌++◌, Option, Some, None, true, codes, option_map, string_bytes}
 use Rattle.clap.specs.Words.{App, IsAmong, Kinds, Row, Rule, Text, first_of, new_app, new_rule, with_rule, with_subcommand}
 use Rattle.clap.specs.declared.error.kind.ErrorKind.{ErrorKind}
 use Rattle.clap.specs.declared.error.kind.ErrorKind.TheVariants.{DisplayHelp, DisplayVersion}
@@ -102,11 +102,18 @@ no_job_text UnknownForm =
     codes "error: invalid value for '--form <WORD>'\n"
     ++ codes "  [possible values: plain, compressed]\n\nFor more information, try '--help'.\n"
 
+-- no subcommand was met, or the one that was gives no job; the text says which
+-- rule: usage
+abbrev pub GivesNoJob : Option (Text × List Row) → (text : Text) → Type 0
+GivesNoJob None text = text ≡ no_job_text UnknownCommand
+GivesNoJob (Some subcommand) text =
+    (why : NoJob) × IsWhyNoJob subcommand.0 subcommand.1 why × (text ≡ no_job_text why)
+
 -- why a line gives no job: it asks for help or the version, or is refused, or its words give none
 -- rule: help, usage
 abbrev pub SaysWhy : Kinds → Option (Text × List Row) → LineFault → Type 0
 SaysWhy kinds subcommand (Help text) = IsAmong DisplayHelp kinds ⊎ IsAmong DisplayVersion kinds
 SaysWhy kinds subcommand (Usage text) =
     ((kind : ErrorKind) × IsAmong kind kinds × (kind ≢ DisplayHelp) × (kind ≢ DisplayVersion))
-    ⊎ ((job : Job) → ¬ IsJobOf subcommand job)
+    ⊎ GivesNoJob subcommand (string_bytes text)
 SaysWhy kinds subcommand Memory = Unit {0}

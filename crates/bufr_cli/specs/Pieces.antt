@@ -3,11 +3,12 @@
 use Rattle.std.specs.Prelude.{ℕ, Bool, true, false, List, [], ◌∷◌, map, Option, Some, None, Result, Ok, Err}
 use Rattle.bufr_frame.specs.Prelude.{StreamEvent, FrameAt, StrayAt, cause_report, section_report, Sections, sections_of}
 use Rattle.bufr_frame.specs.declared.fault.SectionFault.{SectionFault}
-use Rattle.bufr_text.specs.Prelude.{ls_line, dump_text_of, ParseResult, Complete, Refused, RefusedAt, encoding_in, dump_items}
+use Rattle.bufr_text.specs.Prelude.{ls_line, dump_text_of, ParseResult, Complete, Refused, encoding_in, dump_items}
+use Rattle.bufr_text.specs.declared.fault.DocumentFault.{DocumentFault}
 use Rattle.bufr_cli.specs.FaultLine.{fault_line, refused_line, refusal_line}
 use Rattle.bufr_tables.specs.Prelude.{tree_of, tables_of, template_report, Row, Sequence, Tree}
 use Rattle.bufr_tables.specs.declared.fault.TemplateFault.{TemplateFault}
-use Rattle.bufr_walk.specs.Prelude.{next_item, data_report, data_of, reading_of, values_in, fault_of}
+use Rattle.bufr_walk.specs.Prelude.{next_item, data_report, data_of, reading_of, fault_of}
 use Rattle.bufr_walk.specs.declared.fault.WalkFault.{WalkFault}
 use Rattle.bufr_text.specs.declared.encode.Form.{Form}
 
@@ -58,7 +59,7 @@ abbrev pub data_piece : List Row → ℕ → Sections → Tree → Piece
 data_piece table offset s template =
     let r = reading_of (next_item table template) (data_of s) in
     text_or_fault offset (fault_of (data_of s) r)
-    (dump_text_of s (dump_items table s.subsets (values_in r.passes)))
+    (dump_text_of s (dump_items table s.subsets r.values))
 
 -- what is written for a message, by the template of its descriptors, or by the fault of these
 -- rule: list-before-data
@@ -79,9 +80,9 @@ dump_piece b d (FrameAt offset octets) = message_piece b d offset (sections_of o
 dump_piece b d (StrayAt offset cause) = OnErrors (fault_line offset (cause_report cause))
 
 -- the octets of a document, or the line of its fault
-abbrev pub encoded : Result (List ℕ) RefusedAt → Piece
+abbrev pub encoded : Result (List ℕ) DocumentFault → Piece
 encoded (Ok octets) = OnOutput octets
-encoded (Err refused) = OnErrors (refusal_line refused.line refused.why)
+encoded (Err why) = OnErrors (refusal_line why)
 
 -- what is written for a document, or for the line that is refused
 -- rule: document-read-first

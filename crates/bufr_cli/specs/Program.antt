@@ -3,10 +3,10 @@
 use Rattle.std.specs.Prelude.{◌≡◌, ◌≢◌, ◌⊎◌, ℕ, List, Option, Some, None, Result, Ok, Err, IfSome, true, string_bytes}
 use Rattle.std.specs.Borrow.{Bor}
 use Rattle.bufr_frame.specs.declared.fault.RunFault.{RunFault}
-use Rattle.bufr_frame.specs.declared.fault.RunFault.TheVariants.{Write}
+use Rattle.bufr_frame.specs.Prelude.{MakesReads, read_failures_after}
 use Rattle.bufr_tables.specs.Prelude.{ReadsTableD, Record, Sequence, records_of, ReturnsUnlessMemory, Row, table_b_of}
 use Rattle.bufr_tables.specs.declared.fault.TableFault.{TableFault}
-use Rattle.bufr_cli.specs.Running.{Writers, RunPieces, event_pieces, document_pieces, HasFailed, IsSame}
+use Rattle.bufr_cli.specs.Running.{Input, Writers, RunPieces, event_pieces, document_pieces, HasFailed, IsSame}
 use Rattle.bufr_cli.specs.Pieces.{dump_piece, ls_piece}
 use Rattle.bufr_cli.specs.Ending.{EndsRun, WritesLine, last_line, run_line, status_of}
 use Rattle.bufr_cli.specs.declared.outcome.Outcome.{Outcome}
@@ -18,7 +18,7 @@ use Rattle.bufr_cli.specs.declared.job.TableNames.{TableNames}
 use Rattle.bufr_cli.specs.declared.program.Command.{Command}
 use Rattle.bufr_cli.specs.declared.program.Command.TheVariants as command
 use Rattle.bufr_cli.specs.declared.outcome.Tally.{Tally}
-use Rattle.std.specs.Io.KnownBytes.{Appends}
+use Rattle.std.specs.Io.KnownBytes.{Appends, Consumes}
 use Rattle.clap.specs.Words.{Text, fault_of, subcommand_of}
 use Rattle.bufr_frame.specs.declared.fault.RunFault.TheVariants as ended
 use Rattle.bufr_text.specs.Prelude.{GrowsByPrefix}
@@ -26,19 +26,24 @@ use Rattle.bufr_cli.specs.Line.{IsJobOf, SaysWhy, bufr_app}
 use Rattle.bufr_cli.specs.declared.job.LineFault.{LineFault}
 use Rattle.bufr_cli.specs.declared.job.LineFault.TheVariants.{Help, Usage, Memory}
 
--- What is known of the inputs: the octets of standard input, and of files known to open.
-pub record Known : Type 0 where
+-- What is known of the inputs: the octets of standard input, and of files known to open; and what
+-- an input of either type has counted.
+pub record Known (Standard File : Type 0) : Type 0 where
   pub standard : Option (List ℕ)
   pub named : List ℕ → Option (List ℕ)
+  pub of_standard : Standard → Input
+  pub of_file : File → Input
 
-abbrev pub known : (standard : Option (List ℕ)) → (named : List ℕ → Option (List ℕ)) → Known
-known standard named = record { standard = standard; named = named }
-
--- the octets of the file of this name, or of standard input, where they are known
--- rule: dash-is-a-name
-abbrev pub input_octets : Known → (file : Option (Bor (List ℕ))) → Option (List ℕ)
-input_octets inputs None = inputs.standard
-input_octets inputs (Some name) = inputs.named name.now
+abbrev pub known : {Standard File : Type 0} → (standard : Option (List ℕ))
+    → (named : List ℕ → Option (List ℕ)) → (Standard → Input) → (File → Input)
+    → Known Standard File
+known standard named of_standard of_file =
+    record {
+      standard = standard;
+      named = named;
+      of_standard = of_standard;
+      of_file = of_file;
+    }
 
 -- the pieces of a command whose tables were read
 abbrev pub command_pieces : Command → RunPieces
@@ -46,31 +51,63 @@ command_pieces command.Ls = event_pieces ls_piece
 command_pieces (command.Dump b d) = event_pieces (dump_piece b.now d.now)
 command_pieces (command.Encode form b d) = document_pieces form b.now d.now
 
--- the file of this name is not opened, and it was not known that it can be
+-- the file of this name is not opened: it was not known that it can be, or memory was wanted
 abbrev pub IsClosed : (named : List ℕ → Option (List ℕ)) → (name : Bor (List ℕ)) → Outcome → Type 0
-IsClosed named name outcome = (outcome ≡ CannotOpen name) × (named name.now ≡ None)
+IsClosed named name outcome =
+    ((outcome ≡ CannotOpen name) × (named name.now ≡ None)) ⊎ (outcome ≡ Run ended.Memory)
 
 -- how a run came out
 abbrev pub ran_outcome : Result Tally RunFault → Outcome
 ran_outcome (Ok tally) = Ran tally
 ran_outcome (Err fault) = Run fault
 
--- What comes of a run: its input cannot be opened, and nothing was written; or the run ended.
-pub data RunOutcome (pieces : RunPieces) (inputs : Known) (file : Option (Bor (List ℕ)))
-    (before after : Writers) (outcome : Outcome) : Type 0 where
-  IsNotOpened : (name : Bor (List ℕ)) → file ≡ Some name → IsClosed inputs.named name outcome
-      → after ≡ before → RunOutcome pieces inputs file before after outcome
+-- an input of these octets was run over, and this is what it counted
+abbrev pub RunsOver : {R : Type 0} → (counts : R → Input) → (octets : Option (List ℕ))
+    → (run : (from to : Input) → Type 0) → Type 0
+RunsOver {R} counts octets run =
+    (from to : R) × ((counts from).left ≡ octets) × run (counts from) (counts to)
+
+-- the file of this name was run over, or standard input
+-- rule: dash-is-a-name
+abbrev pub RunsOverInput : {Standard File : Type 0} → Known Standard File
+    → (file : Option (Bor (List ℕ))) → (run : (from to : Input) → Type 0) → Type 0
+RunsOverInput inputs None run = RunsOver inputs.of_standard inputs.standard run
+RunsOverInput inputs (Some name) run = RunsOver inputs.of_file (inputs.named name.now) run
+
+-- What comes of a run: its input cannot be opened, or memory was wanted first, and nothing was
+-- written; or the run ended.
+pub data RunOutcome {Standard File : Type 0} (pieces : RunPieces) (inputs : Known Standard File)
+    (file : Option (Bor (List ℕ))) (before after : Writers) (outcome : Outcome) : Type 0 where
+  IsNotOpened : (name : Bor (List ℕ)) → file ≡ Some name → outcome ≡ CannotOpen name
+      → inputs.named name.now ≡ None → after ≡ before
+      → RunOutcome pieces inputs file before after outcome
+  WantsMemory : outcome ≡ Run ended.Memory → after ≡ before
+      → RunOutcome pieces inputs file before after outcome
   Runs : (ran : Result Tally RunFault) → outcome ≡ ran_outcome ran
-      → EndsRun pieces (input_octets inputs file) before after ran
+      → RunsOverInput inputs file (λ from to. EndsRun pieces from to before after ran)
       → RunOutcome pieces inputs file before after outcome
 
--- a table's file is not opened, or not read, by a fault that is none of a write; or it is at fault
+-- An input was not read whole: a read of it failed, or 2^32 were made, or memory was wanted.
+pub record FailsToRead (fault : RunFault) (from to : Input) : Type 0 where
+  pub octets : List ℕ
+  pub read : Consumes from.left to.left octets
+  pub none : fault ≢ ended.Write
+  pub failures : to.failures ≡ read_failures_after {X = Unit {0}} from.failures (Err fault)
+  pub reads : MakesReads {X = Unit {0}} from.reads to.reads (Err fault)
+
+-- a file of these octets was not read whole, and its counts say why
 -- rule: table-not-read
-abbrev pub TableOutcome : {X : Type 0} → (reads : List Record → Result X TableFault → Type 0)
-    → (says : TableFault → Outcome) → (named : List ℕ → Option (List ℕ)) → (name : Bor (List ℕ))
+abbrev pub IsUnread : {File : Type 0} → (counts : File → Input) → (octets : Option (List ℕ))
     → Outcome → Type 0
-TableOutcome reads says named name outcome =
-    (IsClosed named name outcome ⊎ ((fault : RunFault) × (outcome ≡ Run fault) × (fault ≢ Write)))
+IsUnread counts octets outcome =
+    (fault : RunFault) × (outcome ≡ Run fault) × RunsOver counts octets (FailsToRead fault)
+
+-- a table's file is not opened, or not read; or the table is at fault
+abbrev pub TableOutcome : {X File : Type 0} → (counts : File → Input)
+    → (reads : List Record → Result X TableFault → Type 0) → (says : TableFault → Outcome)
+    → (named : List ℕ → Option (List ℕ)) → (name : Bor (List ℕ)) → Outcome → Type 0
+TableOutcome counts reads says named name outcome =
+    (IsClosed named name outcome ⊎ IsUnread counts (named name.now) outcome)
     ⊎ ((fault : TableFault) × (outcome ≡ says fault)
     × IfSome (named name.now) (λ text. reads (records_of text) (Err fault)))
 
@@ -81,38 +118,38 @@ pub record AreTables (named : List ℕ → Option (List ℕ)) (tables : TableNam
   pub table_d : IfSome (named tables.table_d.now) (λ text. ReadsTableD (records_of text) (Ok d))
 
 -- not both tables are read: Table B is not read or is at fault, or is read and Table D is not
-pub data AreUnread (named : List ℕ → Option (List ℕ)) (tables : TableNames)
-    (outcome : Outcome) : Type 0 where
-  NoTableB : TableOutcome (λ records. ReturnsUnlessMemory (table_b_of records)) TableB named
-      tables.table_b outcome → AreUnread named tables outcome
+pub data AreUnread {File : Type 0} (counts : File → Input) (named : List ℕ → Option (List ℕ))
+    (tables : TableNames) (outcome : Outcome) : Type 0 where
+  NoTableB : TableOutcome counts (λ records. ReturnsUnlessMemory (table_b_of records)) TableB named
+      tables.table_b outcome → AreUnread counts named tables outcome
   NoTableD : (b : List Row) → IfSome (named tables.table_b.now)
       (λ text. table_b_of (records_of text) ≡ Ok b)
-      → TableOutcome ReadsTableD TableD named tables.table_d outcome
-      → AreUnread named tables outcome
+      → TableOutcome counts ReadsTableD TableD named tables.table_d outcome
+      → AreUnread counts named tables outcome
 
 -- what comes of a run by tables: not both are read, and nothing was written; or it is by both
 -- rule: tables-before-input
-pub data TablesOutcome (run : List Row → List Sequence → Outcome → Type 0)
-    (named : List ℕ → Option (List ℕ)) (tables : TableNames)
-    (before after : Writers) (outcome : Outcome) : Type 0 where
-  NoTables : after ≡ before → AreUnread named tables outcome
-      → TablesOutcome run named tables before after outcome
-  ByTables : (b : List Row) (d : List Sequence) → AreTables named tables b d → run b d outcome
-      → TablesOutcome run named tables before after outcome
+pub data TablesOutcome {Standard File : Type 0} (run : List Row → List Sequence → Outcome → Type 0)
+    (inputs : Known Standard File) (tables : TableNames) (before after : Writers)
+    (outcome : Outcome) : Type 0 where
+  NoTables : after ≡ before → AreUnread inputs.of_file inputs.named tables outcome
+      → TablesOutcome run inputs tables before after outcome
+  ByTables : (b : List Row) (d : List Sequence) → AreTables inputs.named tables b d
+      → run b d outcome → TablesOutcome run inputs tables before after outcome
 
 -- what comes of a command
-abbrev pub CommandOutcome : Known → Subcommand → (file : Option (Bor (List ℕ)))
-    → (before after : Writers) → Outcome → Type 0
+abbrev pub CommandOutcome : {Standard File : Type 0} → Known Standard File → Subcommand
+    → (file : Option (Bor (List ℕ))) → (before after : Writers) → Outcome → Type 0
 CommandOutcome inputs Ls file before after outcome =
     RunOutcome (event_pieces ls_piece) inputs file before after outcome
 CommandOutcome inputs (Dump tables) file before after outcome =
     TablesOutcome
     (λ b d ends. RunOutcome (event_pieces (dump_piece b d)) inputs file before after ends)
-    inputs.named tables before after outcome
+    inputs tables before after outcome
 CommandOutcome inputs (Encode tables form) file before after outcome =
     TablesOutcome
     (λ b d ends. RunOutcome (document_pieces form b d) inputs file before after ends)
-    inputs.named tables before after outcome
+    inputs tables before after outcome
 
 -- Help was written and handed on; or the output failed at it, and the last line says so.
 pub data WritesHelp (text : List ℕ) (before after : Writers) (status : ℕ) : Type 0 where
@@ -136,8 +173,8 @@ AnswersFault Memory before after status =
 
 -- A job was done, and the last line and the status say how; or there is none, and that is answered.
 -- rule: status-of-help
-pub data RunsProgram (words : List Text) (inputs : Known) (before after : Writers)
-    (status : ℕ) : Type 0 where
+pub data RunsProgram {Standard File : Type 0} (words : List Text) (inputs : Known Standard File)
+    (before after : Writers) (status : ℕ) : Type 0 where
   Does : (job : Job) → IsJobOf (subcommand_of bufr_app words) job → (outcome : Outcome)
       → (between : Writers) → CommandOutcome inputs job.command job.file before between outcome
       → after.output ≡ between.output

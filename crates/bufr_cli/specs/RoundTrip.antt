@@ -7,7 +7,8 @@ use Rattle.bufr_bits.specs.Prelude.{taken_of}
 use Rattle.bufr_frame.specs.Prelude.{StreamEvent, FrameAt, StrayAt, scan, Sections}
 use Rattle.bufr_tables.specs.Prelude.{Row, Sequence, Tree, tree_of, tables_of}
 use Rattle.bufr_walk.specs.Prelude.{Values}
-use Rattle.bufr_text.specs.Prelude.{IsCanonical, IsAccepted, HasSameReading, extra_octets, documents_of, Document, ParseResult, Complete, Refused, RefusedAt, encoding_in, normal}
+use Rattle.bufr_text.specs.Prelude.{IsCanonical, IsAccepted, HasSameReading, extra_octets, documents_of, Document, ParseResult, Complete, Refused, encoding_in, normal}
+use Rattle.bufr_text.specs.declared.fault.DocumentFault.{DocumentFault}
 use Rattle.bufr_text.specs.declared.encode.Form.TheVariants.{AsWritten}
 use Rattle.bufr_cli.specs.Pieces.{dump_piece, Piece, OnOutput, OnErrors, output_of, errors_of, is_accepted, is_refused, encode_pieces}
 use Rattle.bufr_cli.specs.Running.{Tallies}
@@ -149,7 +150,7 @@ normal_text form b d document =
 
 -- the text of a document that is encoded, and those after it; of one that is refused, and after
 -- it, there is none
-abbrev pub before_refused : Result (List ℕ) RefusedAt → (text : List ℕ)
+abbrev pub before_refused : Result (List ℕ) DocumentFault → (text : List ℕ)
     → (more : List (List ℕ)) → List (List ℕ)
 before_refused (Ok octets) text more = text ∷ more
 before_refused (Err refused) text more = []

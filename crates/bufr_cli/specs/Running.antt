@@ -1,22 +1,18 @@
 -- What a run leaves: its reads, its writes, its counts, and the devices that a fault is of.
 -- (A choice of this project)
 -- Cited by public contracts.
-use Rattle.std.specs.Prelude.{ℕ, Bool, true, OnOk, IfErr, ◌≢◌, List, Option, ◌≡◌, ◌⊎◌, Result, Ok, Err, ◌<◌, ◌≤◌, false, ◌++◌, None, flat_map, count_by, option_to_list, map, [], IfSome, Vec, ◌+◌, ◌∷◌, Some}
+use Rattle.std.specs.Prelude.{ℕ, Bool, true, OnOk, IfErr, IfOk, ◌≢◌, List, Option, ◌≡◌, ◌⊎◌, Result, Ok, Err, ◌<◌, ◌≤◌, false, ◌++◌, None, flat_map, count_by, option_to_list, map, [], IfSome, Vec}
 use Rattle.bufr_frame.specs.declared.fault.RunFault.{RunFault}
 use Rattle.bufr_frame.specs.declared.fault.RunFault.TheVariants.{Read, Write, InputTooLong, Memory}
-use Rattle.bufr_text.specs.Prelude.{Stays, Fails, CountsWrites, GrowsByPrefix, documents_of, ParseResult, open_documents_of, Document, parse_results}
+use Rattle.bufr_text.specs.Prelude.{Stays, Fails, CountsWrites, GrowsByPrefix, documents_of, open_documents_of}
 use Rattle.std.specs.Io.KnownBytes.{Consumes, Appends, IsAtEnd, Keeps}
 use Rattle.bufr_bits.specs.Prelude.{counted}
-use Rattle.bufr_frame.specs.Prelude.{max_reads, MakesReads, StreamEvent, scan, open_scan}
-use Rattle.bufr_cli.specs.Pieces.{Piece, output_of, errors_of, is_accepted, is_refused, dump_piece, encode_pieces}
+use Rattle.bufr_frame.specs.Prelude.{max_reads, StreamEvent, scan, open_scan, read_failures_after}
+use Rattle.bufr_cli.specs.Pieces.{Piece, output_of, errors_of, is_accepted, is_refused, encode_pieces}
 use Rattle.bufr_cli.specs.declared.outcome.Tally.{Tally}
 use Rattle.bufr_tables.specs.Prelude.{Row, Sequence}
 use Rattle.bufr_text.specs.declared.encode.Form.{Form}
 use Rattle.std.specs.Global.{Global}
-use Rattle.bufr_cli.specs.declared.outcome.Verdict.{Verdict}
-use Rattle.bufr_cli.specs.declared.outcome.Verdict.TheVariants.{Accepted, Refused}
-use Rattle.bufr_text.specs.declared.fault.ReadFault.{ReadFault}
-use Rattle.bufr_text.specs.declared.fault.ReadFault.TheVariants.{Run}
 use Rattle.bufr_bits.specs.declared.device.Sink as sink
 use Rattle.bufr_bits.specs.declared.device.Source as source
 
@@ -119,23 +115,29 @@ BlamesWriter before after result =
 
 -- All of the pieces were written, each on its writer, in order.
 -- rule: output-in-order
-pub record WritesPieces (old_output new_output old_errors new_errors : Option (List ℕ))
-    (pieces : List Piece) : Type 0 where
-  pub output : Appends old_output new_output (flat_map output_of pieces)
-  pub errors : Appends old_errors new_errors (flat_map errors_of pieces)
+pub record WritesPieces (before after : Writers) (pieces : List Piece) : Type 0 where
+  pub output : Appends before.output.taken after.output.taken (flat_map output_of pieces)
+  pub errors : Appends before.errors.taken after.errors.taken (flat_map errors_of pieces)
+
+-- On each writer a prefix was written of what the pieces put there.
+pub record WritesPrefixes (before after : Writers) (pieces : List Piece) : Type 0 where
+  pub output : GrowsByPrefix before.output.taken after.output.taken (flat_map output_of pieces)
+  pub errors : GrowsByPrefix before.errors.taken after.errors.taken (flat_map errors_of pieces)
 
 -- The first pieces were written whole, and of the next one a prefix.
-pub record WrittenInPart (old_output new_output old_errors new_errors : Option (List ℕ))
-    (pieces : List Piece) : Type 0 where
+pub record WrittenInPart (before after : Writers) (pieces : List Piece) : Type 0 where
   pub given : List Piece
   pub next : Option Piece
   pub rest : List Piece
   pub parts : pieces ≡ given ++ (option_to_list next ++ rest)
-  pub between_output : Option (List ℕ)
-  pub between_errors : Option (List ℕ)
-  pub whole : WritesPieces old_output between_output old_errors between_errors given
-  pub output : GrowsByPrefix between_output new_output (flat_map output_of (option_to_list next))
-  pub errors : GrowsByPrefix between_errors new_errors (flat_map errors_of (option_to_list next))
+  pub between : Writers
+  pub whole : WritesPieces before between given
+  pub prefix : WritesPrefixes between after (option_to_list next)
+
+-- no piece is left
+abbrev pub IsAllWritten : {before after : Writers} → {pieces : List Piece}
+    → WrittenInPart before after pieces → Type 0
+IsAllWritten part = (part.next ≡ None) × (part.rest ≡ [])
 
 -- The tally counts the pieces on each writer.
 pub record Tallies (tally : Tally) (pieces : List Piece) : Type 0 where
@@ -172,43 +174,6 @@ abbrev pub read_pieces : RunPieces → (ended : Bool) → List ℕ → List Piec
 read_pieces pieces true bs = pieces.whole bs
 read_pieces pieces false bs = pieces.certain bs
 
--- The pieces of the whole input were written and counted, whatever is after the octets that were
--- read: nothing, where the end was reached, and after a refusal that ends the run nothing counts.
-pub record RunDone (pieces : RunPieces)
-    (left left' output output' errors errors' : Option (List ℕ)) (bs : List ℕ)
-    (tally : Tally) : Type 0 where
-  pub read : Consumes left left' bs
-  pub ended : Bool
-  pub all : pieces.stops ≡ false → (ended ≡ true) × IsAtEnd left'
-  pub end : ended ≡ true → IfSome left (λ s. bs ≡ s)
-  pub written : (t : List ℕ) → (ended ≡ true → t ≡ [])
-      → WritesPieces output output' errors errors' (pieces.whole (bs ++ t))
-  -- so much is certain from what was read
-  pub certain : WritesPieces output output' errors errors' (read_pieces pieces ended bs)
-  pub tallies : (t : List ℕ) → (ended ≡ true → t ≡ []) → Tallies tally (pieces.whole (bs ++ t))
-
--- The run stopped early, and all that was certain was written, without a refusal that ends a run.
--- rule: input-not-read
-pub record RunStopped (pieces : RunPieces)
-    (left left' output output' errors errors' : Option (List ℕ)) (bs : List ℕ) : Type 0 where
-  pub read : Consumes left left' bs
-  pub written : WritesPieces output output' errors errors' (pieces.certain bs)
-  pub accepted : pieces.stops ≡ true → count_by is_refused (pieces.certain bs) ≡ 0
-
--- A writer failed, or memory was refused: a prefix was written, or, where a flush failed, all that
--- is certain.
--- rule: fault-line-not-written, reader-gone
-pub record RunCut (pieces : RunPieces)
-    (left left' output output' errors errors' : Option (List ℕ)) (unflushed : Type 0)
-    (bs : List ℕ) : Type 0 where
-  pub read : Consumes left left' bs
-  pub ended : Bool
-  pub all : pieces.stops ≡ false → ended ≡ true → IsAtEnd left'
-  pub end : ended ≡ true → IfSome left (λ s. bs ≡ s)
-  pub written : WrittenInPart output output' errors errors' (read_pieces pieces ended bs)
-  pub flushed : ¬ unflushed
-      → WritesPieces output output' errors errors' (read_pieces pieces ended bs)
-
 -- all is handed on where the run went through, or a read of it failed
 -- rule: output-held-back
 abbrev pub HandsOn : {X : Type 0} → Result X RunFault → (all : Type 0) → Type 0
@@ -238,32 +203,6 @@ pub record HandsOnBoth {X : Type 0} (before after : Writers) (must : Type 0)
 abbrev pub ReadsFewer : (reads reads' : ℕ) → Type 0
 ReadsFewer reads reads' = (n : ℕ) × (n < max_reads) × (reads' ≡ counted reads n)
 
--- what a run leaves that reads these octets; memory is wanted where a piece was to be written, or
--- early, before all of the reads were made; where a refusal ends the run there was none before
-abbrev pub LeavesRun : (pieces : RunPieces)
-    → (left left' output output' errors errors' : Option (List ℕ))
-    → (unflushed early : Type 0) → List ℕ → Result Tally RunFault → Type 0
-LeavesRun pieces left left' output output' errors errors' unflushed early bs (Ok tally) =
-    RunDone pieces left left' output output' errors errors' bs tally
-LeavesRun pieces left left' output output' errors errors' unflushed early bs (Err Memory) =
-    (cut : RunCut pieces left left' output output' errors errors' unflushed bs)
-    × (pieces.stops ≡ false → cut.written.next ≡ None → early)
-    × (pieces.stops ≡ true → count_by is_refused cut.written.given ≡ 0)
-LeavesRun pieces left left' output output' errors errors' unflushed early bs (Err Write) =
-    RunCut pieces left left' output output' errors errors' unflushed bs
-LeavesRun pieces left left' output output' errors errors' unflushed early bs (Err fault) =
-    RunStopped pieces left left' output output' errors errors' bs
-
--- what a run leaves of its input and of its writers that reads these octets
--- rule: fault-70
-abbrev pub RunsPieces : RunPieces → (from to : Input) → (before after : Writers) → List ℕ
-    → Result Tally RunFault → Type 0
-RunsPieces pieces from to before after bs result =
-    LeavesRun pieces from.left to.left before.output.taken after.output.taken before.errors.taken
-    after.errors.taken ((after.output.failed_flushes ≡ before.output.failed_flushes)
-    × (after.errors.failed_flushes ≡ before.errors.failed_flushes))
-    (ReadsFewer from.reads to.reads) bs result
-
 -- at most 2^32 reads were made; an input is too long only after all of them
 -- rule: fault-72
 abbrev pub ReadsAtMost : {X : Type 0} → (reads reads' : ℕ) → Result X RunFault → Type 0
@@ -271,22 +210,64 @@ ReadsAtMost reads reads' result =
     (n : ℕ) × (n ≤ max_reads) × (reads' ≡ counted reads n)
     × (result ≡ Err InputTooLong → n ≡ max_reads)
 
--- the pieces were written and counted
-abbrev pub WritesAndCounts : (before after : Writers) → Tally → List Piece → Type 0
-WritesAndCounts before after tally pieces =
-    WritesPieces before.output.taken after.output.taken before.errors.taken after.errors.taken
-    pieces × Tallies tally pieces
+-- the pieces of a whole input were written and counted
+abbrev pub WritesWhole : RunPieces → (before after : Writers) → Tally → (octets : List ℕ) → Type 0
+WritesWhole pieces before after tally octets =
+    WritesPieces before after (pieces.whole octets) × Tallies tally (pieces.whole octets)
 
--- the pieces that `dump` has for the octets by these tables were written and counted
-abbrev pub Dumps : List Row → List Sequence → (before after : Writers) → Tally → List ℕ → Type 0
-Dumps b d before after tally s =
-    WritesAndCounts before after tally (map (dump_piece b d) (scan s))
+-- A run read these octets, perhaps to the end of its input, and wrote of their pieces the first.
+pub record ReadsAndWrites (pieces : RunPieces) (from to : Input) (before after : Writers) : Type 0
+  where
+    pub octets : List ℕ
+    pub ended : Bool
+    pub read : Consumes from.left to.left octets
+    pub at_end : ended ≡ true → IsAtEnd to.left
+    pub written : WrittenInPart before after (read_pieces pieces ended octets)
 
--- the pieces that `encode` has for the octets by these tables were written and counted
-abbrev pub Encodes : Form → List Row → List Sequence → (before after : Writers) → Tally → List ℕ
-    → Type 0
-Encodes form b d before after tally s =
-    WritesAndCounts before after tally (encode_pieces form b d (documents_of s))
+-- where a refusal ends the run, none was written
+abbrev pub IsUnrefused : RunPieces → List Piece → Type 0
+IsUnrefused pieces given = pieces.stops ≡ true → count_by is_refused given ≡ 0
+
+-- no flush of a writer failed
+abbrev pub NoFlushFails : (before after : Writers) → Type 0
+NoFlushFails before after =
+    (after.output.failed_flushes ≡ before.output.failed_flushes)
+    × (after.errors.failed_flushes ≡ before.errors.failed_flushes)
+
+-- How a run ended that read and wrote so much. At its end the pieces of the whole input were
+-- written and counted, whatever may follow what was read. Nothing follows the end, and after a
+-- refusal that ends the run nothing counts. A read that failed, or was not made, came after all
+-- that is certain. A flush that failed came after all. Memory was wanted where a piece was to be
+-- written, or before all of the reads were made.
+-- rule: input-not-read, fault-line-not-written, reader-gone, fault-70
+abbrev pub RunEnds : {pieces : RunPieces} → {from to : Input} → {before after : Writers}
+    → ReadsAndWrites pieces from to before after → Result Tally RunFault → Type 0
+RunEnds {pieces} {from} {to} {before} {after} so (Ok tally) =
+    (pieces.stops ≡ false → so.ended ≡ true) × IsAllWritten so.written
+    × ((t : List ℕ) → (so.ended ≡ true → t ≡ [])
+    → WritesWhole pieces before after tally (so.octets ++ t))
+RunEnds {pieces} {from} {to} {before} {after} so (Err Write) =
+    ¬ NoFlushFails before after → IsAllWritten so.written
+RunEnds {pieces} {from} {to} {before} {after} so (Err Memory) =
+    IsUnrefused pieces so.written.given
+    × (pieces.stops ≡ false → so.written.next ≡ None → ReadsFewer from.reads to.reads)
+RunEnds {pieces} {from} {to} {before} {after} so (Err fault) =
+    (so.ended ≡ false) × IsAllWritten so.written × IsUnrefused pieces so.written.given
+
+-- What a run with these pieces leaves of its devices. At its end all is handed on, the errors only
+-- after the output. The input counts a read fault, a writer a write fault.
+pub record LeavesDevices (pieces : RunPieces) (from to : Input) (before after : Writers)
+    (result : Result Tally RunFault) : Type 0 where
+  pub ran : ReadsAndWrites pieces from to before after
+  pub ends : RunEnds ran result
+  -- where the whole input is known, its pieces were written and counted
+  pub whole : IfOk result (λ tally. IfSome from.left (WritesWhole pieces before after tally))
+  pub order : after.errors.failed_flushes ≢ before.errors.failed_flushes
+      → after.output.all_flushed ≡ true
+  pub flushed : HandsOn result (AllHandedOn after)
+  pub failures : to.failures ≡ read_failures_after from.failures result
+  pub reads : ReadsAtMost from.reads to.reads result
+  pub writers : BlamesWriter before after result
 
 -- the octets that were read, to the end; or a fault, never one of a write
 abbrev pub ReadsAll : (left left' : Option (List ℕ))
@@ -294,67 +275,3 @@ abbrev pub ReadsAll : (left left' : Option (List ℕ))
 ReadsAll left left' (Ok octets) bs = Consumes left left' bs × IsAtEnd left' × (octets.items ≡ bs)
 ReadsAll left left' (Err Write) bs = ⊥
 ReadsAll left left' (Err fault) bs = Consumes left left' bs
-
--- ---- What writing one event or one document does to the writers and to the counts of a run.
-
--- how many pieces a verdict counts on the output, and on the errors
-abbrev pub counted_accepted : Verdict → ℕ
-counted_accepted Accepted = 1
-counted_accepted Refused = 0
-
-abbrev pub counted_refused : Verdict → ℕ
-counted_refused Accepted = 0
-counted_refused Refused = 1
-
--- one more piece in a tally
-abbrev pub tally_after : Tally → Verdict → Tally
-tally_after tally verdict =
-    record {
-      accepted = tally.accepted + counted_accepted verdict;
-      refused = tally.refused + counted_refused verdict;
-    }
-
--- the texts of pieces were written and counted, or a prefix of them, where a writer failed or
--- memory was refused
-abbrev pub LeavesPieces : (output output' errors errors' : Option (List ℕ)) → List Piece
-    → Result Verdict RunFault → Type 0
-LeavesPieces output output' errors errors' pieces (Ok verdict) =
-    WritesPieces output output' errors errors' pieces
-    × (counted_accepted verdict ≡ count_by is_accepted pieces)
-    × (counted_refused verdict ≡ count_by is_refused pieces)
-LeavesPieces output output' errors errors' pieces (Err fault) =
-    GrowsByPrefix output output' (flat_map output_of pieces)
-    × GrowsByPrefix errors errors' (flat_map errors_of pieces)
-
--- a piece is stopped by a writer, or by want of memory where its text takes memory
-abbrev pub StopsPiece : (takes_memory : Bool) → Result Verdict RunFault → Type 0
-StopsPiece takes_memory (Err Read) = ⊥
-StopsPiece takes_memory (Err InputTooLong) = ⊥
-StopsPiece takes_memory (Err Memory) = takes_memory ≡ true
-StopsPiece takes_memory result = Unit {0}
-
--- the reads of a run; where its texts take no memory, it is wanted only before all of the reads
--- were made
-abbrev pub RunReads : {X : Type 0} → (takes_memory : Bool) → (reads reads' : ℕ)
-    → Result X RunFault → Type 0
-RunReads false reads reads' result = MakesReads reads reads' result
-RunReads true reads reads' result = ReadsAtMost reads reads' result
-
--- the piece of what the reader reported was written and counted, or a prefix of it; at the end of
--- the text there is none
-abbrev pub LeavesNext : (output output' errors errors' : Option (List ℕ)) → (ParseResult → Piece)
-    → Result (Option Document) ReadFault → Result (Option Verdict) RunFault → Type 0
-LeavesNext output output' errors errors' piece next (Ok None) =
-    (next ≡ Ok None) × (output' ≡ output) × (errors' ≡ errors)
-LeavesNext output output' errors errors' piece next (Ok (Some verdict)) =
-    (x : ParseResult) × (parse_results next ≡ x ∷ [])
-    × LeavesPieces output output' errors errors' (piece x ∷ []) (Ok verdict)
-LeavesNext output output' errors errors' piece next (Err Write) =
-    (x : ParseResult) × (parse_results next ≡ x ∷ [])
-    × LeavesPieces output output' errors errors' (piece x ∷ []) (Err Write)
-LeavesNext output output' errors errors' piece next (Err Memory) =
-    ((next ≡ Err (Run Memory)) × (output' ≡ output) × (errors' ≡ errors))
-    ⊎ ((x : ParseResult) × (parse_results next ≡ x ∷ [])
-    × LeavesPieces output output' errors errors' (piece x ∷ []) (Err Memory))
-LeavesNext output output' errors errors' piece next (Err fault) =
-    (next ≡ Err (Run fault)) × (output' ≡ output) × (errors' ≡ errors)

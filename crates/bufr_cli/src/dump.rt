@@ -1,13 +1,12 @@
 //! `bufr dump`: writes the messages of a stream as text.
-ghost use Rattle.std.specs.Prelude.{◌≡◌, ◌≤◌, [], ◌∷◌, true, Ok, OnOk, length};
-ghost use Rattle.bufr_frame.specs.Prelude.{sections_of};
-ghost use Rattle.bufr_cli.specs.Prelude.{LeavesDevices, event_pieces, dump_piece, message_piece, BlamesWriter, input_of, writers_of, StopsPiece, LeavesPieces};
+ghost use Rattle.std.specs.Prelude.{◌≡◌, true, Ok, OnOk, refl};
+ghost use Rattle.bufr_cli.specs.Prelude.{LeavesDevices, event_pieces, dump_piece, message_piece, BlamesWriter, input_of, writers_of, StopsPiece, LeavesPiece};
 
-use crate::fault_line::{StreamFault, write_fault, write_stray};
+use crate::fault_line::{StreamFault, write_fault};
 use crate::outcome::{Tally, Verdict};
-use crate::run_events::{EventWriter, run_events};
+use crate::run_events::{MessageWriter, run_events};
 use bufr_bits::{Sink, Source};
-use bufr_frame::{Event, Message, RunFault};
+use bufr_frame::{Message, RunFault};
 use bufr_tables::{Fxy, TableB, TableD, Template};
 use bufr_text::{DumpMemory, write_dump_by};
 use bufr_walk::{Steps, TemplateCache, WalkFault, read_by};
@@ -55,9 +54,10 @@ fn dump_selected<W: Sink, E: Sink>(
     requires cached { run.old.memory.specs ≡ run.old.templates.table_b }
     ensures specs { run.new.memory.specs ≡ run.old.memory.specs }
     ensures templates { run.new.templates ≡ run.old.templates }
-    ensures reports { LeavesPieces (W.taken w.old) (W.taken w.new) (E.taken e.old) (E.taken e.new)
-        (message_piece run.old.templates.table_b run.old.templates.table_d offset (Ok message.now)
-        ∷ []) result }
+    ensures reports { LeavesPiece (writers_of W.Sink w.old E.Sink e.old)
+        (writers_of W.Sink w.new E.Sink e.new)
+        (message_piece run.old.templates.table_b run.old.templates.table_d offset
+        (Ok message.now)) result }
     ensures stops { StopsPiece true result }
     ensures counts { BlamesWriter (writers_of W.Sink w.old E.Sink e.old)
         (writers_of W.Sink w.new E.Sink e.new) result }
@@ -88,65 +88,37 @@ fn dump_selected<W: Sink, E: Sink>(
     }
 }
 
-/// Writes the text of the message in these octets, or its fault line.
-#[inline(never)]
-// rule: list-before-data
-fn dump_frame<W: Sink, E: Sink>(
-    offset: u64,
-    octets: &[u8],
-    run: &mut DumpRun<'_>,
-    w: &mut W,
-    e: &mut E,
-) -> Result<Verdict, RunFault>
-    requires { 12 ≤ length octets.now }
-    ensures reports { LeavesPieces (W.taken w.old) (W.taken w.new) (E.taken e.old) (E.taken e.new)
-        (message_piece run.old.templates.table_b run.old.templates.table_d offset
-        (sections_of octets.now) ∷ []) result }
-    ensures stops { StopsPiece true result }
-    ensures table_b { run.new.templates.table_b ≡ run.old.templates.table_b }
-    ensures table_d { run.new.templates.table_d ≡ run.old.templates.table_d }
-    ensures counts { BlamesWriter (writers_of W.Sink w.old E.Sink e.old)
-        (writers_of W.Sink w.new E.Sink e.new) result }
-    ensures output_flushes { W.failed_flushes w.new ≡ W.failed_flushes w.old }
-    ensures errors_flushes { E.failed_flushes e.new ≡ E.failed_flushes e.old }
-{
-    match Message::parse(octets) {
-        Ok(message) => {
-            set_descriptors(&mut run.descriptors, &message)?;
-            run.templates.select(&run.descriptors)?;
-            let mut specs = run.templates.take_specs();
-            mem::swap(&mut run.memory.specs, &mut specs);
-            let outcome = dump_selected(offset, &message, run, w, e);
-            mem::swap(&mut run.memory.specs, &mut specs);
-            run.templates.put_specs(specs);
-            outcome
-        }
-        Err(fault) => {
-            write_fault(offset, StreamFault::Section(fault), e)?;
-            Ok(Verdict::Refused)
-        }
-    }
-}
-
-impl<'a> EventWriter for DumpRun<'a> {
+impl<'a> MessageWriter for DumpRun<'a> {
     ghost piece = { λ d. dump_piece d.templates.table_b d.templates.table_d };
 
     ghost takes_memory = { λ _. true };
 
-    // rule: one-fault-a-message
-    fn write_event<W: Sink, E: Sink>(
+    ghost strays = { λ _ offset cause. refl };
+
+    #[inline(never)]
+    // rule: one-fault-a-message, list-before-data
+    fn write_message<W: Sink, E: Sink>(
         &mut self,
-        event: Event<'_>,
+        offset: u64,
+        octets: &[u8],
         w: &mut W,
         e: &mut E,
     ) -> Result<Verdict, RunFault> {
-        match event {
-            Event::Frame(offset, octets) => dump_frame(offset, octets, self, w, e),
-            Event::Stray(offset, cause) => {
-                write_stray(offset, cause, e)?;
+        match Message::parse(octets) {
+            Ok(message) => {
+                set_descriptors(&mut self.descriptors, &message)?;
+                self.templates.select(&self.descriptors)?;
+                let mut specs = self.templates.take_specs();
+                mem::swap(&mut self.memory.specs, &mut specs);
+                let outcome = dump_selected(offset, &message, self, w, e);
+                mem::swap(&mut self.memory.specs, &mut specs);
+                self.templates.put_specs(specs);
+                outcome
+            }
+            Err(fault) => {
+                write_fault(offset, StreamFault::Section(fault), e)?;
                 Ok(Verdict::Refused)
             }
-            Event::Done => unreachable!(),
         }
     }
 }
@@ -186,10 +158,10 @@ pub fn run_dump<R: Source, W: Sink, E: Sink>(
         (input_of R.Source r.old) (input_of R.Source r.new)
         (writers_of W.Sink w.old E.Sink e.old) (writers_of W.Sink w.new E.Sink e.new) result }
 {
-    let mut dumping = DumpRun {
+    let dumping = DumpRun {
         templates: TemplateCache::new(alloc, table_b, table_d),
         memory: DumpMemory::new(alloc, table_b),
         descriptors: Vec::new(alloc),
     };
-    run_events(alloc, &mut dumping, r, w, e)
+    run_events(alloc, dumping, r, w, e)
 }

@@ -1,16 +1,18 @@
 //! The lines that report the faults of a stream, its messages, and a text and its documents.
-ghost use Rattle.std.specs.Prelude.{◌≡◌, ◌≢◌, ℕ, [], ◌∷◌, ◌++◌, Err, IfErr, IfSome, codes, decimal};
+ghost use Rattle.std.specs.Prelude.{◌≡◌, ◌≢◌, ℕ, [], ◌∷◌, ◌++◌, Err, IfErr, codes, decimal};
 ghost use Rattle.bufr_frame.specs.Prelude.{cause_report, section_report};
 ghost use Rattle.bufr_tables.specs.Prelude.{fxy_text, template_report};
 ghost use Rattle.bufr_walk.specs.Prelude.{data_report, spot_text};
-ghost use Rattle.bufr_text.specs.Prelude.{TextLineFault, Refused, parse_results, number_of_document_fault, reported_refusal, walk_report, Pushes, Writes, joined};
-ghost use Rattle.bufr_cli.specs.Prelude.{HasLine, fault_line, stream_report, place_texts, document_line, item_fault_line, line_of_read_fault, line_of_refusal, refusal_line, refused_line, OnlyWrites, writer_of};
+ghost use Rattle.bufr_fill.specs.Prelude.{expected_text, item_report};
+ghost use Rattle.bufr_text.specs.declared.fault.TextLineFault.{TextLineFault};
+ghost use Rattle.bufr_text.specs.Prelude.{line_report, Refused, parse_results, Pushes, Writes, joined};
+ghost use Rattle.bufr_cli.specs.Prelude.{HasLine, fault_line, stream_report, place_texts, document_line, line_of_read_fault, refusal_line, refused_line, OnlyWrites, writer_of};
 
 use bufr_bits::Sink;
-use bufr_fill::Expected;
+use bufr_fill::{Expected, ItemFault, WalkRefusal};
 use bufr_frame::{Cause, RunFault, SectionFault};
 use bufr_tables::{Fxy, TemplateFault};
-use bufr_text::{DocumentFault, LineWriter, ReadFault, WalkRefusal};
+use bufr_text::{DocumentFault, LineWriter, ReadFault, TextLineFault};
 use bufr_walk::{Spot, WalkFault};
 
 /// The octets in which a line is put together. The longest, of a fault of the data, has 107.
@@ -200,66 +202,59 @@ pub(crate) fn write_fault<E: Sink>(
 
 /// Pushes a fault line: the line of the text, from 1, the fault's number and its text.
 fn push_line<E: Sink>(line: &mut LineWriter<'_, '_, E>, place: u64, number: u8, text: &[u8])
-    ensures { Pushes line.old (document_line place number (text.now ∷ [])) line.new }
+    ensures { Pushes line.old (document_line place (number, text.now ∷ [])) line.new }
 {
     push_place(line, b"line ", place, number);
     line.push(text);
     line.push(b"\n");
 }
 
-fn push_descriptor_line<E: Sink>(
-    line: &mut LineWriter<'_, '_, E>,
-    place: u64,
-    number: u8,
-    text: &[u8],
-    fxy: Fxy,
-)
-    ensures { Pushes line.old (document_line place number (text.now ∷ fxy_text fxy ∷ [])) line.new }
+// rule: fault-51
+fn push_expected<E: Sink>(line: &mut LineWriter<'_, '_, E>, expected: Expected)
+    ensures { Pushes line.old (joined (codes "expected " ∷ expected_text expected)) line.new }
 {
-    push_place(line, b"line ", place, number);
-    push_descriptor(line, text, fxy);
-    line.push(b"\n");
+    match expected {
+        Expected::Item(fxy) => push_descriptor(line, b"expected ", fxy),
+        Expected::Reference(fxy) => push_descriptor(line, b"expected R ", fxy),
+        Expected::EndOfSubset => line.push(b"expected end of subset"),
+    }
 }
 
-/// Pushes the line of a document whose walk over the template is refused.
-fn push_walk<E: Sink>(
-    line: &mut LineWriter<'_, '_, E>,
-    place: u64,
-    number: u8,
-    refusal: WalkRefusal,
-)
-    requires { number ≡ number_of_document_fault (DocumentFault.Walk place refusal) }
-    ensures { Pushes line.old (item_fault_line place (walk_report refusal)) line.new }
+/// Pushes the descriptor at which the walk over the template is refused, and why.
+// rule: fault-62
+fn push_walk<E: Sink>(line: &mut LineWriter<'_, '_, E>, refusal: &WalkRefusal)
+    ensures { Pushes line.old (joined (item_report (ItemFault.Walk refusal.now)).1) line.new }
 {
-    push_place(line, b"line ", place, number);
     line.push_named(b"walk ", u64::from(refusal.number()));
-    match &refusal {
-        WalkRefusal::Width(fxy) | WalkRefusal::Defining(fxy) | WalkRefusal::TooManyValues(fxy) => {
-            push_descriptor(line, b" descriptor ", *fxy);
-            line.push(b"\n");
-        }
+    push_descriptor(line, b" descriptor ", refusal.fxy());
+}
+
+fn push_item_fault<E: Sink>(line: &mut LineWriter<'_, '_, E>, fault: &ItemFault)
+    ensures { Pushes line.old (joined (item_report fault.now).1) line.new }
+{
+    match fault {
+        ItemFault::WrongDescriptor(expected) => push_expected(line, *expected),
+        ItemFault::Number => line.push(b"number"),
+        ItemFault::OutOfRange => line.push(b"out of range"),
+        ItemFault::TextLong => line.push(b"text long"),
+        ItemFault::MissingForbidden => line.push(b"missing forbidden"),
+        ItemFault::UnequalFactor => line.push(b"unequal factor"),
+        ItemFault::Increment => line.push(b"increment"),
+        ItemFault::Walk(refusal) => push_walk(line, refusal),
     }
 }
 
 fn push_document_fault<E: Sink>(line: &mut LineWriter<'_, '_, E>, fault: DocumentFault)
     requires some { fault ≢ DocumentFault.Memory }
     requires template { (line : ℕ) → fault ≢ DocumentFault.Template line TemplateFault.Memory }
-    ensures { Pushes line.old (line_of_refusal (reported_refusal fault)) line.new }
+    ensures { Pushes line.old (refusal_line fault) line.new }
 {
     let number = fault.number();
     match &fault {
-        DocumentFault::WrongDescriptor(place, expected) => match expected {
-            Expected::Item(fxy) => push_descriptor_line(line, *place, number, b"expected ", *fxy),
-            Expected::Reference(fxy) => {
-                push_descriptor_line(line, *place, number, b"expected R ", *fxy)
-            }
-            Expected::EndOfSubset => push_line(line, *place, number, b"expected end of subset"),
-        },
-        DocumentFault::Number(place) => push_line(line, *place, number, b"number"),
-        DocumentFault::OutOfRange(place) => push_line(line, *place, number, b"out of range"),
-        DocumentFault::TextLong(place) => push_line(line, *place, number, b"text long"),
-        DocumentFault::MissingForbidden(place) => {
-            push_line(line, *place, number, b"missing forbidden")
+        DocumentFault::Item(place, why) => {
+            push_place(line, b"line ", *place, number);
+            push_item_fault(line, why);
+            line.push(b"\n");
         }
         DocumentFault::Template(place, why) => {
             push_place(line, b"line ", *place, number);
@@ -268,10 +263,7 @@ fn push_document_fault<E: Sink>(line: &mut LineWriter<'_, '_, E>, fault: Documen
             push_template_fault(line, why);
             line.push(b"\n");
         }
-        DocumentFault::UnequalFactor(place) => push_line(line, *place, number, b"unequal factor"),
-        DocumentFault::Increment(place) => push_line(line, *place, number, b"increment"),
         DocumentFault::TooLong(place) => push_line(line, *place, number, b"too long"),
-        DocumentFault::Walk(place, why) => push_walk(line, *place, number, *why),
         DocumentFault::Memory => unreachable!(),
     }
 }
@@ -281,8 +273,7 @@ fn push_document_fault<E: Sink>(line: &mut LineWriter<'_, '_, E>, fault: Documen
 pub fn write_document_fault<E: Sink>(fault: DocumentFault, e: &mut E) -> Result<(), RunFault>
     requires some { fault ≢ DocumentFault.Memory }
     requires template { (line : ℕ) → fault ≢ DocumentFault.Template line TemplateFault.Memory }
-    ensures writes { IfSome (reported_refusal fault) (λ refused.
-        Writes (E.taken e.old) (E.taken e.new) (refusal_line refused.line refused.why) result) }
+    ensures writes { Writes (E.taken e.old) (E.taken e.new) (refusal_line fault) result }
     ensures counts { OnlyWrites (writer_of E.Sink e.old) (writer_of E.Sink e.new) result }
 {
     let mut block = [0; LINE];
@@ -294,15 +285,23 @@ pub fn write_document_fault<E: Sink>(fault: DocumentFault, e: &mut E) -> Result<
     outcome
 }
 
+/// What is wrong with a line, in words.
+fn text_of(fault: TextLineFault) -> &'static [u8]
+    ensures { result.now ∷ [] ≡ (line_report fault).1 }
+{
+    match fault {
+        TextLineFault::NotAllowed => b"line",
+        TextLineFault::SubsetCount => b"subset count",
+        TextLineFault::HeaderRange => b"header range",
+    }
+}
+
 fn push_read_fault<E: Sink>(line: &mut LineWriter<'_, '_, E>, fault: ReadFault)
     requires { (run : RunFault) → fault ≢ ReadFault.Run run }
     ensures { Pushes line.old (line_of_read_fault fault) line.new }
 {
-    let number = fault.number();
     match fault {
-        ReadFault::Line(place) => push_line(line, place, number, b"line"),
-        ReadFault::SubsetCount(place) => push_line(line, place, number, b"subset count"),
-        ReadFault::HeaderRange(place) => push_line(line, place, number, b"header range"),
+        ReadFault::Line(place, why) => push_line(line, place, why.number(), text_of(why)),
         ReadFault::Run(_) => unreachable!(),
     }
 }

@@ -2,7 +2,7 @@
 //! back. [`dump_encode_dump`] runs them in memory.
 ghost use Rattle.std.specs.List.{AllByRecursion, concat};
 ghost use Rattle.std.specs.Prelude.{◌≡◌, List, ℕ, [], Option, Some, IfOk};
-ghost use Rattle.bufr_cli.specs.Prelude.{IsDumpedInOneSpelling, RoundTrips, IsWholeRound, IsCanonicalMessage, Written, accepted_messages, rebuilt, RunsInMemory, written_by, dump_pieces, form_pieces, holding, Dumps, Encodes};
+ghost use Rattle.bufr_cli.specs.Prelude.{IsDumpedInOneSpelling, RoundTrips, IsWholeRound, IsCanonicalMessage, Written, accepted_messages, rebuilt, RunsInMemory, written_by, dump_pieces, form_pieces, holding, WritesWhole, document_pieces, dump_piece, event_pieces};
 ghost use Rattle.bufr_tables.specs.Prelude.{Record, Row, AreRows, Sequence};
 ghost use Rattle.bufr_text.specs.Prelude.{IsOctet};
 ghost use Rattle.bufr_text.specs.declared.encode.Form.{Form};
@@ -43,11 +43,11 @@ pub fn runs_close_the_round()
     ensures { (records : List Record) (table_b : List Row) (table_d : List Sequence)
         (stream : List ℕ) (text messages again : Written) (e e' : Option (List ℕ))
         → AreRows records table_b → AllByRecursion IsOctet stream
-        → Dumps table_b table_d (holding (Some []) e) (holding (Some text.output) e') text.tally
-        stream
-        → Encodes AsWritten table_b table_d (holding (Some []) (Some []))
+        → WritesWhole (event_pieces (dump_piece table_b table_d)) (holding (Some []) e)
+        (holding (Some text.output) e') text.tally stream
+        → WritesWhole (document_pieces AsWritten table_b table_d) (holding (Some []) (Some []))
         (holding (Some messages.output) (Some messages.errors)) messages.tally text.output
-        → Dumps table_b table_d (holding (Some []) (Some []))
+        → WritesWhole (event_pieces (dump_piece table_b table_d)) (holding (Some []) (Some []))
         (holding (Some again.output) (Some again.errors)) again.tally messages.output
         → IsWholeRound table_b table_d stream text messages again }
 {}

@@ -2,6 +2,7 @@
 //! [`run`] puts them together over [`Inputs`]; `bufr` calls it with [`Buffered`] writers.
 #![tactic(auto)]
 
+mod buffered;
 mod dump;
 mod encode;
 mod fault_line;
@@ -11,11 +12,13 @@ mod ls;
 mod outcome;
 mod program;
 mod run_events;
+mod run_pieces;
 
+pub use buffered::{BUFFERED, Buffered};
 pub use dump::run_dump;
 pub use encode::{run_encode, run_encode_form};
 pub use job::{Job, LineFault, Subcommand, TableNames, parse_line};
 pub use laws::{Round, RunInMemory, dump_encode_dump};
 pub use ls::run_ls;
 pub use outcome::{Outcome, Tally, finish};
-pub use program::{BUFFERED, Buffered, CannotOpenFile, Inputs, read_all, run};
+pub use program::{Inputs, OpenFault, read_all, run};

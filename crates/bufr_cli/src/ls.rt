@@ -1,68 +1,45 @@
 //! `bufr ls`: lists the messages of a stream.
-ghost use Rattle.std.specs.Prelude.{◌≡◌, ◌≤◌, [], ◌∷◌, false, length};
-ghost use Rattle.bufr_frame.specs.Prelude.{MakesReads, sections_of};
-ghost use Rattle.bufr_cli.specs.Prelude.{LeavesDevices, event_pieces, ls_or_fault, ls_piece, BlamesWriter, input_of, writers_of, StopsPiece, LeavesPieces};
+ghost use Rattle.std.specs.Prelude.{false, refl};
+ghost use Rattle.bufr_frame.specs.Prelude.{MakesReads};
+ghost use Rattle.bufr_cli.specs.Prelude.{LeavesDevices, event_pieces, ls_piece, input_of, writers_of};
 
-use crate::fault_line::{StreamFault, write_fault, write_stray};
+use crate::fault_line::{StreamFault, write_fault};
 use crate::outcome::{Tally, Verdict};
-use crate::run_events::{EventWriter, run_events};
+use crate::run_events::{MessageWriter, run_events};
 use bufr_bits::{Sink, Source};
-use bufr_frame::{Event, Message, RunFault};
+use bufr_frame::{Message, RunFault};
 use bufr_text::write_ls;
 use std::alloc::Global;
 
-/// Writes the line of the message in these octets, or its fault line.
-#[inline(never)]
-fn list_frame<W: Sink, E: Sink>(
-    offset: u64,
-    octets: &[u8],
-    w: &mut W,
-    e: &mut E,
-) -> Result<Verdict, RunFault>
-    requires { 12 ≤ length octets.now }
-    ensures reports { LeavesPieces (W.taken w.old) (W.taken w.new) (E.taken e.old) (E.taken e.new)
-        (ls_or_fault offset (sections_of octets.now) ∷ []) result }
-    ensures stops { StopsPiece false result }
-    ensures counts { BlamesWriter (writers_of W.Sink w.old E.Sink e.old)
-        (writers_of W.Sink w.new E.Sink e.new) result }
-    ensures output_flushes { W.failed_flushes w.new ≡ W.failed_flushes w.old }
-    ensures errors_flushes { E.failed_flushes e.new ≡ E.failed_flushes e.old }
-{
-    match Message::parse(octets) {
-        Ok(message) => {
-            write_ls(offset, &message, w)?;
-            Ok(Verdict::Accepted)
-        }
-        Err(fault) => {
-            write_fault(offset, StreamFault::Section(fault), e)?;
-            Ok(Verdict::Refused)
-        }
-    }
-}
-
-/// Writes an event by its line.
+/// Writes a message by its line.
 #[derive(Drop)]
 struct LsRun;
 
-impl EventWriter for LsRun {
+impl MessageWriter for LsRun {
     ghost piece = { λ _. ls_piece };
 
     ghost takes_memory = { λ _. false };
 
+    ghost strays = { λ _ offset cause. refl };
+
+    #[inline(never)]
     // rule: one-fault-a-message
-    fn write_event<W: Sink, E: Sink>(
+    fn write_message<W: Sink, E: Sink>(
         &mut self,
-        event: Event<'_>,
+        offset: u64,
+        octets: &[u8],
         w: &mut W,
         e: &mut E,
     ) -> Result<Verdict, RunFault> {
-        match event {
-            Event::Frame(offset, octets) => list_frame(offset, octets, w, e),
-            Event::Stray(offset, cause) => {
-                write_stray(offset, cause, e)?;
+        match Message::parse(octets) {
+            Ok(message) => {
+                write_ls(offset, &message, w)?;
+                Ok(Verdict::Accepted)
+            }
+            Err(fault) => {
+                write_fault(offset, StreamFault::Section(fault), e)?;
                 Ok(Verdict::Refused)
             }
-            Event::Done => unreachable!(),
         }
     }
 }
@@ -97,5 +74,5 @@ pub fn run_ls<R: Source, W: Sink, E: Sink>(
         (writers_of W.Sink w.old E.Sink e.old) (writers_of W.Sink w.new E.Sink e.new) result }
     ensures reads { MakesReads (R.reads r.old) (R.reads r.new) result }
 {
-    run_events(alloc, &mut LsRun, r, w, e)
+    run_events(alloc, LsRun, r, w, e)
 }

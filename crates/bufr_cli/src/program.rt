@@ -1,45 +1,44 @@
 //! The program below `main`: what it does with a command line, its inputs and its writers.
-ghost use Rattle.std.specs.Prelude.{◌≡◌, ◌≢◌, ◌⊎◌, ℕ, true, List, Option, None, Ok, IfOk, IfErr, IfSome, OnOk, map};
-ghost use Rattle.std.specs.Io.Buffered.{writer_contents};
+ghost use Rattle.std.specs.Prelude.{◌≡◌, ◌⊎◌, ℕ, true, List, Option, None, Ok, IfOk, IfErr, IfSome, OnOk, map};
 ghost use Rattle.bufr_frame.specs.Prelude.{read_failures_after, MakesReads};
-ghost use Rattle.bufr_frame.specs.declared.fault.RunFault.{RunFault};
-ghost use Rattle.bufr_frame.specs.declared.fault.RunFault.TheVariants.{Write};
 ghost use Rattle.bufr_tables.specs.Prelude.{Record, AreRows};
 ghost use Rattle.bufr_text.specs.Prelude.{Writes};
-ghost use Rattle.bufr_cli.specs.declared.outcome.Outcome.TheVariants.{Run};
-ghost use Rattle.bufr_cli.specs.Prelude.{LeavesDevices, CountsCalls, input_of, writer_of, writers_of, ReadsAll, EndsRun, FlushesRest, AreTables, AreUnread, IsClosed, CommandOutcome, RunOutcome, known, command_pieces, ran_outcome, RunsProgram};
+ghost use Rattle.bufr_cli.specs.declared.program.OpenFault.TheVariants.{CannotOpen};
+ghost use Rattle.bufr_cli.specs.Prelude.{LeavesDevices, CountsCalls, input_of, writer_of, writers_of, ReadsAll, EndsRun, FlushesRest, AreTables, AreUnread, IsClosed, IsUnread, CommandOutcome, RunOutcome, known, command_pieces, ran_outcome, RunsProgram};
 
 use crate::dump::run_dump;
 use crate::encode::run_encode_form;
 use crate::job::{Job, LineFault, Subcommand, TableNames, parse_line};
 use crate::ls::run_ls;
 use crate::outcome::{Outcome, Tally, finish};
-use crate::run_events::flush;
-use bufr_bits::{BufferedDevice, Device, Sink, Source};
+use crate::run_pieces::flush;
+use bufr_bits::{Sink, Source};
 use bufr_frame::{RunFault, read_to_end};
 use bufr_tables::{TableB, TableD};
 use bufr_text::{Form, write_all};
-use std::alloc::Global;
+use std::alloc::{AllocError, Global};
 use std::convert::AsStr;
-use std::io::{self, BufReader, BufWriter, ErrorKind, Read, Write};
 use thiserror::Error;
 
-/// How many octets the program's own reader and writers hold. So one call of the system serves many
-/// reads of the finder and many lines.
-pub const BUFFERED: usize = 65_536;
-
-/// A file cannot be opened.
+/// Why a file is not opened.
 #[derive(Clone, Copy, Debug, PartialEq, Eq, Error)]
-#[error("the file cannot be opened")]
-pub struct CannotOpenFile;
+pub enum OpenFault {
+    /// It cannot be opened.
+    #[error("the file cannot be opened")]
+    CannotOpen,
+    /// Memory ran out.
+    #[error("out of memory")]
+    Memory,
+}
 
-/// Where the program finds its input.
+/// Where the program finds its input. What it gives counts the reads, so a contract can say of an
+/// input that a read of it failed.
 pub trait Inputs {
     /// Standard input.
-    type Standard: Read + Drop;
+    type Standard: Source + Drop;
 
     /// A file that was opened.
-    type File: Read + Drop;
+    type File: Source + Drop;
 
     /// The octets of standard input, where they are known.
     ghost standard_octets: { Self → Option (List ℕ) };
@@ -48,18 +47,23 @@ pub trait Inputs {
     ghost file_octets: { Self → List ℕ → Option (List ℕ) };
 
     /// Standard input.
-    fn standard(&self) -> Self::Standard
-        ensures { Self.Standard.remaining result ≡ standard_octets self.now };
+    ///
+    /// # Errors
+    ///
+    /// [`AllocError`] where memory ran out.
+    fn standard(&self) -> Result<Self::Standard, AllocError>
+        ensures { IfOk result (λ input. Self.Standard.left input ≡ standard_octets self.now) };
 
     /// The file of this name.
     ///
     /// # Errors
     ///
-    /// [`CannotOpenFile`] where it cannot be opened.
-    fn open(&self, name: &str) -> Result<Self::File, CannotOpenFile>
+    /// [`OpenFault::CannotOpen`] where it cannot be opened, and [`OpenFault::Memory`].
+    fn open(&self, name: &str) -> Result<Self::File, OpenFault>
         ensures octets { IfOk result
-            (λ file. Self.File.remaining file ≡ file_octets self.now name.now) }
-        ensures unknown { IfErr result (λ _. file_octets self.now name.now ≡ None) };
+            (λ file. Self.File.left file ≡ file_octets self.now name.now) }
+        ensures unknown { IfErr result
+            (λ fault. fault ≡ CannotOpen → file_octets self.now name.now ≡ None) };
 }
 
 /// The octets of `r` to its end.
@@ -92,7 +96,8 @@ pub fn run<'a, S: AsStr, I: Inputs, W: Sink, E: Sink>(
     // What the words ask for was done, or help was written and handed on, or the errors say why
     // not; the status says which.
     ensures { RunsProgram (map S.text words.entry.now)
-        (known (I.standard_octets inputs.now) (I.file_octets inputs.now))
+        (known (I.standard_octets inputs.now) (I.file_octets inputs.now)
+        (input_of I.Standard.Source) (input_of I.File.Source))
         (writers_of W.Sink w.old E.Sink e.old) (writers_of W.Sink w.new E.Sink e.new) result }
 {
     match parse_line(alloc, words) {
@@ -136,7 +141,8 @@ fn run_job<'a, I: Inputs, W: Sink, E: Sink>(
     w: &mut W,
     e: &mut E,
 ) -> Outcome<'a>
-    ensures { CommandOutcome (known (I.standard_octets inputs.now) (I.file_octets inputs.now))
+    ensures { CommandOutcome (known (I.standard_octets inputs.now) (I.file_octets inputs.now)
+        (input_of I.Standard.Source) (input_of I.File.Source))
         job.entry.command job.entry.file (writers_of W.Sink w.old E.Sink e.old)
         (writers_of W.Sink w.new E.Sink e.new) result }
 {
@@ -167,12 +173,13 @@ fn run_job<'a, I: Inputs, W: Sink, E: Sink>(
 
 fn open_file<'a, I: Inputs>(name: &'a str, inputs: &I) -> Result<I::File, Outcome<'a>>
     ensures file { IfOk result
-        (λ file. I.File.remaining file ≡ I.file_octets inputs.now name.entry.now) }
+        (λ file. I.File.left file ≡ I.file_octets inputs.now name.entry.now) }
     ensures closed { IfErr result (IsClosed (I.file_octets inputs.now) name.entry) }
 {
     match inputs.open(name) {
         Ok(file) => Ok(file),
-        Err(_) => Err(Outcome::CannotOpen(name)),
+        Err(OpenFault::CannotOpen) => Err(Outcome::CannotOpen(name)),
+        Err(OpenFault::Memory) => Err(Outcome::Run(RunFault::Memory)),
     }
 }
 
@@ -186,13 +193,13 @@ fn read_file<'a, I: Inputs>(
         (λ octets. IfSome (I.file_octets inputs.now name.entry.now) (λ text. octets.items ≡ text)) }
     ensures unread { IfErr result (λ outcome.
         IsClosed (I.file_octets inputs.now) name.entry outcome
-        ⊎ ((fault : RunFault) × (outcome ≡ Run fault) × (fault ≢ Write))) }
+        ⊎ IsUnread (input_of I.File.Source) (I.file_octets inputs.now name.entry.now) outcome) }
 {
-    let file = match open_file(name, inputs) {
+    let mut file = match open_file(name, inputs) {
         Ok(file) => file,
         Err(outcome) => return Err(outcome),
     };
-    match read_all(alloc, &mut Device::new(file)) {
+    match read_all(alloc, &mut file) {
         Ok(octets) => Ok(octets),
         Err(fault) => Err(Outcome::Run(fault)),
     }
@@ -215,7 +222,8 @@ fn read_tables<'a, I: Inputs>(
         (λ tables. AreTables (I.file_octets inputs.now) names.entry tables.table_b tables.table_d) }
     ensures rows { IfOk result
         (λ tables. (records : List Record) × AreRows records tables.table_b) }
-    ensures unread { IfErr result (AreUnread (I.file_octets inputs.now) names.entry) }
+    ensures unread { IfErr result (AreUnread (input_of I.File.Source) (I.file_octets inputs.now)
+        names.entry) }
 {
     let text = match read_file(alloc, names.table_b, inputs) {
         Ok(text) => text,
@@ -265,35 +273,35 @@ fn run_input<'a, I: Inputs, W: Sink, E: Sink>(
     e: &mut E,
 ) -> Outcome<'a>
     ensures { RunOutcome (command_pieces command.entry)
-        (known (I.standard_octets call.now.inputs.now) (I.file_octets call.now.inputs.now))
-        call.now.file
+        (known (I.standard_octets call.now.inputs.now) (I.file_octets call.now.inputs.now)
+        (input_of I.Standard.Source) (input_of I.File.Source)) call.now.file
         (writers_of W.Sink w.old E.Sink e.old) (writers_of W.Sink w.new E.Sink e.new) result }
 {
     match call.file {
-        None => outcome_of(run_reader(call.alloc, command, call.inputs.standard(), w, e)),
+        None => match call.inputs.standard() {
+            Ok(mut input) => outcome_of(run_source(call.alloc, command, &mut input, w, e)),
+            Err(_) => Outcome::Run(RunFault::Memory),
+        },
         Some(name) => match open_file(name, call.inputs) {
-            Ok(input) => outcome_of(run_reader(call.alloc, command, input, w, e)),
+            Ok(mut input) => outcome_of(run_source(call.alloc, command, &mut input, w, e)),
             Err(outcome) => outcome,
         },
     }
 }
 
-/// Runs a command over what a reader gives, and flushes the rest.
-fn run_reader<R: Read + Drop, W: Sink, E: Sink>(
+/// Runs a command over an input, and flushes the rest.
+fn run_source<R: Source, W: Sink, E: Sink>(
     alloc: Global,
     command: Command<'_>,
-    input: R,
+    r: &mut R,
     w: &mut W,
     e: &mut E,
 ) -> Result<Tally, RunFault>
-    ensures { EndsRun (command_pieces command.entry) (R.remaining input)
-        (writers_of W.Sink w.old E.Sink e.old) (writers_of W.Sink w.new E.Sink e.new) result }
+    ensures { EndsRun (command_pieces command.entry) (input_of R.Source r.old)
+        (input_of R.Source r.new) (writers_of W.Sink w.old E.Sink e.old)
+        (writers_of W.Sink w.new E.Sink e.new) result }
 {
-    let Ok(input) = BufReader::with_capacity(alloc, BUFFERED, input) else {
-        return Err(RunFault::Memory);
-    };
-    let mut input = BufferedDevice::new(input);
-    let ran = run_command(alloc, command, &mut input, w, e);
+    let ran = run_command(alloc, command, r, w, e);
     flush_rest(ran, w)
 }
 
@@ -330,51 +338,4 @@ fn flush_rest<W: Sink>(ran: Result<Tally, RunFault>, w: &mut W) -> Result<Tally,
         }
     }
     ran
-}
-
-/// A buffered writer that tries nothing again. After a call that failed each further one fails at
-/// once. At its end it writes nothing, where `std`'s would try to write what it still holds.
-pub struct Buffered<W: Write + Drop> {
-    writer: BufWriter<W>,
-    failed: bool,
-}
-
-impl<W: Write + Drop> Buffered<W> {
-    /// The writer by way of this one.
-    pub fn new(writer: BufWriter<W>) -> Buffered<W> {
-        Buffered {
-            writer,
-            failed: false,
-        }
-    }
-}
-
-impl<W: Write + Drop> Drop for Buffered<W> {
-    fn drop(self) {
-        let Buffered { writer, failed: _ } = self;
-        let (_inner, _unwritten) = writer.into_parts();
-    }
-}
-
-impl<W: Write + Drop> Write for Buffered<W> {
-    ghost contents = { λ b. writer_contents W.contents b.writer };
-
-    #[inline]
-    fn write(&mut self, buf: &[u8]) -> io::Result<usize> {
-        if self.failed {
-            return Err(ErrorKind::Other.into());
-        }
-        let written = self.writer.write(buf);
-        self.failed = written.is_err();
-        written
-    }
-
-    fn flush(&mut self) -> io::Result<()> {
-        if self.failed {
-            return Err(ErrorKind::Other.into());
-        }
-        let flushed = self.writer.flush();
-        self.failed = flushed.is_err();
-        flushed
-    }
 }

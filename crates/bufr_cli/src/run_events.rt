@@ -1,32 +1,44 @@
-//! A run over the events of a stream, whatever is written for each of them.
-ghost use Rattle.std.specs.Prelude.{◌≡◌, ◌≢◌, ℕ, Bool, List, true, OnOk, IfErr, map};
-ghost use Rattle.std.specs.Io.KnownBytes.{Keeps};
-ghost use Rattle.bufr_frame.specs.Prelude.{events_of, IsEvent, read_failures_after, StreamEvent};
-ghost use Rattle.bufr_cli.specs.Prelude.{Piece, BlamesWriter, CountsCalls, input_of, writer_of, writers_of, RunsPieces, HandsOn, AllHandedOn, HandsOnBoth, event_pieces, RunReads, StopsPiece, LeavesPieces};
+//! A run over the events of a stream, whatever is written for its messages.
+ghost use Rattle.std.specs.Prelude.{◌≡◌, ◌≤◌, ℕ, Bool, length};
+ghost use Rattle.bufr_frame.specs.Prelude.{StreamEvent, FrameAt, StrayAt, cause_report};
+ghost use Rattle.bufr_frame.specs.declared.fault.Cause.{Cause};
+ghost use Rattle.bufr_cli.specs.Prelude.{Piece, OnErrors, BlamesWriter, LeavesDevices, LeavesPiece, NeedsOctets, RunReads, StopsPiece, WritesEvents, event_pieces, fault_line, input_of, writers_of};
 
+use crate::fault_line::write_stray;
 use crate::outcome::{Tally, Verdict};
+use crate::run_pieces::{PieceWriter, RunStep, run_pieces};
 use bufr_bits::{Sink, Source};
 use bufr_frame::{Event, Finder, RunFault};
 use std::alloc::Global;
 
-/// What a run writes for the events of its stream: for each a piece, on one of its two writers.
-pub trait EventWriter {
+/// What a run writes for the messages of its stream. A stray `BUFR` has its fault line.
+pub trait MessageWriter {
     /// What is to be written for an event.
     ghost piece: { Self → StreamEvent → Piece };
 
     /// Whether writing takes memory.
     ghost takes_memory: { Self → Bool };
 
-    /// Writes the piece of an event, and answers on which writer.
-    fn write_event<W: Sink, E: Sink>(
+    /// A stray `BUFR` has its fault line.
+    ghost strays: { (s : Self) (offset : ℕ) (cause : Cause)
+        → piece s (StrayAt offset cause) ≡ OnErrors (fault_line offset (cause_report cause)) };
+
+    /// Writes the piece of the message in these octets, and answers on which writer.
+    ///
+    /// # Errors
+    ///
+    /// [`RunFault::Write`] and [`RunFault::Memory`]; of the piece a prefix was written.
+    fn write_message<W: Sink, E: Sink>(
         &mut self,
-        event: Event<'_>,
+        offset: u64,
+        octets: &[u8],
         w: &mut W,
         e: &mut E,
     ) -> Result<Verdict, RunFault>
-        requires { IsEvent event }
-        ensures reports { LeavesPieces (W.taken w.old) (W.taken w.new) (E.taken e.old)
-            (E.taken e.new) (map (piece self.old) (events_of event.entry)) result }
+        requires { 12 ≤ length octets.now }
+        ensures reports { LeavesPiece (writers_of W.Sink w.old E.Sink e.old)
+            (writers_of W.Sink w.new E.Sink e.new)
+            (piece self.old (FrameAt offset octets.now)) result }
         ensures stops { StopsPiece (takes_memory self.old) result }
         ensures same { piece self.new ≡ piece self.old }
         ensures memory { takes_memory self.new ≡ takes_memory self.old }
@@ -36,85 +48,62 @@ pub trait EventWriter {
         ensures errors_flushes { E.failed_flushes e.new ≡ E.failed_flushes e.old };
 }
 
-/// Hands on what was written.
-pub(crate) fn flush<W: Sink>(w: &mut W) -> Result<(), RunFault>
-    ensures keeps { Keeps (W.taken w.old) (W.taken w.new) }
-    ensures failed_flushes { OnOk result (W.failed_flushes w.new ≡ W.failed_flushes w.old) }
-    ensures all_flushed { OnOk result (W.all_flushed w.new ≡ true) }
-    ensures err { IfErr result (λ fault. fault ≡ RunFault.Write) }
-    ensures counts { CountsCalls (writer_of W.Sink w.old) (writer_of W.Sink w.new) result }
-{
-    match w.flush() {
-        Ok(()) => Ok(()),
-        Err(_) => Err(RunFault::Write),
+/// The messages of a stream, and what writes them.
+#[derive(Drop)]
+struct EventRun<T> {
+    finder: Finder,
+    writer: T,
+}
+
+impl<T: MessageWriter> PieceWriter for EventRun<T> {
+    ghost pieces = { λ s. event_pieces (T.piece s.writer) };
+
+    ghost takes_memory = { λ s. T.takes_memory s.writer };
+
+    ghost reads = { λ s. s.finder.reads };
+
+    ghost reaches = { λ s so. WritesEvents (T.piece s.writer) s.finder so };
+
+    ghost needs_read = { λ s. NeedsOctets s.finder };
+
+    #[inline(always)]
+    fn write_next<W: Sink, E: Sink>(&mut self, w: &mut W, e: &mut E) -> Result<RunStep, RunFault> {
+        let verdict = match self.finder.next_held() {
+            None => return Ok(RunStep::Read),
+            Some(Err(fault)) => return Err(fault),
+            Some(Ok(Event::Done)) => return Ok(RunStep::End),
+            Some(Ok(Event::Stray(offset, cause))) => {
+                write_stray(offset, cause, e)?;
+                Verdict::Refused
+            }
+            Some(Ok(Event::Frame(offset, octets))) => {
+                self.writer.write_message(offset, octets, w, e)?
+            }
+        };
+        Ok(RunStep::Piece(verdict))
+    }
+
+    fn read_more<R: Source>(&mut self, r: &mut R) -> Result<(), RunFault> {
+        self.finder.read_more(r)
     }
 }
 
-/// Hands on what was written: the output, then the errors.
-pub(crate) fn hand_on<W: Sink, E: Sink>(w: &mut W, e: &mut E) -> Result<(), RunFault>
-    ensures handed { HandsOnBoth (writers_of W.Sink w.old E.Sink e.old)
-        (writers_of W.Sink w.new E.Sink e.new) (Unit {0}) result }
-{
-    flush(w)?;
-    flush(e)
-}
-
-/// Hands on what was written, where the next read of `r` may wait.
-pub(crate) fn hand_on_before_read<R: Source, W: Sink, E: Sink>(
-    r: &R,
-    w: &mut W,
-    e: &mut E,
-) -> Result<(), RunFault>
-    ensures handed { HandsOnBoth (writers_of W.Sink w.old E.Sink e.old)
-        (writers_of W.Sink w.new E.Sink e.new) (R.waits r.now ≡ true) result }
-{
-    if r.may_wait() {
-        return hand_on(w, e);
-    }
-    Ok(())
-}
-
-/// Writes the events of `r`, each as soon as it is certain. Before a read that may wait, and at the
-/// end, all that was written is handed on.
-// rule: output-in-order, fault-line-not-written, input-not-read, reader-gone
-pub fn run_events<T: EventWriter, R: Source, W: Sink, E: Sink>(
+/// Writes the events of `r`, each as soon as it is certain.
+pub(crate) fn run_events<T: MessageWriter + Drop, R: Source, W: Sink, E: Sink>(
     alloc: Global,
-    teller: &mut T,
+    writer: T,
     r: &mut R,
     w: &mut W,
     e: &mut E,
 ) -> Result<Tally, RunFault>
-    ensures order { E.failed_flushes e.new ≢ E.failed_flushes e.old → W.all_flushed w.new ≡ true }
-    ensures flushed { HandsOn result (AllHandedOn (writers_of W.Sink w.new E.Sink e.new)) }
-    ensures run { (bs : List ℕ) × RunsPieces (event_pieces (T.piece teller.old))
-        (input_of R.Source r.old) (input_of R.Source r.new)
-        (writers_of W.Sink w.old E.Sink e.old) (writers_of W.Sink w.new E.Sink e.new) bs result }
-    ensures reader { R.failures r.new ≡ read_failures_after (R.failures r.old) result }
-    ensures reads { RunReads (T.takes_memory teller.old) (R.reads r.old) (R.reads r.new) result }
-    ensures writers { BlamesWriter (writers_of W.Sink w.old E.Sink e.old)
+    ensures leaves { LeavesDevices (event_pieces (T.piece writer)) (input_of R.Source r.old)
+        (input_of R.Source r.new) (writers_of W.Sink w.old E.Sink e.old)
         (writers_of W.Sink w.new E.Sink e.new) result }
+    ensures reads { RunReads (T.takes_memory writer) (R.reads r.old) (R.reads r.new) result }
 {
-    let mut finder = Finder::new(alloc);
-    let mut tally = Tally {
-        accepted: 0,
-        refused: 0,
+    let mut run = EventRun {
+        finder: Finder::new(alloc),
+        writer,
     };
-    loop {
-        match finder.next_held() {
-            None => {
-                hand_on_before_read(r, w, e)?;
-                finder.read_more(r)?;
-            }
-            Some(Err(fault)) => return Err(fault),
-            Some(Ok(event)) => {
-                if let Event::Done = event {
-                    break;
-                }
-                let verdict = teller.write_event(event, w, e)?;
-                tally.count(verdict);
-            }
-        }
-    }
-    hand_on(w, e)?;
-    Ok(tally)
+    run_pieces(&mut run, r, w, e)
 }

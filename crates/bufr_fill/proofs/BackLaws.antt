@@ -5,9 +5,9 @@ use Rattle.bufr_fill.proofs.EntryLemmas.{length-cells}
 use Rattle.std.proofs.lemmas.Bool.{ltb-false}
 use Rattle.std.specs.List.{AllByRecursion}
 use Rattle.bufr_tables.specs.Prelude.{IsLegal, Record, Row, AreRows, Tree}
-use Rattle.bufr_walk.specs.Prelude.{FieldSpec, IsSpec, Content, bits_for, FieldFault, found, content_at, Course, Next, take_next, at_end, astray, refused, next_item, max_values, Item, DataCoding, plain, packed, ReadsPass}
-use Rattle.bufr_fill.specs.Prelude.{Draft, Subset, DraftFaultKind, FaultAt, at_line, too_many_values, content_of, plainly, plain_filler, RowCell, ItemRow, cells_at, rows, longest, at_line_if_fault, content_here, contents_here, packed_to, are_many, pack_across, packed_filler, plain_data, packed_data, first_line, ◌>>=◌, WrittenItem, written_item, Filler, fill, with_bits_before, packing, Fits, AllFit, HasOctets, AllHaveOctets, IsSaid, AreSaidFrom, IsReadBack, IsPackedReadBack, AreDrafts, items_of_subset}
-use Rattle.bufr_fill.proofs.FillSteps.{filled, bits_with, fill_at}
+use Rattle.bufr_walk.specs.Prelude.{FieldSpec, IsSpec, Content, bits_for, FieldFault, found, content_at, Course, Next, take_next, at_end, astray, refused, next_item, max_values, Item, DataCoding, plain, packed, ReadsPass, items_of_subset, subsets_from}
+use Rattle.bufr_fill.specs.Prelude.{Draft, Subset, ItemFault, DraftFault, at_line, too_many_values, content_of, plainly, plain_filler, RowCell, ItemRow, cells_at, rows, longest, at_line_if_fault, content_here, contents_here, packed_to, are_many, pack_across, packed_filler, plain_data, packed_data, first_line, ◌>>=◌, WrittenItem, written_item, Filler, fill, with_bits_before, packing, Fits, AllFit, HasOctets, AllHaveOctets, IsSaid, IsReadBack, IsPackedReadBack, AreDrafts, AreSaid}
+use Rattle.bufr_fill.proofs.FillSteps.{filled, bits_with, fill_at, plain_more}
 use Rattle.bufr_walk.proofs.NextField.{table_read, IsGoodCourse, next_field}
 use Rattle.bufr_walk.specs.Prelude.{IsWithin}
 use Rattle.bufr_fill.proofs.GoodReads.{draft_fits, answer_within}
@@ -76,7 +76,7 @@ module _ {C D E : Type 0} (form : DataCoding C) (filler : Filler D C E) (of_item
 plain_one : (end_line : ℕ) (spec : FieldSpec) (d : Draft) (w : WrittenItem Content) → IsSpec spec → HasOctets d.form → plainly d.line spec (content_of spec d) ≡ Ok w → IsOneBack plain IsSaid spec d w
 plain_one end_line spec d w good text e = by_content (content_of spec d) refl e
   where
-    by_content : (r : Result Content DraftFaultKind) → content_of spec d ≡ r → plainly d.line spec r ≡ Ok w → IsOneBack plain IsSaid spec d w
+    by_content : (r : Result Content ItemFault) → content_of spec d ≡ r → plainly d.line spec r ≡ Ok w → IsOneBack plain IsSaid spec d w
     by_content (Err why) p q = cc
     by_content (Ok c) p q =
         let fits : Fits spec c = draft_fits spec d c text p in
@@ -86,7 +86,7 @@ plain_one end_line spec d w good text e = by_content (content_of spec d) refl e
 module _ (course : Course) (good : IsGoodCourse course) where
   plain_join : (s : Subset) (ss : List Subset) (out : List Bool) → AllByRecursion (λ (d : Draft). HasOctets d.form) s.items
       → ((rest : List Bool) → plain_data course ss ≡ Ok rest → IsReadBack course ss rest)
-      → (a b : Result (List Bool) FaultAt) → fill (plain_filler s.end_line) course s.items ≡ a → plain_data course ss ≡ b → (a >>= λ x. b >>= λ y. Ok (x ++ y)) ≡ Ok out
+      → (a b : Result (List Bool) DraftFault) → fill (plain_filler s.end_line) course s.items ≡ a → plain_data course ss ≡ b → (a >>= λ x. b >>= λ y. Ok (x ++ y)) ≡ Ok out
       → IsReadBack course (s ∷ ss) out
   plain_join s ss out text others (Err why) b p q e = cc
   plain_join s ss out text others (Ok x) (Err why) p q e = cc
@@ -104,7 +104,8 @@ module _ (course : Course) (good : IsGoodCourse course) where
 
   pub plain_back : (ss : List Subset) (out : List Bool) → AllHaveOctets ss → plain_data course ss ≡ Ok out → IsReadBack course ss out
   plain_back [] out text e = record { subsets = []; said = tt; read = λ more. ap (λ x. x ++ more) (sym (same_ok [] out e)) }
-  plain_back (s ∷ ss) out text e = plain_join s ss out text.0 (λ rest q. plain_back ss rest text.1 q) (fill (plain_filler s.end_line) course s.items) (plain_data course ss) refl refl e
+  plain_back (s ∷ ss) out text e = plain_join s ss out text.0 (λ rest q. plain_back ss rest text.1 q) (fill (plain_filler s.end_line) course s.items) (plain_data course ss) refl refl
+      (sym (plain_more course s ss) ∙ e)
 
 -- ---- compressed data
 
@@ -130,7 +131,7 @@ cell_said : (spec : FieldSpec) (o : Option Draft) (end_line : ℕ) (c : Content)
 cell_said spec None end_line c text e = cc
 cell_said spec (Some d) end_line c text e = by_content (content_of spec d) refl e
   where
-    by_content : (r : Result Content DraftFaultKind) → content_of spec d ≡ r → at_line_if_fault d.line r ≡ Ok c → (content_of spec d ≡ Ok c) × Fits spec c
+    by_content : (r : Result Content ItemFault) → content_of spec d ≡ r → at_line_if_fault d.line r ≡ Ok c → (content_of spec d ≡ Ok c) × Fits spec c
     by_content (Err why) p q = cc
     by_content (Ok x) p q = let h : content_of spec d ≡ Ok c = p ∙ ap Ok (same_ok x c q) in (h, draft_fits spec d c text h)
 
@@ -141,7 +142,7 @@ record AreCellsSaid (spec : FieldSpec) (cells : List RowCell) (cs : List Content
 
 cells_join : (spec : FieldSpec) (cell : RowCell) (cells : List RowCell) (cs : List Content) → OctetsIn cell.draft
     → ((rest : List Content) → contents_here spec cells ≡ Ok rest → AreCellsSaid spec cells rest)
-    → (a : Result Content FaultAt) (b : Result (List Content) FaultAt) → content_here spec cell.draft cell.end_line ≡ a → contents_here spec cells ≡ b
+    → (a : Result Content DraftFault) (b : Result (List Content) DraftFault) → content_here spec cell.draft cell.end_line ≡ a → contents_here spec cells ≡ b
     → (a >>= λ first. b >>= λ rest. Ok (first ∷ rest)) ≡ Ok cs → AreCellsSaid spec (cell ∷ cells) cs
 cells_join spec cell cells cs text others (Err why) b p q e = cc
 cells_join spec cell cells cs text others (Ok c) (Err why) p q e = cc
@@ -185,7 +186,7 @@ packed_one n some spec a w good row e = by_many (are_many a.place (length a.cell
     by_packing cs few are (Ok bits) q r = subst (IsOneBack (packed n) (IsSaidAcross n) spec a) (same_ok (written_item cs bits) w r) (by_list cs bits few are q)
     by_packing cs few are (Err why) q r = cc
 
-    by_contents : (a.place + 1) * n ≤ max_values → (r : Result (List Content) FaultAt) → contents_here spec a.cells ≡ r → (r >>= λ cs. packed_to cs a.cells (packing spec cs)) ≡ Ok w
+    by_contents : (a.place + 1) * n ≤ max_values → (r : Result (List Content) DraftFault) → contents_here spec a.cells ≡ r → (r >>= λ cs. packed_to cs a.cells (packing spec cs)) ≡ Ok w
         → IsOneBack (packed n) (IsSaidAcross n) spec a w
     by_contents few (Err why) p q = cc
     by_contents few (Ok cs) p q = by_packing cs few (cells_said spec a.cells cs row.1 p) (packing spec cs) refl q
@@ -254,7 +255,7 @@ other_subsets j zero from s ss (i ∷ items) h = absurd h
 other_subsets j (suc count) from s ss [] h = absurd h
 other_subsets j (suc count) from s ss (i ∷ items) h = (h.0.1, other_subsets j count (from + 1) s ss items h.1)
 
-all_subsets : (j count : ℕ) (ss : List Subset) (items : List (Item (List Content))) → RowsSaid j items (rows count 0 ss) → longest ss ≤ count → AreSaidFrom j items ss
+all_subsets : (j count : ℕ) (ss : List Subset) (items : List (Item (List Content))) → RowsSaid j items (rows count 0 ss) → longest ss ≤ count → AreSaid (subsets_from (length ss) j items) ss
 all_subsets j count [] items h l = tt
 all_subsets j count (s ∷ ss) items h l = (first_subset j count 0 s ss items h (omega (arith, l)), all_subsets (suc j) count ss items (other_subsets j count 0 s ss items h) (omega (arith, l)))
 

@@ -6,9 +6,10 @@ use Rattle.std.proofs.Math.Seq.{drop-cons, drop-append_seam}
 use Rattle.std.proofs.lemmas.List.{append-nil, append_assoc, map-append, take_all, drop_all}
 use Rattle.std.proofs.lemmas.Option.{none-some, slice_get-get_or, slice_get_within, get_or_from_slice_get}
 use Rattle.std.proofs.lemmas.Bool.Decides.{nat_tests}
-use Rattle.bufr_fill.specs.Prelude.{EntryKind, Taken, Draft, DraftEntry, Holds, Ends, Subset, subset, prepend_to_subset, subsets_of, DraftFaultKind, FaultAt, at_line, item_too_many, RowCell, cells_at, at_line_if_fault, entry_or_end, ends_of, entry_here, is_end, entry_by, entry_with, entry_stored, entries_stored, IsPlaced, IsEntryInside, AreInside, line_at, PlainOutModel, plain_out_model, IsFilled, IsFaultOf, IfDraftFault, after_end, FieldContent, content_of, content_drawn}
+use Rattle.bufr_fill.specs.Prelude.{EntryKind, Taken, Draft, DraftEntry, Holds, Ends, Subset, subset, prepend_to_subset, subsets_of, ItemFault, DraftFault, at_line, item_too_many, RowCell, cells_at, at_line_if_fault, entry_or_end, ends_of, entry_here, is_end, entry_by, entry_with, entry_stored, entries_stored, IsPlaced, IsEntryInside, AreInside, line_at, PlainOutModel, plain_out_model, IsFilled, IsFaultOf, IfDraftFault, after_end, FieldContent, content_of, content_drawn}
 use Rattle.bufr_fill.specs.declared.draft.StoredEntry.{StoredEntry}
 use Rattle.bufr_walk.specs.Prelude.{FieldSpec, Content, answer_of, bits_for}
+use Rattle.bufr_fill.specs.declared.fault.DraftFault.TheVariants as draft_fault
 use Rattle.bufr_fill.specs.declared.draft.EntryKind.TheVariants as kind
 
 -- the index where a subset's entries begin, by the indices of the ends
@@ -274,7 +275,7 @@ next_there entries place e here =
 
 pub filled_here : (entries : List DraftEntry) (place : ℕ) (e : DraftEntry) (spec : FieldSpec) (d : FieldContent) (t : Taken) (old new : List Bool) (s : PlainOutModel)
     → plain_out_model (drop place entries) old ≡ s → slice_get entries place ≡ Some e
-    → Some (Ok (content_drawn (spec.width / 8) d)) ≡ Some (entry_here spec e) → t ≡ answer_of spec (content_drawn (spec.width / 8) d)
+    → Ok (content_drawn (spec.width / 8) d) ≡ entry_here spec e → t ≡ answer_of spec (content_drawn (spec.width / 8) d)
     → new ≡ old ++ bits_for spec.width (content_drawn (spec.width / 8) d) → length old < length new
     → IsFilled s spec t (plain_out_model (drop (place + 1) entries) new)
 filled_here entries place (Ends line) spec d t old new s view here drawn gives bits forth = absurd cc
@@ -289,7 +290,7 @@ filled_here entries place (Holds item) spec d t old new s view here drawn gives 
       forth = forth;
     })
   where
-    by : {c : Content} (r : Result Content DraftFaultKind) → Some (Ok c) ≡ Some (at_line_if_fault item.line r) → r ≡ Ok c
+    by : {c : Content} (r : Result Content ItemFault) → ◌≡◌ {A = Result Content DraftFault} (Ok c) (at_line_if_fault item.line r) → r ≡ Ok c
     by (Ok x) h = cc
     by (Err why) h = absurd cc
 
@@ -302,14 +303,14 @@ pub left_none : (entries : List DraftEntry) (place : ℕ) (old : List Bool) (s :
 left_none entries place old s view here = sym (ap (λ (p : PlainOutModel). p.left) view) ∙ drop_all place entries (none_there entries place here)
 
 -- the fault at the next entry
-pub item_fault : (spec : FieldSpec) (more : List DraftEntry) (fault : Option FaultAt) (e : DraftEntry) → option_map Err fault ≡ Some (entry_here spec e)
+pub item_fault : (spec : FieldSpec) (more : List DraftEntry) (fault : DraftFault) (e : DraftEntry) → Err fault ≡ entry_here spec e
     → IfDraftFault fault (IsFaultOf spec (e ∷ more))
-item_fault spec more None e is = tt
-item_fault spec more (Some f) (Ends line) is = cc
-item_fault spec more (Some f) (Holds d) is = by (content_of spec d) refl is
+item_fault spec more draft_fault.Memory e is = tt
+item_fault spec more (draft_fault.Item line fault) (Ends end) is = cc
+item_fault spec more (draft_fault.Item line fault) (Holds d) is = by (content_of spec d) refl is
   where
-    by : (r : Result Content DraftFaultKind) → content_of spec d ≡ r → Some (Err f) ≡ Some (at_line_if_fault d.line r)
-        → (why : DraftFaultKind) × (content_of spec d ≡ Err why) × (f ≡ at_line d.line why)
+    by : (r : Result Content ItemFault) → content_of spec d ≡ r → Err (at_line line fault) ≡ at_line_if_fault d.line r
+        → (why : ItemFault) × (content_of spec d ≡ Err why) × (at_line line fault ≡ at_line d.line why)
     by (Ok c) e h = absurd cc
     by (Err why) e h = (why, e, cc)
 

@@ -4,7 +4,7 @@ use Rattle.bufr_bits.specs.Prelude.{bits_of}
 use Rattle.bufr_tables.specs.declared.table_b.Kind.TheVariants as kind
 use Rattle.bufr_tables.specs.Prelude.{Row, Tree, bare, element, operator, delayed}
 use Rattle.bufr_walk.specs.Prelude.{next_item}
-use Rattle.bufr_fill.specs.Prelude.{Kind, Draft, draft, number_token, Subset, FaultAt, plain_data, packed_data}
+use Rattle.bufr_fill.specs.Prelude.{Kind, Draft, draft, number_token, Subset, DraftFault, plain_data, packed_data}
 
 -- the descriptor of F, X and Y
 unfoldable pub fxy : (f x y : ℕ) → ℕ
@@ -70,16 +70,16 @@ width_of_none = operator (fxy 2 1 121) (element (fxy 0 1 1) bare)
 abbrev pub numbered : ℕ → ℕ → List ℕ → Draft
 numbered line d digits = draft line d (number_token digits)
 
-unfoldable pub plain_bits : Tree → List Subset → Result (List Bool) FaultAt
+unfoldable pub plain_bits : Tree → List Subset → Result (List Bool) DraftFault
 unfolding table next_item
 plain_bits tree subsets = plain_data (next_item table tree) subsets
 
-unfoldable pub packed_to_bits : Tree → List Subset → Result (List Bool) FaultAt
+unfoldable pub packed_to_bits : Tree → List Subset → Result (List Bool) DraftFault
 unfolding table next_item
 packed_to_bits tree subsets = packed_data (next_item table tree) subsets
 
 -- the first bits of octets
-unfoldable pub ok_bits : List ℕ → ℕ → Result (List Bool) FaultAt
+unfoldable pub ok_bits : List ℕ → ℕ → Result (List Bool) DraftFault
 unfolding bits_of
 ok_bits octets count = Ok (take count (bits_of octets))
 

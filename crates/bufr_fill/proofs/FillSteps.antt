@@ -1,8 +1,8 @@
 -- A pass that writes, step by step.
-use Rattle.std.proofs.Common.{Result, Ok, Err, Option, Some, None, Bool, List, [], ◌∷◌, ◌++◌, ◌≡◌, refl, ◌∙◌, ap, suc, length}
+use Rattle.std.proofs.Common.{Result, Ok, Err, Option, Some, None, Bool, List, [], ◌∷◌, ◌++◌, ◌≡◌, refl, sym, ◌∙◌, ap, suc, length}
 use Rattle.bufr_walk.specs.Prelude.{FieldSpec, Course, Next, take_next, at_end, Pass, pass}
 use Rattle.bufr_walk.specs.Pass.{pass_next, pass_field}
-use Rattle.bufr_fill.specs.Prelude.{Taken, WrittenItem, Filler, draft_written, filling, fill_pass, bits_written, bits_or, fill, with_bits_before}
+use Rattle.bufr_fill.specs.Prelude.{Taken, WrittenItem, Filler, draft_written, filling, fill_pass, bits_written, bits_or, fill, with_bits_before, Subset, DraftFault, Writing, bits_of_writing, writing_then, pass_writing, plain_filler, plain_writing, plain_data, ◌>>=◌}
 
 module _ {D C E : Type 0} (filler : Filler D C E) where
   -- one item that was written, and the rest
@@ -49,3 +49,24 @@ module _ {D C E : Type 0} (filler : Filler D C E) where
   -- at the end of the template
   pub fill_end : (course : Course) → (course []).next ≡ at_end → fill filler course [] ≡ Ok []
   fill_end course h = ap (fill_at course []) h
+
+-- ---- subset after subset
+
+bits_both : (a b : List Bool) (stop : Option DraftFault) → bits_or (a ++ b) stop ≡ (bits_or b stop >>= λ y. Ok (a ++ y))
+bits_both a b None = refl
+bits_both a b (Some why) = refl
+
+written_both : (w rest : Writing DraftFault) (stop : Option DraftFault) → w.stop ≡ stop
+    → bits_of_writing (writing_then w stop rest) ≡ (bits_of_writing w >>= λ x. bits_of_writing rest >>= λ y. Ok (x ++ y))
+written_both w rest None e = bits_both w.bits rest.bits rest.stop ∙ sym (ap (λ o. bits_or w.bits o >>= λ x. bits_of_writing rest >>= λ y. Ok (x ++ y)) e)
+written_both w rest (Some why) e = ap (bits_or w.bits) e ∙ sym (ap (λ o. bits_or w.bits o >>= λ x. bits_of_writing rest >>= λ y. Ok (x ++ y)) e)
+
+-- the data of subsets are those of the first, and then those of the others
+pub plain_more : (course : Course) (s : Subset) (ss : List Subset)
+    → plain_data course (s ∷ ss) ≡ (fill (plain_filler s.end_line) course s.items >>= λ x. plain_data course ss >>= λ y. Ok (x ++ y))
+plain_more course s ss = let w = pass_writing (fill_pass (plain_filler s.end_line) course s.items) in written_both w (plain_writing course ss) w.stop refl
+
+pub plain_both : (course : Course) (s : Subset) (ss : List Subset) (x y : List Bool) → fill (plain_filler s.end_line) course s.items ≡ Ok x → plain_data course ss ≡ Ok y
+    → plain_data course (s ∷ ss) ≡ Ok (x ++ y)
+plain_both course s ss x y first rest =
+    plain_more course s ss ∙ ap (λ r. r >>= λ x. plain_data course ss >>= λ y. Ok (x ++ y)) first ∙ ap (λ r. r >>= λ y. Ok (x ++ y)) rest

@@ -1,15 +1,17 @@
 -- Items that were read in one form are written in the other so that they are read again.
 use Rattle.std.proofs.lemmas.Grind.{common_steps}
+use Rattle.std.proofs.lemmas.Slice.Zip.{AllZip-long}
 use Rattle.std.proofs.Common.{◌≡◌, ℕ, ◌+◌, ◌*◌, ◌≤◌, Bool, false, List, [], ◌∷◌, length, Option, Some, None, Ok, Err, refl, sym, ◌∙◌, ap, subst, arith, zero, suc, ◌<◌, true, ◌++◌, Result, append_assoc, ◌⊎◌, inl, inr, max, drop, if◌then◌else◌, slice_get}
 use Rattle.std.specs.List.{AllByRecursion, AllZip}
 use Rattle.std.proofs.lemmas.Bool.{le-ltb}
-use Rattle.bufr_walk.specs.Prelude.{FieldSpec, IsSpec, Content, found, bits_for, answer_by_role, answer_of, FieldFault, plain_field, missing, data_end, increment, unequal_factor, packed_field, answer_first, max_values, Item, packed, plain, after, ReadsPass, ReadsSubsets, IsPackedReading, content_at, Course, take_next, at_end}
-use Rattle.bufr_fill.specs.Prelude.{plainly, Taken, Role, packing, same, are_same, packed_bits, packed_unlike, written_item, fill, with_bits_before, plain_filler, RowCell, ItemRow, at_line_if_fault, content_here, contents_here, packed_to, pack_across, packed_filler, first_line, ◌>>=◌, plain_data, item_row, cells_at, rows, longest, packing_fault, are_many, packed_data, Fits, AllFit, subsets_from, IsWrittenApart, IsDumped, AreDrafts, AreDumped, AreDumpedFrom, items_of_subset, IsUnlike, IsTogetherOrNot, Draft, Subset, at_line, too_many_values, FaultAt, content_of}
-use Rattle.bufr_fill.proofs.FillSteps.{filled, fill_more, fill_end}
+use Rattle.bufr_walk.specs.Prelude.{FieldSpec, IsSpec, Content, found, bits_for, answer_by_role, answer_of, FieldFault, plain_field, missing, data_end, increment, unequal_factor, packed_field, answer_first, max_values, Item, packed, plain, after, ReadsPass, ReadsSubsets, IsPackedReading, content_at, Course, take_next, at_end, subsets_from, items_of_subset}
+use Rattle.bufr_fill.specs.Prelude.{ItemFault, plainly, Taken, Role, packing, same, are_same, packed_bits, packed_unlike, written_item, fill, with_bits_before, plain_filler, RowCell, ItemRow, at_line_if_fault, content_here, contents_here, packed_to, pack_across, packed_filler, first_line, unlike_line, ◌>>=◌, plain_data, item_row, cells_at, rows, longest, packing_fault, are_many, packed_data, Fits, AllFit, IsWrittenApart, IsDumped, AreDrafts, AreDumped, IsUnlike, IsTogetherOrNot, Draft, Subset, at_line, too_many_values, content_of}
+use Rattle.bufr_fill.proofs.FillSteps.{filled, fill_more, fill_end, plain_both}
 use Rattle.bufr_fill.proofs.PlainLaws.{IsCellOf, AreCellsOf, IsDumpedAcross, IsRewritten, draft_again, same_draft, AllSpecs, plain_again, EachSpecs, width_least, plain_read}
 use Rattle.bufr_fill.proofs.PackedLaws.{packed_again, packed_count, fitting_again}
 use Rattle.bufr_bits.proofs.DecimalLemmas.{and_first, and_second}
 use Rattle.bufr_fill.proofs.LeastLemmas.{content_same}
+use Rattle.bufr_fill.specs.declared.fault.ItemFault.TheVariants as wrong
 use Rattle.bufr_walk.specs.declared.spec.Role.TheVariants as role
 
 one_here : (spec : FieldSpec) → IsSpec spec → (c : Content) (d : Option Draft) (end_line : ℕ) → Fits spec c → IsCellOf spec c d → content_here spec d end_line ≡ Ok c
@@ -117,7 +119,7 @@ plain_subsets course (items ∷ subsets) (s ∷ ss) h dumped =
     let rest = plain_subsets course subsets ss h.1 dumped.1 in
     record {
       out = first.out ++ rest.out;
-      is = ap (λ r. r >>= λ x. plain_data course ss >>= λ y. Ok (x ++ y)) first.fills ∙ ap (λ r. r >>= λ y. Ok (first.out ++ y)) rest.is;
+      is = plain_both course s ss first.out rest.out first.fills rest.is;
       again = λ more. (
         rest.out ++ more,
         subst (λ bits. ReadsPass plain course items bits (rest.out ++ more)) (sym (append_assoc first.out rest.out more)) (first.again (rest.out ++ more)),
@@ -182,15 +184,13 @@ all_follow n j zero course items bits suffix h specs r = tt
 all_follow n j (suc left) course items bits suffix h specs r =
     (follows_packed n j course items bits suffix (omega (arith, h)) specs r, all_follow n (suc j) left course items bits suffix (omega (arith, h)) specs r)
 
-dumped_from : (j n : ℕ) (items : List (Item (List Content))) (ss : List Subset) → length ss ≡ n → AreDumpedFrom j items ss → AreDumped (subsets_from n j items) ss
-dumped_from j zero items [] e h = tt
-dumped_from j (suc n) items [] e h = absurd (omega (arith, e))
-dumped_from j zero items (s ∷ ss) e h = absurd (omega (arith, e))
-dumped_from j (suc n) items (s ∷ ss) e h = (h.0, dumped_from (suc j) n items ss (omega (arith, e)) h.1)
-
 length-subsets_from : (n j : ℕ) (items : List (Item (List Content))) → length (subsets_from n j items) ≡ n
 length-subsets_from zero j items = refl
 length-subsets_from (suc n) j items = ap suc (length-subsets_from n (suc j) items)
+
+-- as many drafts as subsets
+pub subset_count : (R : List (Item Content) → Subset → Type 0) (n : ℕ) (items : List (Item (List Content))) (ss : List Subset) → AllZip R (subsets_from n 0 items) ss → length ss ≡ n
+subset_count R n items ss h = AllZip-long R (subsets_from n 0 items) ss h ∙ length-subsets_from n 0 items
 
 pub follow_reading : (n : ℕ) (course : Course) (items : List (Item (List Content))) (bits suffix : List Bool) → AllSpecs items → IsPackedReading n course items bits suffix
     → AllFollow course (subsets_from n 0 items)
@@ -198,10 +198,10 @@ follow_reading zero course items bits suffix specs r = tt
 follow_reading (suc n) course items bits suffix specs r = all_follow (suc n) 0 (suc n) course items bits suffix (omega arith) specs r.0
 
 -- compressed data are written subset after subset
-pub apart : (n : ℕ) (course : Course) (items : List (Item (List Content))) (drafts : List Subset) (bits suffix : List Bool) → length drafts ≡ n → AllSpecs items → AreDumpedFrom 0 items drafts
+pub apart : (n : ℕ) (course : Course) (items : List (Item (List Content))) (drafts : List Subset) (bits suffix : List Bool) → AllSpecs items → AreDumped (subsets_from n 0 items) drafts
     → IsPackedReading n course items bits suffix → IsWrittenApart n course items drafts
-apart n course items drafts bits suffix count specs dumped r =
-    let w = plain_subsets course (subsets_from n 0 items) drafts (follow_reading n course items bits suffix specs r) (dumped_from 0 n items drafts count dumped) in
+apart n course items drafts bits suffix specs dumped r =
+    let w = plain_subsets course (subsets_from n 0 items) drafts (follow_reading n course items bits suffix specs r) dumped in
     record { out = w.out; is = w.is; again = λ more. (w.again more, length-subsets_from n 0 items) }
 
 -- ---- Items that were read subset after subset are written together so that they are read again.
@@ -382,9 +382,10 @@ record IsTogether (n : ℕ) (course : Course) (rests : List (List (Item Content)
   few : length items * n ≤ total rests
 
 record IsNot (course : Course) (drafts : List ItemRow) (end_line : ℕ) (many : Bool) : Type 0 where
-  why : FaultAt
-  is : fill (packed_filler end_line many) course drafts ≡ Err why
-  unlike : IsUnlike why.fault
+  line : ℕ
+  why : ItemFault
+  is : fill (packed_filler end_line many) course drafts ≡ Err (at_line line why)
+  unlike : IsUnlike why
 
 abbrev Either : (n : ℕ) → Course → List (List (Item Content)) → List ItemRow → (end_line : ℕ) → (many : Bool) → Type 0
 Either n course rests drafts end_line many = IsTogether n course rests drafts end_line many ⊎ IsNot course drafts end_line many
@@ -396,10 +397,11 @@ module _ (end_line : ℕ) (many : Bool) where
       (λ t. fill (packed_filler end_line many) (λ answer_of. course (t ∷ answer_of)) more)
   fill_first course spec a more r cs next gives = fill_more (packed_filler end_line many) course a more spec (packed_to cs a.cells r) next gives
 
-  fault_unlike : (cs : List Content) (cells : List RowCell) (why : FieldFault) → IsUnlike (packing_fault cs cells why).fault
-  fault_unlike cs cells data_end = tt
-  fault_unlike cs cells increment = tt
-  fault_unlike cs cells unequal_factor = tt
+  not_packed : (course : Course) (drafts : List ItemRow) (cs : List Content) (cells : List RowCell) (why : FieldFault)
+      → fill (packed_filler end_line many) course drafts ≡ Err (packing_fault cs cells why) → IsNot course drafts end_line many
+  not_packed course drafts cs cells data_end e = record { line = first_line cells; why = wrong.Increment; is = e; unlike = tt }
+  not_packed course drafts cs cells increment e = record { line = first_line cells; why = wrong.Increment; is = e; unlike = tt }
+  not_packed course drafts cs cells unequal_factor e = record { line = unlike_line cs cells; why = wrong.UnequalFactor; is = e; unlike = tt }
 
   -- the first row, and those after it
   onto : (n : ℕ) (course : Course) (spec : FieldSpec) (c : Content) (cs : List Content) (rs : List (List (Item Content))) (a : ItemRow) (more : List ItemRow) → IsSpec spec
@@ -408,11 +410,12 @@ module _ (end_line : ℕ) (many : Bool) where
       → ((out : List Bool) → packing spec (c ∷ cs) ≡ Ok out → Either n (λ answer_so. course (answer_of spec c ∷ answer_so)) (tails rs) more end_line many)
       → Either n course rs (a ∷ more) end_line many
   onto n course spec c cs rs a more good next h f count (Err why) p gives rest =
-      inr (record { why = packing_fault (c ∷ cs) a.cells why; is = fill_first course spec a more (Err why) (c ∷ cs) next gives; unlike = fault_unlike (c ∷ cs) a.cells why })
+      inr (not_packed course (a ∷ more) (c ∷ cs) a.cells why (fill_first course spec a more (Err why) (c ∷ cs) next gives))
   onto n course spec c cs rs a more good next h f count (Ok w) p gives rest = by (rest w p)
     where
       by : Either n (λ answer_so. course (answer_of spec c ∷ answer_so)) (tails rs) more end_line many → Either n course rs (a ∷ more) end_line many
       by (inr x) = inr (record {
+        line = x.line;
         why = x.why;
         is = fill_first course spec a more (Ok w) (c ∷ cs) next gives ∙ ap (with_bits_before (packed_filler end_line many) w) x.is;
         unlike = x.unlike;
@@ -492,19 +495,13 @@ all_plain course (items ∷ subsets) bits suffix specs r =
     let rest = all_plain course subsets r.0 suffix specs.1 r.2 in
     ((first.0, rest.0), omega (arith, first.1, rest.1))
 
-pub drafts_length : {C D : Type 0} (r : Item C → D → Type 0) (items : List (Item C)) (ds : List D) → AreDrafts r items ds → length ds ≡ length items
-drafts_length r [] [] h = refl
-drafts_length r [] (d ∷ ds) h = absurd h
-drafts_length r (i ∷ items) [] h = absurd h
-drafts_length r (i ∷ items) (d ∷ ds) h = ap suc (drafts_length r items ds h.1)
-
 dumped_at : (subsets : List (List (Item Content))) (ss : List Subset) → AreDumped subsets ss → DumpedAt 0 subsets ss × (longest ss ≡ longest_left subsets)
 dumped_at [] [] h = (tt, refl)
 dumped_at [] (s ∷ ss) h = absurd h
 dumped_at (items ∷ subsets) [] h = absurd h
 dumped_at (items ∷ subsets) (s ∷ ss) h =
     let rest = dumped_at subsets ss h.1 in
-    ((h.0, rest.0), omega (arith, rest.1, drafts_length IsDumped items s.items h.0))
+    ((h.0, rest.0), omega (arith, rest.1, AllZip-long IsDumped items s.items h.0))
 
 -- data that were read subset after subset are written together, where their contents can be
 pub together : (course : Course) (subsets : List (List (Item Content))) (drafts : List Subset) (bits suffix : List Bool) → length bits ≤ max_values → EachSpecs subsets → AreDumped subsets drafts
@@ -527,7 +524,7 @@ together course (items ∷ subsets) (s ∷ ss) bits suffix few specs dumped r = 
     data_are = ap (λ k. fill (packed_filler s.end_line many) course (rows k 0 (s ∷ ss))) at.1
 
     by : Either (suc (length subsets)) course (items ∷ subsets) (rows (longest_left (items ∷ subsets)) 0 (s ∷ ss)) s.end_line many → IsTogetherOrNot course (items ∷ subsets) (s ∷ ss)
-    by (inr x) = inr (x.why, data_are ∙ x.is, x.unlike)
+    by (inr x) = inr (x.line, x.why, data_are ∙ x.is, x.unlike)
     by (inl x) = inl (record {
       items = x.items;
       same = parts_subsets 0 x.items (items ∷ subsets) x.parts;

@@ -5,7 +5,8 @@ use Rattle.bufr_fill.proofs.FieldLemmas.{same_ok}
 use Rattle.std.proofs.lemmas.Bool.{ltb-false, ltb-true}
 use Rattle.bufr_tables.specs.Prelude.{is_character}
 use Rattle.bufr_walk.specs.Prelude.{FieldSpec, IsSpec, HasWidth, HasRole, is_reference, Content, number, text, missing, reference, answer_by_role, answer_of, found, plain_field, packed_field, answer_first, Course, Item, DataCoding, plain, packed, ReadsItems, ReadsSubsets, item_answer, after}
-use Rattle.bufr_fill.specs.Prelude.{Role, Kind, FitsRole, AreOctets, FitsNumber, FitsText, FitsReference, FitsKind, Fits, HasOctets, DraftValue, number_token, text_form, missing_form, reference_token, Draft, wrong_number, out_of_range, text_long, missing_forbidden, is_marked, raw_within, raw_of, reference_of, text_within, content_by_form, is_of, wrong_for, content_of, raw_limit}
+use Rattle.bufr_fill.specs.Prelude.{Role, Kind, FitsRole, AreOctets, FitsNumber, FitsText, FitsReference, FitsKind, Fits, HasOctets, DraftValue, number_token, text_form, missing_form, reference_token, Draft, is_marked, raw_within, raw_of, reference_of, text_within, content_by_form, is_of, wrong_for, content_of, raw_limit}
+use Rattle.bufr_fill.specs.declared.fault.ItemFault.TheVariants as wrong
 use Rattle.bufr_walk.proofs.NextField.{IsGoodCourse}
 use Rattle.bufr_walk.specs.Prelude.{IsField, IsWithin}
 use Rattle.std.specs.List.{AllByRecursion}
@@ -82,7 +83,7 @@ packed_specs n course items bits suffix good h = all_specs items (packed_fields 
 -- ---- The content of an item fits its field.
 
 module _ (m : Bool) (w : ℕ) (c : Content) where
-  number_test : (raw : ℕ) (b : Bool) → nat_lt raw (raw_limit m w) ≡ b → (if b then Ok (number raw) else Err out_of_range) ≡ Ok c → FitsNumber m w c
+  number_test : (raw : ℕ) (b : Bool) → nat_lt raw (raw_limit m w) ≡ b → (if b then Ok (number raw) else Err wrong.OutOfRange) ≡ Ok c → FitsNumber m w c
   number_test raw true p e = subst (FitsNumber m w) (same_ok (number raw) c e) (ltb-true raw (raw_limit m w) p)
   number_test raw false p e = cc
 
@@ -90,11 +91,11 @@ module _ (m : Bool) (w : ℕ) (c : Content) where
   number_fits (pos raw) e = number_test raw (nat_lt raw (raw_limit m w)) refl e
   number_fits (negsuc n) e = cc
 
-  missing_test : (b : Bool) → m ≡ b → (if b then Ok missing else Err missing_forbidden) ≡ Ok c → (m ≡ true) × (c ≡ missing)
+  missing_test : (b : Bool) → m ≡ b → (if b then Ok missing else Err wrong.MissingForbidden) ≡ Ok c → (m ≡ true) × (c ≡ missing)
   missing_test true p e = (p, sym (same_ok missing c e))
   missing_test false p e = cc
 
-  missing_fits : (k : Kind) → (if m then Ok missing else Err missing_forbidden) ≡ Ok c → FitsKind k m w c
+  missing_fits : (k : Kind) → (if m then Ok missing else Err wrong.MissingForbidden) ≡ Ok c → FitsKind k m w c
   missing_fits kind.Character e = subst (FitsText (w / 8)) (sym (missing_test m refl e).1) tt
   missing_fits kind.Coded e = subst (FitsNumber m w) (sym (missing_test m refl e).1) (missing_test m refl e).0
   missing_fits kind.Numeric e = subst (FitsNumber m w) (sym (missing_test m refl e).1) (missing_test m refl e).0
@@ -103,7 +104,7 @@ text_fits : (count : ℕ) (octets : List ℕ) (c : Content) → AreOctets octets
 text_fits count octets c h e = by_tests (nat_lt count (length octets)) (list_all (λ octet. octet == 255) (octets ++ replicate (count - length octets) 32)) refl refl e
   where
     by_tests : (a b : Bool) → nat_lt count (length octets) ≡ a → list_all (λ octet. octet == 255) (octets ++ replicate (count - length octets) 32) ≡ b
-        → (if a then Err text_long else if b then Err out_of_range else Ok (text (octets ++ replicate (count - length octets) 32))) ≡ Ok c → FitsText count c
+        → (if a then Err wrong.TextLong else if b then Err wrong.OutOfRange else Ok (text (octets ++ replicate (count - length octets) 32))) ≡ Ok c → FitsText count c
     by_tests true b p q r = cc
     by_tests false true p q r = cc
     by_tests false false p q r =
@@ -117,7 +118,7 @@ module _ (spec : FieldSpec) (c : Content) where
   raw_fits (Ok v) e = number_fits spec.may_be_missing spec.width c (v -ℤ spec.reference) e
   raw_fits (Err why) e = cc
 
-  reference_test : (v : ℤ) (b : Bool) → nat_lt (nat_abs v) (2 ^ (spec.width - 1)) ≡ b → (if b then Ok (reference v) else Err out_of_range) ≡ Ok c → FitsReference spec.width c
+  reference_test : (v : ℤ) (b : Bool) → nat_lt (nat_abs v) (2 ^ (spec.width - 1)) ≡ b → (if b then Ok (reference v) else Err wrong.OutOfRange) ≡ Ok c → FitsReference spec.width c
   reference_test v true p e = subst (FitsReference spec.width) (same_ok (reference v) c e) (ltb-true (nat_abs v) (2 ^ (spec.width - 1)) p)
   reference_test v false p e = cc
 
@@ -125,12 +126,12 @@ module _ (spec : FieldSpec) (c : Content) where
   reference_fits (Ok v) e = reference_test v (nat_lt (nat_abs v) (2 ^ (spec.width - 1))) refl e
   reference_fits (Err why) e = cc
 
-  number_kind : (k : Kind) (r : Result ℤ NumberFault) → (if is_character k then Err wrong_number else raw_of spec r) ≡ Ok c → FitsKind k spec.may_be_missing spec.width c
+  number_kind : (k : Kind) (r : Result ℤ NumberFault) → (if is_character k then Err wrong.Number else raw_of spec r) ≡ Ok c → FitsKind k spec.may_be_missing spec.width c
   number_kind kind.Character r e = cc
   number_kind kind.Coded r e = raw_fits r e
   number_kind kind.Numeric r e = raw_fits r e
 
-  text_kind : (k : Kind) (octets : List ℕ) → AreOctets octets → (if is_character k then text_within (spec.width / 8) octets else Err wrong_number) ≡ Ok c → FitsKind k spec.may_be_missing spec.width c
+  text_kind : (k : Kind) (octets : List ℕ) → AreOctets octets → (if is_character k then text_within (spec.width / 8) octets else Err wrong.Number) ≡ Ok c → FitsKind k spec.may_be_missing spec.width c
   text_kind kind.Character octets h e = text_fits (spec.width / 8) octets c h e
   text_kind kind.Coded octets h e = cc
   text_kind kind.Numeric octets h e = cc

@@ -6,8 +6,10 @@ use Rattle.bufr_walk.specs.declared.spec.TurnRefusal.TheVariants as refusal
 use Rattle.bufr_walk.specs.declared.spec.Role.TheVariants as role
 use Rattle.bufr_walk.specs.Prelude.{FieldSpec, number, missing, found, packed_field}
 use Rattle.bufr_tables.specs.Prelude.{bare, operator}
-use Rattle.bufr_fill.specs.Prelude.{draft, text_form, missing_form, reference_token, subset, at_line, wrong_descriptor, wrong_number, out_of_range, item_too_many, unequal_factors, uneven_increment, too_many_values, walk_refused, item_row, pack_across, packed_filler, k_of, packing}
+use Rattle.bufr_fill.specs.Prelude.{draft, text_form, missing_form, reference_token, subset, at_line, item_too_many, too_many_values, walk_refused, item_row, pack_across, packed_filler, k_of, packing}
+use Rattle.bufr_fill.specs.declared.fault.ItemFault.TheVariants as wrong
 use Rattle.bufr_fill.proofs.ExampleTables.{temperature, block, coded_spec, name, four_letters, delayed_blocks, redefined, width_of_none, numbered, packed_to_bits, ok_bits, zeros, letters}
+use Rattle.bufr_fill.specs.declared.fault.Expected.TheVariants as expected
 
 missing_written : packed_to_bits temperature (subset (numbered 24 3173 (codes "288.15") ∷ []) 25 ∷ subset (draft 26 3173 missing_form ∷ []) 27 ∷ []) ≡ ok_bits (112 ∷ 143 ∷ 5 ∷ []) 24
 unfolding packed_to_bits ok_bits temperature decimal_value_of bits_in
@@ -70,14 +72,14 @@ texts_of_63 = refl
 
 -- rule: fault-59
 texts_too_long_apart : packed_to_bits (operator 34112 bare) (subset (draft 24 34112 (text_form (letters 63 65)) ∷ []) 25 ∷ subset (draft 26 34112 (text_form (letters 63 66)) ∷ []) 27 ∷ [])
-    ≡ Err (at_line 24 uneven_increment)
+    ≡ Err (at_line 24 wrong.Increment)
 unfolding packed_to_bits letters bits_in
 texts_too_long_apart = refl
 
 -- the first subset whose factor is not that of the first
 -- rule: fault-58
 factors_unequal : packed_to_bits delayed_blocks
-    (subset (numbered 24 7937 (codes "0") ∷ []) 25 ∷ subset (numbered 26 7937 (codes "0") ∷ []) 27 ∷ subset (numbered 28 7937 (codes "1") ∷ numbered 29 257 (codes "1") ∷ []) 30 ∷ []) ≡ Err (at_line 28 unequal_factors)
+    (subset (numbered 24 7937 (codes "0") ∷ []) 25 ∷ subset (numbered 26 7937 (codes "0") ∷ []) 27 ∷ subset (numbered 28 7937 (codes "1") ∷ numbered 29 257 (codes "1") ∷ []) 30 ∷ []) ≡ Err (at_line 28 wrong.UnequalFactor)
 unfolding packed_to_bits delayed_blocks decimal_value_of bits_in
 factors_unequal = refl
 
@@ -96,26 +98,26 @@ references_equal = refl
 
 -- rule: fault-59
 references_differ : packed_to_bits redefined
-    (subset (draft 24 3173 (reference_token (codes "-400")) ∷ []) 26 ∷ subset (draft 27 3173 (reference_token (codes "400")) ∷ []) 29 ∷ []) ≡ Err (at_line 24 uneven_increment)
+    (subset (draft 24 3173 (reference_token (codes "-400")) ∷ []) 26 ∷ subset (draft 27 3173 (reference_token (codes "400")) ∷ []) 29 ∷ []) ≡ Err (at_line 24 wrong.Increment)
 unfolding packed_to_bits redefined decimal_value_of bits_in
 references_differ = refl
 
 -- subset by subset, and only then whether they can be packed
 -- rule: fault-order-of-subsets
-second_at_fault : packed_to_bits delayed_blocks (subset (numbered 24 7937 (codes "0") ∷ []) 25 ∷ subset (numbered 26 7937 (codes "1") ∷ []) 27 ∷ subset (numbered 28 7937 (codes "1.5") ∷ []) 29 ∷ []) ≡ Err (at_line 28 wrong_number)
+second_at_fault : packed_to_bits delayed_blocks (subset (numbered 24 7937 (codes "0") ∷ []) 25 ∷ subset (numbered 26 7937 (codes "1") ∷ []) 27 ∷ subset (numbered 28 7937 (codes "1.5") ∷ []) 29 ∷ []) ≡ Err (at_line 28 wrong.Number)
 unfolding packed_to_bits delayed_blocks decimal_value_of bits_in
 second_at_fault = refl
 
 -- rule: fault-order-of-subsets
-first_goes_before : packed_to_bits temperature (subset (numbered 24 3173 (codes "655.35") ∷ []) 25 ∷ subset (numbered 26 257 (codes "1") ∷ []) 27 ∷ []) ≡ Err (at_line 24 out_of_range)
+first_goes_before : packed_to_bits temperature (subset (numbered 24 3173 (codes "655.35") ∷ []) 25 ∷ subset (numbered 26 257 (codes "1") ∷ []) 27 ∷ []) ≡ Err (at_line 24 wrong.OutOfRange)
 unfolding packed_to_bits temperature decimal_value_of
 first_goes_before = refl
 
-item_left_out : packed_to_bits temperature (subset (numbered 24 3173 (codes "1") ∷ []) 25 ∷ subset [] 26 ∷ []) ≡ Err (at_line 26 (wrong_descriptor 3173 Bool.false))
+item_left_out : packed_to_bits temperature (subset (numbered 24 3173 (codes "1") ∷ []) 25 ∷ subset [] 26 ∷ []) ≡ Err (at_line 26 (wrong.WrongDescriptor (expected.Item 3173)))
 unfolding packed_to_bits temperature decimal_value_of bits_in
 item_left_out = refl
 
-none_left : packed_to_bits temperature (subset [] 25 ∷ subset [] 26 ∷ []) ≡ Err (at_line 25 (wrong_descriptor 3173 Bool.false))
+none_left : packed_to_bits temperature (subset [] 25 ∷ subset [] 26 ∷ []) ≡ Err (at_line 25 (wrong.WrongDescriptor (expected.Item 3173)))
 unfolding packed_to_bits temperature
 none_left = refl
 
@@ -137,7 +139,7 @@ as_quantity : FieldSpec
 as_quantity = record { fxy = 3173; role = role.Element; kind = kind.Numeric; width = 16; scale = pos 2; reference = pos 0; may_be_missing = Bool.true; listed = Bool.true }
 
 -- 134,217,728 values are allowed, one more is not; that comes before another descriptor
-last_value : pack_across as_quantity (item_row 67108863 (subset [] 25 ∷ subset [] 26 ∷ [])) ≡ Err (at_line 25 (wrong_descriptor 3173 Bool.false))
+last_value : pack_across as_quantity (item_row 67108863 (subset [] 25 ∷ subset [] 26 ∷ [])) ≡ Err (at_line 25 (wrong.WrongDescriptor (expected.Item 3173)))
 unfolding as_quantity
 last_value = refl
 

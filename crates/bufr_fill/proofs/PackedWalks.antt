@@ -3,13 +3,13 @@ use Rattle.std.proofs.lemmas.Grind.{common_steps}
 use Rattle.std.proofs.Common.{◌≡◌, ℕ, zero, suc, ◌+◌, ◌-◌, ◌<◌, Bool, true, false, List, [], ◌∷◌, ◌++◌, length, Option, Some, None, Result, Ok, Err, refl, sym, ◌∙◌, ap, arith, ◌≤◌, max, slice_get, if◌then◌else◌}
 use Rattle.std.proofs.lemmas.List.{append-nil}
 use Rattle.bufr_walk.specs.Prelude.{FieldSpec, Content, Course, Next, take_next, at_end, astray, refused, TakenField, Takes, course_after, oks, answers_of}
-use Rattle.bufr_fill.specs.Prelude.{Taken, Draft, Subset, FaultAt, at_line, too_many_values, item_too_many, walk_refused, WrittenItem, written_item, fill, with_bits_before, Filler, item_row, cells_at, rows, longest, are_many, content_here, contents_here, packed_to, pack_across, packed_filler, ◌>>=◌, ItemRow, first_there, line_in, packed_data, packing, PackedOutModel, IsPacked, PackedFills, rows_left, new_packed_out, and_end, all_at_end, first_line_at, IsFaultHere}
+use Rattle.bufr_fill.specs.Prelude.{Taken, Draft, Subset, DraftFault, at_line, too_many_values, item_too_many, walk_refused, WrittenItem, written_item, fill, with_bits_before, Filler, item_row, cells_at, rows, longest, are_many, content_here, contents_here, packed_to, pack_across, packed_filler, ◌>>=◌, ItemRow, first_there, line_in, packed_data, packing, PackedOutModel, IsPacked, PackedFills, rows_left, new_packed_out, and_end, all_at_end, first_line_at, IsFaultHere}
 use Rattle.bufr_fill.proofs.FillSteps.{fill_at, fill_end}
 use Rattle.bufr_fill.proofs.WalkLemmas.{HasFilled, walk_fills, after_answers, unfilled}
 use Rattle.bufr_fill.proofs.EntryLemmas.{length-cells}
 use Rattle.bufr_walk.specs.declared.spec.TurnRefusal.TheVariants as refusal
 
-written_bits : (a b : WrittenItem (List Content)) → ◌≡◌ {A = Result (WrittenItem (List Content)) FaultAt} (Ok a) (Ok b) → a.bits ≡ b.bits
+written_bits : (a b : WrittenItem (List Content)) → ◌≡◌ {A = Result (WrittenItem (List Content)) DraftFault} (Ok a) (Ok b) → a.bits ≡ b.bits
 written_bits a b e = grind (arith, common_steps)
 
 -- without a subset nothing is written
@@ -84,7 +84,7 @@ ends_past place (s ∷ ss) e = by (slice_get s.items place) refl e (λ e. ends_p
     by (Some d) is e g = absurd cc e
 
 -- an item that is left over is there
-ends_before : (place : ℕ) (ss : List Subset) (f : FaultAt) → all_at_end (cells_at place ss) ≡ Err f → (place < longest ss) × (f ≡ at_line (first_there (cells_at place ss)) item_too_many)
+ends_before : (place : ℕ) (ss : List Subset) (f : DraftFault) → all_at_end (cells_at place ss) ≡ Err f → (place < longest ss) × (f ≡ at_line (first_there (cells_at place ss)) item_too_many)
 ends_before place [] f e = absurd cc e
 ends_before place (s ∷ ss) f e = by (slice_get s.items place) refl e (λ e. ends_before place ss f e)
   where
@@ -113,11 +113,11 @@ stays course s (i ∷ items) s' h p =
     record { subsets = rest.subsets ∙ h.2.subsets; within = rest.within }
 
 module _ (course : Course) (s : Subset) (more : List Subset) where
-  abbrev filler : Filler ItemRow (List Content) FaultAt
+  abbrev filler : Filler ItemRow (List Content) DraftFault
   filler = packed_filler s.end_line (are_many (longest (s ∷ more)) (length (s ∷ more)))
 
   -- what the definition makes of the rows from a place on
-  abbrev fill_from : Course → ℕ → Result (List Bool) FaultAt
+  abbrev fill_from : Course → ℕ → Result (List Bool) DraftFault
   fill_from c place = fill filler c (rows (longest (s ∷ more) - place) place (s ∷ more))
 
   -- what a walk from the beginning wrote
@@ -158,7 +158,7 @@ module _ (course : Course) (s : Subset) (more : List Subset) where
           ∙ ap (fill_at filler c (item_row place (s ∷ more) ∷ rows k (place + 1) (s ∷ more))) e
 
   -- where an item is at fault
-  fault_here : (c : Course) (place : ℕ) (spec : FieldSpec) (f : FaultAt) → (c []).next ≡ take_next spec → place ≤ longest (s ∷ more) → pack_across spec (item_row place (s ∷ more)) ≡ Err f
+  fault_here : (c : Course) (place : ℕ) (spec : FieldSpec) (f : DraftFault) → (c []).next ≡ take_next spec → place ≤ longest (s ∷ more) → pack_across spec (item_row place (s ∷ more)) ≡ Err f
       → fill_from c place ≡ Err f
   fault_here c place spec f e h p = by (longest (s ∷ more) - place) refl
     where
@@ -186,17 +186,17 @@ module _ (course : Course) (s : Subset) (more : List Subset) where
           (item_row place (s ∷ more) ∷ rows k (place + 1) (s ∷ more)) spec f e p
 
   -- where an item is left over
-  over_here : (c : Course) (place : ℕ) (f : FaultAt) → (c []).next ≡ at_end → all_at_end (cells_at place (s ∷ more)) ≡ Err f → fill_from c place ≡ Err f
+  over_here : (c : Course) (place : ℕ) (f : DraftFault) → (c []).next ≡ at_end → all_at_end (cells_at place (s ∷ more)) ≡ Err f → fill_from c place ≡ Err f
   over_here c place f e p =
       let b = ends_before place (s ∷ more) f p in
       ap (fill filler c) (row_first (longest (s ∷ more)) place (s ∷ more) b.0)
       ∙ ap (fill_at filler c (item_row place (s ∷ more) ∷ rows (longest (s ∷ more) - (place + 1)) (place + 1) (s ∷ more))) e
       ∙ ap Err (sym b.1)
 
-  later : (items : List TakenField) (mid : PackedOutModel) → Came items mid → (f : FaultAt) → fill_from (course_after course items) mid.place ≡ Err f → packed_data course (s ∷ more) ≡ Err f
+  later : (items : List TakenField) (mid : PackedOutModel) → Came items mid → (f : DraftFault) → fill_from (course_after course items) mid.place ≡ Err f → packed_data course (s ∷ more) ≡ Err f
   later items mid h f e = h.is ∙ ap (with_bits_before filler h.bits) e
 
-  stops : (items : List TakenField) (mid : PackedOutModel) (f : FaultAt) → Takes (oks PackedFills) course (new_packed_out (s ∷ more)) items mid → IsFaultHere (course (answers_of items)).next mid f
+  stops : (items : List TakenField) (mid : PackedOutModel) (f : DraftFault) → Takes (oks PackedFills) course (new_packed_out (s ∷ more)) items mid → IsFaultHere (course (answers_of items)).next mid f
       → packed_data course (s ∷ more) ≡ Err f
   stops items mid f h x = later items mid k f (by (course (answers_of items)).next (ap (λ a. a.next) (after_answers course items)) x)
     where
@@ -218,7 +218,7 @@ module _ (course : Course) (s : Subset) (more : List Subset) where
       ap (fill filler (course_after course items)) (no_row mid.place (s ∷ more) past) ∙ fill_end filler (course_after course items) (ap (λ a. a.next) (after_answers course items) ∙ e) in
       k.is ∙ ap (with_bits_before filler k.bits) none ∙ ap Ok (append-nil k.bits ∙ sym k.are)
 
-pub fault_as_defined : (course : Course) (subsets : List Subset) (items : List TakenField) (s : PackedOutModel) (f : FaultAt) → 1 ≤ length subsets
+pub fault_as_defined : (course : Course) (subsets : List Subset) (items : List TakenField) (s : PackedOutModel) (f : DraftFault) → 1 ≤ length subsets
     → Takes (oks PackedFills) course (new_packed_out subsets) items s → IsFaultHere (course (answers_of items)).next s f → packed_data course subsets ≡ Err f
 fault_as_defined course [] items s f some h x = absurd (omega (arith, some))
 fault_as_defined course (first ∷ more) items s f some h x = stops course first more items s f h x

@@ -1,9 +1,11 @@
 -- Worked examples of items written one subset after another.
-use Rattle.std.proofs.Common.{◌≡◌, Bool, [], ◌∷◌, Err, refl, codes}
+use Rattle.std.proofs.Common.{◌≡◌, [], ◌∷◌, Err, refl, codes}
 use Rattle.bufr_bits.specs.Prelude.{bits_of, bits_in, decimal_value_of}
 use Rattle.bufr_walk.specs.declared.spec.TurnRefusal.TheVariants as refusal
-use Rattle.bufr_fill.specs.Prelude.{draft, text_form, missing_form, reference_token, subset, subsets_of, Holds, Ends, at_line, wrong_descriptor, wrong_number, out_of_range, missing_forbidden, text_long, item_too_many, walk_refused}
+use Rattle.bufr_fill.specs.Prelude.{draft, text_form, missing_form, reference_token, subset, subsets_of, Holds, Ends, at_line, item_too_many, walk_refused}
+use Rattle.bufr_fill.specs.declared.fault.ItemFault.TheVariants as wrong
 use Rattle.bufr_fill.proofs.ExampleTables.{temperature, latitude, coded_spec, four_letters, delayed_blocks, redefined, width_of_none, numbered, plain_bits, ok_bits}
+use Rattle.bufr_fill.specs.declared.fault.Expected.TheVariants as expected
 
 -- the greatest number that is not missing
 temperature_written : plain_bits temperature (subset (numbered 24 3173 (codes "655.34") ∷ []) 25 ∷ []) ≡ ok_bits (255 ∷ 254 ∷ []) 16
@@ -11,28 +13,28 @@ unfolding plain_bits ok_bits temperature decimal_value_of bits_in
 temperature_written = refl
 
 -- rule: fault-53
-temperature_would_be_missing : plain_bits temperature (subset (numbered 24 3173 (codes "655.35") ∷ []) 25 ∷ []) ≡ Err (at_line 24 out_of_range)
+temperature_would_be_missing : plain_bits temperature (subset (numbered 24 3173 (codes "655.35") ∷ []) 25 ∷ []) ≡ Err (at_line 24 wrong.OutOfRange)
 unfolding plain_bits temperature decimal_value_of
 temperature_would_be_missing = refl
 
 -- rule: fault-52
-temperature_inexact : plain_bits temperature (subset (numbered 24 3173 (codes "288.155") ∷ []) 25 ∷ []) ≡ Err (at_line 24 wrong_number)
+temperature_inexact : plain_bits temperature (subset (numbered 24 3173 (codes "288.155") ∷ []) 25 ∷ []) ≡ Err (at_line 24 wrong.Number)
 unfolding plain_bits temperature decimal_value_of
 temperature_inexact = refl
 
 -- a number that is not whole comes before one that is too great
 -- rule: fault-order-of-an-item
-temperature_inexact_and_great : plain_bits temperature (subset (numbered 24 3173 (codes "700.155") ∷ []) 25 ∷ []) ≡ Err (at_line 24 wrong_number)
+temperature_inexact_and_great : plain_bits temperature (subset (numbered 24 3173 (codes "700.155") ∷ []) 25 ∷ []) ≡ Err (at_line 24 wrong.Number)
 unfolding plain_bits temperature decimal_value_of
 temperature_inexact_and_great = refl
 
 -- rule: fault-52
-no_decimal : plain_bits temperature (subset (numbered 24 3173 (codes "2-8") ∷ []) 25 ∷ []) ≡ Err (at_line 24 wrong_number)
+no_decimal : plain_bits temperature (subset (numbered 24 3173 (codes "2-8") ∷ []) 25 ∷ []) ≡ Err (at_line 24 wrong.Number)
 unfolding plain_bits temperature decimal_value_of
 no_decimal = refl
 
 -- a number past 127 bits is out of range
-number_too_great : plain_bits temperature (subset (numbered 24 3173 (codes "9999999999999999999999999999999999999999") ∷ []) 25 ∷ []) ≡ Err (at_line 24 out_of_range)
+number_too_great : plain_bits temperature (subset (numbered 24 3173 (codes "9999999999999999999999999999999999999999") ∷ []) 25 ∷ []) ≡ Err (at_line 24 wrong.OutOfRange)
 unfolding plain_bits temperature decimal_value_of
 number_too_great = refl
 
@@ -41,7 +43,7 @@ unfolding plain_bits ok_bits temperature
 temperature_missing = refl
 
 -- rule: fault-52
-text_for_a_number : plain_bits temperature (subset (draft 24 3173 (text_form (codes "28815")) ∷ []) 25 ∷ []) ≡ Err (at_line 24 wrong_number)
+text_for_a_number : plain_bits temperature (subset (draft 24 3173 (text_form (codes "28815")) ∷ []) 25 ∷ []) ≡ Err (at_line 24 wrong.Number)
 unfolding plain_bits temperature
 text_for_a_number = refl
 
@@ -51,7 +53,7 @@ unfolding plain_bits ok_bits latitude decimal_value_of bits_in
 negative_latitude = refl
 
 -- rule: fault-53
-under_the_reference : plain_bits latitude (subset (numbered 24 1282 (codes "-90.01") ∷ []) 25 ∷ []) ≡ Err (at_line 24 out_of_range)
+under_the_reference : plain_bits latitude (subset (numbered 24 1282 (codes "-90.01") ∷ []) 25 ∷ []) ≡ Err (at_line 24 wrong.OutOfRange)
 unfolding plain_bits latitude decimal_value_of
 under_the_reference = refl
 
@@ -61,12 +63,12 @@ unfolding plain_bits ok_bits coded_spec decimal_value_of bits_in
 figure_of_all_ones = refl
 
 -- rule: fault-55
-figure_missing : plain_bits coded_spec (subset (draft 24 7957 missing_form ∷ []) 25 ∷ []) ≡ Err (at_line 24 missing_forbidden)
+figure_missing : plain_bits coded_spec (subset (draft 24 7957 missing_form ∷ []) 25 ∷ []) ≡ Err (at_line 24 wrong.MissingForbidden)
 unfolding plain_bits coded_spec
 figure_missing = refl
 
 -- rule: fault-55
-factor_missing : plain_bits delayed_blocks (subset (draft 24 7937 missing_form ∷ []) 25 ∷ []) ≡ Err (at_line 24 missing_forbidden)
+factor_missing : plain_bits delayed_blocks (subset (draft 24 7937 missing_form ∷ []) 25 ∷ []) ≡ Err (at_line 24 wrong.MissingForbidden)
 unfolding plain_bits delayed_blocks
 factor_missing = refl
 
@@ -82,12 +84,12 @@ text_written :
 unfolding plain_bits ok_bits four_letters bits_of
 text_written = (refl, refl)
 
-number_for_a_text : plain_bits four_letters (subset (numbered 24 34052 (codes "1") ∷ []) 25 ∷ []) ≡ Err (at_line 24 wrong_number)
+number_for_a_text : plain_bits four_letters (subset (numbered 24 34052 (codes "1") ∷ []) 25 ∷ []) ≡ Err (at_line 24 wrong.Number)
 unfolding plain_bits four_letters
 number_for_a_text = refl
 
 -- rule: fault-53
-text_would_be_missing : plain_bits four_letters (subset (draft 24 34052 (text_form (255 ∷ 255 ∷ 255 ∷ 255 ∷ [])) ∷ []) 25 ∷ []) ≡ Err (at_line 24 out_of_range)
+text_would_be_missing : plain_bits four_letters (subset (draft 24 34052 (text_form (255 ∷ 255 ∷ 255 ∷ 255 ∷ [])) ∷ []) 25 ∷ []) ≡ Err (at_line 24 wrong.OutOfRange)
 unfolding plain_bits four_letters
 text_would_be_missing = refl
 
@@ -98,7 +100,7 @@ text_of_some_ones = refl
 
 -- too long comes before missing
 -- rule: fault-54, fault-order-of-an-item
-text_too_long : plain_bits four_letters (subset (draft 24 34052 (text_form (255 ∷ 255 ∷ 255 ∷ 255 ∷ 255 ∷ [])) ∷ []) 25 ∷ []) ≡ Err (at_line 24 text_long)
+text_too_long : plain_bits four_letters (subset (draft 24 34052 (text_form (255 ∷ 255 ∷ 255 ∷ 255 ∷ 255 ∷ [])) ∷ []) 25 ∷ []) ≡ Err (at_line 24 wrong.TextLong)
 unfolding plain_bits four_letters
 text_too_long = refl
 
@@ -113,29 +115,29 @@ minus_zero : plain_bits redefined (subset (draft 24 3173 (reference_token (codes
 unfolding plain_bits ok_bits redefined decimal_value_of bits_in
 minus_zero = refl
 
-reference_too_great : plain_bits redefined (subset (draft 24 3173 (reference_token (codes "512")) ∷ []) 26 ∷ []) ≡ Err (at_line 24 out_of_range)
+reference_too_great : plain_bits redefined (subset (draft 24 3173 (reference_token (codes "512")) ∷ []) 26 ∷ []) ≡ Err (at_line 24 wrong.OutOfRange)
 unfolding plain_bits redefined decimal_value_of
 reference_too_great = refl
 
 -- a reference is whole, whatever the scale of its element
-reference_inexact : plain_bits redefined (subset (draft 24 3173 (reference_token (codes "-4.5")) ∷ []) 26 ∷ []) ≡ Err (at_line 24 wrong_number)
+reference_inexact : plain_bits redefined (subset (draft 24 3173 (reference_token (codes "-4.5")) ∷ []) 26 ∷ []) ≡ Err (at_line 24 wrong.Number)
 unfolding plain_bits redefined decimal_value_of
 reference_inexact = refl
 
 -- rule: fault-51
-number_for_a_reference : plain_bits redefined (subset (numbered 24 3173 (codes "-400") ∷ []) 26 ∷ []) ≡ Err (at_line 24 (wrong_descriptor 3173 Bool.true))
+number_for_a_reference : plain_bits redefined (subset (numbered 24 3173 (codes "-400") ∷ []) 26 ∷ []) ≡ Err (at_line 24 (wrong.WrongDescriptor (expected.Reference 3173)))
 unfolding plain_bits redefined
 number_for_a_reference = refl
 
-reference_for_a_number : plain_bits temperature (subset (draft 24 3173 (reference_token (codes "1")) ∷ []) 25 ∷ []) ≡ Err (at_line 24 (wrong_descriptor 3173 Bool.false))
+reference_for_a_number : plain_bits temperature (subset (draft 24 3173 (reference_token (codes "1")) ∷ []) 25 ∷ []) ≡ Err (at_line 24 (wrong.WrongDescriptor (expected.Item 3173)))
 unfolding plain_bits temperature
 reference_for_a_number = refl
 
 -- another descriptor comes before its number
 -- rule: fault-51, fault-order-of-an-item
 other_descriptor :
-    (plain_bits temperature (subset (numbered 24 257 (codes "1-") ∷ []) 25 ∷ []) ≡ Err (at_line 24 (wrong_descriptor 3173 Bool.false)))
-    × (plain_bits temperature (subset [] 24 ∷ []) ≡ Err (at_line 24 (wrong_descriptor 3173 Bool.false)))
+    (plain_bits temperature (subset (numbered 24 257 (codes "1-") ∷ []) 25 ∷ []) ≡ Err (at_line 24 (wrong.WrongDescriptor (expected.Item 3173))))
+    × (plain_bits temperature (subset [] 24 ∷ []) ≡ Err (at_line 24 (wrong.WrongDescriptor (expected.Item 3173))))
 unfolding plain_bits temperature
 other_descriptor = (refl, refl)
 
@@ -158,7 +160,7 @@ unfolding plain_bits ok_bits latitude decimal_value_of bits_in
 two_subsets = refl
 
 -- the first fault in the order of the subsets
-fault_of_the_second : plain_bits temperature (subset (numbered 24 3173 (codes "1") ∷ []) 25 ∷ subset [] 26 ∷ []) ≡ Err (at_line 26 (wrong_descriptor 3173 Bool.false))
+fault_of_the_second : plain_bits temperature (subset (numbered 24 3173 (codes "1") ∷ []) 25 ∷ subset [] 26 ∷ []) ≡ Err (at_line 26 (wrong.WrongDescriptor (expected.Item 3173)))
 unfolding plain_bits temperature decimal_value_of bits_in
 fault_of_the_second = refl
 

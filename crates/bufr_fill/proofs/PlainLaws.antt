@@ -2,7 +2,8 @@
 use Rattle.std.proofs.lemmas.Grind.{common_steps}
 use Rattle.std.proofs.lemmas.Bool.{eqb-true, le-ltb, lt-ltb, eq-eqb}
 use Rattle.bufr_walk.specs.Prelude.{FieldSpec, IsSpec, HasWidth, HasRole, HasMissing, is_reference, Content, found, number, text, missing, reference, content_by, content_in, bits_for, data_end, FieldRead, plain_field, signed_by, said_by, sign_bit, max_values, Item, DataCoding, ReadsItems, ReadsPass, after, plain, Course, take_next}
-use Rattle.bufr_fill.specs.Prelude.{DraftFaultKind, Role, Kind, Draft, DraftValue, number_token, text_form, missing_form, reference_token, wrong_number, out_of_range, text_long, missing_forbidden, draft_value_of, content_of, content_by_form, raw_within, raw_of, reference_of, text_within, is_marked, wrong_for, IsMinusZero, is_of, decimal_again, normal_form, raw_limit, plainly, plain_filler, RowCell, ItemRow, written_item, Filler, fill, with_bits_before, AreDrafts, FitsText, FitsKind, FitsRole, Fits, IsDumped}
+use Rattle.bufr_fill.specs.Prelude.{ItemFault, Role, Kind, Draft, DraftValue, number_token, text_form, missing_form, reference_token, draft_value_of, content_of, content_by_form, raw_within, raw_of, reference_of, text_within, is_marked, wrong_for, IsMinusZero, is_of, decimal_again, normal_form, raw_limit, plainly, plain_filler, RowCell, ItemRow, written_item, Filler, fill, with_bits_before, AreDrafts, FitsText, FitsKind, FitsRole, Fits, IsDumped}
+use Rattle.bufr_fill.specs.declared.fault.ItemFault.TheVariants as wrong
 use Rattle.bufr_fill.proofs.FillSteps.{fill_more, fill_end}
 use Rattle.std.proofs.Common.{Bool, ◌++◌, Ok, refl, sym, ◌∙◌, ap, subst, arith, append_assoc, suc, ◌-◌, ◌/◌, ◌^◌, ◌<◌, ◌&&◌, ltb, true, false, not, replicate, Err, ℤ, pos, negsuc, ◌+ℤ◌, ◌-ℤ◌, nat_abs, pow_mono, take, drop, Result, zero, neg_ℤ, ◌≡◌, ℕ, ◌+◌, ◌*◌, ◌≤◌, List, [], ◌∷◌, length, Option, Some, None, ◌==◌, nat_lt, if◌then◌else◌, unsigned_abs}
 use Rattle.std.proofs.lemmas.List.{length-append, append-nil, take_at, drop_at, length-take-le, length-drop}
@@ -122,29 +123,29 @@ module _ (spec : FieldSpec) (good : IsSpec spec) where
   raw_again raw narrow h =
       ap (raw_of spec) (reads_back (pos raw +ℤ spec.reference) spec.scale (sum_within raw spec.reference (top_most spec.may_be_missing spec.width raw narrow h) good.reference))
       ∙ ap (raw_within spec.may_be_missing spec.width) (minus_back raw spec.reference)
-      ∙ ap (λ b. if b then Ok (number raw) else Err out_of_range) (lt-ltb raw (raw_limit spec.may_be_missing spec.width) h)
+      ∙ ap (λ b. if b then Ok (number raw) else Err wrong.OutOfRange) (lt-ltb raw (raw_limit spec.may_be_missing spec.width) h)
 
   -- a text
   text_again : (count : ℕ) (octets : List ℕ) → FitsText count (text octets) → text_within count octets ≡ Ok (text octets)
   text_again count octets h =
       let none : count - length octets ≡ 0 = omega (arith, h.0) in
       let whole : octets ++ replicate (count - length octets) 32 ≡ octets = ap (λ n. octets ++ replicate n 32) none ∙ append-nil octets in
-      ap (λ b. if b then Err text_long else (if list_all (λ octet. octet == 255) (octets ++ replicate (count - length octets) 32) then Err out_of_range else Ok
+      ap (λ b. if b then Err wrong.TextLong else (if list_all (λ octet. octet == 255) (octets ++ replicate (count - length octets) 32) then Err wrong.OutOfRange else Ok
       (text (octets ++ replicate (count - length octets) 32)))) (le-ltb count (length octets) (omega (arith, h.0)))
-      ∙ ap (λ os. if list_all (λ octet. octet == 255) os then Err out_of_range else Ok (text os)) whole
-      ∙ ap (λ b. if b then Err out_of_range else Ok (text octets)) h.2
+      ∙ ap (λ os. if list_all (λ octet. octet == 255) os then Err wrong.OutOfRange else Ok (text os)) whole
+      ∙ ap (λ b. if b then Err wrong.OutOfRange else Ok (text octets)) h.2
 
   as_number : (raw : ℕ) → is_character spec.kind ≡ false → content_by_form (draft_value_of spec (number raw)) spec
       ≡ raw_of spec (decimal_value_of (decimal_text_of (pos raw +ℤ spec.reference) spec.scale) spec.scale)
-  as_number raw e = ap (λ b. if b then Err wrong_number else raw_of spec (decimal_value_of (decimal_text_of (pos raw +ℤ spec.reference) spec.scale) spec.scale)) e
+  as_number raw e = ap (λ b. if b then Err wrong.Number else raw_of spec (decimal_value_of (decimal_text_of (pos raw +ℤ spec.reference) spec.scale) spec.scale)) e
 
-  missing_again : (m : Bool) → m ≡ true → (if m then Ok missing else Err missing_forbidden) ≡ Ok missing
-  missing_again m e = ap (λ b. let r : Result Content DraftFaultKind = if b then Ok missing else Err missing_forbidden in r) e
+  missing_again : (m : Bool) → m ≡ true → (if m then Ok missing else Err wrong.MissingForbidden) ≡ Ok missing
+  missing_again m e = ap (λ b. let r : Result Content ItemFault = if b then Ok missing else Err wrong.MissingForbidden in r) e
 
   kind_again : (k : Kind) (c : Content) → HasWidth k spec.width → HasMissing k spec.may_be_missing → FitsKind k spec.may_be_missing spec.width c → k ≡ spec.kind
       → content_by_form (draft_value_of spec c) spec ≡ Ok c
   kind_again kind.Character (number raw) hw hm h q = absurd h
-  kind_again kind.Character (text octets) hw hm h q = ap (λ k. if is_character k then text_within (spec.width / 8) octets else Err wrong_number) (sym q) ∙ text_again (spec.width / 8) octets h
+  kind_again kind.Character (text octets) hw hm h q = ap (λ k. if is_character k then text_within (spec.width / 8) octets else Err wrong.Number) (sym q) ∙ text_again (spec.width / 8) octets h
   kind_again kind.Character missing hw hm h q = missing_again spec.may_be_missing hm
   kind_again kind.Character (reference v) hw hm h q = absurd h
   kind_again kind.Coded (number raw) hw hm h q = as_number raw (ap is_character (sym q)) ∙ raw_again raw hw.1 h
@@ -161,7 +162,7 @@ module _ (spec : FieldSpec) (good : IsSpec spec) where
       let narrow : spec.width - 1 ≤ 62 = omega arith in
       let p : 2 ^ (spec.width - 1) ≤ 2 ^ 62 = pow_mono narrow in
       ap (reference_of spec) (reads_back v (pos 0) (abs_mag v (omega (arith, p, h))))
-      ∙ ap (λ b. if b then Ok (reference v) else Err out_of_range) (lt-ltb (nat_abs v) (2 ^ (spec.width - 1)) h)
+      ∙ ap (λ b. if b then Ok (reference v) else Err wrong.OutOfRange) (lt-ltb (nat_abs v) (2 ^ (spec.width - 1)) h)
     where
       abs_mag : (v : ℤ) → nat_abs v < 2 ^ 62 → mag v < 2 ^ 127
       abs_mag (pos n) h = omega arith
@@ -335,7 +336,7 @@ module _ (spec : FieldSpec) (c : Content) where
   raw_normal : (v z : ℤ) → v -ℤ spec.reference ≡ z → raw_within spec.may_be_missing spec.width z ≡ Ok c → number_token (decimal_text_of v spec.scale) ≡ draft_value_of spec c
   raw_normal v (pos raw) q e = by_test (nat_lt raw (raw_limit spec.may_be_missing spec.width)) e
     where
-      by_test : (b : Bool) → (if b then Ok (number raw) else Err out_of_range) ≡ Ok c → number_token (decimal_text_of v spec.scale) ≡ draft_value_of spec c
+      by_test : (b : Bool) → (if b then Ok (number raw) else Err wrong.OutOfRange) ≡ Ok c → number_token (decimal_text_of v spec.scale) ≡ draft_value_of spec c
       by_test true p = ap (λ x. number_token (decimal_text_of x spec.scale)) (sum_back v spec.reference (pos raw) q) ∙ ap (draft_value_of spec) (same_ok (number raw) c p)
       by_test false p = cc
   raw_normal v (negsuc n) q e = cc
@@ -344,7 +345,7 @@ module _ (spec : FieldSpec) (c : Content) where
   number_normal digits (Ok v) e = raw_normal v (v -ℤ spec.reference) refl e
   number_normal digits (Err why) e = cc
 
-  number_kind : (b : Bool) (digits : List ℕ) (r : Result ℤ NumberFault) → (if b then Err wrong_number else raw_of spec r) ≡ Ok c
+  number_kind : (b : Bool) (digits : List ℕ) (r : Result ℤ NumberFault) → (if b then Err wrong.Number else raw_of spec r) ≡ Ok c
       → number_token (decimal_again digits spec.scale r) ≡ draft_value_of spec c
   number_kind true digits r e = cc
   number_kind false digits r e = number_normal digits r e
@@ -352,19 +353,19 @@ module _ (spec : FieldSpec) (c : Content) where
   reference_normal : (digits : List ℕ) (r : Result ℤ NumberFault) → reference_of spec r ≡ Ok c → reference_token (decimal_again digits (pos 0) r) ≡ draft_value_of spec c
   reference_normal digits (Ok v) e = by_test (nat_lt (nat_abs v) (2 ^ (spec.width - 1))) e
     where
-      by_test : (b : Bool) → (if b then Ok (reference v) else Err out_of_range) ≡ Ok c → reference_token (decimal_text_of v (pos 0)) ≡ draft_value_of spec c
+      by_test : (b : Bool) → (if b then Ok (reference v) else Err wrong.OutOfRange) ≡ Ok c → reference_token (decimal_text_of v (pos 0)) ≡ draft_value_of spec c
       by_test true p = ap (draft_value_of spec) (same_ok (reference v) c p)
       by_test false p = cc
   reference_normal digits (Err why) e = cc
 
-  text_normal : (a b k : Bool) (whole : List ℕ) → (if k then (if a then Err text_long else if b then Err out_of_range else Ok (text whole)) else Err wrong_number) ≡ Ok c
+  text_normal : (a b k : Bool) (whole : List ℕ) → (if k then (if a then Err wrong.TextLong else if b then Err wrong.OutOfRange else Ok (text whole)) else Err wrong.Number) ≡ Ok c
       → text_form whole ≡ draft_value_of spec c
   text_normal a b false whole e = cc
   text_normal true b true whole e = cc
   text_normal false true true whole e = cc
   text_normal false false true whole e = ap (draft_value_of spec) (same_ok (text whole) c e)
 
-  missing_normal : (b : Bool) → (if b then Ok missing else Err missing_forbidden) ≡ Ok c → missing_form ≡ draft_value_of spec c
+  missing_normal : (b : Bool) → (if b then Ok missing else Err wrong.MissingForbidden) ≡ Ok c → missing_form ≡ draft_value_of spec c
   missing_normal true e = ap (draft_value_of spec) (same_ok missing c e)
   missing_normal false e = cc
 

@@ -4,8 +4,9 @@ use Rattle.std.specs.Fmt.{digits}
 use Rattle.bufr_bits.specs.Prelude.{decimal_text_of, unsigned_text, decimal_value_of}
 use Rattle.bufr_tables.specs.declared.table_b.Kind.TheVariants as kind
 use Rattle.bufr_walk.specs.declared.spec.Role.TheVariants as role
-use Rattle.bufr_walk.specs.Prelude.{FieldSpec, Content, number, text, missing, reference, Item}
-use Rattle.bufr_fill.specs.Prelude.{Role, Kind, AllAlike, HasOctets, AllHaveOctets, IsSaid, AreSaid, AreSaidFrom, draft, number_token, text_form, missing_form, reference_token, subset, out_of_range, text_long, content_of, normal_form}
+use Rattle.bufr_walk.specs.Prelude.{FieldSpec, Content, number, text, missing, reference, Item, subsets_from}
+use Rattle.bufr_fill.specs.Prelude.{Role, Kind, AllAlike, HasOctets, AllHaveOctets, IsSaid, AreSaid, draft, number_token, text_form, missing_form, reference_token, subset, content_of, normal_form}
+use Rattle.bufr_fill.specs.declared.fault.ItemFault.TheVariants as wrong
 
 -- fields: a number in 7 bits, one of two places in 16, a text of four octets, and a reference in 10
 -- bits
@@ -38,13 +39,13 @@ unfolding decimal_value_of
 point_and_zero = (refl, refl, refl, refl)
 
 -- all ones would be read as missing
-one_above : content_of block (draft 24 257 (number_token (codes "127"))) ≡ Err out_of_range
+one_above : content_of block (draft 24 257 (number_token (codes "127"))) ≡ Err wrong.OutOfRange
 unfolding decimal_value_of
 one_above = refl
 
 short_text :
     (IsSaid (item letters (text (codes "AB  "))) (draft 24 257 (text_form (codes "AB"))))
-    × (content_of letters (draft 24 257 (text_form (codes "ABCDE"))) ≡ Err text_long)
+    × (content_of letters (draft 24 257 (text_form (codes "ABCDE"))) ≡ Err wrong.TextLong)
     × (IsSaid (item temperature missing) (draft 24 257 missing_form))
 short_text = (refl, refl, refl)
 
@@ -58,7 +59,7 @@ two_subsets : AreSaid ((item block (number 1) ∷ []) ∷ (item block missing �
 unfolding decimal_value_of
 two_subsets = ((refl, tt), ((refl, tt), tt))
 
-two_together : AreSaidFrom 0 (record { spec = block; content = number 1 ∷ missing ∷ [] } ∷ []) (subset (draft 24 257 (number_token (codes "1.0")) ∷ []) 25 ∷ subset (draft 26 257 missing_form ∷ []) 27 ∷ [])
+two_together : AreSaid (subsets_from 2 0 (record { spec = block; content = number 1 ∷ missing ∷ [] } ∷ [])) (subset (draft 24 257 (number_token (codes "1.0")) ∷ []) 25 ∷ subset (draft 26 257 missing_form ∷ []) 27 ∷ [])
 unfolding decimal_value_of
 two_together = ((refl, tt), ((refl, tt), tt))
 

@@ -1,21 +1,24 @@
 -- One item of all subsets, as the code reads and packs it.
 use Rattle.std.proofs.lemmas.Grind.{common_steps}
-use Rattle.std.proofs.Common.{◌≡◌, ℕ, zero, suc, ◌+◌, ◌-◌, ◌*◌, ◌/◌, ◌%◌, ◌<◌, ◌≤◌, ◌&&◌, max, Bool, true, false, List, [], ◌∷◌, ◌++◌, length, take, drop, get_or, replicate, refl, sym, ◌∙◌, ap, arith, add-one, append_assoc, ℤ, Option, Some, None, Result, Ok, Err, ◌⊎◌, inl, inr, nat_lt, if◌then◌else◌, slice_get, option_map, ◌==◌}
-use Rattle.std.proofs.lemmas.Bool.{le-ltb, lt-ltb, ne_eqb}
-use Rattle.std.specs.List.{flat_map}
+use Rattle.std.proofs.Common.{◌≡◌, ℕ, zero, suc, ◌+◌, ◌-◌, ◌*◌, ◌/◌, ◌%◌, ◌<◌, ◌≤◌, ◌&&◌, max, Bool, true, false, List, [], ◌∷◌, ◌++◌, length, take, drop, get_or, replicate, refl, sym, ◌∙◌, ap, arith, add-one, append_assoc, ℤ, Option, Some, None, Result, Ok, Err, ◌⊎◌, inl, inr, nat_lt, if◌then◌else◌, slice_get, ◌==◌}
+use Rattle.std.proofs.lemmas.Bool.{eq-eqb, eqb-true, le-ltb, lt-ltb, ne_eqb}
+use Rattle.std.proofs.Math.Bool.{and_assoc}
+use Rattle.std.specs.List.{flat_map, list_all}
 use Rattle.std.proofs.Math.Nat.{mul-le-mul_right}
 use Rattle.std.proofs.Math.Seq.{drop-cons}
 use Rattle.std.proofs.lemmas.List.{append-nil, take-replicate, length-append}
 use Rattle.bufr_bits.specs.Prelude.{bits_of}
 use Rattle.std.specs.Str.{bytes_eq}
-use Rattle.bufr_fill.specs.Prelude.{spaced, Taken, Role, FieldContent, content_drawn, IsDrawn, raw_limit, AllDrawn, contents_drawn, need_of, most_need, FitsIncrement, AreShort, least_from, entry_or_end, entry_here, and_end, all_at_end, IsPutWithin, trimmed, same, are_same, first_from, packing, packed_bits, packed_by, packed_unlike, RowCell, content_here, contents_here, first_unlike, unlike_line, cell_line, line_in, first_line, ◌>>=◌, item_row, cells_at, packed_to, pack_across, written_item, Draft, DraftEntry, Holds, Ends, Subset, FaultAt, at_line, item_too_many, unequal_factors, uneven_increment, too_many_values, IfDraftFault, is_end}
+use Rattle.bufr_fill.specs.Prelude.{spaced, Taken, Role, FieldContent, content_drawn, IsDrawn, raw_limit, AllDrawn, contents_drawn, need_of, most_need, FitsIncrement, AreShort, least_from, entry_or_end, entry_here, and_end, all_at_end, IsPutWithin, trimmed, same, are_same, first_from, packing, packed_bits, packed_by, packed_unlike, RowCell, content_here, contents_here, first_unlike, unlike_line, cell_line, line_in, first_line, ◌>>=◌, item_row, cells_at, packed_to, pack_across, written_item, Draft, DraftEntry, Holds, Ends, Subset, DraftFault, at_line, item_too_many, too_many_values, IfDraftFault, is_end}
+use Rattle.bufr_fill.specs.declared.fault.ItemFault.TheVariants as wrong
 use Rattle.bufr_walk.specs.Prelude.{FieldSpec, Content, reference, answer_of, bits_for, increment, unequal_factor, answer_first, max_values}
 use Rattle.bufr_fill.proofs.EntryLemmas.{entry_line}
 use Rattle.bufr_fill.proofs.LeastLemmas.{octets_self, content_same, content_self}
+use Rattle.bufr_fill.specs.declared.fault.DraftFault.TheVariants as draft_fault
 use Rattle.bufr_walk.specs.declared.spec.Role.TheVariants as role
 
 -- contents before others, or the fault of these
-abbrev pub with_contents_before : List Content → Result (List Content) FaultAt → Result (List Content) FaultAt
+abbrev pub with_contents_before : List Content → Result (List Content) DraftFault → Result (List Content) DraftFault
 with_contents_before cs (Ok more) = Ok (cs ++ more)
 with_contents_before cs (Err f) = Err f
 
@@ -189,12 +192,9 @@ all_more : (spec : FieldSpec) (ds : List FieldContent) (d : FieldContent) → Al
 all_more spec [] d h g = (g, tt)
 all_more spec (x ∷ ds) d h g = (h.0, all_more spec ds d h.1 g)
 
-contents_before_more : (cs : List Content) (x : Content) (r : Result (List Content) FaultAt) → with_contents_before cs (r >>= λ rest. Ok (x ∷ rest)) ≡ with_contents_before (cs ++ x ∷ []) r
+contents_before_more : (cs : List Content) (x : Content) (r : Result (List Content) DraftFault) → with_contents_before cs (r >>= λ rest. Ok (x ∷ rest)) ≡ with_contents_before (cs ++ x ∷ []) r
 contents_before_more cs x (Ok more) = ap Ok (sym (append_assoc cs (x ∷ []) more))
 contents_before_more cs x (Err f) = refl
-
-is_some : {r s : Result Content FaultAt} → Some r ≡ Some s → s ≡ r
-is_some h = cc
 
 module _ (count : ℕ) (spec : FieldSpec) (cells : List RowCell) (j : ℕ) (ds : List FieldContent) (e : DraftEntry) (inv : IsGathering count spec cells j ds) (within : j < length cells)
     (here : (c : RowCell) → slice_get cells j ≡ Some c → e ≡ entry_or_end c.draft c.end_line) where
@@ -206,14 +206,14 @@ module _ (count : ℕ) (spec : FieldSpec) (cells : List RowCell) (j : ℕ) (ds :
       ∙ ap (λ r. with_contents_before (contents_drawn count ds) (r >>= λ first. contents_here spec (drop (j + 1) cells) >>= λ rest. Ok (first ∷ rest)))
       (sym (entry_same spec k.cell.draft k.cell.end_line) ∙ ap (entry_here spec) (sym (here k.cell k.is)))
 
-  pub gather_fault : (o : Option FaultAt) → option_map Err o ≡ Some (entry_here spec e) → IfDraftFault o (λ f. contents_here spec cells ≡ Err f)
-  gather_fault None h = tt
-  gather_fault (Some f) h =
-      next_is (cell_at cells j within) ∙ ap (λ r. with_contents_before (contents_drawn count ds) (r >>= λ first. contents_here spec (drop (j + 1) cells) >>= λ rest. Ok (first ∷ rest))) (is_some h)
+  pub gather_fault : (o : DraftFault) → Err o ≡ entry_here spec e → IfDraftFault o (λ f. contents_here spec cells ≡ Err f)
+  gather_fault draft_fault.Memory h = tt
+  gather_fault (draft_fault.Item line fault) h =
+      next_is (cell_at cells j within) ∙ ap (λ r. with_contents_before (contents_drawn count ds) (r >>= λ first. contents_here spec (drop (j + 1) cells) >>= λ rest. Ok (first ∷ rest))) (sym h)
 
-  pub gather_more : (d : FieldContent) → Some (Ok (content_drawn count d)) ≡ Some (entry_here spec e) → IsDrawn spec d → IsGathering count spec cells (j + 1) (ds ++ d ∷ [])
+  pub gather_more : (d : FieldContent) → Ok (content_drawn count d) ≡ entry_here spec e → IsDrawn spec d → IsGathering count spec cells (j + 1) (ds ++ d ∷ [])
   gather_more d h g = record {
-    so = next_is (cell_at cells j within) ∙ ap (λ r. with_contents_before (contents_drawn count ds) (r >>= λ first. contents_here spec (drop (j + 1) cells) >>= λ rest. Ok (first ∷ rest))) (is_some h)
+    so = next_is (cell_at cells j within) ∙ ap (λ r. with_contents_before (contents_drawn count ds) (r >>= λ first. contents_here spec (drop (j + 1) cells) >>= λ rest. Ok (first ∷ rest))) (sym h)
         ∙ contents_before_more (contents_drawn count ds) (content_drawn count d) (contents_here spec (drop (j + 1) cells))
         ∙ ap (λ cs. with_contents_before cs (contents_here spec (drop (j + 1) cells))) (sym (contents_more count ds d));
     all = all_more spec ds d inv.all g;
@@ -230,7 +230,7 @@ pub end_item : (cells : List RowCell) (j : ℕ) (e : DraftEntry) → j < length 
 end_item cells j (Ends line) h here is inv = absurd cc
 end_item cells j (Holds d) h here is inv = by (cell_at cells j h)
   where
-    item : (o : Option Draft) (line : ℕ) → entry_or_end o line ≡ Holds d → (r : Result (Unit {0}) FaultAt) → and_end o r ≡ Err (at_line d.line item_too_many)
+    item : (o : Option Draft) (line : ℕ) → entry_or_end o line ≡ Holds d → (r : Result (Unit {0}) DraftFault) → and_end o r ≡ Err (at_line d.line item_too_many)
     item None line q r = absurd cc
     item (Some x) line q r = let same : x ≡ d = cc in ap (λ (z : Draft). Err (at_line z.line item_too_many)) same
 
@@ -242,7 +242,7 @@ pub end_more : (cells : List RowCell) (j : ℕ) (e : DraftEntry) → j < length 
 end_more cells j (Holds d) h here is inv = absurd cc
 end_more cells j (Ends line) h here is inv = by (cell_at cells j h)
   where
-    ends : (o : Option Draft) (l : ℕ) → entry_or_end o l ≡ Ends line → (r : Result (Unit {0}) FaultAt) → and_end o r ≡ r
+    ends : (o : Option Draft) (l : ℕ) → entry_or_end o l ≡ Ends line → (r : Result (Unit {0}) DraftFault) → and_end o r ≡ r
     ends None l q r = refl
     ends (Some x) l q r = absurd cc
 
@@ -308,9 +308,9 @@ module _ (spec : FieldSpec) (place : ℕ) (subsets : List Subset) where
         (contents_here spec (cells_at place subsets) >>= λ cs. packed_to cs (cells_at place subsets) (packing spec cs)))
         (le-ltb max_values ((place + 1) * length (cells_at place subsets)) few)
 
-    pub put_fault : (o : Option FaultAt) → IfDraftFault o (λ f. contents_here spec (cells_at place subsets) ≡ Err f) → IfDraftFault o (λ f. pack_across spec (item_row place subsets) ≡ Err f)
-    put_fault None h = tt
-    put_fault (Some f) h = across_is ∙ ap (λ r. r >>= λ cs. packed_to cs (cells_at place subsets) (packing spec cs)) h
+    pub put_fault : (o : DraftFault) → IfDraftFault o (λ f. contents_here spec (cells_at place subsets) ≡ Err f) → IfDraftFault o (λ f. pack_across spec (item_row place subsets) ≡ Err f)
+    put_fault draft_fault.Memory h = tt
+    put_fault (draft_fault.Item line fault) h = across_is ∙ ap (λ r. r >>= λ cs. packed_to cs (cells_at place subsets) (packing spec cs)) h
 
     given : (cs : List Content) → contents_here spec (cells_at place subsets) ≡ Ok cs → pack_across spec (item_row place subsets) ≡ packed_to cs (cells_at place subsets) (packing spec cs)
     given cs h = across_is ∙ ap (λ r. r >>= λ cs. packed_to cs (cells_at place subsets) (packing spec cs)) h
@@ -320,11 +320,11 @@ module _ (spec : FieldSpec) (place : ℕ) (subsets : List Subset) where
     put_ok cs bits h e = given cs h ∙ ap (packed_to cs (cells_at place subsets)) e
 
     pub put_unequal : (cs : List Content) → contents_here spec (cells_at place subsets) ≡ Ok cs → packing spec cs ≡ Err unequal_factor
-        → pack_across spec (item_row place subsets) ≡ Err (at_line (unlike_line cs (cells_at place subsets)) unequal_factors)
+        → pack_across spec (item_row place subsets) ≡ Err (at_line (unlike_line cs (cells_at place subsets)) wrong.UnequalFactor)
     put_unequal cs h e = given cs h ∙ ap (packed_to cs (cells_at place subsets)) e
 
     pub put_uneven : (cs : List Content) → contents_here spec (cells_at place subsets) ≡ Ok cs → packing spec cs ≡ Err increment
-        → pack_across spec (item_row place subsets) ≡ Err (at_line (first_line (cells_at place subsets)) uneven_increment)
+        → pack_across spec (item_row place subsets) ≡ Err (at_line (first_line (cells_at place subsets)) wrong.Increment)
     put_uneven cs h e = given cs h ∙ ap (packed_to cs (cells_at place subsets)) e
 
 -- what the first subset's content returns to the walk
@@ -387,6 +387,46 @@ same_spaced count a b e = by a b (count - length a) e ∙ ap (λ n. bytes_eq (sp
     by [] (y ∷ ys) n e = absurd (omega (arith, e))
     by (x ∷ xs) [] n e = absurd (omega (arith, e))
     by (x ∷ xs) (y ∷ ys) n e = ap (λ b. (x == y) && b) (by xs ys n (omega (arith, e)))
+
+-- a text of spaces, and spaces after it
+all_spaces : (os : List ℕ) (n : ℕ) → list_all (λ octet. octet == 32) os ≡ bytes_eq (os ++ replicate n 32) (replicate (length os + n) 32)
+all_spaces [] n = let none : n ≡ 0 + n = omega arith in sym (octets_self (replicate n 32)) ∙ ap (λ k. bytes_eq (replicate n 32) (replicate k 32)) none
+all_spaces (o ∷ os) n =
+    let more : suc (length os + n) ≡ suc (length os) + n = omega arith in
+    ap (λ b. (o == 32) && b) (all_spaces os n) ∙ ap (λ k. bytes_eq ((o ∷ os) ++ replicate n 32) (replicate k 32)) more
+
+-- a text that begins with another and goes on with spaces
+pub spaced_start : (count : ℕ) (whole start os rest : List ℕ) → whole ≡ start ++ rest → length start ≡ length os → length whole ≤ count
+    → (bytes_eq start os && list_all (λ octet. octet == 32) rest) ≡ bytes_eq (spaced count whole) (spaced count os)
+spaced_start count whole start os rest parts e few =
+    let long : length whole ≡ length start + length rest = ap length parts ∙ length-append start rest in
+    let n : ℕ = count - length whole in
+    let left : length rest + n ≡ count - length os = omega (arith, long, e, few) in
+    by start os n e ∙ ap (λ k. bytes_eq ((start ++ rest) ++ replicate n 32) (os ++ replicate k 32)) left ∙ ap (λ xs. bytes_eq (xs ++ replicate n 32) (spaced count os)) (sym parts)
+  where
+    by : (start os : List ℕ) (n : ℕ) → length start ≡ length os
+        → (bytes_eq start os && list_all (λ octet. octet == 32) rest) ≡ bytes_eq ((start ++ rest) ++ replicate n 32) (os ++ replicate (length rest + n) 32)
+    by [] [] n e = all_spaces rest n
+    by [] (y ∷ ys) n e = absurd (omega (arith, e))
+    by (x ∷ xs) [] n e = absurd (omega (arith, e))
+    by (x ∷ xs) (y ∷ ys) n e = and_assoc (x == y) (bytes_eq xs ys) (list_all (λ octet. octet == 32) rest) ∙ ap (λ b. (x == y) && b) (by xs ys n (omega (arith, e)))
+
+-- two texts may be compared either way
+false_true : false ≡ true → ⊥
+false_true e = cc
+
+eqb_other : (x y : ℕ) → (x == y) ≡ (y == x)
+eqb_other x y = by (x == y) refl
+  where
+    by : (b : Bool) → (x == y) ≡ b → b ≡ (y == x)
+    by true e = sym (eq-eqb y x (sym (eqb-true x y e)))
+    by false e = sym (ne_eqb y x (λ q. false_true (sym e ∙ eq-eqb x y (sym q))))
+
+pub spaced_other : (xs ys : List ℕ) → bytes_eq xs ys ≡ bytes_eq ys xs
+spaced_other [] [] = refl
+spaced_other [] (y ∷ ys) = refl
+spaced_other (x ∷ xs) [] = refl
+spaced_other (x ∷ xs) (y ∷ ys) = ap (λ b. b && bytes_eq xs ys) (eqb_other x y) ∙ ap (λ b. (y == x) && b) (spaced_other xs ys)
 
 -- the spaces at the end of a text
 trimmed_space : (b : Bool) (os : List ℕ) (n : ℕ) → trimmed os ≡ n → trimmed (os ++ 32 ∷ []) ≡ n

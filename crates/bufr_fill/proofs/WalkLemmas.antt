@@ -1,6 +1,6 @@
 -- A walk over the items of one subset writes as the definition does.
 use Rattle.bufr_walk.specs.Prelude.{FieldSpec, bits_for, Course, take_next, Next, at_end, astray, refused, TakenField, Takes, course_after, answers_of, oks}
-use Rattle.bufr_fill.specs.Prelude.{Taken, WrittenItem, Filler, fill, with_bits_before, written_item, plainly, plain_filler, DraftEntry, Holds, Ends, FaultAt, at_line, item_too_many, walk_refused, PlainOutModel, PlainFills, IsFaultOf, IsFaultNext, after_end, line_at, items_left, end_left}
+use Rattle.bufr_fill.specs.Prelude.{Taken, WrittenItem, Filler, fill, with_bits_before, written_item, plainly, plain_filler, DraftEntry, Holds, Ends, DraftFault, at_line, item_too_many, walk_refused, PlainOutModel, PlainFills, IsFaultOf, IsFaultNext, after_end, line_at, items_left, end_left}
 use Rattle.bufr_fill.proofs.FillSteps.{fill_more, fill_at}
 use Rattle.std.proofs.Common.{Result, refl, sym, ◌∙◌, ap, append_assoc, ℕ, ◌≤◌, length, arith, ◌≡◌, Bool, List, [], ◌∷◌, ◌++◌, Ok, Err}
 use Rattle.std.proofs.lemmas.List.{append-nil}
@@ -82,7 +82,7 @@ pub walk_of_items : (end : ℕ) (course : Course) (s : PlainOutModel) (items : L
 walk_of_items end course s items s' h = walk_fills (plain_filler end) (λ (p : PlainOutModel). items_left p.left) (λ (p : PlainOutModel). p.bits) (oks PlainFills) (fills end) course s items s' h
 
 -- the fault of the next item is that of the definition
-pub fault_of_items : (course : Course) (left : List DraftEntry) (spec : FieldSpec) (f : FaultAt) → (course []).next ≡ take_next spec → IsFaultOf spec left f
+pub fault_of_items : (course : Course) (left : List DraftEntry) (spec : FieldSpec) (f : DraftFault) → (course []).next ≡ take_next spec → IsFaultOf spec left f
     → fill (plain_filler (end_left left)) course (items_left left) ≡ Err f
 fault_of_items course left spec f next h = unfilled (plain_filler (end_left left)) (λ (p : PlainOutModel). items_left p.left) (λ (p : PlainOutModel). p.bits) (oks PlainFills) (fills (end_left left))
     course (items_left left) spec f next (by left h)
@@ -100,17 +100,17 @@ at_refused course (Ends line ∷ left) why h = ap (fill_at (plain_filler line) c
 at_refused course (Holds d ∷ left) why h =
     ap (fill_at (plain_filler (end_left left)) course (d ∷ items_left left)) h
 
-left_over : (course : Course) (left : List DraftEntry) (f : FaultAt) → (course []).next ≡ at_end → 1 ≤ length left → after_end left ≡ Err f
+left_over : (course : Course) (left : List DraftEntry) (f : DraftFault) → (course []).next ≡ at_end → 1 ≤ length left → after_end left ≡ Err f
     → fill (plain_filler (end_left left)) course (items_left left) ≡ Err f
 left_over course [] f h some e = absurd (omega (arith, some))
 left_over course (Ends line ∷ left) f h some e = absurd cc e
 left_over course (Holds d ∷ left) f h some e =
     ap (fill_at (plain_filler (end_left left)) course (d ∷ items_left left)) h ∙ same e
   where
-    same : after_end (Holds d ∷ left) ≡ Err f → ◌≡◌ {A = Result (List Bool) FaultAt} (Err (at_line d.line item_too_many)) (Err f)
+    same : after_end (Holds d ∷ left) ≡ Err f → ◌≡◌ {A = Result (List Bool) DraftFault} (Err (at_line d.line item_too_many)) (Err f)
     same e = let x : at_line d.line item_too_many ≡ f = cc in ap Err x
 
-pub fault_as_defined : (course : Course) (left : List DraftEntry) (f : FaultAt) → IsFaultNext (course []).next left f → fill (plain_filler (end_left left)) course (items_left left) ≡ Err f
+pub fault_as_defined : (course : Course) (left : List DraftEntry) (f : DraftFault) → IsFaultNext (course []).next left f → fill (plain_filler (end_left left)) course (items_left left) ≡ Err f
 fault_as_defined course left f h = by (course []).next refl h
   where
     by : (next : Next) → (course []).next ≡ next → IsFaultNext next left f → fill (plain_filler (end_left left)) course (items_left left) ≡ Err f

@@ -1,11 +1,12 @@
 -- The round trip of all data.
+use Rattle.std.proofs.lemmas.Slice.Zip.{AllZip-long}
 use Rattle.std.proofs.Common.{◌≡◌, ℕ, zero, suc, ◌+◌, ◌*◌, ◌<◌, ◌≤◌, List, [], ◌∷◌, length, drop, Some, refl, sym, ◌∙◌, ap, subst, arith, Bool, ◌++◌, Ok, append_assoc, Result, Err, slice_get, flat_map, if◌then◌else◌}
 use Rattle.bufr_fill.proofs.EntryLemmas.{length-cells}
 use Rattle.std.proofs.lemmas.Bool.{le-ltb}
 use Rattle.std.proofs.Math.Nat.{mul-le-mul_right}
-use Rattle.bufr_walk.specs.Prelude.{Content, bits_for, FieldFault, found, plain_field, FieldSpec, IsSpec, packed_field, max_values, Item, plain, packed, ReadsSubsets, ReadsItems, after, IsPackedReading, DataCoding, ReadsPass, content_at, Course, next_item}
-use Rattle.bufr_fill.specs.Prelude.{IsAlike, Draft, Subset, at_line, too_many_values, cells_at, rows, longest, plain_data, packed_filler, are_many, ◌>>=◌, ItemRow, at_line_if_fault, content_here, contents_here, packed_to, pack_across, packed_data, first_line, plain_filler, plainly, written_item, Filler, fill, packing, IsDumped, AreDrafts, items_of_subset, AreDumpedFrom, AreDumped, IsWrittenAgain, IsPackedAgain, IsWrittenApart, IsTogetherOrNot, IsSaid, AreSaid, AreSaidFrom, subsets_from, AllAlike, AllHaveOctets, content_of}
-use Rattle.bufr_fill.proofs.FillSteps.{fill_end}
+use Rattle.bufr_walk.specs.Prelude.{Content, bits_for, FieldFault, found, plain_field, FieldSpec, IsSpec, packed_field, max_values, Item, plain, packed, ReadsSubsets, ReadsItems, after, IsPackedReading, DataCoding, ReadsPass, content_at, Course, next_item, items_of_subset, subsets_from}
+use Rattle.bufr_fill.specs.Prelude.{IsAlike, Draft, Subset, at_line, too_many_values, cells_at, rows, longest, plain_data, packed_filler, are_many, ◌>>=◌, ItemRow, at_line_if_fault, content_here, contents_here, packed_to, pack_across, packed_data, first_line, plain_filler, plainly, written_item, Filler, fill, packing, IsDumped, AreDrafts, AreDumped, IsWrittenAgain, IsPackedAgain, IsWrittenApart, IsTogetherOrNot, IsSaid, AreSaid, AllAlike, AllHaveOctets, content_of}
+use Rattle.bufr_fill.proofs.FillSteps.{fill_end, plain_both}
 use Rattle.bufr_fill.proofs.PlainLaws.{IsCellOf, AreCellsOf, IsDumpedAcross, HaveContents, AllSpecs, EachSpecs, rewritten, plain_rewritten, join, draft_again, same_draft}
 use Rattle.std.proofs.lemmas.List.{length-append}
 use Rattle.std.specs.List.{AllZip}
@@ -13,8 +14,9 @@ use Rattle.bufr_tables.specs.Prelude.{Row, AreRows, Tree, IsLegal, Record}
 use Rattle.bufr_walk.proofs.NextField.{AreRead, table_read, next_field}
 use Rattle.bufr_fill.proofs.GoodReads.{plain_specs, packed_specs}
 use Rattle.bufr_fill.proofs.PackedLaws.{packed_count, packed_again}
-use Rattle.bufr_fill.proofs.FormLaws.{drafts_length, packed_rewritten, together, apart, all_plain, Follows, AllFollow, follow_reading}
+use Rattle.bufr_fill.proofs.FormLaws.{subset_count, packed_rewritten, together, apart, all_plain, Follows, AllFollow, follow_reading}
 use Rattle.bufr_fill.proofs.BackLaws.{plain_template_back, packed_template_back}
+use Rattle.bufr_walk.proofs.BoundLemmas.{length-items_of}
 
 -- ---- The dump of compressed data, subset after subset, has the rows of the items.
 
@@ -46,7 +48,7 @@ content_none (suc j) (c ∷ cs) h = let e : length cs ≡ j = omega (arith, h) i
 
 -- the cells at an index are those of the item there
 cells_there : (items : List (Item (List Content))) (p : ℕ) (i : Item (List Content)) (rest : List (Item (List Content))) (j : ℕ) (ss : List Subset) → drop p items ≡ i ∷ rest
-    → j + length ss ≡ length i.content → AreDumpedFrom j items ss → AreCellsOf i.spec (drop j i.content) (cells_at p ss)
+    → j + length ss ≡ length i.content → AreDumped (subsets_from (length ss) j items) ss → AreCellsOf i.spec (drop j i.content) (cells_at p ss)
 cells_there items p i rest j [] e n h = subst (λ cs. AreCellsOf i.spec cs []) (sym (content_none j i.content (omega (arith, n)))) tt
 cells_there items p i rest j (s ∷ ss) e n h =
     let here : drop p (items_of_subset j items) ≡ record { spec = i.spec; content = content_at j i.content } ∷ items_of_subset j rest = drop-items_of j p items ∙ ap (items_of_subset j) e in
@@ -62,7 +64,8 @@ drop_next (x ∷ items) zero i rest e = cc
 drop_next (x ∷ items) (suc p) i rest e = let q : suc p + 1 ≡ suc (p + 1) = omega arith in ap (λ k. drop k (x ∷ items)) q ∙ drop_next items p i rest e
 
 -- row after row, from an index on
-rows_are : (n : ℕ) (items : List (Item (List Content))) (ss : List Subset) (rest : List (Item (List Content))) (p : ℕ) → length ss ≡ n → HaveContents n rest → AreDumpedFrom 0 items ss
+rows_are : (n : ℕ) (items : List (Item (List Content))) (ss : List Subset) (rest : List (Item (List Content))) (p : ℕ) → length ss ≡ n → HaveContents n rest
+    → AreDumped (subsets_from (length ss) 0 items) ss
     → drop p items ≡ rest → (p + length rest) * n ≤ max_values → AreDrafts (IsDumpedAcross n) rest (rows (length rest) p ss)
 rows_are n items ss [] p count have h e few = tt
 rows_are n items ss (i ∷ rest) p count have h e few = (
@@ -74,19 +77,17 @@ rows_are n items ss (i ∷ rest) p count have h e few = (
   rows_are n items ss rest (p + 1) count have.1 h (drop_next items p i rest e) (let q : p + 1 + length rest ≡ p + length (i ∷ rest) = omega arith in subst (λ k. k * n ≤ max_values) (sym q) few),
 )
 
-pub length-items_of : (j : ℕ) (items : List (Item (List Content))) → length (items_of_subset j items) ≡ length items
-length-items_of j [] = refl
-length-items_of j (i ∷ items) = ap suc (length-items_of j items)
-
-longest_most : (j : ℕ) (items : List (Item (List Content))) (ss : List Subset) → AreDumpedFrom j items ss → longest ss ≤ length items
+longest_most : (j : ℕ) (items : List (Item (List Content))) (ss : List Subset) → AreDumped (subsets_from (length ss) j items) ss → longest ss ≤ length items
 longest_most j items [] h = omega arith
-longest_most j items (s ∷ ss) h = omega (arith, drafts_length IsDumped (items_of_subset j items) s.items h.0, length-items_of j items, longest_most (suc j) items ss h.1)
+longest_most j items (s ∷ ss) h = omega (arith, AllZip-long IsDumped (items_of_subset j items) s.items h.0, length-items_of j items, longest_most (suc j) items ss h.1)
 
 -- the dump of compressed data gives its rows
-pub rows_dumped : (n : ℕ) (items : List (Item (List Content))) (s : Subset) (ss : List Subset) → length (s ∷ ss) ≡ n → HaveContents n items → AreDumpedFrom 0 items (s ∷ ss)
+pub rows_dumped : (n : ℕ) (items : List (Item (List Content))) (s : Subset) (ss : List Subset) → HaveContents n items → AreDumped (subsets_from n 0 items) (s ∷ ss)
     → length items * n ≤ max_values → AreDrafts (IsDumpedAcross n) items (rows (longest (s ∷ ss)) 0 (s ∷ ss))
-rows_dumped n items s ss count have h few =
-    let l : longest (s ∷ ss) ≡ length items = omega (arith, drafts_length IsDumped (items_of_subset 0 items) s.items h.0, length-items_of 0 items, longest_most 1 items ss h.1) in
+rows_dumped n items s ss have dumped few =
+    let count = subset_count _ n items (s ∷ ss) dumped in
+    let h = subst (λ k. AreDumped (subsets_from k 0 items) (s ∷ ss)) (sym count) dumped in
+    let l : longest (s ∷ ss) ≡ length items = omega (arith, AllZip-long IsDumped (items_of_subset 0 items) s.items h.0, length-items_of 0 items, longest_most 1 items ss h.1) in
     subst (λ k. AreDrafts (IsDumpedAcross n) items (rows k 0 (s ∷ ss))) (sym l) (rows_are n items (s ∷ ss) items 0 count have h refl (omega (arith, few)))
 
 pub plain_again : (course : Course) (subsets : List (List (Item Content))) (drafts : List Subset) (bits suffix : List Bool) → EachSpecs subsets → AreDumped subsets drafts
@@ -100,7 +101,7 @@ plain_again course (items ∷ subsets) (s ∷ ss) bits suffix specs dumped h =
     let rest = plain_again course subsets ss mid suffix specs.1 dumped.1 h.2 in
     record {
       out = first.out ++ rest.out;
-      is = ap (λ r. r >>= λ x. plain_data course ss >>= λ y. Ok (x ++ y)) first.fills ∙ ap (λ r. r >>= λ y. Ok (first.out ++ y)) rest.is;
+      is = plain_both course s ss first.out rest.out first.fills rest.is;
       again = λ more. (
         rest.out ++ more,
         (subst (λ bits'. ReadsItems plain course items bits' (rest.out ++ more)) (sym (append_assoc first.out rest.out more)) (first.again (rest.out ++ more)), h.1.1),
@@ -113,13 +114,13 @@ pub have_contents : (n : ℕ) (course : Course) (items : List (Item (List Conten
 have_contents n course [] bits suffix specs h = tt
 have_contents n course (i ∷ items) bits suffix specs h = (packed_count n i.spec specs.0 i.content bits h.0 h.2, have_contents n (after (packed n) course i) items h.0 suffix specs.1 h.3)
 
-pub items_packed_again : (n : ℕ) (course : Course) (items : List (Item (List Content))) (drafts : List Subset) (bits suffix : List Bool) → length drafts ≡ n → AllSpecs items
-    → AreDumpedFrom 0 items drafts → IsPackedReading n course items bits suffix → IsPackedAgain n course items drafts bits suffix
-items_packed_again zero course items [] bits suffix count specs dumped h = record { out = []; is = refl; again = λ more. (h.0, refl); short = omega (arith, ap length h.1) }
-items_packed_again zero course items (s ∷ ss) bits suffix count specs dumped h = absurd (omega (arith, count))
-items_packed_again (suc n) course items [] bits suffix count specs dumped h = absurd (omega (arith, count))
-items_packed_again (suc n) course items (s ∷ ss) bits suffix count specs dumped h =
-    let rows_are = rows_dumped (suc n) items s ss count (have_contents (suc n) course items bits suffix specs h.0.0) dumped h.1 in
+pub items_packed_again : (n : ℕ) (course : Course) (items : List (Item (List Content))) (drafts : List Subset) (bits suffix : List Bool) → AllSpecs items
+    → AreDumped (subsets_from n 0 items) drafts → IsPackedReading n course items bits suffix → IsPackedAgain n course items drafts bits suffix
+items_packed_again zero course items [] bits suffix specs dumped h = record { out = []; is = refl; again = λ more. (h.0, refl); short = omega (arith, ap length h.1) }
+items_packed_again zero course items (s ∷ ss) bits suffix specs dumped h = absurd dumped
+items_packed_again (suc n) course items [] bits suffix specs dumped h = absurd dumped
+items_packed_again (suc n) course items (s ∷ ss) bits suffix specs dumped h =
+    let rows_are = rows_dumped (suc n) items s ss (have_contents (suc n) course items bits suffix specs h.0.0) dumped h.1 in
     let many = are_many (longest (s ∷ ss)) (length (s ∷ ss)) in
     let r = rewritten (packed (suc n)) (packed_filler s.end_line many) (IsDumpedAcross (suc n)) (λ spec c. refl) (packed_rewritten (suc n) s.end_line many (omega arith)) course items
     (rows (longest (s ∷ ss)) 0 (s ∷ ss)) bits suffix specs rows_are h.0 in
@@ -137,16 +138,16 @@ reads_specs zero table tree items bits suffix rows legal h = subst AllSpecs (sym
 reads_specs (suc n) table tree items bits suffix rows legal h = packed_specs (suc n) (next_item table tree) items bits suffix (next_field table tree rows legal) h.0.0
 
 pub packed_template_again : (n : ℕ) (table : List Row) (tree : Tree) (items : List (Item (List Content))) (drafts : List Subset) (bits suffix : List Bool) → AreRead table → IsLegal tree
-    → length drafts ≡ n → AreDumpedFrom 0 items drafts → IsPackedReading n (next_item table tree) items bits suffix → IsPackedAgain n (next_item table tree) items drafts bits suffix
-packed_template_again n table tree items drafts bits suffix rows legal count dumped h =
-    items_packed_again n (next_item table tree) items drafts bits suffix count (reads_specs n table tree items bits suffix rows legal h) dumped h
+    → AreDumped (subsets_from n 0 items) drafts → IsPackedReading n (next_item table tree) items bits suffix → IsPackedAgain n (next_item table tree) items drafts bits suffix
+packed_template_again n table tree items drafts bits suffix rows legal dumped h =
+    items_packed_again n (next_item table tree) items drafts bits suffix (reads_specs n table tree items bits suffix rows legal h) dumped h
 
 -- nothing is required of the specifications
 pub template_apart : (n : ℕ) (table : List Row) (template : Tree) (items : List (Item (List Content))) (drafts : List Subset) (bits suffix : List Bool) → AreRead table → IsLegal template
-    → length drafts ≡ n → AreDumpedFrom 0 items drafts → IsPackedReading n (next_item table template) items bits suffix
+    → AreDumped (subsets_from n 0 items) drafts → IsPackedReading n (next_item table template) items bits suffix
     → IsWrittenApart n (next_item table template) items drafts
-template_apart n table template items drafts bits suffix rows legal count dumped h =
-    apart n (next_item table template) items drafts bits suffix count (reads_specs n table template items bits suffix rows legal h) dumped h
+template_apart n table template items drafts bits suffix rows legal dumped h =
+    apart n (next_item table template) items drafts bits suffix (reads_specs n table template items bits suffix rows legal h) dumped h
 
 pub template_together : (table : List Row) (template : Tree) (subsets : List (List (Item Content))) (drafts : List Subset) (bits suffix : List Bool) → length bits ≤ max_values → AreRead table
     → IsLegal template → AreDumped subsets drafts → ReadsSubsets (next_item table template) subsets bits suffix
@@ -161,13 +162,13 @@ module _ (records : List Record) (table : List Row) (template : Tree) (rows : Ar
       → ReadsSubsets (next_item table template) subsets bits suffix → IsWrittenAgain (next_item table template) subsets drafts bits suffix
   plain_round_trip subsets drafts bits suffix dumped h = plain_template_again table template subsets drafts bits suffix (table_read records table rows) legal dumped h
 
-  pub packed_round_trip : (n : ℕ) (items : List (Item (List Content))) (drafts : List Subset) (bits suffix : List Bool) → length drafts ≡ n → AreDumpedFrom 0 items drafts
+  pub packed_round_trip : (n : ℕ) (items : List (Item (List Content))) (drafts : List Subset) (bits suffix : List Bool) → AreDumped (subsets_from n 0 items) drafts
       → IsPackedReading n (next_item table template) items bits suffix → IsPackedAgain n (next_item table template) items drafts bits suffix
-  packed_round_trip n items drafts bits suffix count dumped h = packed_template_again n table template items drafts bits suffix (table_read records table rows) legal count dumped h
+  packed_round_trip n items drafts bits suffix dumped h = packed_template_again n table template items drafts bits suffix (table_read records table rows) legal dumped h
 
-  pub written_apart : (n : ℕ) (items : List (Item (List Content))) (drafts : List Subset) (bits suffix : List Bool) → length drafts ≡ n → AreDumpedFrom 0 items drafts
+  pub written_apart : (n : ℕ) (items : List (Item (List Content))) (drafts : List Subset) (bits suffix : List Bool) → AreDumped (subsets_from n 0 items) drafts
       → IsPackedReading n (next_item table template) items bits suffix → IsWrittenApart n (next_item table template) items drafts
-  written_apart n items drafts bits suffix count dumped h = template_apart n table template items drafts bits suffix (table_read records table rows) legal count dumped h
+  written_apart n items drafts bits suffix dumped h = template_apart n table template items drafts bits suffix (table_read records table rows) legal dumped h
 
   pub written_together : (subsets : List (List (Item Content))) (drafts : List Subset) (bits suffix : List Bool) → length bits ≤ max_values → AreDumped subsets drafts
       → ReadsSubsets (next_item table template) subsets bits suffix → IsTogetherOrNot (next_item table template) subsets drafts
@@ -205,9 +206,9 @@ plain_encoded course [] [] bits suffix specs said h = refl
 plain_encoded course [] (s ∷ ss) bits suffix specs said h = absurd said
 plain_encoded course (items ∷ subsets) [] bits suffix specs said h = absurd said
 plain_encoded course (items ∷ subsets) (s ∷ ss) bits suffix specs said h =
-    ap (λ r. r >>= λ x. plain_data course ss >>= λ y. Ok (x ++ y))
+    plain_both course s ss (flat_map plainly_encoded items) (flat_map (flat_map plainly_encoded) subsets)
     (all_encoded plain (plain_filler s.end_line) IsSaid plainly_encoded (λ spec c. refl) (plain_one s.end_line) course items s.items bits h.0 specs.0 said.0 h.1)
-    ∙ ap (λ r. r >>= λ y. Ok (flat_map plainly_encoded items ++ y)) (plain_encoded course subsets ss h.0 suffix specs.1 said.1 h.2)
+    (plain_encoded course subsets ss h.0 suffix specs.1 said.1 h.2)
 
 pub plain_said_alike : (records : List Record) (table : List Row) (template : Tree) (subsets : List (List (Item Content))) (drafts others : List Subset) (bits suffix : List Bool)
     → AreRows records table → IsLegal template → ReadsSubsets (next_item table template) subsets bits suffix → AreSaid subsets drafts → AreSaid subsets others
@@ -238,7 +239,7 @@ said_at end_line (x ∷ items) (d ∷ ds) (suc p) i rest h e = said_at end_line 
 
 -- the cells at an index have the contents of the item there
 contents_said : (items : List (Item (List Content))) (p : ℕ) (i : Item (List Content)) (rest : List (Item (List Content))) (j : ℕ) (ss : List Subset) → drop p items ≡ i ∷ rest
-    → j + length ss ≡ length i.content → AreSaidFrom j items ss → contents_here i.spec (cells_at p ss) ≡ Ok (drop j i.content)
+    → j + length ss ≡ length i.content → AreSaid (subsets_from (length ss) j items) ss → contents_here i.spec (cells_at p ss) ≡ Ok (drop j i.content)
 contents_said items p i rest j [] e n h = ap Ok (sym (content_none j i.content (omega (arith, n))))
 contents_said items p i rest j (s ∷ ss) e n h =
     let here : drop p (items_of_subset j items) ≡ record { spec = i.spec; content = content_at j i.content } ∷ items_of_subset j rest = drop-items_of j p items ∙ ap (items_of_subset j) e in
@@ -253,7 +254,8 @@ record IsSaidRow (n : ℕ) (i : Item (List Content)) (a : ItemRow) : Type 0 wher
   total : length a.cells ≡ n
   few : (a.place + 1) * n ≤ max_values
 
-rows_said : (n : ℕ) (items : List (Item (List Content))) (ss : List Subset) (rest : List (Item (List Content))) (p : ℕ) → length ss ≡ n → HaveContents n rest → AreSaidFrom 0 items ss
+rows_said : (n : ℕ) (items : List (Item (List Content))) (ss : List Subset) (rest : List (Item (List Content))) (p : ℕ) → length ss ≡ n → HaveContents n rest
+    → AreSaid (subsets_from (length ss) 0 items) ss
     → drop p items ≡ rest → (p + length rest) * n ≤ max_values → AreDrafts (IsSaidRow n) rest (rows (length rest) p ss)
 rows_said n items ss [] p count have h e few = tt
 rows_said n items ss (i ∷ rest) p count have h e few = (
@@ -265,14 +267,16 @@ rows_said n items ss (i ∷ rest) p count have h e few = (
   rows_said n items ss rest (p + 1) count have.1 h (drop_next items p i rest e) (let q : p + 1 + length rest ≡ p + length (i ∷ rest) = omega arith in subst (λ k. k * n ≤ max_values) (sym q) few),
 )
 
-longest_said : (j : ℕ) (items : List (Item (List Content))) (ss : List Subset) → AreSaidFrom j items ss → longest ss ≤ length items
+longest_said : (j : ℕ) (items : List (Item (List Content))) (ss : List Subset) → AreSaid (subsets_from (length ss) j items) ss → longest ss ≤ length items
 longest_said j items [] h = omega arith
-longest_said j items (s ∷ ss) h = omega (arith, drafts_length IsSaid (items_of_subset j items) s.items h.0, length-items_of j items, longest_said (suc j) items ss h.1)
+longest_said j items (s ∷ ss) h = omega (arith, AllZip-long IsSaid (items_of_subset j items) s.items h.0, length-items_of j items, longest_said (suc j) items ss h.1)
 
-all_rows_said : (n : ℕ) (items : List (Item (List Content))) (s : Subset) (ss : List Subset) → length (s ∷ ss) ≡ n → HaveContents n items → AreSaidFrom 0 items (s ∷ ss)
+all_rows_said : (n : ℕ) (items : List (Item (List Content))) (s : Subset) (ss : List Subset) → HaveContents n items → AreSaid (subsets_from n 0 items) (s ∷ ss)
     → length items * n ≤ max_values → AreDrafts (IsSaidRow n) items (rows (longest (s ∷ ss)) 0 (s ∷ ss))
-all_rows_said n items s ss count have h few =
-    let l : longest (s ∷ ss) ≡ length items = omega (arith, drafts_length IsSaid (items_of_subset 0 items) s.items h.0, length-items_of 0 items, longest_said 1 items ss h.1) in
+all_rows_said n items s ss have said few =
+    let count = subset_count _ n items (s ∷ ss) said in
+    let h = subst (λ k. AreSaid (subsets_from k 0 items) (s ∷ ss)) (sym count) said in
+    let l : longest (s ∷ ss) ≡ length items = omega (arith, AllZip-long IsSaid (items_of_subset 0 items) s.items h.0, length-items_of 0 items, longest_said 1 items ss h.1) in
     subst (λ k. AreDrafts (IsSaidRow n) items (rows k 0 (s ∷ ss))) (sym l) (rows_said n items (s ∷ ss) items 0 count have h refl (omega (arith, few)))
 
 row_written : (n : ℕ) → 1 ≤ n → (i : Item (List Content)) (a : ItemRow) (bits mid : List Bool) → IsSpec i.spec → IsSaidRow n i a → packed_field n i.spec bits ≡ Ok (found i.content mid)
@@ -290,25 +294,24 @@ row_written n some i a bits mid good row e =
         let p = packed_again n i.spec good c cs bits mid q in
         ap (packed_to (c ∷ cs) a.cells) p.2.is ∙ ap (λ r. Ok (written_item (c ∷ cs) (bits_or_none r))) (sym p.2.is)
 
-all_packed_encoded : (n : ℕ) (course : Course) (items : List (Item (List Content))) (drafts : List Subset) (bits suffix : List Bool) → length drafts ≡ n → AllSpecs items → AreSaidFrom 0 items drafts
+all_packed_encoded : (n : ℕ) (course : Course) (items : List (Item (List Content))) (drafts : List Subset) (bits suffix : List Bool) → AllSpecs items → AreSaid (subsets_from n 0 items) drafts
     → IsPackedReading n course items bits suffix → packed_data course drafts ≡ Ok (flat_map packed_encoded items)
-all_packed_encoded zero course items [] bits suffix count specs said h = ap (λ xs. Ok (flat_map packed_encoded xs)) (sym h.0)
-all_packed_encoded zero course items (s ∷ ss) bits suffix count specs said h = absurd (omega (arith, count))
-all_packed_encoded (suc n) course items [] bits suffix count specs said h = absurd (omega (arith, count))
-all_packed_encoded (suc n) course items (s ∷ ss) bits suffix count specs said h =
+all_packed_encoded zero course items [] bits suffix specs said h = ap (λ xs. Ok (flat_map packed_encoded xs)) (sym h.0)
+all_packed_encoded zero course items (s ∷ ss) bits suffix specs said h = absurd said
+all_packed_encoded (suc n) course items [] bits suffix specs said h = absurd said
+all_packed_encoded (suc n) course items (s ∷ ss) bits suffix specs said h =
     let many = are_many (longest (s ∷ ss)) (length (s ∷ ss)) in
     all_encoded (packed (suc n)) (packed_filler s.end_line many) (IsSaidRow (suc n)) packed_encoded (λ spec c. refl) (row_written (suc n) (omega arith)) course items
     (rows (longest (s ∷ ss)) 0 (s ∷ ss)) bits suffix specs
-    (all_rows_said (suc n) items s ss count (have_contents (suc n) course items bits suffix specs h.0.0) said h.1) h.0
+    (all_rows_said (suc n) items s ss (have_contents (suc n) course items bits suffix specs h.0.0) said h.1) h.0
 
 pub packed_said_alike : (n : ℕ) (records : List Record) (table : List Row) (template : Tree) (items : List (Item (List Content))) (drafts others : List Subset) (bits suffix : List Bool)
-    → AreRows records table → IsLegal template → IsPackedReading n (next_item table template) items bits suffix → length drafts ≡ n → AreSaidFrom 0 items drafts → length others ≡ n
-    → AreSaidFrom 0 items others
+    → AreRows records table → IsLegal template → IsPackedReading n (next_item table template) items bits suffix → AreSaid (subsets_from n 0 items) drafts → AreSaid (subsets_from n 0 items) others
     → packed_data (next_item table template) drafts ≡ packed_data (next_item table template) others
-packed_said_alike n records table template items drafts others bits suffix rows legal read count said counted also =
+packed_said_alike n records table template items drafts others bits suffix rows legal read said also =
     let course = next_item table template in
     let specs = reads_specs n table template items bits suffix (table_read records table rows) legal read in
-    all_packed_encoded n course items drafts bits suffix count specs said read ∙ sym (all_packed_encoded n course items others bits suffix counted specs also read)
+    all_packed_encoded n course items drafts bits suffix specs said read ∙ sym (all_packed_encoded n course items others bits suffix specs also read)
 
 -- ---- The drafts that a dump writes for items have the contents of these items.
 
@@ -326,19 +329,6 @@ subsets_said course [] [] f h = tt
 subsets_said course [] (s ∷ ss) f h = absurd h
 subsets_said course (items ∷ subsets) [] f h = absurd h
 subsets_said course (items ∷ subsets) (s ∷ ss) f h = (items_said course items s.items f.0 h.0, subsets_said course subsets ss f.1 h.1)
-
-pub together_said : (course : Course) (n j : ℕ) (items : List (Item (List Content))) (ss : List Subset) → length ss ≡ n → AllFollow course (subsets_from n j items) → AreDumpedFrom j items ss
-    → AreSaidFrom j items ss
-together_said course n j items [] e f h = tt
-together_said course zero j items (s ∷ ss) e f h = absurd (omega (arith, e))
-together_said course (suc n) j items (s ∷ ss) e f h = (items_said course (items_of_subset j items) s.items f.0 h.0, together_said course n (suc j) items ss (omega (arith, e)) f.1 h.1)
-
--- the contents of the drafts of compressed data, subset by subset
-pub said_from : (n j : ℕ) (items : List (Item (List Content))) (ss : List Subset) → length ss ≡ n → AreSaidFrom j items ss → AreSaid (subsets_from n j items) ss
-said_from zero j items [] e h = tt
-said_from (suc n) j items [] e h = absurd (omega (arith, e))
-said_from zero j items (s ∷ ss) e h = absurd (omega (arith, e))
-said_from (suc n) j items (s ∷ ss) e h = (h.0, said_from n (suc j) items ss (omega (arith, e)) h.1)
 
 -- ---- over a template
 
@@ -371,18 +361,6 @@ subsets_alike (items ∷ subsets) [] ts a h = absurd h
 subsets_alike (items ∷ subsets) (s ∷ ss) [] a h = absurd a
 subsets_alike (items ∷ subsets) (s ∷ ss) (t ∷ ts) a h = (items_alike items s.items t.items a.0 h.0, subsets_alike subsets ss ts a.1 h.1)
 
-together_alike : (j : ℕ) (items : List (Item (List Content))) (ss ts : List Subset) → AllAlike ss ts → AreSaidFrom j items ss → AreSaidFrom j items ts
-together_alike j items [] [] a h = tt
-together_alike j items [] (t ∷ ts) a h = absurd a
-together_alike j items (s ∷ ss) [] a h = tt
-together_alike j items (s ∷ ss) (t ∷ ts) a h = (items_alike (items_of_subset j items) s.items t.items a.0 h.0, together_alike (suc j) items ss ts a.1 h.1)
-
-length-alike : (ss ts : List Subset) → AllAlike ss ts → length ts ≡ length ss
-length-alike [] [] a = refl
-length-alike [] (t ∷ ts) a = absurd a
-length-alike (s ∷ ss) [] a = absurd a
-length-alike (s ∷ ss) (t ∷ ts) a = ap suc (length-alike ss ts a.1)
-
 module _ (records : List Record) (table : List Row) (template : Tree) (rows : AreRows records table) (legal : IsLegal template) (drafts others : List Subset) (bits : List Bool)
     (texts : AllHaveOctets drafts) (alike : AllAlike drafts others) where
   pub plain_alike : plain_data (next_item table template) drafts ≡ Ok bits → plain_data (next_item table template) others ≡ Ok bits
@@ -393,5 +371,5 @@ module _ (records : List Record) (table : List Row) (template : Tree) (rows : Ar
   pub packed_alike : packed_data (next_item table template) drafts ≡ Ok bits → packed_data (next_item table template) others ≡ Ok bits
   packed_alike e =
       let w = packed_template_back records table template drafts bits rows legal texts e in
-      sym (packed_said_alike (length drafts) records table template w.items drafts others (bits ++ []) [] rows legal (w.read []) refl w.said (length-alike drafts others alike)
-      (together_alike 0 w.items drafts others alike w.said)) ∙ e
+      sym (packed_said_alike (length drafts) records table template w.items drafts others (bits ++ []) [] rows legal (w.read []) w.said
+      (subsets_alike (subsets_from (length drafts) 0 w.items) drafts others alike w.said)) ∙ e

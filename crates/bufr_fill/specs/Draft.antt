@@ -1,17 +1,22 @@
 -- The items of a dump text and its subsets; an item as the content of its field, and its one
 -- spelling; the faults in items; and the stored entries. (A choice of this project)
 -- Cited by public contracts.
-use Rattle.std.specs.Prelude.{ℕ, List, [], ◌∷◌, Bool, true, false, Option, Some, None, ◌-◌, ◌/◌, ◌^◌, ◌==◌, ◌&&◌, nat_lt, not, if◌then◌else◌, ◌++◌, length, replicate, ℤ, pos, negsuc, nat_abs, ◌+ℤ◌, ◌-ℤ◌, Result, Ok, Err, ◌≡◌, ◌≤◌, ◌<◌, unsigned_abs, option_map, map, slice_range}
+use Rattle.std.specs.Prelude.{ℕ, List, [], ◌∷◌, Bool, true, false, ◌-◌, ◌/◌, ◌^◌, ◌==◌, ◌&&◌, nat_lt, not, if◌then◌else◌, ◌++◌, length, replicate, ℤ, pos, negsuc, nat_abs, ◌+ℤ◌, ◌-ℤ◌, Result, Ok, Err, ◌≡◌, ◌≤◌, ◌<◌, unsigned_abs, map, slice_range, codes, decimal}
 pub use Rattle.bufr_walk.specs.declared.spec.TurnRefusal.{TurnRefusal}
 use Rattle.bufr_fill.specs.declared.fault.Expected.{Expected}
 pub use Rattle.bufr_fill.specs.declared.fault.DraftFault.{DraftFault}
 use Rattle.bufr_fill.specs.declared.fault.Expected.TheVariants as expected
-use Rattle.bufr_fill.specs.declared.fault.DraftFault.TheVariants as item_fault
+use Rattle.bufr_fill.specs.declared.fault.DraftFault.TheVariants as draft_fault
+pub use Rattle.bufr_fill.specs.declared.fault.ItemFault.{ItemFault}
+use Rattle.bufr_fill.specs.declared.fault.ItemFault.TheVariants as wrong
+pub use Rattle.bufr_fill.specs.declared.fault.WalkRefusal.{WalkRefusal}
+use Rattle.bufr_fill.specs.declared.fault.WalkRefusal.TheVariants as walk
+use Rattle.bufr_walk.specs.declared.spec.TurnRefusal.TheVariants as turn
 use Rattle.std.specs.List.{list_all, AllByRecursion}
 use Rattle.bufr_bits.specs.Prelude.{decimal_text_of, decimal_value_of, short_text}
 use Rattle.bufr_bits.specs.declared.decimal.NumberFault.{NumberFault}
 use Rattle.bufr_bits.specs.declared.decimal.NumberFault.TheVariants.{Large}
-use Rattle.bufr_tables.specs.Prelude.{is_character}
+use Rattle.bufr_tables.specs.Prelude.{is_character, fxy_text}
 pub use Rattle.bufr_walk.specs.declared.spec.Role.{Role}
 use Rattle.bufr_walk.specs.Prelude.{FieldSpec, is_reference, Content, number, text, missing, reference, ones}
 pub use Rattle.bufr_fill.specs.declared.field_value.FieldContent.{FieldContent}
@@ -66,63 +71,60 @@ subsets_of [] = []
 subsets_of (Holds item ∷ more) = prepend_to_subset item (subsets_of more)
 subsets_of (Ends line ∷ more) = subset [] line ∷ subsets_of more
 
--- the fault of an item
-pub data DraftFaultKind : Type 0 where
-  -- no item, or one with another descriptor or another reference mark
-  wrong_descriptor : (expected : ℕ) (marked : Bool) → DraftFaultKind
-  wrong_number : DraftFaultKind
-  out_of_range : DraftFaultKind
-  text_long : DraftFaultKind
-  missing_forbidden : DraftFaultKind
-  unequal_factors : DraftFaultKind
-  uneven_increment : DraftFaultKind
-  -- an item after the last of its subset
-  item_too_many : DraftFaultKind
-  walk_refused : (why : TurnRefusal) → DraftFaultKind
-  too_many_values : (fxy : ℕ) → DraftFaultKind
-  -- a factor has no count, which no draft of a factor causes
-  no_count : DraftFaultKind
+-- a fault of an item, and its line
+abbrev pub at_line : ℕ → ItemFault → DraftFault
+at_line line fault = draft_fault.Item line fault
 
--- a fault, and its line
-pub record FaultAt : Type 0 where
-  pub line : ℕ
-  pub fault : DraftFaultKind
+-- an item after the last of its subset
+abbrev pub item_too_many : ItemFault
+item_too_many = wrong.WrongDescriptor expected.EndOfSubset
 
--- a fault from its line and kind
-abbrev pub at_line : ℕ → DraftFaultKind → FaultAt
-at_line line fault = record { line = line; fault = fault }
+-- a step of the walk that is refused, and an item that gives compressed data too many values
+abbrev pub walk_refused : TurnRefusal → ItemFault
+walk_refused (turn.Width fxy) = wrong.Walk (walk.Width fxy)
+walk_refused (turn.Defining fxy) = wrong.Walk (walk.Defining fxy)
 
--- The faults of the code, as the definitions name them. (The numbers are a choice of this project.)
+abbrev pub too_many_values : (fxy : ℕ) → ItemFault
+too_many_values fxy = wrong.Walk (walk.TooManyValues fxy)
 
--- the fault of another item than the expected one
-abbrev pub other_than : Expected → DraftFaultKind
-other_than (expected.Item fxy) = wrong_descriptor fxy false
-other_than (expected.Reference fxy) = wrong_descriptor fxy true
-other_than expected.EndOfSubset = item_too_many
+-- the number of a refusal of the walk, that of the fault that a message's data would have
+abbrev pub walk_number : WalkRefusal → ℕ
+walk_number (walk.Width fxy) = 31
+walk_number (walk.Defining fxy) = 32
+walk_number (walk.TooManyValues fxy) = 35
 
--- a fault of the dump text; where memory ran out there is none
-abbrev pub draft_fault : DraftFault → Option FaultAt
-draft_fault (item_fault.WrongDescriptor line e) = Some (at_line line (other_than e))
-draft_fault (item_fault.Number line) = Some (at_line line wrong_number)
-draft_fault (item_fault.OutOfRange line) = Some (at_line line out_of_range)
-draft_fault (item_fault.TextLong line) = Some (at_line line text_long)
-draft_fault (item_fault.MissingForbidden line) = Some (at_line line missing_forbidden)
-draft_fault (item_fault.UnequalFactor line) = Some (at_line line unequal_factors)
-draft_fault (item_fault.Increment line) = Some (at_line line uneven_increment)
-draft_fault (item_fault.TooManyValues line fxy) = Some (at_line line (too_many_values fxy))
-draft_fault item_fault.Memory = None
+-- the descriptor that is refused
+abbrev pub walk_descriptor : WalkRefusal → ℕ
+walk_descriptor (walk.Width fxy) = fxy
+walk_descriptor (walk.Defining fxy) = fxy
+walk_descriptor (walk.TooManyValues fxy) = fxy
 
--- the number of a fault
+-- what is expected, in parts
+abbrev pub expected_text : Expected → List (List ℕ)
+expected_text (expected.Item fxy) = fxy_text fxy ∷ []
+expected_text (expected.Reference fxy) = codes "R " ∷ fxy_text fxy ∷ []
+expected_text expected.EndOfSubset = codes "end of subset" ∷ []
+
+-- the number of a fault of an item, and its text in parts (the numbers are a choice of this project)
+abbrev pub item_report : ItemFault → ℕ × List (List ℕ)
+item_report (wrong.WrongDescriptor e) = (51, codes "expected " ∷ expected_text e)
+item_report wrong.Number = (52, codes "number" ∷ [])
+item_report wrong.OutOfRange = (53, codes "out of range" ∷ [])
+item_report wrong.TextLong = (54, codes "text long" ∷ [])
+item_report wrong.MissingForbidden = (55, codes "missing forbidden" ∷ [])
+item_report wrong.UnequalFactor = (58, codes "unequal factor" ∷ [])
+item_report wrong.Increment = (59, codes "increment" ∷ [])
+item_report (wrong.Walk why) = (
+  62,
+  codes "walk " ∷ decimal (walk_number why) ∷ codes " descriptor " ∷ fxy_text (walk_descriptor why)
+      ∷ [],
+)
+
+-- the number of a fault where no document is: too many values have their own
 abbrev pub number_of_draft_fault : DraftFault → ℕ
-number_of_draft_fault (item_fault.WrongDescriptor line e) = 51
-number_of_draft_fault (item_fault.Number line) = 52
-number_of_draft_fault (item_fault.OutOfRange line) = 53
-number_of_draft_fault (item_fault.TextLong line) = 54
-number_of_draft_fault (item_fault.MissingForbidden line) = 55
-number_of_draft_fault (item_fault.UnequalFactor line) = 58
-number_of_draft_fault (item_fault.Increment line) = 59
-number_of_draft_fault (item_fault.TooManyValues line fxy) = 35
-number_of_draft_fault item_fault.Memory = 73
+number_of_draft_fault (draft_fault.Item line (wrong.Walk why)) = walk_number why
+number_of_draft_fault (draft_fault.Item line fault) = (item_report fault).0
+number_of_draft_fault draft_fault.Memory = 73
 
 -- whether a value has the mark of a redefined reference
 abbrev pub is_marked : DraftValue → Bool
@@ -131,9 +133,9 @@ is_marked _ = false
 
 -- the fault of a text that is no decimal, or not whole at its scale, or past the greatest value
 -- rule: fault-52
-abbrev pub number_fault : NumberFault → DraftFaultKind
-number_fault Large = out_of_range
-number_fault _ = wrong_number
+abbrev pub number_fault : NumberFault → ItemFault
+number_fault Large = wrong.OutOfRange
+number_fault _ = wrong.Number
 
 -- the limit of the numbers that `width` bits write, without all ones where that is missing
 -- rule: packs-class-31
@@ -142,40 +144,41 @@ raw_limit m width = if m then ones width else 2 ^ width
 
 -- a number that fits its bits and does not read as missing
 -- rule: fault-53
-abbrev pub raw_within : Bool → ℕ → ℤ → Result Content DraftFaultKind
+abbrev pub raw_within : Bool → ℕ → ℤ → Result Content ItemFault
 raw_within m width (pos raw) =
-    if nat_lt raw (raw_limit m width) then Ok (number raw) else Err out_of_range
-raw_within m width (negsuc n) = Err out_of_range
+    if nat_lt raw (raw_limit m width) then Ok (number raw) else Err wrong.OutOfRange
+raw_within m width (negsuc n) = Err wrong.OutOfRange
 
 -- the number in the bits is the value minus the reference (FM 94: Regulation 94.5, Table B)
-abbrev pub raw_of : FieldSpec → Result ℤ NumberFault → Result Content DraftFaultKind
+abbrev pub raw_of : FieldSpec → Result ℤ NumberFault → Result Content ItemFault
 raw_of spec (Ok value) = raw_within spec.may_be_missing spec.width (value -ℤ spec.reference)
 raw_of spec (Err why) = Err (number_fault why)
 
 -- a reference whose magnitude fits the bits after its sign
-abbrev pub reference_of : FieldSpec → Result ℤ NumberFault → Result Content DraftFaultKind
+abbrev pub reference_of : FieldSpec → Result ℤ NumberFault → Result Content ItemFault
 reference_of spec (Ok value) =
-    if nat_lt (nat_abs value) (2 ^ (spec.width - 1)) then Ok (reference value) else Err out_of_range
+    if nat_lt (nat_abs value) (2 ^ (spec.width - 1)) then Ok (reference value)
+    else Err wrong.OutOfRange
 reference_of spec (Err why) = Err (number_fault why)
 
 -- a text followed by spaces up to its length, which does not read as missing
 -- rule: fault-53, fault-54
-abbrev pub text_within : ℕ → List ℕ → Result Content DraftFaultKind
+abbrev pub text_within : ℕ → List ℕ → Result Content ItemFault
 text_within count octets =
-    if nat_lt count (length octets) then Err text_long
+    if nat_lt count (length octets) then Err wrong.TextLong
     else let whole = octets ++ replicate (count - length octets) 32 in
-    if list_all (λ octet. octet == 255) whole then Err out_of_range else Ok (text whole)
+    if list_all (λ octet. octet == 255) whole then Err wrong.OutOfRange else Ok (text whole)
 
 -- a value as the content of its field; one of another kind is no number
 -- rule: fault-52, fault-55, fault-order-of-an-item
-abbrev pub content_by_form : DraftValue → FieldSpec → Result Content DraftFaultKind
+abbrev pub content_by_form : DraftValue → FieldSpec → Result Content ItemFault
 content_by_form (number_token digits) spec =
-    if is_character spec.kind then Err wrong_number
+    if is_character spec.kind then Err wrong.Number
     else raw_of spec (decimal_value_of digits spec.scale)
 content_by_form (text_form octets) spec =
-    if is_character spec.kind then text_within (spec.width / 8) octets else Err wrong_number
+    if is_character spec.kind then text_within (spec.width / 8) octets else Err wrong.Number
 content_by_form missing_form spec =
-    if spec.may_be_missing then Ok missing else Err missing_forbidden
+    if spec.may_be_missing then Ok missing else Err wrong.MissingForbidden
 content_by_form (reference_token digits) spec = reference_of spec (decimal_value_of digits (pos 0))
 
 -- whether an item has the descriptor and the mark of a field
@@ -186,12 +189,13 @@ is_of spec d =
     && (if is_reference spec.role then is_marked d.form else not (is_marked d.form))
 
 -- the fault of another item than that of the field
-abbrev pub wrong_for : FieldSpec → DraftFaultKind
-wrong_for spec = wrong_descriptor spec.fxy (is_reference spec.role)
+abbrev pub wrong_for : FieldSpec → ItemFault
+wrong_for spec = wrong.WrongDescriptor
+    (if is_reference spec.role then expected.Reference spec.fxy else expected.Item spec.fxy)
 
 -- an item as the content of its field; first it must be of the field, then of its kind, then fit
 -- rule: fault-order-of-an-item
-abbrev pub content_of : FieldSpec → Draft → Result Content DraftFaultKind
+abbrev pub content_of : FieldSpec → Draft → Result Content ItemFault
 content_of spec d = if is_of spec d then content_by_form d.form spec else Err (wrong_for spec)
 
 -- the value of a content, as a dump writes it
@@ -204,11 +208,10 @@ draft_value_of spec (reference value) = reference_token (decimal_text_of value (
 
 -- ---- The content of a field from an item, as the code has it.
 
--- the content that a call returned, or its fault; nothing where memory ran out
-abbrev pub returned : {A : Type 0} → (A → Content) → Result A DraftFault
-    → Option (Result Content FaultAt)
-returned content (Ok a) = Some (Ok (content a))
-returned content (Err e) = option_map Err (draft_fault e)
+-- the content that a call returned, or its fault
+abbrev pub returned : {A E : Type 0} → (A → Content) → Result A E → Result Content E
+returned content (Ok a) = Ok (content a)
+returned content (Err e) = Err e
 
 -- a text followed by spaces, up to `count` octets
 abbrev pub spaced : (count : ℕ) → List ℕ → List ℕ

@@ -12,7 +12,8 @@ use Rattle.bufr_bits.specs.Prelude.{◌>>=◌, bits_of, bits_in, number_of}
 pub use Rattle.bufr_tables.specs.declared.table_b.Kind.{Kind}
 use Rattle.bufr_tables.specs.declared.table_b.Kind.TheVariants as kind
 use Rattle.bufr_walk.specs.declared.spec.Role.TheVariants as role
-use Rattle.bufr_fill.specs.Draft.{TurnRefusal, Draft, Subset, DraftFaultKind, FaultAt, at_line, unequal_factors, uneven_increment, item_too_many, walk_refused, too_many_values, no_count, Role, content_of, wrong_for, raw_limit}
+use Rattle.bufr_fill.specs.Draft.{TurnRefusal, Draft, Subset, ItemFault, DraftFault, at_line, item_too_many, walk_refused, too_many_values, Role, content_of, wrong_for, raw_limit}
+use Rattle.bufr_fill.specs.declared.fault.ItemFault.TheVariants as wrong
 
 -- an item that was written: its content and its bits
 pub record WrittenItem (C : Type 0) : Type 0 where
@@ -81,14 +82,37 @@ abbrev pub bits_written : {C : Type 0} → List (Item (WrittenItem C)) → List 
 bits_written [] = []
 bits_written (i ∷ items) = i.content.bits ++ bits_written items
 
+-- what is written: the bits up to the first refusal, that refusal, if there is one, and the turns
+pub record Writing (E : Type 0) : Type 0 where
+  pub bits : List Bool
+  pub stop : Option E
+  pub turns : ℕ
+
+-- what a pass writes
+abbrev pub pass_writing : {S C E : Type 0} → Pass S (WrittenItem C) E → Writing E
+pass_writing p = record { bits = bits_written p.items; stop = p.stop; turns = p.turns }
+
+-- nothing is to be written
+abbrev pub no_writing : {E : Type 0} → Writing E
+no_writing = record { bits = []; stop = None; turns = 0 }
+
+-- what is written, and what after it, unless it was refused
+abbrev pub writing_then : {E : Type 0} → Writing E → Option E → Writing E → Writing E
+writing_then w (Some why) rest = w
+writing_then w None rest =
+    record { bits = w.bits ++ rest.bits; stop = rest.stop; turns = w.turns + rest.turns }
+
 abbrev pub bits_or : {E : Type 0} → List Bool → Option E → Result (List Bool) E
 bits_or bits None = Ok bits
 bits_or bits (Some why) = Err why
 
+-- the bits of what is written, or the refusal
+abbrev pub bits_of_writing : {E : Type 0} → Writing E → Result (List Bool) E
+bits_of_writing w = bits_or w.bits w.stop
+
 -- the bits of drafts, or what stops their pass
 abbrev pub fill : {D C E : Type 0} → Filler D C E → Course → List D → Result (List Bool) E
-fill filler course drafts =
-    let p = fill_pass filler course drafts in bits_or (bits_written p.items) p.stop
+fill filler course drafts = bits_of_writing (pass_writing (fill_pass filler course drafts))
 
 -- whether two contents are the same
 abbrev pub same : Content → Content → Bool
@@ -199,14 +223,14 @@ pub record HasLeastK (n : ℕ) (spec : FieldSpec) (contents : List Content) : Ty
       → length out + length suffix ≤ length bits
 
 -- a content and its bits, in data that are not compressed, or the fault on the line
-abbrev pub plainly : ℕ → FieldSpec → Result Content DraftFaultKind
-    → Result (WrittenItem Content) FaultAt
+abbrev pub plainly : ℕ → FieldSpec → Result Content ItemFault
+    → Result (WrittenItem Content) DraftFault
 plainly line spec (Ok c) = Ok (written_item c (bits_for spec.width c))
 plainly line spec (Err why) = Err (at_line line why)
 
 -- how the items of one subset are written, which ends on a line
 -- rule: fault-51, fault-62
-abbrev pub plain_filler : (end_line : ℕ) → Filler Draft Content FaultAt
+abbrev pub plain_filler : (end_line : ℕ) → Filler Draft Content DraftFault
 plain_filler end_line = record {
   fills = λ spec d. plainly d.line spec (content_of spec d);
   gives = answer_of;
@@ -214,16 +238,18 @@ plain_filler end_line = record {
   left_over = λ d. at_line d.line item_too_many;
   refused_at = λ d why. at_line d.line (walk_refused why);
   refused_at_end = λ why. at_line end_line (walk_refused why);
-  lost = at_line end_line no_count;
+  lost = at_line end_line item_too_many;
 }
 
 -- data that are not compressed: subset after subset, each from the beginning of the template
-abbrev pub plain_data : Course → List Subset → Result (List Bool) FaultAt
-plain_data course [] = Ok []
-plain_data course (s ∷ subsets) = do
-  first ← fill (plain_filler s.end_line) course s.items
-  rest ← plain_data course subsets
-  Ok (first ++ rest)
+abbrev pub plain_writing : Course → List Subset → Writing DraftFault
+plain_writing course [] = no_writing
+plain_writing course (s ∷ subsets) =
+    let w = pass_writing (fill_pass (plain_filler s.end_line) course s.items) in
+    writing_then w w.stop (plain_writing course subsets)
+
+abbrev pub plain_data : Course → List Subset → Result (List Bool) DraftFault
+plain_data course subsets = bits_of_writing (plain_writing course subsets)
 
 -- ---- compressed data
 
@@ -277,17 +303,17 @@ first_there [] = 0
 first_there (c ∷ cs) = line_in c.draft (first_there cs)
 
 -- a content, or its fault with the line
-abbrev pub at_line_if_fault : ℕ → Result Content DraftFaultKind → Result Content FaultAt
+abbrev pub at_line_if_fault : ℕ → Result Content ItemFault → Result Content DraftFault
 at_line_if_fault line (Ok c) = Ok c
 at_line_if_fault line (Err why) = Err (at_line line why)
 
 -- the content of one cell
-abbrev pub content_here : FieldSpec → Option Draft → (end_line : ℕ) → Result Content FaultAt
+abbrev pub content_here : FieldSpec → Option Draft → (end_line : ℕ) → Result Content DraftFault
 content_here spec None end_line = Err (at_line end_line (wrong_for spec))
 content_here spec (Some d) end_line = at_line_if_fault d.line (content_of spec d)
 
 -- the contents of a row
-abbrev pub contents_here : FieldSpec → List RowCell → Result (List Content) FaultAt
+abbrev pub contents_here : FieldSpec → List RowCell → Result (List Content) DraftFault
 contents_here spec [] = Ok []
 contents_here spec (c ∷ cs) = do
   first ← content_here spec c.draft c.end_line
@@ -309,13 +335,13 @@ unlike_line (c ∷ cs) cells = first_unlike c (c ∷ cs) cells
 
 -- the fault of contents that cannot be packed, with its line
 -- rule: fault-58
-abbrev pub packing_fault : List Content → List RowCell → FieldFault → FaultAt
-packing_fault cs cells unequal_factor = at_line (unlike_line cs cells) unequal_factors
-packing_fault cs cells _ = at_line (first_line cells) uneven_increment
+abbrev pub packing_fault : List Content → List RowCell → FieldFault → DraftFault
+packing_fault cs cells unequal_factor = at_line (unlike_line cs cells) wrong.UnequalFactor
+packing_fault cs cells _ = at_line (first_line cells) wrong.Increment
 
 -- contents and their bits, or their fault
 abbrev pub packed_to : List Content → List RowCell → Result (List Bool) FieldFault
-    → Result (WrittenItem (List Content)) FaultAt
+    → Result (WrittenItem (List Content)) DraftFault
 packed_to cs cells (Ok bits) = Ok (written_item cs bits)
 packed_to cs cells (Err why) = Err (packing_fault cs cells why)
 
@@ -325,7 +351,7 @@ are_many place subsets = nat_lt max_values ((place + 1) * subsets)
 
 -- an item of all subsets: its contents and its bits, or its fault
 -- rule: fault-order-of-subsets
-abbrev pub pack_across : FieldSpec → ItemRow → Result (WrittenItem (List Content)) FaultAt
+abbrev pub pack_across : FieldSpec → ItemRow → Result (WrittenItem (List Content)) DraftFault
 pack_across spec a =
     if are_many a.place (length a.cells)
     then Err (at_line (first_line a.cells) (too_many_values spec.fxy))
@@ -333,7 +359,7 @@ pack_across spec a =
 
 -- how rows are written; `many` is whether one more row has too many values
 -- rule: fault-62
-abbrev pub packed_filler : (end_line : ℕ) (many : Bool) → Filler ItemRow (List Content) FaultAt
+abbrev pub packed_filler : (end_line : ℕ) (many : Bool) → Filler ItemRow (List Content) DraftFault
 packed_filler end_line many = record {
   fills = pack_across;
   gives = answer_first;
@@ -342,12 +368,21 @@ packed_filler end_line many = record {
   left_over = λ a. at_line (first_there a.cells) item_too_many;
   refused_at = λ a why. at_line (first_line a.cells) (walk_refused why);
   refused_at_end = λ why. at_line end_line (walk_refused why);
-  lost = at_line end_line no_count;
+  lost = at_line end_line item_too_many;
 }
 
--- compressed data; with no subset there are none
-abbrev pub packed_data : Course → List Subset → Result (List Bool) FaultAt
-packed_data course [] = Ok []
-packed_data course (s ∷ subsets) =
-    fill (packed_filler s.end_line (are_many (longest (s ∷ subsets)) (length (s ∷ subsets)))) course
-    (rows (longest (s ∷ subsets)) 0 (s ∷ subsets))
+-- compressed data: one pass over the rows of all subsets; with no subset there is none
+abbrev pub packed_writing : Course → List Subset → Writing DraftFault
+packed_writing course [] = no_writing
+packed_writing course (s ∷ subsets) =
+    let most = longest (s ∷ subsets) in
+    let filler = packed_filler s.end_line (are_many most (length (s ∷ subsets))) in
+    pass_writing (fill_pass filler course (rows most 0 (s ∷ subsets)))
+
+abbrev pub packed_data : Course → List Subset → Result (List Bool) DraftFault
+packed_data course subsets = bits_of_writing (packed_writing course subsets)
+
+-- the writing of data
+abbrev pub writing_of : (compressed : Bool) → Course → List Subset → Writing DraftFault
+writing_of true course subsets = packed_writing course subsets
+writing_of false course subsets = plain_writing course subsets

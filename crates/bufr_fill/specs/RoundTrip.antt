@@ -1,11 +1,12 @@
 -- What is written of a reading, of its other form, or of any drafts is read back the same.
 -- (WMO-No. 306, Volume I.2, FM 94: section 4)
 -- Cited by public contracts.
-use Rattle.std.specs.Prelude.{ℕ, ◌≡◌, ◌<◌, ◌-◌, ◌/◌, ◌^◌, ◌==◌, Bool, true, false, List, [], ◌∷◌, length, nat_abs, suc, ◌+◌, ◌≤◌, ◌++◌, Ok, ◌⊎◌, zero, Err}
+use Rattle.std.specs.Prelude.{ℕ, ◌≡◌, ◌<◌, ◌-◌, ◌/◌, ◌^◌, ◌==◌, Bool, true, false, List, length, nat_abs, ◌+◌, ◌≤◌, ◌++◌, Ok, ◌⊎◌, Err}
 use Rattle.std.specs.List.{list_all, AllByRecursion, AllZip}
 use Rattle.bufr_walk.specs.declared.spec.Role.TheVariants as role
-use Rattle.bufr_walk.specs.Prelude.{FieldSpec, Content, number, text, missing, reference, Course, next_item, TakenField, course_after, content_at, Item, IsPackedReading, ReadsSubsets, IsPlainReading}
-use Rattle.bufr_fill.specs.Draft.{Role, raw_limit, draft_value_of, content_of, Draft, Subset, DraftValue, number_token, text_form, missing_form, reference_token, DraftFaultKind, unequal_factors, uneven_increment, FaultAt}
+use Rattle.bufr_walk.specs.Prelude.{FieldSpec, Content, number, text, missing, reference, Course, next_item, TakenField, course_after, subsets_from, Item, IsPackedReading, ReadsSubsets, IsPlainReading}
+use Rattle.bufr_fill.specs.Draft.{at_line, Role, raw_limit, draft_value_of, content_of, Draft, Subset, DraftValue, number_token, text_form, missing_form, reference_token, ItemFault}
+use Rattle.bufr_fill.specs.declared.fault.ItemFault.TheVariants as wrong
 use Rattle.bufr_fill.specs.Encoding.{Kind, plain_data, packed_data, Filler, fill, with_bits_before}
 use Rattle.bufr_tables.specs.Prelude.{IsLegal, Record, Row, AreRows, Tree}
 use Rattle.bufr_tables.specs.declared.table_b.Kind.TheVariants as kind
@@ -79,28 +80,10 @@ pub record IsPackedAgain (n : ℕ) (course : Course) (items : List (Item (List C
   pub again : (more : List Bool) → IsPackedReading n course items (out ++ more) more
   pub short : length out + length suffix ≤ length bits
 
--- the items of one subset of compressed data
-abbrev pub items_of_subset : (subset : ℕ) → List (Item (List Content)) → List (Item Content)
-items_of_subset j [] = []
-items_of_subset j (i ∷ items) =
-    record { spec = i.spec; content = content_at j i.content } ∷ items_of_subset j items
-
--- the subsets, from one on, are those of the dump of compressed data
-abbrev pub AreDumpedFrom : (subset : ℕ) → List (Item (List Content)) → List Subset → Type 0
-AreDumpedFrom j items [] = Unit {0}
-AreDumpedFrom j items (s ∷ ss) =
-    AreDrafts IsDumped (items_of_subset j items) s.items × AreDumpedFrom (suc j) items ss
-
--- the items of `left` subsets of compressed data, each by itself, from one on, counted from 0
-abbrev pub subsets_from : (left subset : ℕ) → List (Item (List Content))
-    → List (List (Item Content))
-subsets_from zero j items = []
-subsets_from (suc left) j items = items_of_subset j items ∷ subsets_from left (suc j) items
-
 -- the faults of contents that compressed data cannot have
-abbrev pub IsUnlike : DraftFaultKind → Type 0
-IsUnlike unequal_factors = Unit {0}
-IsUnlike uneven_increment = Unit {0}
+abbrev pub IsUnlike : ItemFault → Type 0
+IsUnlike wrong.UnequalFactor = Unit {0}
+IsUnlike wrong.Increment = Unit {0}
 IsUnlike _ = ⊥
 
 -- the items of n compressed subsets are written subset after subset, and are read from the bits
@@ -124,7 +107,8 @@ pub record IsWrittenTogether (course : Course) (subsets : List (List (Item Conte
 abbrev pub IsTogetherOrNot : Course → List (List (Item Content)) → List Subset → Type 0
 IsTogetherOrNot course subsets drafts =
     IsWrittenTogether course subsets drafts
-    ⊎ ((why : FaultAt) × (packed_data course drafts ≡ Err why) × IsUnlike why.fault)
+    ⊎ ((line : ℕ) × (why : ItemFault) × (packed_data course drafts ≡ Err (at_line line why))
+    × IsUnlike why)
 
 -- ---- The reading of data that were written from drafts. (a choice of this project)
 
@@ -148,12 +132,6 @@ IsSaid i d = content_of i.spec d ≡ Ok i.content
 abbrev pub AreSaid : List (List (Item Content)) → List Subset → Type 0
 AreSaid = AllZip (λ (items : List (Item Content)) (s : Subset). AreDrafts IsSaid items s.items)
 
--- each subset's items of compressed data have the contents of its drafts, from one subset on
-abbrev pub AreSaidFrom : (subset : ℕ) → List (Item (List Content)) → List Subset → Type 0
-AreSaidFrom j items [] = Unit {0}
-AreSaidFrom j items (s ∷ ss) =
-    AreDrafts IsSaid (items_of_subset j items) s.items × AreSaidFrom (suc j) items ss
-
 -- the bits read as the contents of the drafts, whatever follows them
 pub record IsReadBack (course : Course) (drafts : List Subset) (bits : List Bool) : Type 0 where
   pub subsets : List (List (Item Content))
@@ -164,7 +142,7 @@ pub record IsReadBack (course : Course) (drafts : List Subset) (bits : List Bool
 pub record IsPackedReadBack (course : Course) (drafts : List Subset)
     (bits : List Bool) : Type 0 where
   pub items : List (Item (List Content))
-  pub said : AreSaidFrom 0 items drafts
+  pub said : AreSaid (subsets_from (length drafts) 0 items) drafts
   pub read : (suffix : List Bool)
       → IsPackedReading (length drafts) course items (bits ++ suffix) suffix
 

@@ -4,11 +4,12 @@
 use Rattle.std.specs.Prelude.{ℕ, ◌≡◌, ◌≤◌, ◌<◌, ◌*◌, ◌^◌, Bool, List, [], ◌∷◌, ◌++◌, length, Option, Some, None, Result, Ok, Err, ◌+◌, ◌-◌, suc, ◌==◌, ◌&&◌, nat_lt, max, min, if◌then◌else◌, take}
 use Rattle.bufr_walk.specs.declared.spec.Taken.{Taken}
 use Rattle.bufr_walk.specs.Prelude.{FieldSpec, Content, answer_of, bits_for, Next, take_next, at_end, astray, refused, FieldFault, answer_first, max_values}
-use Rattle.bufr_fill.specs.Draft.{DraftFault, Draft, DraftEntry, Holds, Ends, DraftFaultKind, FaultAt, at_line, item_too_many, walk_refused, draft_fault, Subset, content_of, wrong_for, FieldContent, raw_limit, content_drawn, IsDrawn}
+use Rattle.bufr_fill.specs.Draft.{DraftFault, Draft, DraftEntry, Holds, Ends, ItemFault, at_line, item_too_many, walk_refused, Subset, content_of, wrong_for, FieldContent, raw_limit, content_drawn, IsDrawn}
 use Rattle.bufr_fill.specs.declared.fault.DraftFault.{DraftFault}
 use Rattle.bufr_fill.specs.Encoding.{written_item, RowCell, ItemRow, rows, longest, item_row, cells_at, first_line, pack_across, content_here, contents_here, first_from, Taken}
 use Rattle.std.specs.List.{list_all, AllByRecursion}
 use Rattle.bufr_fill.specs.declared.packed_out.NumberRange.{NumberRange}
+use Rattle.bufr_fill.specs.declared.fault.DraftFault.TheVariants as draft_fault
 use Rattle.bufr_fill.specs.declared.field_value.FieldContent.TheVariants as drawn
 
 -- the writer: the entries that are left, and the bits that were written
@@ -38,21 +39,21 @@ pub record IsFilled (s : PlainOutModel) (spec : FieldSpec) (t : Taken)
   pub forth : length s.bits < length s'.bits
 
 -- the fault of the next item, or of the line that ends the subset, which is 0 after the last
-abbrev pub IsFaultOf : FieldSpec → List DraftEntry → FaultAt → Type 0
+abbrev pub IsFaultOf : FieldSpec → List DraftEntry → DraftFault → Type 0
 IsFaultOf spec [] f = f ≡ at_line 0 (wrong_for spec)
 IsFaultOf spec (Ends line ∷ more) f = f ≡ at_line line (wrong_for spec)
 IsFaultOf spec (Holds d ∷ more) f =
-    (why : DraftFaultKind) × (content_of spec d ≡ Err why) × (f ≡ at_line d.line why)
+    (why : ItemFault) × (content_of spec d ≡ Err why) × (f ≡ at_line d.line why)
 
 -- a property of the fault, where it is one of the dump text and not that memory ran out
-abbrev pub IfDraftFault : Option FaultAt → (FaultAt → Type 0) → Type 0
-IfDraftFault None p = Unit {0}
-IfDraftFault (Some f) p = p f
+abbrev pub IfDraftFault : DraftFault → (DraftFault → Type 0) → Type 0
+IfDraftFault (draft_fault.Item line fault) p = p (at_line line fault)
+IfDraftFault draft_fault.Memory p = Unit {0}
 
 -- one call: the next item was written, or is at fault, or memory ran out; a fault changes nothing
 abbrev pub PlainFills : PlainOutModel → FieldSpec → Result Taken DraftFault → PlainOutModel → Type 0
 PlainFills s spec (Ok t) s' = IsFilled s spec t s'
-PlainFills s spec (Err e) s' = IfDraftFault (draft_fault e) (IsFaultOf spec s.left) × (s' ≡ s)
+PlainFills s spec (Err e) s' = IfDraftFault e (IsFaultOf spec s.left) × (s' ≡ s)
 
 -- the line of the next entry, 0 after the last
 abbrev pub line_at : List DraftEntry → ℕ
@@ -61,7 +62,7 @@ line_at (Holds d ∷ more) = d.line
 line_at (Ends line ∷ more) = line
 
 -- the entries after the end of a subset, where the end is next
-abbrev pub after_end : List DraftEntry → Result (List DraftEntry) FaultAt
+abbrev pub after_end : List DraftEntry → Result (List DraftEntry) DraftFault
 after_end [] = Err (at_line 0 item_too_many)
 after_end (Holds d ∷ more) = Err (at_line d.line item_too_many)
 after_end (Ends line ∷ more) = Ok more
@@ -70,10 +71,10 @@ after_end (Ends line ∷ more) = Ok more
 abbrev pub EndsSubset : PlainOutModel → Result (Unit {0}) DraftFault → PlainOutModel → Type 0
 EndsSubset s (Ok _) s' = (after_end s.left ≡ Ok s'.left) × (s'.bits ≡ s.bits)
 EndsSubset s (Err e) s' =
-    ((f : FaultAt) × (draft_fault e ≡ Some f) × (after_end s.left ≡ Err f)) × (s' ≡ s)
+    (after_end s.left ≡ Err e) × (s' ≡ s)
 
 -- the fault by what comes next: of the item, of the walk on its line, or of an item left over
-abbrev pub IsFaultNext : Next → List DraftEntry → FaultAt → Type 0
+abbrev pub IsFaultNext : Next → List DraftEntry → DraftFault → Type 0
 IsFaultNext (take_next spec) left f = IsFaultOf spec left f
 IsFaultNext (refused why) left f = f ≡ at_line (line_at left) (walk_refused why)
 IsFaultNext at_end left f = (1 ≤ length left) × (after_end left ≡ Err f)
@@ -142,24 +143,23 @@ abbrev pub PackedFills : PackedOutModel → FieldSpec → Result Taken DraftFaul
     → Type 0
 PackedFills s spec (Ok t) s' = IsPacked s spec t s'
 PackedFills s spec (Err e) s' =
-    IfDraftFault (draft_fault e) (λ f. pack_across spec (item_row s.place s.subsets) ≡ Err f)
+    IfDraftFault e (λ f. pack_across spec (item_row s.place s.subsets) ≡ Err f)
     × (s' ≡ s)
 
 -- the end of a cell, or the fault of an item that is left over
-abbrev pub and_end : Option Draft → Result (Unit {0}) FaultAt → Result (Unit {0}) FaultAt
+abbrev pub and_end : Option Draft → Result (Unit {0}) DraftFault → Result (Unit {0}) DraftFault
 and_end None rest = rest
 and_end (Some d) rest = Err (at_line d.line item_too_many)
 
 -- whether all subsets end, or the first item that is left over
-abbrev pub all_at_end : List RowCell → Result (Unit {0}) FaultAt
+abbrev pub all_at_end : List RowCell → Result (Unit {0}) DraftFault
 all_at_end [] = Ok tt
 all_at_end (c ∷ cells) = and_end c.draft (all_at_end cells)
 
 -- a call finds that all subsets end, or the first item that is left over
 abbrev pub EndsAllSubsets : (place : ℕ) → List Subset → Result (Unit {0}) DraftFault → Type 0
 EndsAllSubsets place subsets (Ok _) = all_at_end (cells_at place subsets) ≡ Ok tt
-EndsAllSubsets place subsets (Err e) =
-    (f : FaultAt) × (draft_fault e ≡ Some f) × (all_at_end (cells_at place subsets) ≡ Err f)
+EndsAllSubsets place subsets (Err e) = all_at_end (cells_at place subsets) ≡ Err e
 
 -- the line of the first subset's next item, or of its end
 abbrev pub first_line_at : (place : ℕ) → List Subset → ℕ
@@ -170,7 +170,7 @@ abbrev pub rows_left : PackedOutModel → List ItemRow
 rows_left s = rows (longest s.subsets - s.place) s.place s.subsets
 
 -- the fault by what comes next: of the item, of the walk on its line, or of an item left over
-abbrev pub IsFaultHere : Next → PackedOutModel → FaultAt → Type 0
+abbrev pub IsFaultHere : Next → PackedOutModel → DraftFault → Type 0
 IsFaultHere (take_next spec) s f = pack_across spec (item_row s.place s.subsets) ≡ Err f
 IsFaultHere (refused why) s f = f ≡ at_line (first_line_at s.place s.subsets) (walk_refused why)
 IsFaultHere at_end s f = all_at_end (cells_at s.place s.subsets) ≡ Err f
@@ -250,7 +250,7 @@ abbrev pub PutAcross : (old new : List Bool) → FieldSpec → ItemRow → (most
     → Result Taken DraftFault → Type 0
 PutAcross old new spec a most (Ok t) = IsPutWithin old new spec a most t
 PutAcross old new spec a most (Err e) =
-    IfDraftFault (draft_fault e) (λ f. pack_across spec a ≡ Err f) × (new ≡ old)
+    IfDraftFault e (λ f. pack_across spec a ≡ Err f) × (new ≡ old)
 
 -- ---- The rows of all subsets, as the code reads them.
 
@@ -260,7 +260,7 @@ entry_or_end (Some d) end_line = Holds d
 entry_or_end None end_line = Ends end_line
 
 -- the content of an entry, or its fault
-abbrev pub entry_here : FieldSpec → DraftEntry → Result Content FaultAt
+abbrev pub entry_here : FieldSpec → DraftEntry → Result Content DraftFault
 entry_here spec (Holds d) = content_here spec (Some d) d.line
 entry_here spec (Ends line) = content_here spec None line
 
@@ -285,4 +285,4 @@ ReturnsRow count spec cells drawn (Ok range) =
     (contents_here spec cells ≡ Ok (contents_drawn count drawn)) × AllDrawn spec drawn
     × (length drawn ≡ length cells) × IsRangeOf range drawn
 ReturnsRow count spec cells drawn (Err e) =
-    IfDraftFault (draft_fault e) (λ f. contents_here spec cells ≡ Err f)
+    IfDraftFault e (λ f. contents_here spec cells ≡ Err f)

@@ -1,11 +1,11 @@
 //! Faults in the items of a dump text. (Their numbers and their order are a choice of this
 //! project.)
 ghost use Rattle.std.specs.Prelude.{◌≡◌};
-ghost use Rattle.bufr_fill.specs.Draft.{number_of_draft_fault};
+ghost use Rattle.bufr_fill.specs.Draft.{item_report, number_of_draft_fault, walk_descriptor, walk_number};
 ghost use Rattle.bufr_fill.specs.declared.fault.DraftFault.TheVariants.{Memory};
 
 use bufr_tables::Fxy;
-use bufr_walk::{TOO_MANY_VALUES, WalkFault};
+use bufr_walk::{DEFINING, TOO_MANY_VALUES, WIDTH, WalkFault};
 use std::alloc::AllocError;
 use std::fmt;
 use thiserror::Error;
@@ -32,55 +32,111 @@ impl fmt::Display for Expected {
     }
 }
 
-/// Why an item cannot be written, with the number of its line, or of the line that ends its subset.
+/// Why the walk over a template goes no further, with the descriptor that is refused.
+#[derive(Clone, Copy, Debug, PartialEq, Eq)]
+pub enum WalkRefusal {
+    /// A field that is not text would be under 1 or over 63 bits wide.
+    Width(Fxy),
+    /// A descriptor that may not come while references are being defined (2 03 Y).
+    Defining(Fxy),
+    /// Compressed data would have more than 134,217,728 values with this item.
+    TooManyValues(Fxy),
+}
+
+impl WalkRefusal {
+    /// Its number, that of the fault that a message's data would have: 31, 32 or 35.
+    pub fn number(self) -> u8
+        ensures { result ≡ walk_number self }
+    {
+        match self {
+            WalkRefusal::Width(_) => WIDTH,
+            WalkRefusal::Defining(_) => DEFINING,
+            WalkRefusal::TooManyValues(_) => TOO_MANY_VALUES,
+        }
+    }
+
+    /// The descriptor that is refused.
+    pub fn fxy(self) -> Fxy
+        ensures { result ≡ walk_descriptor self }
+    {
+        match &self {
+            WalkRefusal::Width(fxy)
+            | WalkRefusal::Defining(fxy)
+            | WalkRefusal::TooManyValues(fxy) => *fxy,
+        }
+    }
+}
+
+/// What is wrong with an item.
 #[derive(Clone, Copy, Debug, PartialEq, Eq, Error)]
-pub enum DraftFault {
+pub enum ItemFault {
     /// Expected this item, found another or none.
-    #[error("expected {1}")]
-    WrongDescriptor(u64, Expected),
+    #[error("expected {0}")]
+    WrongDescriptor(Expected),
     /// No decimal, or one that is not whole at the field's scale, or a value of another kind than
     /// the field.
     #[error("number")]
-    Number(u64),
+    Number,
     /// The number does not fit the field's bits, or would read as missing; or a text would read as
     /// missing.
     #[error("out of range")]
-    OutOfRange(u64),
+    OutOfRange,
     /// A text has more octets than the field.
     #[error("text long")]
-    TextLong(u64),
+    TextLong,
     /// A missing value is not allowed for the field.
     #[error("missing forbidden")]
-    MissingForbidden(u64),
+    MissingForbidden,
     /// A factor of compressed data differs from that of the first subset.
     #[error("unequal factor")]
-    UnequalFactor(u64),
+    UnequalFactor,
     /// Texts of compressed data differ but no increments can write them, or references differ.
     #[error("increment")]
-    Increment(u64),
-    /// Compressed data would have more than 134,217,728 values, at the item with this descriptor.
-    #[error("too many values {1}")]
-    TooManyValues(u64, Fxy),
+    Increment,
+    /// The walk over the template is refused at it.
+    #[error("walk {number} descriptor {fxy}", number = .0.number(), fxy = .0.fxy())]
+    Walk(WalkRefusal),
+}
+
+impl ItemFault {
+    /// The number of this fault in a document: 51 to 55, 58, 59, or 62.
+    pub fn number(self) -> u8
+        ensures { result ≡ (item_report self).0 }
+    {
+        match self {
+            ItemFault::WrongDescriptor(_) => 51,
+            ItemFault::Number => 52,
+            ItemFault::OutOfRange => 53,
+            ItemFault::TextLong => 54,
+            ItemFault::MissingForbidden => 55,
+            ItemFault::UnequalFactor => 58,
+            ItemFault::Increment => 59,
+            ItemFault::Walk(_) => 62,
+        }
+    }
+}
+
+/// Why items cannot be written.
+#[derive(Clone, Copy, Debug, PartialEq, Eq, Error)]
+pub enum DraftFault {
+    /// What is wrong with an item, after the number of its line, or of the line that ends its
+    /// subset.
+    #[error("{1}")]
+    Item(u64, ItemFault),
     /// Memory ran out.
     #[error("out of memory")]
     Memory,
 }
 
 impl DraftFault {
-    /// The number of this fault: 51 to 55, 58, 59, 35 for too many values, and 73 where memory ran
-    /// out.
+    /// The number of this fault: that of the item's fault, 35 for too many values, and 73 where
+    /// memory ran out.
     pub fn number(self) -> u8
         ensures { result ≡ number_of_draft_fault self }
     {
         match self {
-            DraftFault::WrongDescriptor(_, _) => 51,
-            DraftFault::Number(_) => 52,
-            DraftFault::OutOfRange(_) => 53,
-            DraftFault::TextLong(_) => 54,
-            DraftFault::MissingForbidden(_) => 55,
-            DraftFault::UnequalFactor(_) => 58,
-            DraftFault::Increment(_) => 59,
-            DraftFault::TooManyValues(_, _) => TOO_MANY_VALUES,
+            DraftFault::Item(_, ItemFault::Walk(why)) => why.number(),
+            DraftFault::Item(_, fault) => fault.number(),
             DraftFault::Memory => WalkFault::Memory.number(),
         }
     }

@@ -3,10 +3,10 @@ ghost use Rattle.std.specs.Prelude.{◌≡◌, ℕ, List, ◌≤◌, ◌<◌, �
 ghost use Rattle.std.specs.List.{list_all};
 ghost use Rattle.bufr_tables.specs.Prelude.{is_character};
 ghost use Rattle.bufr_walk.specs.Prelude.{is_reference, IsFor, number, reference, bits_for, answer_of};
-ghost use Rattle.bufr_fill.specs.Prelude.{raw_of, is_marked, wrong_for, content_by_form, returned, content_drawn, IsDrawn, raw_limit, entry_with, is_end, is_entry_of, value_by, entry_here, draft_fault, at_line, at_line_if_fault};
+ghost use Rattle.bufr_fill.specs.Prelude.{raw_of, is_marked, wrong_for, content_by_form, returned, content_drawn, IsDrawn, raw_limit, entry_with, is_end, is_entry_of, value_by, entry_here, at_line};
 
 use crate::draft::{EntryKind, StoredEntry};
-use crate::fault::{DraftFault, Expected};
+use crate::fault::{DraftFault, Expected, ItemFault};
 use bufr_bits::{BitWriter, NumberFault, ShortDecimal, decimal_read};
 use bufr_walk::{Role, Spec, Taken};
 use std::alloc::AllocError;
@@ -39,23 +39,23 @@ pub(crate) fn raw_limit(may_be_missing: bool, width: u32) -> u64
 /// The number in the bits of a value that was read at the field's scale, where it fits them.
 #[inline(always)]
 // rule: fault-52, fault-53
-fn raw_of_read(read: Result<i128, NumberFault>, spec: &Spec, line: u64) -> Result<u64, DraftFault>
+fn raw_of_read(read: Result<i128, NumberFault>, spec: &Spec) -> Result<u64, ItemFault>
     requires { is_character spec.now.kind ≡ false }
-    ensures is { returned number result ≡ Some (at_line_if_fault line (raw_of spec.now read)) }
+    ensures is { returned number result ≡ raw_of spec.now read }
     ensures below { IfOk result (λ raw. raw < raw_limit spec.now.may_be_missing spec.now.width) }
 {
     let value = match read {
         Ok(value) => value,
-        Err(NumberFault::Syntax | NumberFault::Inexact) => return Err(DraftFault::Number(line)),
-        Err(NumberFault::Large) => return Err(DraftFault::OutOfRange(line)),
+        Err(NumberFault::Syntax | NumberFault::Inexact) => return Err(ItemFault::Number),
+        Err(NumberFault::Large) => return Err(ItemFault::OutOfRange),
     };
     let limit = raw_limit(spec.may_be_missing(), spec.width());
     let Some(raw) = value.checked_sub(spec.reference()) else {
-        return Err(DraftFault::OutOfRange(line));
+        return Err(ItemFault::OutOfRange);
     };
     match u64::try_from(raw) {
         Ok(raw) if raw < limit => Ok(raw),
-        _ => Err(DraftFault::OutOfRange(line)),
+        _ => Err(ItemFault::OutOfRange),
     }
 }
 
@@ -74,21 +74,19 @@ fn draw_form<'a>(
     entry: &StoredEntry,
     octets: &'a [u8],
     spec: &Spec,
-) -> Result<FieldContent<'a>, DraftFault>
+) -> Result<FieldContent<'a>, ItemFault>
     requires item { is_end (entry_with entry.now octets.now) ≡ false }
     requires mark { is_reference spec.now.role
         ≡ is_marked (value_by entry.now.kind entry.now.start octets.now) }
     ensures is { returned (content_drawn (spec.now.width / 8)) result
-        ≡ Some (at_line_if_fault entry.now.line (content_by_form
-        (value_by entry.now.kind entry.now.start octets.now) spec.now)) }
+        ≡ content_by_form (value_by entry.now.kind entry.now.start octets.now) spec.now }
     ensures drawn { IfOk result (λ d. IsDrawn spec.now d) }
 {
-    let line = entry.line;
     let count = (spec.width() / 8) as usize;
     match entry.kind {
         EntryKind::Decimal { places, negative } => {
             if spec.is_text() {
-                return Err(DraftFault::Number(line));
+                return Err(ItemFault::Number);
             }
             let digits = entry.start as u64;
             let number = ShortDecimal {
@@ -97,32 +95,32 @@ fn draw_form<'a>(
                 negative,
             };
             let read = number.scaled(spec.scale());
-            Ok(FieldContent::Number(raw_of_read(read, spec, line)?))
+            Ok(FieldContent::Number(raw_of_read(read, spec)?))
         }
-        EntryKind::Number if spec.is_text() => Err(DraftFault::Number(line)),
+        EntryKind::Number if spec.is_text() => Err(ItemFault::Number),
         EntryKind::Number => {
             let read = decimal_read(octets, spec.scale());
-            Ok(FieldContent::Number(raw_of_read(read, spec, line)?))
+            Ok(FieldContent::Number(raw_of_read(read, spec)?))
         }
-        EntryKind::Text if !spec.is_text() => Err(DraftFault::Number(line)),
-        EntryKind::Text if octets.len() > count => Err(DraftFault::TextLong(line)),
+        EntryKind::Text if !spec.is_text() => Err(ItemFault::Number),
+        EntryKind::Text if octets.len() > count => Err(ItemFault::TextLong),
         EntryKind::Text => {
             if is_all_255(octets) && octets.len() == count {
-                return Err(DraftFault::OutOfRange(line));
+                return Err(ItemFault::OutOfRange);
             }
             Ok(FieldContent::Text(octets))
         }
         EntryKind::Missing if spec.may_be_missing() => Ok(FieldContent::Missing),
-        EntryKind::Missing => Err(DraftFault::MissingForbidden(line)),
+        EntryKind::Missing => Err(ItemFault::MissingForbidden),
         EntryKind::Reference => {
             let value = match decimal_read(octets, 0) {
                 Ok(value) => value,
-                Err(NumberFault::Large) => return Err(DraftFault::OutOfRange(line)),
-                Err(_) => return Err(DraftFault::Number(line)),
+                Err(NumberFault::Large) => return Err(ItemFault::OutOfRange),
+                Err(_) => return Err(ItemFault::Number),
             };
             // The magnitude has to fit the bits after the sign.
             if value.unsigned_abs() >= 1u128 << (spec.width() - 1) {
-                return Err(DraftFault::OutOfRange(line));
+                return Err(ItemFault::OutOfRange);
             }
             Ok(FieldContent::Reference(value as i64))
         }
@@ -146,14 +144,14 @@ fn is_item_of(entry: &StoredEntry, spec: &Spec) -> bool
 
 /// The fault of another item than the expected one.
 pub(crate) fn wrong_item(spec: &Spec, line: u64) -> DraftFault
-    ensures { draft_fault result ≡ Some (at_line line (wrong_for spec.now)) }
+    ensures { result ≡ at_line line (wrong_for spec.now) }
 {
     let expected = if spec.is_reference() {
         Expected::Reference(spec.fxy())
     } else {
         Expected::Item(spec.fxy())
     };
-    DraftFault::WrongDescriptor(line, expected)
+    DraftFault::Item(line, ItemFault::WrongDescriptor(expected))
 }
 
 /// Converts an entry to the content of its field.
@@ -166,13 +164,16 @@ pub(crate) fn field_content<'a>(
     spec: &Spec,
 ) -> Result<FieldContent<'a>, DraftFault>
     ensures is { returned (content_drawn (spec.now.width / 8)) result
-        ≡ Some (entry_here spec.now (entry_with entry.now octets.now)) }
+        ≡ entry_here spec.now (entry_with entry.now octets.now) }
     ensures drawn { IfOk result (λ d. IsDrawn spec.now d) }
 {
     if !is_item_of(entry, spec) {
         return Err(wrong_item(spec, entry.line));
     }
-    draw_form(entry, octets, spec)
+    match draw_form(entry, octets, spec) {
+        Ok(drawn) => Ok(drawn),
+        Err(why) => Err(DraftFault::Item(entry.line, why)),
+    }
 }
 
 /// Octets, followed by spaces.

@@ -2,8 +2,8 @@
 //! written to bits that read the same, and are no more than were read. Each item of compressed data
 //! has the least `k`.
 ghost use Rattle.std.specs.Prelude.{◌≡◌, ◌≤◌, ℕ, List, [], Bool, length, Ok, Err};
-ghost use Rattle.bufr_walk.specs.Prelude.{FieldSpec, IsSpec, Content, found, packed_field, Course, at_end, TakenField, Takes, oks, answers_of, max_values, Item, ReadsSubsets, IsPackedReading};
-ghost use Rattle.bufr_fill.specs.Prelude.{AllAlike, OfTemplates, WritesDrafts, AllFit, AllHaveOctets, AreSaid, AreSaidFrom, IsReadBack, IsPackedReadBack, IsWrittenApart, IsTogetherOrNot, AreDumped, AreDumpedFrom, IsWrittenAgain, IsPackedAgain, plain_filler, fill, cells_at, packed_filler, packed_data, plain_data, HasLeastK, packing, DraftEntry, Subset, FaultAt, PackedOutModel, new_packed_out, PackedFills, all_at_end, rows_left, IsFaultHere, PlainOutModel, PlainFills, IsFaultNext, items_left, end_left};
+ghost use Rattle.bufr_walk.specs.Prelude.{FieldSpec, IsSpec, Content, found, packed_field, Course, at_end, TakenField, Takes, oks, answers_of, max_values, Item, ReadsSubsets, IsPackedReading, subsets_from};
+ghost use Rattle.bufr_fill.specs.Prelude.{AllAlike, OfTemplates, WritesDrafts, AllFit, AllHaveOctets, AreSaid, IsReadBack, IsPackedReadBack, IsWrittenApart, IsTogetherOrNot, AreDumped, IsWrittenAgain, IsPackedAgain, plain_filler, fill, cells_at, packed_filler, packed_data, plain_data, HasLeastK, packing, DraftEntry, Subset, DraftFault, PackedOutModel, new_packed_out, PackedFills, all_at_end, rows_left, IsFaultHere, PlainOutModel, PlainFills, IsFaultNext, items_left, end_left};
 
 /// Law: what was read is written again, from the items of its dump, compressed or not. The bits
 /// have the same reading, and are no more. (WMO-No. 306, Volume I.2, FM 94: section 4)
@@ -13,8 +13,8 @@ pub fn data_round_trip()
         → ReadsSubsets course subsets bits suffix
         → IsWrittenAgain course subsets drafts bits suffix) }
     ensures packed { OfTemplates (λ course. (n : ℕ) (items : List (Item (List Content)))
-        (drafts : List Subset) (bits suffix : List Bool) → length drafts ≡ n
-        → AreDumpedFrom 0 items drafts → IsPackedReading n course items bits suffix
+        (drafts : List Subset) (bits suffix : List Bool)
+        → AreDumped (subsets_from n 0 items) drafts → IsPackedReading n course items bits suffix
         → IsPackedAgain n course items drafts bits suffix) }
 {}
 
@@ -52,8 +52,9 @@ pub fn data_are_fixed_by_what_is_said()
     ensures packed { OfTemplates (λ course. (n : ℕ) (items : List (Item (List Content)))
         (drafts others : List Subset) (bits suffix : List Bool)
         → IsPackedReading n course items bits suffix
-        → length drafts ≡ n → AreSaidFrom 0 items drafts → length others ≡ n
-        → AreSaidFrom 0 items others → packed_data course drafts ≡ packed_data course others) }
+        → AreSaid (subsets_from n 0 items) drafts
+        → AreSaid (subsets_from n 0 items) others
+        → packed_data course drafts ≡ packed_data course others) }
 {}
 
 /// Law: drafts with the same contents at every field are written to the same bits, in either form,
@@ -73,8 +74,8 @@ pub fn alike_drafts_have_the_same_data()
 /// of each subset are read from the bits. (WMO-No. 306, Volume I.2, FM 94: section 4, compression)
 pub fn data_are_written_in_the_other_form()
     ensures apart { OfTemplates (λ course. (n : ℕ) (items : List (Item (List Content)))
-        (drafts : List Subset) (bits suffix : List Bool) → length drafts ≡ n
-        → AreDumpedFrom 0 items drafts → IsPackedReading n course items bits suffix
+        (drafts : List Subset) (bits suffix : List Bool)
+        → AreDumped (subsets_from n 0 items) drafts → IsPackedReading n course items bits suffix
         → IsWrittenApart n course items drafts) }
     ensures together { OfTemplates (λ course. (subsets : List (List (Item Content)))
         (drafts : List Subset) (bits suffix : List Bool) → length bits ≤ max_values
@@ -109,11 +110,11 @@ pub fn walks_write_as_defined()
 /// step. The last is on the line of the next entry, of the first subset where there are several.
 #[tactic(auto, using(crate::proofs::WalkLemmas::fault_as_defined, crate::proofs::PackedWalks::fault_as_defined))]
 pub fn faults_are_as_defined()
-    ensures plain { (course : Course) (left : List DraftEntry) (f : FaultAt)
+    ensures plain { (course : Course) (left : List DraftEntry) (f : DraftFault)
         → IsFaultNext (course []).next
         left f → fill (plain_filler (end_left left)) course (items_left left) ≡ Err f }
     ensures packed { (course : Course) (subsets : List Subset) (items : List TakenField)
-        (s : PackedOutModel) (f : FaultAt) → 1 ≤ length subsets
+        (s : PackedOutModel) (f : DraftFault) → 1 ≤ length subsets
         → Takes (oks PackedFills) course (new_packed_out subsets) items s
         → IsFaultHere (course (answers_of items)).next s f → packed_data course subsets ≡ Err f }
 {}

@@ -13,6 +13,6 @@ mod packed_out;
 mod plain_out;
 
 pub use draft::{DraftItem, DraftValue, Entries};
-pub use fault::{DraftFault, Expected};
+pub use fault::{DraftFault, Expected, ItemFault, WalkRefusal};
 pub use packed_out::PackedOut;
 pub use plain_out::PlainOut;

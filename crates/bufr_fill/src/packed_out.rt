@@ -1,14 +1,15 @@
 //! The writer of compressed data, from the items of a dump text.
-ghost use Rattle.std.specs.Prelude.{◌≡◌, ◌≤◌, ◌<◌, ◌+◌, ◌*◌, ◌/◌, ◌^◌, IfOk, Ok, length, ℕ, slice_get, Some, List, ◌-◌, ◌++◌, ◌∷◌, [], true, false, take, unwrap_or, vec_len};
+ghost use Rattle.std.specs.Prelude.{◌≡◌, ◌==◌, ◌≤◌, ◌<◌, ◌+◌, ◌*◌, ◌/◌, ◌^◌, IfOk, Ok, length, ℕ, slice_get, Some, List, ◌-◌, ◌++◌, ◌∷◌, [], true, false, take, unwrap_or, vec_len};
 ghost use Rattle.bufr_walk.specs.Prelude.{IsFor, is_reference, max_values};
-ghost use Rattle.bufr_fill.specs.Prelude.{item_row, cells_at, contents_here, RowCell, unlike_line, same, are_same, lowest, increment_bits, octet_bits, packed_by, subsets_of, AllDrawn, contents_drawn, IsRangeOf, entry_or_end, cell_line, ReturnsRow, PutAcross, number_or, spread, trimmed, most_need, PacksItem, FitsIncrement, AreShort, least_from, ends_of, first_line_at, EndsAllSubsets, entry_with, content_drawn, IsDrawn, raw_limit, FieldContent, StartsPackedOut, PackedFills};
-ghost use Rattle.std.specs.List.{flat_map};
+ghost use Rattle.bufr_fill.specs.Prelude.{item_row, cells_at, contents_here, RowCell, unlike_line, same, are_same, lowest, increment_bits, octet_bits, packed_by, subsets_of, AllDrawn, contents_drawn, IsRangeOf, entry_or_end, cell_line, ReturnsRow, PutAcross, number_or, spread, trimmed, most_need, PacksItem, FitsIncrement, AreShort, least_from, ends_of, first_line_at, EndsAllSubsets, entry_with, content_drawn, IsDrawn, raw_limit, FieldContent, StartsPackedOut, PackedFills, spaced};
+ghost use Rattle.std.specs.Str.{bytes_eq};
+ghost use Rattle.std.specs.List.{flat_map, list_all};
 ghost use Rattle.bufr_bits.specs.Prelude.{bits_in, bits_of, padding};
 ghost use Rattle.bufr_tables.specs.Prelude.{is_character};
 ghost use Rattle.std.proofs.Common.{ap};
 
 use crate::draft::{Entries, StoredEntry};
-use crate::fault::{DraftFault, Expected};
+use crate::fault::{DraftFault, Expected, ItemFault, WalkRefusal};
 use crate::field_value::{
     FieldContent, field_content, is_all_255, put_content, put_full, raw_limit, taken_of,
     with_spaces,
@@ -79,13 +80,16 @@ fn put_drawn(
         return Ok(taken_of(drawn[0], spec));
     }
     match spec.role() {
-        Role::Factor => Err(DraftFault::UnequalFactor(unlike_line(row, spec, drawn))),
-        Role::Reference => Err(DraftFault::Increment(row.first_line())),
+        Role::Factor => {
+            let line = unlike_line(row, spec, drawn);
+            Err(DraftFault::Item(line, ItemFault::UnequalFactor))
+        }
+        Role::Reference => Err(DraftFault::Item(row.first_line(), ItemFault::Increment)),
         Role::Element | Role::Inserted => {
             if spec.is_text() {
                 let k = octets_needed(drawn, spec);
                 if k > 63 {
-                    return Err(DraftFault::Increment(row.first_line()));
+                    return Err(DraftFault::Item(row.first_line(), ItemFault::Increment));
                 }
                 pack_texts(out, drawn, k, spec)?;
             } else {
@@ -141,7 +145,7 @@ impl<'s> PackedOut<'s> {
     ///
     /// # Errors
     ///
-    /// [`DraftFault::WrongDescriptor`] with the first subset that has one more item.
+    /// [`ItemFault::WrongDescriptor`] with the first subset that has one more item.
     pub fn end(&self) -> Result<(), DraftFault>
         ensures { EndsAllSubsets self.now.place self.now.subsets result }
     {
@@ -182,7 +186,8 @@ impl<'s> Fields for PackedOut<'s> {
             place: self.place,
         };
         if (row.place as u64 + 1) * row.ends.len() as u64 > MAX_VALUES {
-            return Err(DraftFault::TooManyValues(row.first_line(), spec.fxy()));
+            let why = WalkRefusal::TooManyValues(spec.fxy());
+            return Err(DraftFault::Item(row.first_line(), ItemFault::Walk(why)));
         }
         let range = read_row(row, spec, &mut self.drawn)?;
         let taken = put_drawn(row, spec, &self.drawn, range, &mut self.out)?;
@@ -293,14 +298,32 @@ fn all_at_end(row: Row<'_, '_>) -> Result<(), DraftFault>
     for subset in 0..row.ends.len() {
         let (entry, _octets) = row.find(subset);
         if !entry.is_end() {
-            return Err(DraftFault::WrongDescriptor(entry.line, Expected::EndOfSubset));
+            let why = ItemFault::WrongDescriptor(Expected::EndOfSubset);
+            return Err(DraftFault::Item(entry.line, why));
         }
     }
     Ok(())
 }
 
+fn are_spaces(octets: &[u8]) -> bool
+    ensures { result ≡ list_all (λ octet. octet == 32) octets.now }
+{
+    octets.iter().all(|octet| *octet == b' ')
+}
+
+/// Whether a longer text is a text and spaces after it.
+#[inline(never)]
+fn is_spaced(text: &[u8], longer: &[u8]) -> bool
+    requires { length text.now ≤ length longer.now }
+    ensures { (count : ℕ) → length longer.now ≤ count
+        → result ≡ bytes_eq (spaced count longer.now) (spaced count text.now) }
+{
+    let (start, rest) = longer.split_at(text.len());
+    start == text && are_spaces(rest)
+}
+
 /// Whether two contents of a field are the same.
-#[tactic(auto, using(crate::proofs::RowLemmas::same_references, crate::proofs::RowLemmas::other_references, crate::proofs::RowLemmas::same_spaced, crate::proofs::FieldLemmas::spaced_prefix))]
+#[tactic(auto, using(crate::proofs::RowLemmas::same_references, crate::proofs::RowLemmas::other_references, crate::proofs::RowLemmas::same_spaced, crate::proofs::RowLemmas::spaced_other))]
 #[inline(always)]
 fn is_same(one: FieldContent<'_>, other: FieldContent<'_>, spec: &Spec) -> bool
     requires one { IsDrawn spec.now one }
@@ -308,13 +331,11 @@ fn is_same(one: FieldContent<'_>, other: FieldContent<'_>, spec: &Spec) -> bool
     ensures { result ≡ same (content_drawn (spec.now.width / 8) one.entry)
         (content_drawn (spec.now.width / 8) other.entry) }
 {
-    let count = (spec.width() / 8) as usize;
     match (one, other) {
         (FieldContent::Number(a), FieldContent::Number(b)) => a == b,
         (FieldContent::Text(a), FieldContent::Text(b)) if a.len() == b.len() => a == b,
-        (FieldContent::Text(a), FieldContent::Text(b)) => {
-            with_spaces(a)[..count] == with_spaces(b)[..count]
-        }
+        (FieldContent::Text(a), FieldContent::Text(b)) if a.len() < b.len() => is_spaced(a, b),
+        (FieldContent::Text(a), FieldContent::Text(b)) => is_spaced(b, a),
         (FieldContent::Missing, FieldContent::Missing) => true,
         (FieldContent::Reference(a), FieldContent::Reference(b)) => a == b,
         _ => false,

@@ -6,7 +6,7 @@ ghost use Rattle.std.proofs.Common.{ap};
 ghost use Rattle.bufr_fill.specs.Prelude.{PlainFills};
 
 use crate::draft::Entries;
-use crate::fault::{DraftFault, Expected};
+use crate::fault::{DraftFault, Expected, ItemFault};
 use crate::field_value::{field_content, push_content, taken_of, wrong_item};
 use bufr_bits::BitWriter;
 use bufr_walk::{Fields, Spec, Taken};
@@ -69,7 +69,7 @@ impl<'s> PlainOut<'s> {
     ///
     /// # Errors
     ///
-    /// [`DraftFault::WrongDescriptor`] where the subset has one more item; then nothing is changed.
+    /// [`ItemFault::WrongDescriptor`] where the subset has one more item; then nothing is changed.
     // rule: fault-51
     pub fn end_subset(&mut self) -> Result<(), DraftFault>
         ensures { EndsSubset self.old result self.new }
@@ -81,7 +81,8 @@ impl<'s> PlainOut<'s> {
             }
         }
         let line = self.line();
-        Err(DraftFault::WrongDescriptor(line, Expected::EndOfSubset))
+        let why = ItemFault::WrongDescriptor(Expected::EndOfSubset);
+        Err(DraftFault::Item(line, why))
     }
 
     /// Returns the octets of the bits that were written, with zero bits to the next octet. It takes

@@ -1,10 +1,10 @@
 -- Steps and calls of a finder, and the reads that they make.
-use Rattle.std.proofs.Common.{◌≡◌, ◌≢◌, ◌^◌, ℕ, ◌+◌, ◌-◌, ◌<◌, ◌≤◌, List, [], ◌++◌, sym, ◌∙◌, ap, subst, arith, Option, Ok, Err, append_assoc, append-nil, ◌∷◌, length, take, drop, refl, length-take, length-drop, inl, inr, Bool, true, false, length-append, ◌⊎◌, ◌*◌, zero, suc, codes, Result, slice_range, take_while, Some, None, max}
+use Rattle.std.proofs.Common.{min, ◌*◌, ◌≡◌, ◌≢◌, ◌^◌, ℕ, ◌+◌, ◌-◌, ◌<◌, ◌≤◌, List, [], ◌++◌, sym, ◌∙◌, ap, subst, arith, Option, Ok, Err, append_assoc, append-nil, ◌∷◌, length, take, drop, refl, length-take, length-drop, inl, inr, Bool, true, false, length-append, ◌⊎◌, ◌*◌, zero, suc, codes, Result, slice_range, take_while, Some, None, max}
 use Rattle.std.specs.Io.KnownBytes.{Consumes, IsAtEnd}
 use Rattle.std.proofs.KnownBytes.{Consumes-nil, Consumes-trans}
 use Rattle.bufr_bits.specs.Prelude.{counted}
 use Rattle.bufr_bits.proofs.CountLemmas.{counted-counted, counted-none}
-use Rattle.bufr_frame.specs.Prelude.{read_failures_after, StopsFinder, IsUndecided, AddsReads, max_reads, InputModel, FillsInput, ReadsOnce, FillFails, FillEnds, Candidate, StreamEvent, FrameAt, scan, scan_from, open_scan, stream_event, candidate_len, is_decided, Advances, NoEventCertain, first_event, StrayAt, has_word_at, classify, length_here, longest_of, offset_of, IsNextEvent, IsIncomplete, HasNoFurtherEvent, gone_to, stated_length, StartsWithBufr, FinderModel, ReadsAndPasses, Follows, new_finder, IsStatedLength, RaisesLongest, HasNoMoreEvents, held, EachReadIsNeeded, CallReadsAreNeeded, ReturnsNextEvent, LeavesFinder, events_returned}
+use Rattle.bufr_frame.specs.Prelude.{read_failures_after, StopsFinder, IsUndecided, AddsReads, max_reads, InputModel, ReadsOnce, FillFails, FillEnds, Candidate, StreamEvent, FrameAt, scan, scan_from, open_scan, stream_event, candidate_len, is_decided, Advances, NoEventCertain, first_event, StrayAt, has_word_at, classify, length_here, longest_of, offset_of, IsNextEvent, IsIncomplete, HasNoFurtherEvent, gone_to, stated_length, StartsWithBufr, FinderModel, ReadsAndPasses, Follows, new_finder, IsStatedLength, RaisesLongest, held, EachReadIsNeeded, CallReadsAreNeeded, ReturnsNextEvent, LeavesFinder, events_returned}
 use Rattle.bufr_frame.specs.declared.fault.RunFault.{RunFault}
 use Rattle.bufr_frame.specs.declared.fault.RunFault.TheVariants.{Read, Write, InputTooLong, Memory}
 use Rattle.std.proofs.lemmas.List.{drop-take, take-take, take-append-le, drop-append-le}
@@ -17,9 +17,8 @@ use Rattle.bufr_frame.specs.declared.finder.Candidate.TheVariants.{Stray, Frame}
 use Rattle.bufr_frame.specs.declared.fault.Cause.TheVariants.{Cut}
 use Rattle.bufr_frame.specs.declared.finder.Event.{Event}
 use Rattle.bufr_frame.specs.declared.finder.SearchResult.{SearchResult}
-use Rattle.bufr_frame.specs.Finder.{IsSearchResult, ReadsOn, first_left, NeedsRead, GivesHeldEvent, ReadsMore, input_left, len_at, IsEventAt}
+use Rattle.bufr_frame.specs.Finder.{IsSearchResult, ReadsOn, first_left, GivesHeldEvent, ReadsMore, input_left, len_at, IsEventAt}
 use Rattle.std.specs.Option.{IfSome}
-use Rattle.std.specs.Result.{MatchResult}
 use Rattle.std.proofs.lemmas.List.Folds.{concat-append, list_all-append}
 use Rattle.bufr_frame.specs.declared.finder.Event.TheVariants as event
 
@@ -28,6 +27,21 @@ pub record ReadSoFar (left mid : Option (List ℕ)) (old now : List ℕ) : Type 
   pub octets : List ℕ
   pub read : Consumes left mid octets
   pub held : now ≡ old ++ octets
+
+-- one read asked for all that fits after `filled` of `len` places, up to `most`
+pub asks-once : (most reads reads' held held' free filled len n to : ℕ) → reads' ≡ reads → held' ≡ held + n → free + (filled + n) ≡ len → to ≡ min len (filled + most)
+    → to - filled ≡ (reads' + 1 - reads) * min most (free + held' - held)
+asks-once most reads reads' held held' free filled len n to made grown fits is =
+    let one : reads' + 1 - reads ≡ 1 = omega arith in
+    let all : free + held' - held ≡ len - filled = omega arith in
+    rw (one, all) (omega arith)
+
+-- no read asks for nothing
+pub asks-none : (asked reads reads' n : ℕ) → reads' ≡ reads → asked ≡ counted asked ((reads' - reads) * n)
+asks-none asked reads reads' n same =
+    let none : reads' - reads ≡ 0 = omega arith in
+    let nothing : (reads' - reads) * n ≡ 0 = rw none (omega arith) in
+    rw nothing (sym (counted-none asked))
 
 -- no read, no more reads, and reads after others
 pub adds-none : (reads made : ℕ) → made ≤ max_reads → AddsReads reads reads made made
@@ -43,10 +57,6 @@ adds-then a b c before made after one more = record {
   order = omega (arith, one.order, more.order);
   most = more.most;
 }
-
--- a read failed
-pub read-fault : (mid left' : Option (List ℕ)) (now now' bs : List ℕ) (result : Result ℕ RunFault) (fault : RunFault) → result ≡ Err fault → ReadsOnce mid left' now now' result bs → fault ≡ Read
-read-fault mid left' now now' bs result fault is once = (rw is at once.outcome).0
 
 -- ---- Parts of a buffer.
 
@@ -386,23 +396,6 @@ longest-stopped left mid left' s s' bs bs' events one known u16_at grown =
     (placed-wider s.at s'.at (s.rest ++ bs') s'.rest es (omega (arith, f.offset)) (omega (arith, f.offset, f.within, ap length f.left, length-drop f.passed (s.rest ++ bs')))
     (placed-first s'.at s'.rest (scan_from 0 s'.at s'.rest) (scan-placed (length s'.rest) s'.at s'.rest (omega arith)))) grown
 
--- after the end no event comes, and no fault
-pub done-again : (left left' : Option (List ℕ)) (reads reads' : ℕ) (old new : FinderModel) (result : Result Event RunFault)
-    → ReturnsNextEvent left left' reads reads' old new result → HasNoMoreEvents old → (result ≡ Ok event.Done) × (new.reads ≡ old.reads)
-done-again left left' reads reads' old new result next done = (only result next.steps.1.advances next.ends, kept.2)
-  where
-    kept : (new.ended ≡ true) × (next.steps.0 ≡ []) × (new.reads ≡ old.reads)
-    kept = next.steps.1.kept done.0
-
-    none : (events : List StreamEvent) → Advances new.ended old.at (old.rest ++ next.steps.0) events new.at new.rest → events ++ scan_from 0 new.at (new.rest ++ []) ≡ []
-    none events advances = sym (advances.whole [] (λ _. refl)) ∙ ap (scan_from 0 old.at) (append-nil (old.rest ++ next.steps.0) ∙ ap (λ l. old.rest ++ l) kept.1 ∙ append-nil old.rest) ∙ done.1 old.at
-
-    only : (r : Result Event RunFault) → Advances new.ended old.at (old.rest ++ next.steps.0) (events_returned [] r) new.at new.rest → LeavesFinder old new r → r ≡ Ok event.Done
-    only (Ok (event.Frame offset octets)) advances ends = absurd (let e = none (FrameAt offset octets.now ∷ []) advances in cc)
-    only (Ok (event.Stray offset cause)) advances ends = absurd (let e = none (StrayAt offset cause ∷ []) advances in cc)
-    only (Ok event.Done) advances ends = refl
-    only (Err fault) advances ends = absurd (true≢false (sym done.0 ∙ ends.0))
-
 -- ---- The reads of a call, each with what was certain before it.
 
 wider : (most most' at : ℕ) (left : List ℕ) (given : List (List ℕ)) → most ≤ most' → EachReadIsNeeded most at left given → EachReadIsNeeded most' at left given
@@ -471,10 +464,6 @@ module _ (left mid : Option (List ℕ)) (old s s1 s2 : FinderModel) (place size 
 
 -- ---- One read of a finder, which drops the octets that were passed.
 
-pub not-err : (r : Result (Unit {0}) RunFault) → ((fault : RunFault) → r ≢ Err fault) → r ≡ Ok tt
-not-err (Ok u) none = refl
-not-err (Err fault) none = absurd (none fault refl)
-
 module _ (given new : InputModel) (passed at longest room : ℕ) (fault fault' : Option RunFault) (bs : List ℕ) (limit : room ≤ 2 * max 4096 longest) where
   -- the finder before and after
   abbrev pub before-read : FinderModel
@@ -490,17 +479,6 @@ module _ (given new : InputModel) (passed at longest room : ℕ) (fault fault' :
   ends-so (Err Write) e = e
   ends-so (Err InputTooLong) e = e
   ends-so (Err Memory) e = (e.0, e.1, (e.2.0, e.2.1, omega (arith, e.2.2, limit)))
-
-  pub reads-more : (left left' : Option (List ℕ)) (old : InputModel) (result : Result (Unit {0}) RunFault) → old ≡ record given { held = drop passed given.held }
-      → FillsInput left left' old new (old.room < room) result bs → MatchResult result (λ _. fault' ≡ None) (λ why. fault' ≡ Some why) → ReadsMore left left' before-read after-fill result bs
-  reads-more left left' old result is fills outcome =
-      let f = rw is at fills in
-      record {
-        fills = record { read = f.read; held = f.held; end = f.end; room = f.room; ends = ends-so result f.ends };
-        at = refl;
-        fault = outcome;
-        longest = refl;
-      }
 
 -- ---- What a call returns.
 
@@ -750,16 +728,3 @@ held-found old new place n here e sound looks gone near bound most is = (
   λ left reads.
       reading-found left left reads reads old old sound (reading-fresh left reads old sound most) new place n here looks gone near bound e is,
 )
-
-pub held-needs : (old new : FinderModel) (place n : ℕ) → old.fault ≡ None → (old.ended ≡ false) × IsIncomplete old.rest place n × IsStatedLength (drop place old.rest) n → new ≡ gone_to old place n
-    → new.at < 2 ^ 63 → NeedsRead old new
-held-needs old new place n sound looks is near = record {
-  sound = sound;
-  passes = λ left. turn-pass left left old old new [] (step-none left old) place n looks.0 looks.1 is;
-  none = rw is looks.1.none;
-  going = ap (λ x. x.ended) is ∙ looks.0;
-  fault = ap (λ x. x.fault) is ∙ sound;
-  reads = ap (λ x. x.reads) is;
-  near = near;
-  few = omega (arith, ap (λ x. length x.rest) is, ap (λ x. x.longest) is, looks.1.few);
-}

@@ -1,6 +1,6 @@
 -- What reading an input gives, and how many reads it takes. (a choice of this project)
 -- Cited by public contracts.
-use Rattle.std.specs.Prelude.{◌≡◌, ℕ, ◌-◌, ◌<◌, ◌≤◌, ◌^◌, Result, Ok, Err, ◌+◌, Bool, true, false, List, [], ◌++◌, length, Option, MatchResult}
+use Rattle.std.specs.Prelude.{◌≡◌, ℕ, ◌-◌, ◌*◌, min, ◌<◌, ◌≤◌, ◌^◌, Result, Ok, Err, ◌+◌, Bool, true, false, List, [], ◌++◌, length, Option, MatchResult}
 use Rattle.bufr_bits.specs.Prelude.{counted}
 use Rattle.bufr_frame.specs.declared.fault.RunFault.{RunFault}
 use Rattle.bufr_frame.specs.declared.fault.RunFault.TheVariants.{Read, Write, InputTooLong, Memory}
@@ -59,6 +59,16 @@ abbrev pub FillEnds : (refused : Type 0) → InputModel → InputModel → List 
 FillEnds refused old new bs (Ok u) = (new.reads ≡ old.reads + 1) × (new.ended ≡ true → bs ≡ [])
 FillEnds refused old new bs (Err fault) =
     (bs ≡ []) × (new.ended ≡ false) × FillFails refused old new fault
+
+-- how many octets the reads asked for that were made, of which there is one at most: for all that
+-- fit after those held, but at most `most`
+abbrev pub asked_by : (most : ℕ) → InputModel → InputModel → ℕ
+asked_by most old new =
+    (new.reads - old.reads) * min most (new.free + length new.held - length old.held)
+
+-- at most so many octets more were asked for
+abbrev pub AsksAtMost : (asked asked' most : ℕ) → Type 0
+AsksAtMost asked asked' most = asked' ≤ counted asked most
 
 -- One read: octets come after those held, or the end, or a fault; memory only where `refused`.
 pub record FillsInput (left left' : Option (List ℕ)) (old new : InputModel) (refused : Type 0)

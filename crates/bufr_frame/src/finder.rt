@@ -1,9 +1,9 @@
 //! The finder: the messages of a stream, one after another, and its search for `BUFR`.
-ghost use Rattle.std.specs.Prelude.{◌≡◌, ◌≢◌, ◌≤◌, false, List, ℕ, ◌<◌, ◌+◌, ◌-◌, ◌^◌, length, take, drop, min, codes, IfSome, Some, None, Option, max, Err};
+ghost use Rattle.std.specs.Prelude.{◌≡◌, ◌≢◌, ◌≤◌, false, List, ℕ, ◌<◌, ◌+◌, ◌-◌, ◌*◌, ◌^◌, length, take, drop, min, codes, IfSome, Some, None, Option, max, Err};
 ghost use Rattle.memchr.specs.Find.{FindsNeedle};
 ghost use Rattle.bufr_frame.specs.Scan.{classify, stated_length};
 ghost use Rattle.bufr_frame.specs.Finder.{IsSearchResult, passed_by, len_at, IsEventAt, GivesHeldEvent, ReadsMore, gone_to, StartsWithBufr, FinderModel, held, new_finder, ReturnsNextEvent, IsFinder};
-ghost use Rattle.bufr_frame.specs.Input.{read_failures_after, AddsReads, max_reads};
+ghost use Rattle.bufr_frame.specs.Input.{read_failures_after, AddsReads, AsksAtMost, max_reads};
 ghost use Rattle.std.specs.Borrow.{sem};
 ghost use Rattle.std.specs.Io.BufRead.{Rests};
 
@@ -209,6 +209,8 @@ impl Finder {
         ensures sure { self.old.fault ≡ None → R.waits r.old ≡ false
             → result ≢ Err RunFault.Read }
         ensures counts { AddsReads (R.reads r.old) (R.reads r.new) self.old.reads self.new.reads }
+        ensures asked { AsksAtMost (R.asked r.old) (R.asked r.new)
+            (max 4096 self.old.longest * (self.new.reads - self.old.reads)) }
         ensures bound { held self.new ≤ max 4096 self.new.longest }
         ensures again { IfSome self.old.fault (λ fault. result ≡ Err fault) }
         ensures same { IfSome self.old.fault (λ _. r.new ≡ r.old) }

@@ -1,7 +1,7 @@
 //! An input, read piece by piece or to its end.
 ghost use Rattle.std.specs.Prelude.{◌≡◌, ◌≢◌, ◌≤◌, ◌<◌, ◌+◌, ◌-◌, ◌*◌, ◌^◌, ℕ, List, ◌++◌, take, length, drop, slice_range, Ok, Err, IsOk, IfOk, IfErr, vec_len, vec_capacity, [], ◌∷◌, true, false};
 ghost use Rattle.bufr_bits.specs.Prelude.{counted};
-ghost use Rattle.bufr_frame.specs.Input.{read_failures_after, max_reads, ReadsOnce, ReadsInput, AddsReads, InputModel, FillsInput, new_input};
+ghost use Rattle.bufr_frame.specs.Input.{read_failures_after, max_reads, ReadsOnce, ReadsInput, AddsReads, InputModel, FillsInput, asked_by, new_input};
 
 use crate::fault::RunFault;
 use bufr_bits::{Failed, Source};
@@ -121,6 +121,8 @@ impl InputBuffer {
         ensures sure { R.waits r.old ≡ false → result ≢ Err RunFault.Read }
         ensures failed { R.failures r.new ≡ read_failures_after (R.failures r.old) result }
         ensures counts { AddsReads (R.reads r.old) (R.reads r.new) self.old.reads self.new.reads }
+        // A read asks for all that fits, up to `most`.
+        ensures asked { R.asked r.new ≡ counted (R.asked r.old) (asked_by most self.old self.new) }
     {
         if self.reads == MAX_READS {
             return Err(RunFault::InputTooLong);
@@ -187,6 +189,7 @@ fn read_after<R: Source>(
     ensures sure { R.waits r.old ≡ false → IsOk result }
     ensures failed { R.failures r.new ≡ read_failures_after (R.failures r.old) result }
     ensures made { R.reads r.new ≡ counted (R.reads r.old) 1 }
+    ensures asked { R.asked r.new ≡ counted (R.asked r.old) (to - filled) }
 {
     match r.read(&mut buffer[filled..to]) {
         Ok(n) => Ok(n),
@@ -214,6 +217,7 @@ pub fn read_to_end<R: Source>(
     ensures failed { R.failures r.new ≡ read_failures_after (R.failures r.old) result }
     ensures made { R.reads r.new ≡ counted (R.reads r.old) (reads.new - reads.old) }
     ensures within { (reads.old ≤ reads.new) × (reads.new ≤ max_reads) }
+    ensures asked { R.asked r.new ≡ counted (R.asked r.old) (65536 * (reads.new - reads.old)) }
 {
     while *reads < MAX_READS {
         let held = octets.len();

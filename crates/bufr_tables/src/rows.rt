@@ -6,7 +6,7 @@ ghost use Rattle.csv.specs.Records.{fields_of};
 
 use crate::fault::TableFault;
 use crate::fxy::are_digits;
-use csv::{ByteRecord, ErrorKind, Reader, ReaderBuilder};
+use csv::{ByteRecord, Reader, ReaderBuilder};
 use std::alloc::Global;
 
 /// Reads the records of a text, and counts them from 1.
@@ -58,11 +58,8 @@ impl<'a> RecordReader<'a> {
                 self.number += 1;
                 Ok(true)
             }
-            Err(error) => match error.into_kind() {
-                // A slice is read without fail.
-                ErrorKind::OutOfMemory | ErrorKind::Io(_) => Err(TableFault::Memory),
-                _ => unreachable!(),
-            },
+            // Octets in memory are read without fail, and records may have any number of fields.
+            Err(_) => Err(TableFault::Memory),
         }
     }
 }

@@ -9,15 +9,16 @@ use bufr_text::{Form, encode_by};
 use bufr_walk::{Steps, TemplateCache};
 
 /// More lists than are kept.
-const LISTS: u16 = 20;
+const LISTS: u16 = 140;
 
 /// The fourth list has a fault, and the template of the ninth more cells than are kept.
 fn list_of(rt: &impl Runtime, index: u16) -> String {
-    let width = index.saturating_add(128);
+    let width = (index % 40).saturating_add(128);
+    let blocks = (index / 40).saturating_add(2);
     let list = match index {
         3 => String::from_str(rt.alloc(), "063255"),
         8 => String::from_str(rt.alloc(), "101000 031000 300008 001001"),
-        _ => format!(in rt.alloc(); "201{width} 012101 101002 001001"),
+        _ => format!(in rt.alloc(); "201{width} 012101 10100{blocks} 001001"),
     };
     ok(rt, list)
 }
@@ -59,5 +60,5 @@ fn encodes_many_lists_of_descriptors(rt: HostRuntime) {
     for index in 0..LISTS.saturating_mul(2) {
         assert_kept(&rt, &mut templates, list_of(&rt, index % LISTS).as_str());
     }
-    assert_same(&rt, &templates.others(), &15, &"lists");
+    assert_same(&rt, &templates.others(), &127, &"lists");
 }

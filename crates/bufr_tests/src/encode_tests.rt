@@ -6,11 +6,9 @@ use crate::runs::{Command, Task, accepted, assert_run, refused, run_whole};
 use crate::support::{Runtime, assert_same, assert_that, ok, some};
 use crate::text_tests::{dumped, with_head};
 use bufr_bits::ScriptIn;
-use bufr_fill::Expected;
+use bufr_fill::{Expected, ItemFault, WalkRefusal};
 use bufr_tables::{Fxy, TemplateFault};
-use bufr_text::{
-    Document, DocumentFault, DumpReader, Form, WalkRefusal, encode_document, encode_form, laws,
-};
+use bufr_text::{Document, DocumentFault, DumpReader, Form, encode_document, encode_form, laws};
 use bufr_walk::Steps;
 
 /// What a document is encoded to.
@@ -320,16 +318,11 @@ fn assert_fault(rt: &impl Runtime, fault: DocumentFault, number: u8, line: Optio
 fn document_faults_have_numbers_and_lines(rt: HostRuntime) {
     let fxy = Fxy::from_word(0x0101);
     let template = TemplateFault::EmptyGroup(fxy);
-    let item = DocumentFault::WrongDescriptor(24, Expected::Item(fxy));
-    assert_fault(&rt, item, 51, Some(24));
+    let item = ItemFault::WrongDescriptor(Expected::Item(fxy));
+    assert_fault(&rt, DocumentFault::Item(24, item), 51, Some(24));
     assert_fault(&rt, DocumentFault::Template(1, template), 56, Some(1));
-    let refusal = WalkRefusal::TooManyValues(fxy);
-    assert_fault(&rt, DocumentFault::Walk(24, refusal), 62, Some(24));
+    let refusal = ItemFault::Walk(WalkRefusal::TooManyValues(fxy));
+    assert_fault(&rt, DocumentFault::Item(24, refusal), 62, Some(24));
+    assert_fault(&rt, DocumentFault::TooLong(1), 60, Some(1));
     assert_fault(&rt, DocumentFault::Memory, 73, None);
-    assert_same(
-        &rt,
-        &WalkRefusal::TooManyValues(fxy).number(),
-        &35,
-        &"refusal",
-    );
 }

@@ -2,7 +2,10 @@
 
 use crate::support::{Runtime, assert_same, assert_that, from_hex, ok, table_b, template_of};
 use bufr_bits::ShortDecimal;
-use bufr_fill::{DraftFault, DraftItem, DraftValue, Entries, Expected, PackedOut, PlainOut, laws};
+use bufr_fill::{
+    DraftFault, DraftItem, DraftValue, Entries, Expected, ItemFault, PackedOut, PlainOut,
+    WalkRefusal, laws,
+};
 use bufr_tables::{Fxy, TableB, Template};
 use bufr_walk::{Fields, Steps, WalkStop, walk};
 
@@ -33,14 +36,7 @@ fn two_items(rt: &impl Runtime, digits: u64) -> Entries {
 /// A fault's number and its line.
 fn fault_of(fault: DraftFault) -> (u8, u64) {
     let line = match fault {
-        DraftFault::Number(line)
-        | DraftFault::OutOfRange(line)
-        | DraftFault::TextLong(line)
-        | DraftFault::MissingForbidden(line)
-        | DraftFault::UnequalFactor(line)
-        | DraftFault::Increment(line)
-        | DraftFault::WrongDescriptor(line, _)
-        | DraftFault::TooManyValues(line, _) => line,
+        DraftFault::Item(line, _) => line,
         DraftFault::Memory => 0,
     };
     (fault.number(), line)
@@ -152,18 +148,21 @@ fn refuses_an_item(rt: HostRuntime) {
 #[test]
 fn draft_faults_have_numbers(rt: HostRuntime) {
     let fxy = Fxy::from_word(257);
+    let many = WalkRefusal::TooManyValues(fxy);
     let rows = [
-        (DraftFault::WrongDescriptor(1, Expected::Item(fxy)), 51),
-        (DraftFault::Number(1), 52),
-        (DraftFault::OutOfRange(1), 53),
-        (DraftFault::TextLong(1), 54),
-        (DraftFault::MissingForbidden(1), 55),
-        (DraftFault::UnequalFactor(1), 58),
-        (DraftFault::Increment(1), 59),
-        (DraftFault::TooManyValues(1, fxy), 35),
-        (DraftFault::Memory, 73),
+        (ItemFault::WrongDescriptor(Expected::Item(fxy)), 51, 51),
+        (ItemFault::Number, 52, 52),
+        (ItemFault::OutOfRange, 53, 53),
+        (ItemFault::TextLong, 54, 54),
+        (ItemFault::MissingForbidden, 55, 55),
+        (ItemFault::UnequalFactor, 58, 58),
+        (ItemFault::Increment, 59, 59),
+        (ItemFault::Walk(many), 62, 35),
     ];
-    for (fault, number) in rows {
-        assert_same(&rt, &fault.number(), &number, &fault);
+    for (fault, in_document, alone) in rows {
+        assert_same(&rt, &fault.number(), &in_document, &fault);
+        assert_same(&rt, &DraftFault::Item(1, fault).number(), &alone, &fault);
     }
+    assert_same(&rt, &DraftFault::Memory.number(), &73, &"memory");
+    assert_same(&rt, &(many.number(), many.fxy()), &(35, fxy), &many);
 }

@@ -5,12 +5,12 @@ use crate::runs::writer;
 use crate::support::{Runtime, assert_same, assert_that, joined, ok};
 use bufr_bits::{Device, End, ScriptIn, ScriptOut, Sink};
 use bufr_cli::{
-    BUFFERED, Buffered, CannotOpenFile, Inputs, LineFault, Subcommand, TableNames, parse_line,
-    read_all, run,
+    BUFFERED, Buffered, Inputs, LineFault, OpenFault, Subcommand, TableNames, parse_line, read_all,
+    run,
 };
 use bufr_frame::RunFault;
 use bufr_text::Form;
-use std::alloc::Global;
+use std::alloc::{AllocError, Global};
 use std::cell::Cell;
 use std::io::{self, BufWriter, ErrorKind, Read, Write};
 
@@ -219,22 +219,22 @@ struct Library<'a> {
 impl<'a> Inputs for Library<'a> {
     ghost use Rattle.std.specs.Prelude.{None};
 
-    type Standard = Page<'a>;
+    type Standard = Device<Page<'a>>;
 
-    type File = Page<'a>;
+    type File = Device<Page<'a>>;
 
     ghost standard_octets = { λ _. None };
 
     ghost file_octets = { λ _ _. None };
 
-    fn standard(&self) -> Page<'a> {
-        Page {
+    fn standard(&self) -> Result<Device<Page<'a>>, AllocError> {
+        Ok(Device::new(Page {
             octets: self.standard,
             torn: false,
-        }
+        }))
     }
 
-    fn open(&self, name: &str) -> Result<Page<'a>, CannotOpenFile> {
+    fn open(&self, name: &str) -> Result<Device<Page<'a>>, OpenFault> {
         let octets = match name.as_bytes() {
             b"b.csv" => table_b(),
             b"d.csv" => table_d(),
@@ -242,10 +242,10 @@ impl<'a> Inputs for Library<'a> {
             b"one" => self.one,
             b"torn" => b"fxy",
             b"torn.bufr" => self.standard,
-            _ => return Err(CannotOpenFile),
+            _ => return Err(OpenFault::CannotOpen),
         };
         let torn = name == "torn" || name == "torn.bufr";
-        Ok(Page { octets, torn })
+        Ok(Device::new(Page { octets, torn }))
     }
 }
 

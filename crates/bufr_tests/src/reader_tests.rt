@@ -7,7 +7,7 @@ use crate::runs::{assert_run, refused};
 use crate::support::{Runtime, assert_same, assert_that, joined, ok, repeated, some, words_of};
 use bufr_bits::{Device, ScriptIn, Source};
 use bufr_frame::{Message, RunFault};
-use bufr_text::{Document, DumpReader, ReadFault, laws};
+use bufr_text::{Document, DumpReader, TextLineFault, ReadFault, laws};
 
 /// How many octets a read gives.
 const STEPS: [usize; 3] = [1, 3, 4096];
@@ -16,12 +16,13 @@ const STEPS: [usize; 3] = [1, 3, 4096];
 #[derive(Clone, Copy, Debug, PartialEq, Eq)]
 enum Next {
     Read(usize, u64),
-    Refused(ReadFault),
+    Refused(u64, TextLineFault),
+    Failed(RunFault),
     Done,
 }
 
-use Next::{Done, Read, Refused};
-use ReadFault::{HeaderRange, Line, SubsetCount};
+use TextLineFault::{HeaderRange, NotAllowed, SubsetCount};
+use Next::{Done, Failed, Read, Refused};
 
 /// The document of one block number, with this text in place of a line, from 1.
 fn with_line(rt: &impl Runtime, number: usize, text: &[u8]) -> Vec<u8> {
@@ -51,7 +52,8 @@ fn next_of<R: Source>(reader: &mut DumpReader, r: &mut R) -> Next {
     match reader.next_document(r) {
         Ok(None) => Done,
         Ok(Some(document)) => read_as(&document),
-        Err(fault) => Refused(fault),
+        Err(ReadFault::Line(line, fault)) => Refused(line, fault),
+        Err(ReadFault::Run(fault)) => Failed(fault),
     }
 }
 
@@ -87,21 +89,20 @@ fn assert_read(rt: &impl Runtime, text: &[u8], fails_at: Option<usize>, wanted: 
 }
 
 /// The line of `encode` for a fault.
-fn line_of(rt: &impl Runtime, fault: &ReadFault) -> String {
-    let (line, text) = match *fault {
-        Line(line) => (line, "50 line"),
-        SubsetCount(line) => (line, "57 subset count"),
-        HeaderRange(line) => (line, "61 header range"),
-        ReadFault::Run(_) => (0, ""),
+fn line_of(rt: &impl Runtime, line: u64, fault: TextLineFault) -> String {
+    let text = match fault {
+        NotAllowed => "50 line",
+        SubsetCount => "57 subset count",
+        HeaderRange => "61 header range",
     };
     ok(rt, format!(in rt.alloc(); "line {line}: {text}\n"))
 }
 
 fn assert_document(rt: &impl Runtime, text: &[u8], want: Next) {
     match want {
-        Refused(fault) => {
+        Refused(line, fault) => {
             assert_read(rt, text, None, &[want]);
-            let line = line_of(rt, &fault);
+            let line = line_of(rt, line, fault);
             assert_run(rt, refused(Encode, "fault", text, line.as_bytes()))
         }
         _ => assert_read(rt, text, None, &[want, Done]),
@@ -112,8 +113,8 @@ fn assert_document(rt: &impl Runtime, text: &[u8], want: Next) {
 // what is read are its nearest wrong neighbours.
 #[rattlefmt::skip]
 static RULES: &[(usize, Next, &[&[u8]])] = &[
-    (25, Refused(SubsetCount(25)), &[b"subset 2\n001001 10\nend\n"]),
-    (25, Refused(Line(25)), &[b""]),
+    (25, Refused(25, SubsetCount), &[b"subset 2\n001001 10\nend\n"]),
+    (25, Refused(25, NotAllowed), &[b""]),
     (25, Read(2, 1), &[b"end"]),
     (24, Read(2, 1), &[
         b"001001 10\n", b"001001 10 # note\r\n", b"001001 10 #x\n", b"001001 10   #\n",
@@ -121,7 +122,7 @@ static RULES: &[(usize, Next, &[&[u8]])] = &[
         b"205004 \"a\\\"\\\\\\x0A\"\n", b"205004 \"\\xFE\"\n", b"205004 \"~ \"\n",
         b"205004 \"a\"  # note\n",
     ]),
-    (24, Refused(Line(24)), &[
+    (24, Refused(24, NotAllowed), &[
         b"001001\t10\n", b"001001  10\n", b"  \n001001 10\n", b" # note\n001001 10\n",
         b"\r\n001001 10\n", b"001001 10\r\n", b"001001 10# note\n", b"001001 10 note\n",
         b"001001 10 \n", b"001001 +1\n", b"001001 x\n", b"001001 MISSING2\n",
@@ -130,26 +131,26 @@ static RULES: &[(usize, Next, &[&[u8]])] = &[
         b"205004 \"a\n", b"205004 \"a\"# note\n", b"205004 \"a\"x\n",
     ]),
     (24, Read(2, 1), &[b"\n001001 10\n", b"# note\r\n001001 10\n"]),
-    (24, Refused(Line(25)), &[b"001001 1.5\nx\n"]),
-    (24, Refused(Line(26)), &[b"\n# note\nx\n"]),
-    (23, Refused(SubsetCount(23)), &[b"subset 2\n"]),
-    (23, Refused(Line(23)), &[b"subset x\n", b"subset \n"]),
+    (24, Refused(25, NotAllowed), &[b"001001 1.5\nx\n"]),
+    (24, Refused(26, NotAllowed), &[b"\n# note\nx\n"]),
+    (23, Refused(23, SubsetCount), &[b"subset 2\n"]),
+    (23, Refused(23, NotAllowed), &[b"subset x\n", b"subset \n"]),
     (23, Read(2, 1), &[b"subset 01\n"]),
     (22, Read(2, 1), &[b"local1 abCD\n", b"descriptors 001001 001001 001001 001001 001001 001001 001001 001001\n"]),
-    (22, Refused(Line(22)), &[
+    (22, Refused(22, NotAllowed), &[
         b"local1 abC\n", b"local1 \n", b"section2 01\n",
         b"descriptors 001001 001001 001001 001001 001001 001001 001001 001001 001001\n",
         b"descriptors 0010010\n", b"descriptors  001001\n", b"descriptors\n",
     ]),
     (22, Read(2, 1), &[b"local1 01\nlocal1 0203\n", b"descriptors 001001\ndescriptors 001001\n"]),
-    (22, Refused(Line(23)), &[b"descriptors 001001\nlocal1 01\n"]),
+    (22, Refused(23, NotAllowed), &[b"descriptors 001001\nlocal1 01\n"]),
     (4, Read(2, 1), &[b"\n# note\ncentre 98\n"]),
-    (4, Refused(Line(4)), &[
+    (4, Refused(4, NotAllowed), &[
         b"centre \n", b"centre +98\n", b"centre -98\n", b"centre  98\n", b"centre 65536x\n",
         b"subcentre 65536\n",
     ]),
-    (4, Refused(HeaderRange(6)), &[b"\n# note\ncentre 65536\n"]),
-    (2, Refused(HeaderRange(12)), &[b"edition 3\n"]),
+    (4, Refused(6, HeaderRange), &[b"\n# note\ncentre 65536\n"]),
+    (2, Refused(12, HeaderRange), &[b"edition 3\n"]),
 ];
 
 fn assert_texts(rt: &impl Runtime, number: usize, want: Next, texts: &[&[u8]]) {
@@ -186,8 +187,8 @@ fn line_of_digits(rt: &impl Runtime, word: &[u8], count: usize) -> Vec<u8> {
 fn assert_octet_lines(rt: &impl Runtime, word: &[u8]) {
     for (count, want) in [
         (64, Read(0, 1)),
-        (63, Refused(Line(22))),
-        (66, Refused(Line(22))),
+        (63, Refused(22, NotAllowed)),
+        (66, Refused(22, NotAllowed)),
     ] {
         let line = line_of_digits(rt, word, count);
         assert_document(rt, &with_octets(rt, &line), want);
@@ -204,11 +205,11 @@ fn reads_lines_of_octets(rt: HostRuntime) {
 // A word that digits are put after in place of a line, their count, and what the document then is.
 #[rattlefmt::skip]
 static LONG_LINES: &[(usize, &[u8], usize, Next)] = &[
-    (4, b"centre ", 4089, Refused(HeaderRange(4))),
+    (4, b"centre ", 4089, Refused(4, HeaderRange)),
     (24, b"001001 ", 4089, Read(2, 1)),
-    (24, b"001001 ", 4090, Refused(Line(24))),
+    (24, b"001001 ", 4090, Refused(24, NotAllowed)),
     (24, b"001001 10\n#", 4095, Read(2, 1)),
-    (24, b"001001 10\n#", 4096, Refused(Line(25))),
+    (24, b"001001 10\n#", 4096, Refused(25, NotAllowed)),
 ];
 
 /// Lines of 4,096 octets are read; of one octet more no line feed is looked for.
@@ -220,7 +221,7 @@ fn reads_long_lines(rt: HostRuntime) {
         assert_document(&rt, &with_line(&rt, *number, &line), *want);
     }
     let note = repeated(&rt, b"#", 4097);
-    assert_read(&rt, &note, Some(4097), &[Refused(Line(1))]);
+    assert_read(&rt, &note, Some(4097), &[Refused(1, NotAllowed)]);
 }
 
 /// How many octets the document has.
@@ -234,11 +235,11 @@ fn reads_several_documents(rt: HostRuntime) {
     let one: &[u8] = one.as_bytes();
     assert_read(&rt, b"", None, &[Done]);
     assert_read(&rt, b"\n# note\n", None, &[Done]);
-    assert_read(&rt, b"end\n", None, &[Refused(Line(1))]);
+    assert_read(&rt, b"end\n", None, &[Refused(1, NotAllowed)]);
     let two = joined(&rt, &[b"\n", one, b"# note\n\n", one]);
     assert_read(&rt, &two, None, &[Read(2, 2), Read(2, 29), Done]);
     let refused = joined(&rt, &[one, b"x\n", one]);
-    assert_read(&rt, &refused, None, &[Read(2, 1), Refused(Line(26))]);
+    assert_read(&rt, &refused, None, &[Read(2, 1), Refused(26, NotAllowed)]);
 }
 
 /// A document is read before the read after it fails.
@@ -246,11 +247,11 @@ fn reads_several_documents(rt: HostRuntime) {
 fn reads_up_to_a_failed_read(rt: HostRuntime) {
     let two = repeated(&rt, text_of_one(&rt).as_bytes(), 2);
     assert_read(&rt, &two, None, &[Read(2, 1), Read(2, 26), Done]);
-    let fault = Refused(ReadFault::Run(RunFault::Read));
+    let fault = Failed(RunFault::Read);
     assert_read(&rt, &two, Some(WHOLE), &[Read(2, 1), fault]);
     let short = with_line(&rt, 21, b"subsets 2\n");
     let text = joined(&rt, &[&short, &two]);
-    assert_read(&rt, &text, Some(WHOLE), &[Refused(SubsetCount(25))]);
+    assert_read(&rt, &text, Some(WHOLE), &[Refused(25, SubsetCount)]);
 }
 
 fn assert_counts(rt: &impl Runtime, document: &Document, want: (bool, bool, u16, usize)) {
@@ -299,9 +300,9 @@ fn counts_entries(rt: HostRuntime) {
 // Faults of reading, their numbers and their texts.
 #[rattlefmt::skip]
 static FAULTS: &[(ReadFault, u8, &str)] = &[
-    (Line(3), 50, "line"),
-    (SubsetCount(25), 57, "subset count"),
-    (HeaderRange(4), 61, "header range"),
+    (ReadFault::Line(3, NotAllowed), 50, "line"),
+    (ReadFault::Line(25, SubsetCount), 57, "subset count"),
+    (ReadFault::Line(4, HeaderRange), 61, "header range"),
     (ReadFault::Run(RunFault::Memory), 73, "out of memory"),
 ];
 
@@ -378,5 +379,5 @@ fn reuses_memory(rt: HostRuntime) {
     reader.reuse(document_of(&rt, &text));
     assert_reused(&rt, &mut reader, &mut r, 1);
     assert_reused(&rt, &mut reader, &mut r, 27);
-    assert_next(&rt, &mut reader, &mut r, Refused(SubsetCount(76)));
+    assert_next(&rt, &mut reader, &mut r, Refused(76, SubsetCount));
 }

@@ -1,16 +1,17 @@
 -- What a call of a reader of dump texts reports.
-use Rattle.std.proofs.Common.{inl, inr, ◌⊎◌, ◌≡◌, ℕ, ◌<◌, Bool, true, false, List, [], ◌∷◌, ◌++◌, length, refl, sym, ap, subst, ◌∙◌, arith, append_assoc, append-nil, length-append, ◌+◌, ◌≤◌, Option, Ok, Some, None, Result, Err, IfOk, IfSome}
+use Rattle.std.proofs.Common.{◌-◌, ◌*◌, ◌^◌, min, max, inl, inr, ◌⊎◌, ◌≡◌, ℕ, ◌<◌, Bool, true, false, List, [], ◌∷◌, ◌++◌, length, refl, sym, ap, subst, ◌∙◌, arith, append_assoc, append-nil, length-append, ◌+◌, ◌≤◌, Option, Ok, Some, None, Result, Err, IfOk, IfSome}
 use Rattle.std.proofs.KnownBytes.{Consumes-trans}
 use Rattle.std.proofs.lemmas.Bool.{true≢false}
 use Rattle.std.proofs.lemmas.List.{nil_from_length}
-use Rattle.bufr_text.specs.Prelude.{NeedsLine, failures_by, ParserState, ParseResult, parse_lines, parse_open_lines, lines_of, split_of, Document, Complete, documents_of, open_documents_of, text_of_lines, has_no_feed, ReaderPosition, ContinuesParse, TakesWholeLines, TakesEndLine, ReaderModel, position_of, position_after, IsMissingFeed, ReadsLines, EndsAtEndLine, parse, parse_open, new_reader, HasNoMoreLines, KeepsUnread, ReadsOnlyIfNoLine, ReturnsNextDocument, HasNoWholeLine, ParsesHeldLines, ReadsMoreText, TakesHeldLines, FillsBuffer, text_input, stopped, IsProper, ReadFault}
+use Rattle.bufr_text.specs.Prelude.{NeedsLine, failures_by, Parsing, ParseResult, parse_lines, parse_open_lines, lines_of, split_of, Document, Complete, documents_of, open_documents_of, text_of_lines, has_no_feed, ReaderPosition, ContinuesParse, TakesWholeLines, TakesEndLine, ReaderModel, position_of, position_after, IsMissingFeed, ReadsLines, EndsAtEndLine, parse, parse_open, new_reader, HasNoMoreLines, KeepsUnread, ReadsOnlyIfNoLine, ReturnsNextDocument, HasNoWholeLine, ParsesHeldLines, ReadsMoreText, TakesHeldLines, FillsBuffer, text_input, stopped, IsProper, ReadFault}
 use Rattle.bufr_text.proofs.ReaderLemmas.{goes-further, line-held, one-line, nothing-yet, some-held, call-keeps, keeps-same, passes-none, HandlesEnd}
 use Rattle.std.specs.Io.KnownBytes.{Consumes}
-use Rattle.bufr_frame.specs.Prelude.{max_reads, FillEnds, FillFails, AddsReads}
+use Rattle.bufr_bits.proofs.CountLemmas.{counted-none}
+use Rattle.bufr_frame.specs.Prelude.{max_reads, FillEnds, FillFails, AddsReads, AsksAtMost}
 use Rattle.bufr_frame.specs.declared.fault.RunFault.{RunFault}
 use Rattle.bufr_frame.specs.declared.fault.RunFault.TheVariants.{Read, Write, InputTooLong, Memory}
 use Rattle.bufr_frame.proofs.FinderLemmas.{adds-none, adds-then}
-use Rattle.bufr_text.specs.declared.fault.ReadFault.TheVariants.{Line, SubsetCount, HeaderRange, Run}
+use Rattle.bufr_text.specs.declared.fault.ReadFault.TheVariants.{Line, Run}
 use Rattle.std.proofs.lemmas.Bool.Decides.{nat_tests}
 use Rattle.std.proofs.lemmas.Grind.{common_steps}
 
@@ -139,7 +140,7 @@ takes-call left s s' results h1 h2 h3 = grind (arith, nat_tests, common_steps)
 
 module _ (left left' : Option (List ℕ)) (s s' : ReaderModel) (bs : List ℕ) (read : ReadsMoreText left left' s s' (Ok tt) bs) (open' : s.ended ≡ false) (clean : has_no_feed s.held ≡ true) where
   same-hold : (h : List ℕ) (t : List ℕ) → parse_lines s.at s.place (lines_of (h ++ t)) ≡ parse_lines s'.at s'.place (lines_of (h ++ t))
-  same-hold h t = ap (λ (k : ℕ). parse_lines k s.place (lines_of (h ++ t))) (sym read.at) ∙ ap (λ (p : ParserState). parse_lines s'.at p (lines_of (h ++ t))) (sym read.place)
+  same-hold h t = ap (λ (k : ℕ). parse_lines k s.place (lines_of (h ++ t))) (sym read.at) ∙ ap (λ (p : Parsing). parse_lines s'.at p (lines_of (h ++ t))) (sym read.place)
 
   -- the line feed that the last line lacks makes no difference
   held-lines : (t : List ℕ) → (s'.ended ≡ true → t ≡ []) → ((read.feed ≡ []) ⊎ ((s'.ended ≡ true) × (read.feed ≡ 10 ∷ []) × (0 < length s.held)))
@@ -176,7 +177,7 @@ module _ (left left' : Option (List ℕ)) (s s' : ReaderModel) (bs : List ℕ) (
           openly = λ unended t.
               ap (λ (z : List ℕ). parse_open_lines s.at s.place (split_of (z ++ t)).whole (split_of (z ++ t)).rest) (no-feed-open unended read.missing)
               ∙ ap (λ (k : ℕ). parse_open_lines k s.place (split_of (s'.held ++ t)).whole (split_of (s'.held ++ t)).rest) (sym read.at)
-              ∙ ap (λ (p : ParserState). parse_open_lines s'.at p (split_of (s'.held ++ t)).whole (split_of (s'.held ++ t)).rest) (sym read.place);
+              ∙ ap (λ (p : Parsing). parse_open_lines s'.at p (split_of (s'.held ++ t)).whole (split_of (s'.held ++ t)).rest) (sym read.place);
         };
         lines = (read.feed, feed-missing read.missing, subst P read.held (subst A (sym read.at) (passes-none s.at s'.held)));
         kept = λ e. absurd (true≢false (sym e ∙ open'));
@@ -212,9 +213,7 @@ call-needs left mid old s s' bs call needs = rw (append-nil bs) at (call-then le
 -- without a read none fails
 pub failures-kept : (count : ℕ) (next : Result (Option Document) ReadFault) → (next ≡ Err (Run Read) → ⊥) → failures_by count next ≡ count
 failures-kept count (Ok document) unread = refl
-failures-kept count (Err (Line line)) unread = refl
-failures-kept count (Err (SubsetCount line)) unread = refl
-failures-kept count (Err (HeaderRange line)) unread = refl
+failures-kept count (Err (Line line fault)) unread = refl
 failures-kept count (Err (Run Read)) unread = absurd (unread refl)
 failures-kept count (Err (Run Write)) unread = refl
 failures-kept count (Err (Run InputTooLong)) unread = refl
@@ -274,7 +273,7 @@ module _ (left mid : Option (List ℕ)) (old s s' : ReaderModel) (bs : List ℕ)
         waits = waits-same left old s s' bs bs waits (ap (λ x. x.reads) so.0) refl;
         ends = (ap (λ x. x.fault) so.0 ∙ sound, (ap (λ x. x.ended) so.0 ∙ ended, so.1, so.2));
       }
-  end-next (Err (Line line)) so = record {
+  end-next (Err (Line line fault)) so = record {
     octets = bs;
     reads = call-takes left mid old s s' bs _ call so.0 so.2 so.3;
     keeps = call-keeps left mid old s' _ bs (call-takes left mid old s s' bs _ call so.0 so.2 so.3);
@@ -390,10 +389,6 @@ module _ (left mid left' : Option (List ℕ)) (old s s' : ReaderModel) (bs bs' :
 some-none : (x : ParseResult) → x ∷ [] ≡ [] → ⊥
 some-none x e = omega (arith, ap length e)
 
-pub done-again : (left left' : Option (List ℕ)) (old new : ReaderModel) (result : Result (Option Document) ReadFault) → ReturnsNextDocument left left' old new result → HasNoMoreLines old
-    → (result ≡ Ok None) × (new.reads ≡ old.reads)
-done-again left left' old new result h1 h2 = grind (arith, nat_tests, common_steps)
-
 -- the documents that calls reported from the beginning
 pub reported-first : (left left' : Option (List ℕ)) (s : ReaderModel) (results : List ParseResult) (bs t : List ℕ) → ReadsLines left left' new_reader s results bs → (s.ended ≡ true → t ≡ [])
     → documents_of (bs ++ t) ≡ results ++ parse (position_of s) t
@@ -411,3 +406,19 @@ pub reported-at-fault : (left left' : Option (List ℕ)) (s : ReaderModel) (resu
     → open_documents_of bs ≡ results
 reported-at-fault left left' s results bs call open' = ap open_documents_of (sym (append-nil bs)) ∙ call.goes.openly open'.0 [] ∙ ap (λ (l : List ParseResult). results ++ l) open'.1
     ∙ append-nil results
+
+-- no octets were asked for, and octets after others, at most 4,096 a read
+pub asks-nothing : (asked reads : ℕ) → AsksAtMost asked asked (4096 * (reads - reads))
+asks-nothing asked reads =
+    let nothing : 4096 * (reads - reads) ≡ 0 = omega arith in
+    rw nothing (omega (arith, counted-none asked))
+
+asks-more : (a b c x y most : ℕ) → b ≤ max a (min (a + x) most) → c ≤ max b (min (b + y) most) → c ≤ max a (min (a + (x + y)) most)
+asks-more a b c x y most one two = omega arith
+
+pub asks-then : (a b c before made made' after : ℕ) → before ≤ made → made' ≤ after → made' ≡ made → AsksAtMost a b (4096 * (made - before))
+    → AsksAtMost b c (4096 * (after - made')) → AsksAtMost a c (4096 * (after - before))
+asks-then a b c before made made' after order more same one two =
+    let sum : 4096 * (made - before) + 4096 * (after - made') ≡ 4096 * (after - before) = omega arith in
+    let A : ℕ → Type 0 = λ n. AsksAtMost a c n in
+    subst A sum (asks-more a b c _ _ (2 ^ 64 - 1) one two)

@@ -5,14 +5,14 @@ use Rattle.std.proofs.lemmas.Bool.Decides.{nat_tests}
 use Rattle.bufr_tables.specs.declared.table_b.Kind.{Kind}
 use Rattle.bufr_tables.specs.Prelude.{Row, entry_of, IsLegal, Tree, Sequence}
 use Rattle.bufr_walk.proofs.NextField.{AreRead, row_found, next_field}
-use Rattle.bufr_walk.specs.Prelude.{FieldSpec, IsSpec, HasWidth, HasRole, Content, number, text, missing, reference, shown, found, packed_field, Course, next_item, view_of, content_at, data_of, Item, plain, packed, ReadsItems, ReadsSubsets, IsPackedReading, IsReading, Values, apart, together, after}
+use Rattle.bufr_walk.specs.Prelude.{FieldSpec, IsSpec, HasWidth, HasRole, Content, number, text, missing, reference, shown, found, packed_field, Course, next_item, view_of, content_at, data_of, Item, plain, packed, ReadsItems, ReadsSubsets, IsPackedReading, IsReading, Values, apart, together, after, subsets_from, items_of_subset}
 use Rattle.bufr_text.specs.Prelude.{IsDescriptorWord, IsOctet, IsValue, IsComment, IsItem, IsDumpable, IsAccepted, items_shown, dump_items}
 use Rattle.std.proofs.lemmas.List.{length-map}
 use Rattle.bufr_bits.specs.Prelude.{bits_of}
 use Rattle.bufr_frame.specs.Prelude.{u16_at, words, Sections, sections_of, parts, edition_of, head_of, has_section2, IsFitting, first_least}
 use Rattle.bufr_frame.proofs.AgainLemmas.{sections-ended, heads-fit}
 use Rattle.bufr_walk.specs.declared.spec.Role.{Role}
-use Rattle.bufr_fill.specs.Prelude.{AreOctets, FitsKind, FitsRole, Fits, AllFit, subsets_from, items_of_subset}
+use Rattle.bufr_fill.specs.Prelude.{AreOctets, FitsKind, FitsRole, Fits, AllFit}
 use Rattle.bufr_fill.proofs.PlainLaws.{plain_read}
 use Rattle.bufr_fill.proofs.FieldLemmas.{top_below}
 use Rattle.bufr_fill.proofs.GoodReads.{AllFields, EachFields, plain_fields, packed_fields}

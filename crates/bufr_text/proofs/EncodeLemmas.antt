@@ -1,12 +1,12 @@
 -- The bits and the turns of a walk that writes.
-use Rattle.std.proofs.Common.{◌≡◌, ◌+◌, ℕ, suc, Bool, List, [], ◌∷◌, ◌++◌, length, length-append, Option, Some, None, Result, Ok, Err, refl, sym, ◌∙◌, ap, subst, arith, ◌<◌, get_or, true, false, ◌≤◌, zero, ◌-◌, ◌*◌, append_assoc, if◌then◌else◌}
+use Rattle.std.proofs.Common.{inl, inr, ◌≡◌, ◌+◌, ℕ, suc, Bool, List, [], ◌∷◌, ◌++◌, length, length-append, Option, Some, None, Result, Ok, Err, refl, sym, ◌∙◌, ap, subst, arith, ◌<◌, get_or, true, false, ◌≤◌, zero, ◌-◌, ◌*◌, append_assoc, if◌then◌else◌}
 use Rattle.bufr_walk.specs.declared.spec.Taken.{Taken}
 use Rattle.bufr_walk.specs.Prelude.{FieldSpec, octets_in, Course, Next, take_next, at_end, astray, refused, NextTurn, asked, operated, ahead, counts_of, next_item, Turns, finish, open_end, group, pass_end, factor_turn, element_turn, operator_turn, Rest, passes, unroll, TakenField, Takes, course_after, ticked, answers_of, oks, StopsWalk, Walked, element_spec, factor_spec, inserted_spec, OperatorModel, after_operator, after_field}
-use Rattle.bufr_fill.specs.Prelude.{FaultAt, at_line, draft_fault, Draft, DraftEntry, Holds, Ends, Subset, subset, prepend_to_subset, subsets_of, WrittenItem, Filler, fill_pass, bits_written, bits_or, fill, with_bits_before, plainly, plain_filler, plain_data, ◌>>=◌, cells_at, rows, longest, are_many, packed_filler, packed_data, AreOctets, PlainOutModel, PlainFills, IsFaultNext, after_end, line_at, items_left, end_left, ends_of, PackedOutModel, new_packed_out, PackedFills, IsFaultHere, all_at_end, first_line_at, rows_left}
+use Rattle.bufr_fill.specs.Prelude.{IfDraftFault, at_line, Draft, DraftEntry, Holds, Ends, Subset, subset, prepend_to_subset, subsets_of, WrittenItem, Filler, fill_pass, bits_written, bits_or, fill, with_bits_before, Writing, pass_writing, writing_then, bits_of_writing, plainly, plain_filler, plain_writing, plain_data, packed_writing, cells_at, rows, longest, are_many, packed_filler, packed_data, AreOctets, PlainOutModel, PlainFills, IsFaultNext, after_end, line_at, items_left, end_left, ends_of, PackedOutModel, new_packed_out, PackedFills, IsFaultHere, all_at_end, first_line_at, rows_left}
+use Rattle.bufr_fill.specs.declared.fault.DraftFault.{DraftFault}
 use Rattle.bufr_fill.proofs.FillSteps.{pass_at, pass_with, pass_more, fill_end}
 use Rattle.bufr_fill.proofs.WalkLemmas.{HasFilled, after_answers, fills, walk_of_items, fault_as_defined}
-use Rattle.bufr_text.specs.Prelude.{RefusedAt, report_of_items, octets_of_bits, message_of, IsDocumentRefusal, report_of_draft, reported_stop, AreOctetsOf, count_filled, turns_filled, CountsSteps, reported_refusal, IsData, IsNoData, count_plain, turns_plain, count_after, count_packed, turns_packed, DocumentFault}
-use Rattle.std.specs.Option.{option_map}
+use Rattle.bufr_text.specs.Prelude.{report_of_items, document_fault, octets_of_bits, message_of, IsDocumentRefusal, stop_fault, AreOctetsOf, CountsSteps, IsData, IsNoData, DocumentFault}
 use Rattle.bufr_bits.specs.Prelude.{padding, bits_of}
 use Rattle.bufr_fill.proofs.FieldLemmas.{octets_again}
 use Rattle.bufr_frame.specs.declared.section1.Head.{Head}
@@ -16,14 +16,22 @@ use Rattle.bufr_tables.specs.Prelude.{Row, Tree, bare, element, operator, fixed,
 use Rattle.bufr_walk.specs.declared.spec.TurnRefusal.{TurnRefusal}
 use Rattle.std.proofs.lemmas.List.{append-nil}
 use Rattle.bufr_walk.specs.declared.walker.WalkStop.{WalkStop}
-use Rattle.bufr_fill.specs.declared.fault.DraftFault.{DraftFault}
 use Rattle.bufr_walk.proofs.ShownLemmas.{ticked_more}
 use Rattle.bufr_fill.proofs.EntryLemmas.{length-subsets}
 use Rattle.bufr_fill.proofs.PackedWalks.{stays, written_as_defined, fault_as_defined as packed_fault_as_defined, fills as packed_fills}
+use Rattle.bufr_fill.specs.declared.fault.DraftFault.TheVariants as draft_fault
+use Rattle.bufr_text.specs.declared.fault.DocumentFault.TheVariants as document
 use Rattle.bufr_walk.specs.declared.spec.Taken.TheVariants as taken
 use Rattle.std.proofs.lemmas.Grind.{common_steps}
 
 -- ---- A walk that writes counts as the definition does.
+
+-- how many bits a pass writes, and how many turns it takes
+abbrev count_filled : {D C E : Type 0} → Filler D C E → Course → List D → ℕ
+count_filled filler course drafts = length (bits_written (fill_pass filler course drafts).items)
+
+abbrev turns_filled : {D C E : Type 0} → Filler D C E → Course → List D → ℕ
+turns_filled filler course drafts = (fill_pass filler course drafts).turns
 
 module _ {D C E S : Type 0} (filler : Filler D C E) (left : S → List D) (out : S → List Bool) (takes : S → FieldSpec → Taken → S → Type 0)
     (fills : (s : S) (spec : FieldSpec) (t : Taken) (s' : S) → takes s spec t s' → HasFilled filler (left s) (out s) spec t (left s') (out s')) where
@@ -46,20 +54,11 @@ module _ {D C E S : Type 0} (filler : Filler D C E) (left : S → List D) (out :
       let c = ap length f.bits ∙ length-append (out s) f.item.bits in
       omega (arith, a, b, c)
 
-module _ {D C E : Type 0} (filler : Filler D C E) where
-  -- where nothing is refused all bits count
-  pub all_counted : (course : Course) (ds : List D) (bits : List Bool) → fill filler course ds ≡ Ok bits → count_filled filler course ds ≡ length bits
-  all_counted course ds bits h = let p = fill_pass filler course ds in by (bits_written p.items) p.stop h
-    where
-      by : (all : List Bool) (stop : Option E) → bits_or all stop ≡ Ok bits → length all ≡ length bits
-      by all None h = let same : all ≡ bits = cc in ap length same
-      by all (Some why) h = absurd cc h
-
 -- a fault that is reported is the definition's
-pub refuses_so : (o : Option FaultAt) (results : Option RefusedAt) (r : Result (List Bool) FaultAt) → results ≡ option_map report_of_draft o → ((f : FaultAt) → o ≡ Some f → r ≡ Err f)
-    → IsDocumentRefusal results (report_of_items r)
-refuses_so None results r e h = subst (λ t. IsDocumentRefusal t (report_of_items r)) (sym e) tt
-refuses_so (Some f) results r e h = subst (λ t. IsDocumentRefusal t (report_of_items r)) (sym e) (ap report_of_items (h f refl))
+pub refuses_so : (o : DraftFault) (why : DocumentFault) (r : Result (List Bool) DraftFault) → why ≡ document_fault o → IfDraftFault o (λ f. r ≡ Err f)
+    → IsDocumentRefusal why (report_of_items r)
+refuses_so draft_fault.Memory why r e h = inl e
+refuses_so (draft_fault.Item line f) why r e h = inr (ap report_of_items h ∙ ap Err (sym e))
 
 -- octets that are the bits of data
 pub octets_are_bits : (xs : List ℕ) (bits : List Bool) → ((k : ℕ) → get_or xs k 0 < 256) → AreOctetsOf xs bits → xs ≡ octets_of_bits bits
@@ -258,16 +257,11 @@ module _ {D C E : Type 0} (filler : Filler D C E) where
 pub ticked_at_most : (before turns all : ℕ) → turns ≤ all → ticked before turns ≤ ticked before all
 ticked_at_most before turns all h1 = grind (arith, nat_tests, common_steps)
 
--- all turns were made
-pub all_made : (o : Option RefusedAt) (before turns after : ℕ) → after ≡ ticked before turns → CountsSteps o before turns after
-all_made None before turns after h = omega (arith, h)
-all_made (Some f) before turns after h = h
-
 -- all turns were made where a fault is reported
-pub makes_so : (o : Option FaultAt) (results : Option RefusedAt) (before turns after : ℕ) → results ≡ option_map report_of_draft o → after ≤ ticked before turns
-    → ((f : FaultAt) → o ≡ Some f → after ≡ ticked before turns) → CountsSteps results before turns after
-makes_so None results before turns after e few h = subst (λ t. CountsSteps t before turns after) (sym e) few
-makes_so (Some f) results before turns after e few h = subst (λ t. CountsSteps t before turns after) (sym e) (h f refl)
+pub makes_so : (o : DraftFault) (why : DocumentFault) (before turns after : ℕ) → why ≡ document_fault o → after ≤ ticked before turns
+    → IfDraftFault o (λ f. after ≡ ticked before turns) → CountsSteps (why ≡ document.Memory) before turns after
+makes_so draft_fault.Memory why before turns after e few h = inl (e, few)
+makes_so (draft_fault.Item line f) why before turns after e few h = inr h
 
 -- ---- The subsets of a document, written one after another.
 
@@ -287,30 +281,37 @@ left_after [] = []
 left_after (Holds d ∷ more) = left_after more
 left_after (Ends line ∷ more) = more
 
--- what the definition makes of the next subset
-abbrev pub fill_next : Course → List DraftEntry → Result (List Bool) FaultAt
-fill_next course left = fill (plain_filler (end_left left)) course (items_left left)
+-- the writing of the next subset
+abbrev pub next_writing : Course → List DraftEntry → Writing DraftFault
+next_writing course left = pass_writing (fill_pass (plain_filler (end_left left)) course (items_left left))
 
-abbrev pub count_next : Course → List DraftEntry → ℕ
-count_next course left = count_filled (plain_filler (end_left left)) course (items_left left)
+abbrev pub fill_next : Course → List DraftEntry → Result (List Bool) DraftFault
+fill_next course left = bits_of_writing (next_writing course left)
 
-abbrev pub turns_next : Course → List DraftEntry → ℕ
-turns_next course left = turns_filled (plain_filler (end_left left)) course (items_left left)
+-- bits that were written, in so many turns
+abbrev pub wrote : List Bool → ℕ → Writing DraftFault
+wrote bits turns = record { bits = bits; stop = None; turns = turns }
+
+wrote_all : (bits all : List Bool) (stop : Option DraftFault) (turns : ℕ) → bits_or all stop ≡ Ok bits
+    → ◌≡◌ {A = Writing DraftFault} (record { bits = all; stop = stop; turns = turns }) (wrote bits turns)
+wrote_all bits all None turns h = let same : all ≡ bits = cc in ap (λ x. wrote x turns) same
+wrote_all bits all (Some why) turns h = absurd cc h
 
 pub record IsSubset (places : ℕ) (course : Course) (s : PlainOutModel) (steps : ℕ)
     (s' : PlainOutModel) (steps' : ℕ) : Type 0 where
   pub bits : List Bool
-  pub is : fill_next course s.left ≡ Ok bits
+  pub turns : ℕ
+  pub is : next_writing course s.left ≡ wrote bits turns
   pub written : s'.bits ≡ s.bits ++ bits
   pub left : s'.left ≡ left_after s.left
-  pub made : steps' ≡ ticked steps (turns_next course s.left)
+  pub made : steps' ≡ ticked steps turns
   pub few : steps' ≤ steps + places * length bits
 
 pub record IsNoSubset (places : ℕ) (course : Course) (s : PlainOutModel) (steps : ℕ)
     (why : DocumentFault) (steps' : ℕ) : Type 0 where
-  pub refuses : IsDocumentRefusal (reported_refusal why) (report_of_items (fill_next course s.left))
-  pub made : CountsSteps (reported_refusal why) steps (turns_next course s.left) steps'
-  pub few : steps' ≤ steps + places * (count_next course s.left + 1)
+  pub refuses : IsDocumentRefusal why (report_of_items (fill_next course s.left))
+  pub made : CountsSteps (why ≡ document.Memory) steps (next_writing course s.left).turns steps'
+  pub few : steps' ≤ steps + places * (length (next_writing course s.left).bits + 1)
 
 -- a walk stays in its subset
 record Keeps (s s' : PlainOutModel) : Type 0 where
@@ -346,12 +347,12 @@ counts end course s items s' h = omega (
 
 -- the turns of the next subset are those that a walk comes to
 turns_left : (course : Course) (s : PlainOutModel) (items : List TakenField) (mid : PlainOutModel) → Takes (oks PlainFills) course s items mid
-    → turns_next course s.left ≡ turns_filled (plain_filler (end_left s.left)) (course_after course items) (items_left mid.left)
+    → (next_writing course s.left).turns ≡ turns_filled (plain_filler (end_left s.left)) (course_after course items) (items_left mid.left)
 turns_left course s items mid h = walk_turns (plain_filler (end_left s.left)) (λ (p : PlainOutModel). items_left p.left) (λ (p : PlainOutModel). p.bits) (oks PlainFills) (fills (end_left s.left))
     course s items mid h
 
 -- nothing is taken at a fault
-fault_is_last : (end : ℕ) (next : Next) (left : List DraftEntry) (f : FaultAt) → IsFaultNext next left f → IsLast (plain_filler end) next (items_left left)
+fault_is_last : (end : ℕ) (next : Next) (left : List DraftEntry) (f : DraftFault) → IsFaultNext next left f → IsLast (plain_filler end) next (items_left left)
 fault_is_last end (take_next spec) (Holds d ∷ more) f h = (at_line d.line h.0, ap (plainly d.line spec) h.1)
 fault_is_last end (take_next spec) left f h = tt
 fault_is_last end at_end left f h = tt
@@ -359,9 +360,9 @@ fault_is_last end (refused r) left f h = tt
 fault_is_last end astray left f h = tt
 
 -- a walk to the end makes all turns of its subset
-all_turns : (course : Course) (s : PlainOutModel) (c : ℕ) (mid : PlainOutModel) (c' : ℕ) → Walked PlainFills course s c (Ok tt) mid c' → c' ≡ ticked c (turns_next course s.left)
+all_turns : (course : Course) (s : PlainOutModel) (c : ℕ) (mid : PlainOutModel) (c' : ℕ) → Walked PlainFills course s c (Ok tt) mid c' → c' ≡ ticked c ((next_writing course s.left).turns)
 all_turns course s c mid c' w =
-    w.3 ∙ ap (ticked c) (last_turns (plain_filler (end_left s.left)) course w.0 (items_left mid.left) at_end (turns_next course s.left) (turns_left course s w.0 mid w.1) w.2 tt)
+    w.3 ∙ ap (ticked c) (last_turns (plain_filler (end_left s.left)) course w.0 (items_left mid.left) at_end ((next_writing course s.left).turns) (turns_left course s w.0 mid w.1) w.2 tt)
 
 -- at the end of the template
 at_end_none : (end : ℕ) (course : Course) (left more : List DraftEntry) → (course []).next ≡ at_end → after_end left ≡ Ok more
@@ -376,7 +377,7 @@ some_left : (left : List DraftEntry) → 1 ≤ length (subsets_of left) → 1 �
 some_left [] h = absurd (omega (arith, h))
 some_left (e ∷ left) h = omega arith
 
-prefixed : (end : ℕ) (bits : List Bool) (r : Result (List Bool) FaultAt) (f : FaultAt) → r ≡ Err f → with_bits_before (plain_filler end) bits r ≡ Err f
+prefixed : (end : ℕ) (bits : List Bool) (r : Result (List Bool) DraftFault) (f : DraftFault) → r ≡ Err f → with_bits_before (plain_filler end) bits r ≡ Err f
 prefixed end bits r f h = ap (with_bits_before (plain_filler end) bits) h
 
 -- the subset was written
@@ -392,7 +393,10 @@ subset_written n course s c mid c' s' w passed same few =
     let e : length mid.bits - length s.bits ≡ length filled.0 = omega (arith, ap length filled.1, length-append s.bits filled.0) in
     record {
       bits = filled.0;
-      is = filled.2 ∙ ap (with_bits_before (plain_filler end) filled.0) none.0 ∙ ap Ok (append-nil filled.0);
+      turns = (next_writing course s.left).turns;
+      is =
+          let p = fill_pass (plain_filler end) course (items_left s.left) in
+          wrote_all filled.0 (bits_written p.items) p.stop p.turns (filled.2 ∙ ap (with_bits_before (plain_filler end) filled.0) none.0 ∙ ap Ok (append-nil filled.0));
       written = same ∙ filled.1;
       left = sym none.1 ∙ k.suffix;
       made = all_turns course s c mid c' w;
@@ -400,7 +404,8 @@ subset_written n course s c mid c' s' w passed same few =
     }
 
 -- the fault where a walk stopped is that of its subset
-refused_later : (course : Course) (s mid : PlainOutModel) (items : List TakenField) (f : FaultAt) → Takes (oks PlainFills) course s items mid → IsFaultNext (course (answers_of items)).next mid.left f
+refused_later : (course : Course) (s mid : PlainOutModel) (items : List TakenField) (f : DraftFault) → Takes (oks PlainFills) course s items mid
+    → IsFaultNext (course (answers_of items)).next mid.left f
     → fill_next course s.left ≡ Err f
 refused_later course s mid items f h x =
     let k = keeps course s items mid h in
@@ -411,25 +416,26 @@ refused_later course s mid items f h x =
 -- an item is left over
 pub subset_over : (n : ℕ) (course : Course) (s : PlainOutModel) (c : ℕ) (mid : PlainOutModel) (c' : ℕ) (e : DraftFault) (why : DocumentFault) → Walked PlainFills course s c (Ok tt) mid c'
     → 1 ≤ length (subsets_of s.left)
-    → (f : FaultAt) × (draft_fault e ≡ Some f) × (after_end mid.left ≡ Err f) → reported_refusal why ≡ option_map report_of_draft (draft_fault e) → c' ≤ c + n * (length mid.bits - length s.bits)
+    → after_end mid.left ≡ Err e → why ≡ document_fault e → c' ≤ c + n * (length mid.bits - length s.bits)
     → IsNoSubset n course s c why c'
 subset_over n course s c mid c' e why w some fault results few =
     let k = keeps course s w.0 mid w.1 in
-    let is = refused_later course s mid w.0 fault.0 w.1 (subst (λ n. IsFaultNext n mid.left fault.0) (sym w.2) (some_left mid.left (omega (arith, some, k.count)), fault.2)) in
+    let is = refused_later course s mid w.0 e w.1 (subst (λ n. IsFaultNext n mid.left e) (sym w.2) (some_left mid.left (omega (arith, some, k.count)), fault)) in
     let count = counts (end_left s.left) course s w.0 mid w.1 in
     record {
-      refuses = refuses_so (draft_fault e) (reported_refusal why) (fill_next course s.left) results (λ f h. is ∙ ap Err (same fault.0 f (sym fault.1 ∙ h)));
-      made = all_made (reported_refusal why) c (turns_next course s.left) c' (all_turns course s c mid c' w);
-      few = omega (arith, few, mul_most n (length mid.bits - length s.bits) (count_next course s.left + 1) (omega (arith, count)));
+      refuses = inr (ap report_of_items is ∙ ap Err (sym results));
+      made = inr (all_turns course s c mid c' w);
+      few = omega (arith, few, mul_most n (length mid.bits - length s.bits) (length (next_writing course s.left).bits + 1) (omega (arith, count)));
     }
-  where
-    same : (a b : FaultAt) → ◌≡◌ {A = Option FaultAt} (Some a) (Some b) → a ≡ b
-    same a b e = cc
 
 -- what stopped a walk is the fault at the next entry
-reported_next : (line : ℕ) (next : Next) (mid : PlainOutModel) (stop : WalkStop DraftFault) (s' : PlainOutModel) (f : FaultAt) → StopsWalk PlainFills next mid stop s' → line ≡ line_at s'.left
-    → reported_stop line stop ≡ Some f → IsFaultNext next mid.left f
-reported_next line next mid stop s' f h1 h2 h3 = grind (arith, nat_tests, common_steps)
+reported_next : (line : ℕ) (next : Next) (mid : PlainOutModel) (stop : WalkStop DraftFault) (s' : PlainOutModel) → StopsWalk PlainFills next mid stop s' → line ≡ line_at s'.left
+    → IfDraftFault (stop_fault line stop) (IsFaultNext next mid.left)
+reported_next line next mid stop s' h1 h2 = grind (arith, nat_tests, common_steps)
+
+if_fault : {P Q : DraftFault → Type 0} (o : DraftFault) → IfDraftFault o P → ((f : DraftFault) → P f → Q f) → IfDraftFault o Q
+if_fault draft_fault.Memory h g = tt
+if_fault (draft_fault.Item line why) h g = g (at_line line why) h
 
 -- and nothing more was written
 still : (next : Next) (mid : PlainOutModel) (stop : WalkStop DraftFault) (s' : PlainOutModel) → StopsWalk PlainFills next mid stop s' → s' ≡ mid
@@ -438,41 +444,35 @@ still next mid stop s' h1 = grind (arith, nat_tests, common_steps)
 -- the walk stopped
 pub subset_stopped : (n : ℕ) (course : Course) (s : PlainOutModel) (c : ℕ) (s' : PlainOutModel) (c' line : ℕ) (stop : WalkStop DraftFault) (why : DocumentFault) → AddsTurns course
     → Walked PlainFills course s c (Err stop) s' c' → line ≡ line_at s'.left
-    → reported_refusal why ≡ option_map report_of_draft (reported_stop line stop) → c' ≤ c + n * (length s'.bits - length s.bits + 1)
+    → why ≡ document_fault (stop_fault line stop) → c' ≤ c + n * (length s'.bits - length s.bits + 1)
     → IsNoSubset n course s c why c'
 subset_stopped n course s c s' c' line stop why g w at results few =
     let next = (course (answers_of w.0)).next in
     let filler = plain_filler (end_left s.left) in
-    let all = turns_next course s.left in
+    let all = (next_writing course s.left).turns in
     let left = turns_left course s w.0 w.1 w.2 in
     let count = counts (end_left s.left) course s w.0 w.1 w.2 in
     record {
-      refuses = refuses_so (reported_stop line stop) (reported_refusal why) (fill_next course s.left) results
-          (λ f t. refused_later course s w.1 w.0 f w.2 (reported_next line next w.1 stop s' f w.3 at t));
-      made = makes_so (reported_stop line stop) (reported_refusal why) c all c' results
+      refuses = refuses_so (stop_fault line stop) why (fill_next course s.left) results
+          (if_fault (stop_fault line stop) (reported_next line next w.1 stop s' w.3 at) (λ f. refused_later course s w.1 w.0 f w.2));
+      made = makes_so (stop_fault line stop) why c all c' results
           (omega (arith, w.4, ticked_at_most c (course (answers_of w.0)).turns all (some_turns filler course w.0 (items_left w.1.left) all g left)))
-          (λ f t. w.4 ∙ ap (ticked c) (last_turns filler course w.0 (items_left w.1.left) next all left refl
-          (fault_is_last (end_left s.left) next w.1.left f (reported_next line next w.1 stop s' f w.3 at t))));
+          (if_fault (stop_fault line stop) (reported_next line next w.1 stop s' w.3 at)
+          (λ f h. w.4 ∙ ap (ticked c) (last_turns filler course w.0 (items_left w.1.left) next all left refl (fault_is_last (end_left s.left) next w.1.left f h))));
       few = omega (
         arith,
         few,
-        mul_most n (length s'.bits - length s.bits + 1) (count_next course s.left + 1)
+        mul_most n (length s'.bits - length s.bits + 1) (length (next_writing course s.left).bits + 1)
             (omega (arith, count, ap (λ (p : PlainOutModel). length p.bits) (still next w.1 stop s' w.3))),
       );
     }
 
 -- ---- all subsets
 
-pub put_before : List Bool → Result (List Bool) FaultAt → Result (List Bool) FaultAt
-put_before bits (Ok more) = Ok (bits ++ more)
-put_before bits (Err why) = Err why
-
 pub record PlainSoFar (places : ℕ) (course : Course) (all : List Subset) (done : ℕ) (left : List DraftEntry) (bits : List Bool) (steps : ℕ) : Type 0 where
-  pub is : plain_data course all ≡ put_before bits (plain_data course (subsets_of left))
-  pub count : count_plain course all ≡ length bits + count_plain course (subsets_of left)
   pub made : ℕ
+  pub is : plain_writing course all ≡ writing_then (wrote bits made) None (plain_writing course (subsets_of left))
   pub ticks : steps ≡ ticked 0 made
-  pub turns : turns_plain course all ≡ made + turns_plain course (subsets_of left)
   pub few : steps ≤ places * length bits
   pub rest : done + length (subsets_of left) ≡ length all
 
@@ -483,107 +483,141 @@ cut (Holds d ∷ more) h = ap (prepend_to_subset d) (cut more (omega (arith, h, 
 
 pub none_written : (n : ℕ) (course : Course) (all : List DraftEntry) (s : PlainOutModel) (steps : ℕ) → s.left ≡ all → s.bits ≡ [] → steps ≡ 0
     → PlainSoFar n course (subsets_of all) 0 s.left s.bits steps
-unfolding put_before
-none_written n course all s steps h1 h2 h3 = grind (arith, nat_tests, common_steps)
-
-pub one_more : (n : ℕ) (course : Course) (all : List Subset) (done : ℕ) (s : PlainOutModel) (steps : ℕ) (s' : PlainOutModel) (steps' : ℕ) → PlainSoFar n course all done s.left s.bits steps
-    → 1 ≤ length (subsets_of s.left) → IsSubset n course s steps s' steps'
-    → PlainSoFar n course all (done + 1) s'.left s'.bits steps'
-unfolding put_before
-one_more n course all done s steps s' steps' h some p =
-    let first = subset (items_left s.left) (end_left s.left) in
-    let c = cut s.left some in
-    let suffix : subsets_of (left_after s.left) ≡ subsets_of s'.left = ap subsets_of (sym p.left) in
-    let long = ap length p.written ∙ length-append s.bits p.bits in
-    record {
-      is = h.is ∙ ap (λ x. put_before s.bits (plain_data course x)) c
-          ∙ ap (put_before s.bits) (then_rest (fill_next course s.left) p.is (subsets_of (left_after s.left)))
-          ∙ twice s.bits p.bits (plain_data course (subsets_of (left_after s.left)))
-          ∙ ap (λ b. put_before b (plain_data course (subsets_of (left_after s.left)))) (sym p.written)
-          ∙ ap (λ x. put_before s'.bits (plain_data course x)) suffix;
-      count =
-          let a = ap (count_plain course) c in
-          let b = ap (λ r. count_after r (count_plain course (subsets_of (left_after s.left)))) p.is in
-          let d = all_counted (plain_filler (end_left s.left)) course (items_left s.left) p.bits p.is in
-          let e = ap (count_plain course) suffix in
-          omega (arith, h.count, a, b, d, e, long);
-      made = h.made + turns_next course s.left;
-      ticks = p.made ∙ ap (λ x. ticked x (turns_next course s.left)) h.ticks ∙ ticked_more h.made (turns_next course s.left);
-      turns =
-          let a = ap (turns_plain course) c in
-          let b = ap (λ r. count_after r (turns_plain course (subsets_of (left_after s.left)))) p.is in
-          let e = ap (turns_plain course) suffix in
-          omega (arith, h.turns, a, b, e);
-      few = omega (arith, h.few, p.few, split n (length s.bits) (length p.bits), ap (λ x. n * x) long);
-      rest = omega (arith, h.rest, ap length c, ap length suffix);
-    }
+none_written n course all s steps left none start = record {
+  made = 0;
+  is = ap (λ x. plain_writing course (subsets_of x)) (sym left) ∙ from_none (plain_writing course (subsets_of s.left))
+      ∙ ap (λ bits. writing_then (wrote bits 0) None (plain_writing course (subsets_of s.left))) (sym none);
+  ticks = start;
+  few = omega (arith, start);
+  rest = omega (arith, ap (λ x. length (subsets_of x)) left);
+}
   where
-    twice : (a b : List Bool) (r : Result (List Bool) FaultAt) → put_before a (put_before b r) ≡ put_before (a ++ b) r
-    twice a b (Ok x) = ap Ok (sym (append_assoc a b x))
-    twice a b (Err why) = refl
+    from_none : (w : Writing DraftFault) → w ≡ writing_then (wrote [] 0) None w
+    from_none w = let same : w.turns ≡ 0 + w.turns = omega arith in ap (λ turns. record { bits = w.bits; stop = w.stop; turns = turns }) same
 
-    then_rest : (r : Result (List Bool) FaultAt) → fill_next course s.left ≡ Ok p.bits → (ss : List Subset)
-        → plain_data course (subset (items_left s.left) (end_left s.left) ∷ ss) ≡ put_before p.bits (plain_data course ss)
-    then_rest r e ss = ap (λ x. x >>= λ first. plain_data course ss >>= λ rest. Ok (first ++ rest)) e ∙ by (plain_data course ss)
-      where
-        by : (r : Result (List Bool) FaultAt) → (r >>= λ rest. Ok (p.bits ++ rest)) ≡ put_before p.bits r
-        by (Ok x) = refl
-        by (Err why) = refl
+module _ (n : ℕ) (course : Course) (all : List Subset) (done : ℕ) (s : PlainOutModel) (steps : ℕ) (h : PlainSoFar n course all done s.left s.bits steps)
+    (some : 1 ≤ length (subsets_of s.left)) where
+  -- the subsets after the next one
+  abbrev rest : Writing DraftFault
+  rest = plain_writing course (subsets_of (left_after s.left))
+
+  -- all that is written, by what the next subset writes
+  abbrev next_then : Writing DraftFault
+  next_then = writing_then (next_writing course s.left) (next_writing course s.left).stop rest
+
+  by_next : plain_writing course all ≡ writing_then (wrote s.bits h.made) None next_then
+  by_next = h.is ∙ ap (λ ss. writing_then (wrote s.bits h.made) None (plain_writing course ss)) (cut s.left some)
+
+  pub one_more : (s' : PlainOutModel) (steps' : ℕ) → IsSubset n course s steps s' steps' → PlainSoFar n course all (done + 1) s'.left s'.bits steps'
+  one_more s' steps' p =
+      let suffix : subsets_of (left_after s.left) ≡ subsets_of s'.left = ap subsets_of (sym p.left) in
+      let long = ap length p.written ∙ length-append s.bits p.bits in
+      record {
+        made = h.made + p.turns;
+        is = by_next ∙ ap (λ w. writing_then (wrote s.bits h.made) None (writing_then w w.stop rest)) p.is
+            ∙ joined s.bits p.bits h.made p.turns rest
+            ∙ ap (λ b. writing_then (wrote b (h.made + p.turns)) None rest) (sym p.written)
+            ∙ ap (λ ss. writing_then (wrote s'.bits (h.made + p.turns)) None (plain_writing course ss)) suffix;
+        ticks = p.made ∙ ap (λ x. ticked x p.turns) h.ticks ∙ ticked_more h.made p.turns;
+        few = omega (arith, h.few, p.few, split n (length s.bits) (length p.bits), ap (λ x. n * x) long);
+        rest = omega (arith, h.rest, ap length (cut s.left some), ap length suffix);
+      }
+    where
+      joined : (a b : List Bool) (k l : ℕ) (w : Writing DraftFault) → writing_then (wrote a k) None (writing_then (wrote b l) None w) ≡ writing_then (wrote (a ++ b) (k + l)) None w
+      joined a b k l w =
+          let same : k + (l + w.turns) ≡ k + l + w.turns = omega arith in
+          ap (λ bits. record { bits = bits; stop = w.stop; turns = k + (l + w.turns) }) (sym (append_assoc a b w.bits))
+          ∙ ap (λ turns. record { bits = (a ++ b) ++ w.bits; stop = w.stop; turns = turns }) same
+
+  pub stopped : (why : DocumentFault) (steps' : ℕ) → IsNoSubset n course s steps why steps' → IsNoData n false course all why steps'
+  stopped why steps' p = record {
+    refuses = by why p.refuses;
+    made = made_so why p.refuses p.made;
+    few = omega (
+      arith,
+      h.few,
+      p.few,
+      split n (length s.bits) (length (next_writing course s.left).bits + 1),
+      mul_most n (length s.bits + (length (next_writing course s.left).bits + 1)) (length (plain_writing course all).bits + 1)
+          (omega (
+            arith,
+            ap (λ (w : Writing DraftFault). length w.bits) by_next,
+            length-append s.bits next_then.bits,
+            no_fewer (next_writing course s.left) rest (next_writing course s.left).stop,
+          )),
+    );
+  }
+    where
+      no_fewer : (w more : Writing DraftFault) (stop : Option DraftFault) → length w.bits ≤ length (writing_then w stop more).bits
+      no_fewer w more None = omega (arith, length-append w.bits more.bits)
+      no_fewer w more (Some why) = omega arith
+
+      no_less : (w more : Writing DraftFault) (stop : Option DraftFault) → w.turns ≤ (writing_then w stop more).turns
+      no_less w more None = omega arith
+      no_less w more (Some why) = omega arith
+
+      -- a refusal is the last
+      is_last : (f : DocumentFault) → report_of_items (fill_next course s.left) ≡ Err f → next_then ≡ next_writing course s.left
+      is_last f = last (next_writing course s.left) rest (next_writing course s.left).stop refl
+        where
+          last : (w more : Writing DraftFault) (stop : Option DraftFault) → w.stop ≡ stop → report_of_items (bits_of_writing w) ≡ Err f → writing_then w stop more ≡ w
+          last w more None e r = absurd cc (sym (ap (λ o. report_of_items (bits_or w.bits o)) e) ∙ r)
+          last w more (Some why) e r = refl
+
+      by : (f : DocumentFault) → IsDocumentRefusal f (report_of_items (fill_next course s.left)) → IsDocumentRefusal f (report_of_items (plain_data course all))
+      by f (inl out) = inl out
+      by f (inr r) = inr (ap (λ w. report_of_items (bits_of_writing w)) (by_next ∙ ap (writing_then (wrote s.bits h.made) None) (is_last f r)) ∙ same_refusal (next_writing course s.left).stop r)
+        where
+          same_refusal : (o : Option DraftFault) → report_of_items (bits_or (next_writing course s.left).bits o) ≡ Err f
+              → report_of_items (bits_or (s.bits ++ (next_writing course s.left).bits) o) ≡ Err f
+          same_refusal None r = absurd cc r
+          same_refusal (Some why) r = r
+
+      fewer : steps' ≤ ticked steps (next_writing course s.left).turns → steps' ≤ ticked 0 (plain_writing course all).turns
+      fewer m =
+          let turns = (next_writing course s.left).turns in
+          let e : ticked steps turns ≡ ticked 0 (h.made + turns) = ap (λ x. ticked x turns) h.ticks ∙ ticked_more h.made turns in
+          omega (
+            arith,
+            m,
+            e,
+            ticked_at_most 0 (h.made + turns) (plain_writing course all).turns
+                (omega (arith, ap (λ (w : Writing DraftFault). w.turns) by_next, no_less (next_writing course s.left) rest (next_writing course s.left).stop)),
+          )
+
+      made_so : (f : DocumentFault) → IsDocumentRefusal f (report_of_items (fill_next course s.left))
+          → CountsSteps (f ≡ document.Memory) steps (next_writing course s.left).turns steps' → CountsSteps (f ≡ document.Memory) 0 (plain_writing course all).turns steps'
+      made_so f r (inl m) = inl (m.0, fewer m.1)
+      made_so f (inl out) (inr m) = inl (out, fewer (omega (arith, m)))
+      made_so f (inr r) (inr m) =
+          let turns = (next_writing course s.left).turns in
+          inr (m ∙ ap (λ x. ticked x turns) h.ticks ∙ ticked_more h.made turns
+          ∙ ap (λ (w : Writing DraftFault). ticked 0 w.turns) (sym (by_next ∙ ap (writing_then (wrote s.bits h.made) None) (is_last f r))))
 
 pub all_written : (n : ℕ) (course : Course) (all : List Subset) (done : ℕ) (s : PlainOutModel) (steps : ℕ) (octets : List ℕ) → PlainSoFar n course all done s.left s.bits steps → done ≡ length all
     → AreOctetsOf octets s.bits → IsData n false course all octets steps
-unfolding put_before
-all_written n course all done s steps octets h1 h2 h3 = grind (arith, nat_tests, common_steps)
-
-pub stopped : (n : ℕ) (course : Course) (all : List Subset) (done : ℕ) (s : PlainOutModel) (steps : ℕ) (why : DocumentFault) (steps' : ℕ) → PlainSoFar n course all done s.left s.bits steps
-    → 1 ≤ length (subsets_of s.left) → IsNoSubset n course s steps why steps'
-    → IsNoData n false course all why steps'
-unfolding put_before
-stopped n course all done s steps why steps' h some p =
-    let c = cut s.left some in
-    let a = ap (count_plain course) c in
+all_written n course all done s steps octets h end o =
+    let none : length (subsets_of s.left) ≡ 0 = omega (arith, h.rest, end) in
+    let is = h.is ∙ by (subsets_of s.left) none in
     record {
-      refuses = by (reported_refusal why) p.refuses;
-      made = made_so (reported_refusal why) p.refuses p.made;
-      few = omega (
-        arith,
-        h.few,
-        p.few,
-        split n (length s.bits) (count_next course s.left + 1),
-        mul_most n (length s.bits + (count_next course s.left + 1)) (count_plain course all + 1) (omega (arith, h.count, a)),
-      );
+      out = s.bits;
+      is = ap bits_of_writing is;
+      octets_are = o;
+      made = h.ticks ∙ ap (λ (w : Writing DraftFault). ticked 0 w.turns) (sym is);
+      few = omega (arith, h.few, ap (λ (w : Writing DraftFault). n * length w.bits) is);
     }
   where
-    later : (r : Result (List Bool) FaultAt) (f : RefusedAt) → report_of_items r ≡ Err f → fill_next course s.left ≡ r → report_of_items (plain_data course all) ≡ Err f
-    later (Ok bits) f t e = absurd cc t
-    later (Err g) f t e =
-        ap report_of_items (h.is ∙ ap (λ x. put_before s.bits (plain_data course x)) (cut s.left some)
-        ∙ ap (λ x. put_before s.bits (x >>= λ first. plain_data course (subsets_of (left_after s.left)) >>= λ rest. Ok (first ++ rest))) e) ∙ t
-
-    by : (o : Option RefusedAt) → IsDocumentRefusal o (report_of_items (fill_next course s.left)) → IsDocumentRefusal o (report_of_items (plain_data course all))
-    by None h = tt
-    by (Some f) h = later (fill_next course s.left) f h refl
-
-    none_more : (r : Result (List Bool) FaultAt) (f : RefusedAt) (more : ℕ) → report_of_items r ≡ Err f → count_after r more ≡ 0
-    none_more (Ok bits) f more t = absurd cc t
-    none_more (Err g) f more t = refl
-
-    made_so : (o : Option RefusedAt) → IsDocumentRefusal o (report_of_items (fill_next course s.left)) → CountsSteps o steps (turns_next course s.left) steps'
-        → CountsSteps o 0 (turns_plain course all) steps'
-    made_so None r m =
-        let e : ticked steps (turns_next course s.left) ≡ ticked 0 (h.made + turns_next course s.left) =
-        ap (λ x. ticked x (turns_next course s.left)) h.ticks ∙ ticked_more h.made (turns_next course s.left) in
-        omega (arith, m, e, ticked_at_most 0 (h.made + turns_next course s.left) (turns_plain course all) (omega (arith, h.turns, ap (turns_plain course) (cut s.left some))))
-    made_so (Some f) r m =
-        let none = none_more (fill_next course s.left) f (turns_plain course (subsets_of (left_after s.left))) r in
-        m ∙ ap (λ x. ticked x (turns_next course s.left)) h.ticks ∙ ticked_more h.made (turns_next course s.left)
-        ∙ ap (ticked 0) (omega (arith, h.turns, ap (turns_plain course) (cut s.left some), none))
+    by : (ss : List Subset) → length ss ≡ 0 → writing_then (wrote s.bits h.made) None (plain_writing course ss) ≡ wrote s.bits h.made
+    by [] e =
+        let same : h.made + 0 ≡ h.made = omega arith in
+        ap (λ bits. wrote bits (h.made + 0)) (append-nil s.bits) ∙ ap (wrote s.bits) same
+    by (x ∷ ss) e = absurd (omega (arith, e))
 
 -- ---- The subsets of a document, written together.
 
 -- the bits that a walk wrote are among those that count
 packed_counts : (course : Course) (ss : List Subset) (items : List TakenField) (mid : PackedOutModel) → 1 ≤ length ss → Takes (oks PackedFills) course (new_packed_out ss) items mid
-    → length mid.bits ≤ count_packed course ss
+    → length mid.bits ≤ length (packed_writing course ss).bits
 packed_counts course [] items mid some h = absurd (omega (arith, some))
 packed_counts course (s ∷ more) items mid some h =
     let many = are_many (longest (s ∷ more)) (length (s ∷ more)) in
@@ -595,7 +629,7 @@ packed_counts course (s ∷ more) items mid some h =
 
 -- the turns of all subsets are those that a walk comes to
 packed_turns_left : (course : Course) (s : Subset) (more : List Subset) (items : List TakenField) (mid : PackedOutModel) → Takes (oks PackedFills) course (new_packed_out (s ∷ more)) items mid
-    → turns_packed course (s ∷ more) ≡ turns_filled (packed_filler s.end_line (are_many (longest (s ∷ more)) (length (s ∷ more)))) (course_after course items) (rows_left mid)
+    → (packed_writing course (s ∷ more)).turns ≡ turns_filled (packed_filler s.end_line (are_many (longest (s ∷ more)) (length (s ∷ more)))) (course_after course items) (rows_left mid)
 packed_turns_left course s more items mid h =
     let many = are_many (longest (s ∷ more)) (length (s ∷ more)) in
     let e : longest (s ∷ more) ≡ longest (s ∷ more) - 0 = omega arith in
@@ -604,19 +638,20 @@ packed_turns_left course s more items mid h =
 
 -- at most so many were made
 turns_at_most : (course : Course) (ss : List Subset) (items : List TakenField) (mid : PackedOutModel) → AddsTurns course → 1 ≤ length ss → Takes (oks PackedFills) course (new_packed_out ss) items mid
-    → (course (answers_of items)).turns ≤ turns_packed course ss
+    → (course (answers_of items)).turns ≤ (packed_writing course ss).turns
 turns_at_most course [] items mid g some h = absurd (omega (arith, some))
 turns_at_most course (s ∷ more) items mid g some h =
-    some_turns (packed_filler s.end_line (are_many (longest (s ∷ more)) (length (s ∷ more)))) course items (rows_left mid) (turns_packed course (s ∷ more)) g
+    some_turns (packed_filler s.end_line (are_many (longest (s ∷ more)) (length (s ∷ more)))) course items (rows_left mid) ((packed_writing course (s ∷ more)).turns) g
     (packed_turns_left course s more items mid h)
 
 -- where nothing more is taken, whatever the filler, all were made
 packed_all_turns : (course : Course) (ss : List Subset) (items : List TakenField) (mid : PackedOutModel) → 1 ≤ length ss → Takes (oks PackedFills) course (new_packed_out ss) items mid
-    → ((end : ℕ) (many : Bool) → IsLast (packed_filler end many) (course (answers_of items)).next (rows_left mid)) → (course (answers_of items)).turns ≡ turns_packed course ss
+    → ((end : ℕ) (many : Bool) → IsLast (packed_filler end many) (course (answers_of items)).next (rows_left mid)) → (course (answers_of items)).turns ≡ (packed_writing course ss).turns
 packed_all_turns course [] items mid some h l = absurd (omega (arith, some))
 packed_all_turns course (s ∷ more) items mid some h l =
     let many = are_many (longest (s ∷ more)) (length (s ∷ more)) in
-    last_turns (packed_filler s.end_line many) course items (rows_left mid) (course (answers_of items)).next (turns_packed course (s ∷ more)) (packed_turns_left course s more items mid h) refl
+    last_turns (packed_filler s.end_line many) course items (rows_left mid) (course (answers_of items)).next ((packed_writing course (s ∷ more)).turns) (packed_turns_left course s more items mid h)
+    refl
     (l s.end_line many)
 
 -- at the end of the template nothing more is taken
@@ -624,7 +659,7 @@ end_is_last : (end : ℕ) (many : Bool) (next : Next) (mid : PackedOutModel) →
 end_is_last end many next mid e = subst (λ n. IsLast (packed_filler end many) n (rows_left mid)) (sym e) tt
 
 -- nor is anything taken at a fault
-packed_fault_is_last : (end : ℕ) (many : Bool) (next : Next) (mid : PackedOutModel) (f : FaultAt) → IsFaultHere next mid f → IsLast (packed_filler end many) next (rows_left mid)
+packed_fault_is_last : (end : ℕ) (many : Bool) (next : Next) (mid : PackedOutModel) (f : DraftFault) → IsFaultHere next mid f → IsLast (packed_filler end many) next (rows_left mid)
 packed_fault_is_last end many (take_next spec) mid f h = by (longest mid.subsets - mid.place)
   where
     by : (k : ℕ) → IsLast (packed_filler end many) (take_next spec) (rows k mid.place mid.subsets)
@@ -636,7 +671,7 @@ packed_fault_is_last end many astray mid f h = tt
 
 -- a walk to the end makes all turns
 walk_makes_all : (course : Course) (ss : List Subset) (start : PackedOutModel) (c : ℕ) (mid : PackedOutModel) (c' : ℕ) → start ≡ new_packed_out ss → 1 ≤ length ss → c ≡ 0
-    → Walked PackedFills course start c (Ok tt) mid c' → c' ≡ ticked 0 (turns_packed course ss)
+    → Walked PackedFills course start c (Ok tt) mid c' → c' ≡ ticked 0 ((packed_writing course ss).turns)
 walk_makes_all course ss start c mid c' h1 h2 h3 h4 = grind (arith, nat_tests, common_steps, packed_all_turns, end_is_last)
 
 -- ---- the data
@@ -652,30 +687,27 @@ packed_written n course ss start c mid c' octets at some z w e few o =
       is = written_as_defined course ss w.0 mid some h w.2 e;
       octets_are = o;
       made = walk_makes_all course ss start c mid c' at some z w;
-      few = omega (arith, z, few, mul_most n (length mid.bits - length start.bits) (count_packed course ss) (omega (arith, packed_counts course ss w.0 mid some h)));
+      few = omega (arith, z, few, mul_most n (length mid.bits - length start.bits) (length (packed_writing course ss).bits) (omega (arith, packed_counts course ss w.0 mid some h)));
     }
 
 -- an item is left over
 pub packed_over : (n : ℕ) (course : Course) (ss : List Subset) (start : PackedOutModel) (c : ℕ) (mid : PackedOutModel) (c' : ℕ) (e : DraftFault) (why : DocumentFault) → start ≡ new_packed_out ss
     → 1 ≤ length ss → c ≡ 0 → Walked PackedFills course start c (Ok tt) mid c'
-    → (f : FaultAt) × (draft_fault e ≡ Some f) × (all_at_end (cells_at mid.place mid.subsets) ≡ Err f) → reported_refusal why ≡ option_map report_of_draft (draft_fault e)
+    → all_at_end (cells_at mid.place mid.subsets) ≡ Err e → why ≡ document_fault e
     → c' ≤ c + n * (length mid.bits - length start.bits) → IsNoData n true course ss why c'
 packed_over n course ss start c mid c' e why at some z w fault results few =
     let h = subst (λ x. Takes (oks PackedFills) course x w.0 mid) at w.1 in
-    let is = packed_fault_as_defined course ss w.0 mid fault.0 some h (subst (λ next. IsFaultHere next mid fault.0) (sym w.2) fault.2) in
+    let is = packed_fault_as_defined course ss w.0 mid e some h (subst (λ next. IsFaultHere next mid e) (sym w.2) fault) in
     record {
-      refuses = refuses_so (draft_fault e) (reported_refusal why) (packed_data course ss) results (λ f g. is ∙ ap Err (same fault.0 f (sym fault.1 ∙ g)));
-      made = all_made (reported_refusal why) 0 (turns_packed course ss) c' (walk_makes_all course ss start c mid c' at some z w);
-      few = omega (arith, z, few, mul_most n (length mid.bits - length start.bits) (count_packed course ss + 1) (omega (arith, packed_counts course ss w.0 mid some h)));
+      refuses = inr (ap report_of_items is ∙ ap Err (sym results));
+      made = inr (walk_makes_all course ss start c mid c' at some z w);
+      few = omega (arith, z, few, mul_most n (length mid.bits - length start.bits) (length (packed_writing course ss).bits + 1) (omega (arith, packed_counts course ss w.0 mid some h)));
     }
-  where
-    same : (a b : FaultAt) → ◌≡◌ {A = Option FaultAt} (Some a) (Some b) → a ≡ b
-    same a b e = cc
 
 -- what stopped a walk is the fault where it is, and leaves it there
-reported_here : (line : ℕ) (next : Next) (mid : PackedOutModel) (stop : WalkStop DraftFault) (s' : PackedOutModel) (f : FaultAt) → StopsWalk PackedFills next mid stop s'
-    → line ≡ first_line_at s'.place s'.subsets → reported_stop line stop ≡ Some f → IsFaultHere next mid f
-reported_here line next mid stop s' f h1 h2 h3 = grind (arith, nat_tests, common_steps)
+reported_here : (line : ℕ) (next : Next) (mid : PackedOutModel) (stop : WalkStop DraftFault) (s' : PackedOutModel) → StopsWalk PackedFills next mid stop s'
+    → line ≡ first_line_at s'.place s'.subsets → IfDraftFault (stop_fault line stop) (IsFaultHere next mid)
+reported_here line next mid stop s' h1 h2 = grind (arith, nat_tests, common_steps)
 
 packed_still : (next : Next) (mid : PackedOutModel) (stop : WalkStop DraftFault) (s' : PackedOutModel) → StopsWalk PackedFills next mid stop s' → s' ≡ mid
 packed_still next mid stop s' h1 = grind (arith, nat_tests, common_steps)
@@ -683,23 +715,24 @@ packed_still next mid stop s' h1 = grind (arith, nat_tests, common_steps)
 -- the walk stopped
 pub packed_stopped : (n : ℕ) (course : Course) (ss : List Subset) (start : PackedOutModel) (c : ℕ) (s' : PackedOutModel) (c' line : ℕ) (stop : WalkStop DraftFault) (why : DocumentFault)
     → AddsTurns course → start ≡ new_packed_out ss → 1 ≤ length ss → c ≡ 0 → Walked PackedFills course start c (Err stop) s' c'
-    → line ≡ first_line_at s'.place s'.subsets → reported_refusal why ≡ option_map report_of_draft (reported_stop line stop) → c' ≤ c + n * (length s'.bits - length start.bits + 1)
+    → line ≡ first_line_at s'.place s'.subsets → why ≡ document_fault (stop_fault line stop) → c' ≤ c + n * (length s'.bits - length start.bits + 1)
     → IsNoData n true course ss why c'
 packed_stopped n course ss start c s' c' line stop why g at some z w l results few =
     let h = subst (λ x. Takes (oks PackedFills) course x w.0 w.1) at w.2 in
     let next = (course (answers_of w.0)).next in
     let ticks : c' ≡ ticked 0 (course (answers_of w.0)).turns = w.4 ∙ ap (λ x. ticked x (course (answers_of w.0)).turns) z in
     record {
-      refuses = refuses_so (reported_stop line stop) (reported_refusal why) (packed_data course ss) results
-          (λ f t. packed_fault_as_defined course ss w.0 w.1 f some h (reported_here line next w.1 stop s' f w.3 l t));
-      made = makes_so (reported_stop line stop) (reported_refusal why) 0 (turns_packed course ss) c' results
-          (omega (arith, ticks, ticked_at_most 0 (course (answers_of w.0)).turns (turns_packed course ss) (turns_at_most course ss w.0 w.1 g some h)))
-          (λ f t. ticks ∙ ap (ticked 0) (packed_all_turns course ss w.0 w.1 some h (λ end many. packed_fault_is_last end many next w.1 f (reported_here line next w.1 stop s' f w.3 l t))));
+      refuses = refuses_so (stop_fault line stop) why (packed_data course ss) results
+          (if_fault (stop_fault line stop) (reported_here line next w.1 stop s' w.3 l) (λ f. packed_fault_as_defined course ss w.0 w.1 f some h));
+      made = makes_so (stop_fault line stop) why 0 (packed_writing course ss).turns c' results
+          (omega (arith, ticks, ticked_at_most 0 (course (answers_of w.0)).turns ((packed_writing course ss).turns) (turns_at_most course ss w.0 w.1 g some h)))
+          (if_fault (stop_fault line stop) (reported_here line next w.1 stop s' w.3 l)
+          (λ f g. ticks ∙ ap (ticked 0) (packed_all_turns course ss w.0 w.1 some h (λ end many. packed_fault_is_last end many next w.1 f g))));
       few = omega (
         arith,
         z,
         few,
-        mul_most n (length s'.bits - length start.bits + 1) (count_packed course ss + 1)
+        mul_most n (length s'.bits - length start.bits + 1) (length (packed_writing course ss).bits + 1)
             (omega (arith, packed_counts course ss w.0 w.1 some h, ap (λ (p : PackedOutModel). length p.bits) (packed_still next w.1 stop s' w.3))),
       );
     }

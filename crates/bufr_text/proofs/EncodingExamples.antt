@@ -1,12 +1,15 @@
 -- Documents and what they are encoded to.
-use Rattle.std.proofs.Common.{◌≡◌, ℕ, false, List, [], ◌∷◌, ◌++◌, replicate, Result, Ok, Err, refl, codes, ℤ, pos}
+use Rattle.std.proofs.Common.{◌≡◌, ℕ, List, [], ◌∷◌, ◌++◌, replicate, Result, Ok, Err, refl, codes, ℤ, pos}
 use Rattle.bufr_frame.specs.Prelude.{head_size}
 use Rattle.bufr_bits.specs.Prelude.{bits_of, bits_in, decimal_value_of}
 use Rattle.bufr_tables.specs.declared.table_b.Kind.{Kind}
 use Rattle.bufr_tables.specs.Prelude.{part_of, level, inner_of, tree_of, Row}
 use Rattle.bufr_walk.specs.Prelude.{next_item}
-use Rattle.bufr_fill.specs.Prelude.{draft, number_token, text_form, missing_form, DraftEntry, Holds, Ends, reference_token, wrong_descriptor, wrong_number, out_of_range, text_long, missing_forbidden, unequal_factors, uneven_increment, item_too_many, walk_refused}
-use Rattle.bufr_text.specs.Prelude.{Document, RefusedAt, refused_at, by_template, by_item, encoding_in, encoding_of, turns_by, Form}
+use Rattle.bufr_fill.specs.Prelude.{draft, number_token, text_form, missing_form, DraftEntry, Holds, Ends, reference_token, item_too_many, walk_refused}
+use Rattle.bufr_fill.specs.declared.fault.Expected.TheVariants as expected
+use Rattle.bufr_fill.specs.declared.fault.ItemFault.TheVariants as wrong
+use Rattle.bufr_text.specs.declared.fault.DocumentFault.TheVariants as fault
+use Rattle.bufr_text.specs.Prelude.{Document, DocumentFault, encoding_in, encoding_of, turns_by, Form}
 use Rattle.bufr_text.specs.declared.encode.Form.TheVariants.{AsWritten, Plain, Compressed}
 use Rattle.bufr_tables.specs.declared.table_b.Kind.TheVariants as kind
 use Rattle.bufr_tables.specs.declared.fault.TemplateFault.TheVariants as template
@@ -40,11 +43,11 @@ missing line fxy = Holds (draft line fxy missing_form)
 text : (line fxy : ℕ) → List ℕ → DraftEntry
 text line fxy octets = Holds (draft line fxy (text_form octets))
 
-encoded : Document → Result (List ℕ) RefusedAt
+encoded : Document → Result (List ℕ) DocumentFault
 encoded d = encoding_of table [] d
 
 -- a message of so many octets, from section 3 on
-message : (size : ℕ) → List ℕ → Result (List ℕ) RefusedAt
+message : (size : ℕ) → List ℕ → Result (List ℕ) DocumentFault
 message size sections = Ok (codes "BUFR" ++ 0 ∷ 0 ∷ size ∷ 4
     ∷ 0 ∷ 0 ∷ 0x16 ∷ 0 ∷ 0 ∷ 0x62 ∷ 0 ∷ 0 ∷ 0 ∷ 0 ∷ 0 ∷ 0 ∷ 0 ∷ 0x0E ∷ 0 ∷ 0x07 ∷ 0xE8 ∷ 1 ∷ 2 ∷ 3 ∷ 4 ∷ 5
     ∷ sections ++ codes "7777")
@@ -59,7 +62,7 @@ documents_encoded :
     ≡ message 50 (0 ∷ 0 ∷ 9 ∷ 0 ∷ 0 ∷ 2 ∷ 0xC0 ∷ 0x0C ∷ 0x65 ∷ 0 ∷ 0 ∷ 7 ∷ 0 ∷ 0x70 ∷ 0x8F ∷ 5 ∷ []))
     -- no subset: the template is still looked at
     × (encoded (document 0 0 (0x0101 ∷ []) []) ≡ message 47 (0 ∷ 0 ∷ 9 ∷ 0 ∷ 0 ∷ 0 ∷ 0x80 ∷ 1 ∷ 1 ∷ 0 ∷ 0 ∷ 4 ∷ 0 ∷ []))
-    × (encoded (document 0 0 (0x0102 ∷ []) []) ≡ Err (refused_at 1 (by_template (template.UnknownElement 0x0102))))
+    × (encoded (document 0 0 (0x0102 ∷ []) []) ≡ Err (fault.Template 1 (template.UnknownElement 0x0102)))
     × (encoded (record {
       line = 1;
       header = 4 ∷ 0 ∷ 98 ∷ 0 ∷ 0 ∷ 0 ∷ 0 ∷ 0 ∷ 14 ∷ 0 ∷ 2024 ∷ 1 ∷ 2 ∷ 3 ∷ 4 ∷ 5 ∷ 1 ∷ 0 ∷ 1 ∷ 1 ∷ [];
@@ -73,23 +76,23 @@ documents_encoded :
     -- a number with one octet more of data, and faults of numbers
     × (encoded (document 0 1 (0x0C65 ∷ []) (number 24 0x0C65 (codes "655.34") ∷ Ends 25 ∷ []))
     ≡ message 49 (0 ∷ 0 ∷ 9 ∷ 0 ∷ 0 ∷ 1 ∷ 0x80 ∷ 0x0C ∷ 0x65 ∷ 0 ∷ 0 ∷ 6 ∷ 0 ∷ 0xFF ∷ 0xFE ∷ []))
-    × (encoded (document 0 1 (0x0C65 ∷ []) (number 24 0x0C65 (codes "655.35") ∷ Ends 25 ∷ [])) ≡ Err (refused_at 24 (by_item out_of_range)))
-    × (encoded (document 0 1 (0x0C65 ∷ []) (number 24 0x0C65 (codes "288.155") ∷ Ends 25 ∷ [])) ≡ Err (refused_at 24 (by_item wrong_number)))
+    × (encoded (document 0 1 (0x0C65 ∷ []) (number 24 0x0C65 (codes "655.35") ∷ Ends 25 ∷ [])) ≡ Err (fault.Item 24 wrong.OutOfRange))
+    × (encoded (document 0 1 (0x0C65 ∷ []) (number 24 0x0C65 (codes "288.155") ∷ Ends 25 ∷ [])) ≡ Err (fault.Item 24 wrong.Number))
     -- items that are not those of the template
-    × (encoded (document 0 1 (0x0101 ∷ []) (number 24 0x0C65 (codes "5") ∷ Ends 25 ∷ [])) ≡ Err (refused_at 24 (by_item (wrong_descriptor 0x0101 false))))
-    × (encoded (document 0 1 (0x0101 ∷ []) (Ends 24 ∷ [])) ≡ Err (refused_at 24 (by_item (wrong_descriptor 0x0101 false))))
-    × (encoded (document 0 1 (0x0101 ∷ []) (number 24 0x0101 (codes "10") ∷ number 25 0x0101 (codes "10") ∷ Ends 26 ∷ [])) ≡ Err (refused_at 25 (by_item item_too_many)))
-    × (encoded (document 0 1 (0x4100 ∷ 0x1F01 ∷ 0x0101 ∷ []) (missing 24 0x1F01 ∷ Ends 25 ∷ [])) ≡ Err (refused_at 24 (by_item missing_forbidden)))
-    × (encoded (document 0 1 (0x010F ∷ []) (text 24 0x010F (replicate 21 65) ∷ Ends 25 ∷ [])) ≡ Err (refused_at 24 (by_item text_long)))
+    × (encoded (document 0 1 (0x0101 ∷ []) (number 24 0x0C65 (codes "5") ∷ Ends 25 ∷ [])) ≡ Err (fault.Item 24 ((wrong.WrongDescriptor (expected.Item 0x0101)))))
+    × (encoded (document 0 1 (0x0101 ∷ []) (Ends 24 ∷ [])) ≡ Err (fault.Item 24 ((wrong.WrongDescriptor (expected.Item 0x0101)))))
+    × (encoded (document 0 1 (0x0101 ∷ []) (number 24 0x0101 (codes "10") ∷ number 25 0x0101 (codes "10") ∷ Ends 26 ∷ [])) ≡ Err (fault.Item 25 item_too_many))
+    × (encoded (document 0 1 (0x4100 ∷ 0x1F01 ∷ 0x0101 ∷ []) (missing 24 0x1F01 ∷ Ends 25 ∷ [])) ≡ Err (fault.Item 24 wrong.MissingForbidden))
+    × (encoded (document 0 1 (0x010F ∷ []) (text 24 0x010F (replicate 21 65) ∷ Ends 25 ∷ [])) ≡ Err (fault.Item 24 wrong.TextLong))
     -- items that cannot be packed
     × (encoded (document 1 2 (0x4100 ∷ 0x1F01 ∷ 0x0101 ∷ []) (number 24 0x1F01 (codes "1") ∷ number 25 0x0101 (codes "10") ∷ Ends 26 ∷ number 27 0x1F01 (codes "2") ∷ number 28 0x0101 (codes "10") ∷ number 29 0x0101 (codes "11") ∷ Ends 30 ∷ []))
-    ≡ Err (refused_at 27 (by_item unequal_factors)))
-    × (encoded (document 1 2 (0x8540 ∷ []) (text 24 0x8540 (replicate 64 65) ∷ Ends 25 ∷ text 26 0x8540 (replicate 63 65 ++ 66 ∷ []) ∷ Ends 27 ∷ [])) ≡ Err (refused_at 24 (by_item uneven_increment)))
+    ≡ Err (fault.Item 27 wrong.UnequalFactor))
+    × (encoded (document 1 2 (0x8540 ∷ []) (text 24 0x8540 (replicate 64 65) ∷ Ends 25 ∷ text 26 0x8540 (replicate 63 65 ++ 66 ∷ []) ∷ Ends 27 ∷ [])) ≡ Err (fault.Item 24 wrong.Increment))
     -- the template, and the walk over it
-    × (encoded (document 0 1 (0x8100 ∷ []) (Ends 24 ∷ [])) ≡ Err (refused_at 1 (by_template (template.EmptyGroup 0x8100))))
-    × (encoded (document 0 1 (0x8179 ∷ 0x0101 ∷ []) (number 24 0x0101 (codes "0") ∷ Ends 25 ∷ [])) ≡ Err (refused_at 24 (by_item (walk_refused (walk.Width 0x0101)))))
+    × (encoded (document 0 1 (0x8100 ∷ []) (Ends 24 ∷ [])) ≡ Err (fault.Template 1 (template.EmptyGroup 0x8100)))
+    × (encoded (document 0 1 (0x8179 ∷ 0x0101 ∷ []) (number 24 0x0101 (codes "0") ∷ Ends 25 ∷ [])) ≡ Err (fault.Item 24 ((walk_refused (walk.Width 0x0101)))))
     -- the template goes before the items
-    × (encoded (document 0 1 (0x0101 ∷ 0x0102 ∷ []) (number 24 0x0C65 (codes "5") ∷ Ends 25 ∷ [])) ≡ Err (refused_at 1 (by_template (template.UnknownElement 0x0102))))
+    × (encoded (document 0 1 (0x0101 ∷ 0x0102 ∷ []) (number 24 0x0C65 (codes "5") ∷ Ends 25 ∷ [])) ≡ Err (fault.Template 1 (template.UnknownElement 0x0102)))
     -- edition 3: one octet of local use makes section 1 even, and sections 3 and 4 are made even
     × (encoded (record {
       line = 1;
@@ -152,7 +155,7 @@ turns_made = (refl, refl, refl, refl, refl, refl, refl, refl, refl, refl, refl, 
 
 -- ---- Documents and what they are encoded to in another form than they say.
 
-formed : Form → Document → Result (List ℕ) RefusedAt
+formed : Form → Document → Result (List ℕ) DocumentFault
 formed form d = encoding_in form table [] d
 
 -- a message of so many octets, from section 3 on
@@ -167,9 +170,9 @@ documents_formed :
     ≡ message 50 (0 ∷ 0 ∷ 9 ∷ 0 ∷ 0 ∷ 2 ∷ 0xC0 ∷ 0x0C ∷ 0x65 ∷ 0 ∷ 0 ∷ 7 ∷ 0 ∷ 0x70 ∷ 0x8F ∷ 5 ∷ []))
     × (formed Compressed (document 0 0 (0x0101 ∷ []) []) ≡ message 47 (0 ∷ 0 ∷ 9 ∷ 0 ∷ 0 ∷ 0 ∷ 0xC0 ∷ 1 ∷ 1 ∷ 0 ∷ 0 ∷ 4 ∷ 0 ∷ []))
     × (formed Compressed (document 0 2 (0x4100 ∷ 0x1F01 ∷ 0x0101 ∷ []) (number 24 0x1F01 (codes "1") ∷ number 25 0x0101 (codes "10") ∷ Ends 26 ∷ number 27 0x1F01 (codes "2") ∷ number 28 0x0101 (codes "10") ∷ number 29 0x0101 (codes "11") ∷ Ends 30 ∷ []))
-    ≡ Err (refused_at 27 (by_item unequal_factors)))
+    ≡ Err (fault.Item 27 wrong.UnequalFactor))
     -- 2 03 010, 0 12 101, 2 03 255: references that differ
     × (formed Compressed (document 0 2 (0x830A ∷ 0x0C65 ∷ 0x83FF ∷ []) (Holds (draft 24 0x0C65 (reference_token (codes "-400"))) ∷ Ends 25 ∷ Holds (draft 26 0x0C65 (reference_token (codes "-401"))) ∷ Ends 27 ∷ []))
-    ≡ Err (refused_at 24 (by_item uneven_increment)))
+    ≡ Err (fault.Item 24 wrong.Increment))
 unfolding listed table document number formed message encoding_in tree_of level part_of inner_of next_item decimal_value_of bits_in bits_of missing head_size
 documents_formed = (refl, refl, refl, refl, refl, refl)

@@ -1,7 +1,7 @@
 -- Lines computed on examples, each rule beside its nearest wrong neighbour.
 use Rattle.std.proofs.Common.{◌≡◌, ℕ, List, [], ◌∷◌, ◌++◌, refl, codes, replicate, map, true, false, arith, drop, take, Some, None, pos, ◌+◌, inl}
 use Rattle.bufr_fill.specs.Prelude.{number_token, text_form, missing_form, reference_token, draft, Holds, Ends}
-use Rattle.bufr_text.specs.Prelude.{leasts, mosts, prefix_while, suffix_while, without_prefix, hex_read, fxy_read, descriptors_read, quoted_read, is_hashed, quoted, hex_text, descriptors_text, runs_after, Line, Passed, Header, Local1, Section2, Descriptors, Begins, Item, Wrong, keys, place_from, value_read, worded, line_of, Opens, Closes, line_within_limit, ParseResult, Complete, Refused, NotAllowed, SubsetCount, HeaderRange, turn, parse_lines, lines_of, documents_of, Document, open_documents_of, split_of, parse_open_lines, item_text, local1_line, descriptors_line, text_of_lines, IsDumpable, dump_text_of, header_lines, subset_lines, item_entries, subset_entries, document_of, ls_line, AreEnded, IsProper, NumberedLine, numbered_line, numbered_lines, SubsetHeard, subsets_heard, entries_heard, IsDocument}
+use Rattle.bufr_text.specs.Prelude.{leasts, mosts, prefix_while, suffix_while, without_prefix, hex_read, fxy_read, descriptors_read, quoted_read, is_hashed, quoted, hex_text, descriptors_text, runs_after, Line, Passed, Header, Local1, Section2, Descriptors, Begins, Item, Wrong, keys, place_from, value_read, worded, line_of, Opens, Closes, read_line, ParseResult, Complete, Refused, NotAllowed, SubsetCount, HeaderRange, turn, parse_lines, lines_of, documents_of, Document, open_documents_of, split_of, parse_open_lines, item_text, local1_line, descriptors_line, text_of_lines, IsDumpable, dump_text_of, header_lines, subset_lines, item_entries, subset_entries, document_of, ls_line, AreEnded, IsProper, NumberedLine, numbered_line, numbered_lines, SubsetHeard, subsets_heard, entries_heard, IsDocument}
 use Rattle.bufr_frame.specs.declared.section1.Head.{Head}
 use Rattle.bufr_frame.specs.Prelude.{IsFitting, greatest_values, values_of, Sections}
 use Rattle.bufr_frame.proofs.AgainLemmas.{at-most}
@@ -20,7 +20,7 @@ abbrev inserted_line : List ℕ
 inserted_line = codes "205004 " ++ 34 ∷ 92 ∷ 34 ∷ 92 ∷ 92 ∷ 92 ∷ codes "x0A" ++ 92 ∷ codes "xFE" ++ 34 ∷ []
 
 abbrev all_said : List (List ℕ) → List Line
-all_said lines = map line_within_limit lines
+all_said lines = map read_line lines
 
 ten : Line
 ten = Item 257 (number_token (codes "10"))

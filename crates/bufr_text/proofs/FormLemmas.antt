@@ -1,12 +1,13 @@
 -- The document of an accepted message is encoded in a form; a canonical one to the same octets.
-use Rattle.std.proofs.Common.{◌≡◌, ℕ, zero, suc, ◌+◌, ◌≤◌, Bool, true, false, List, [], ◌∷◌, ◌++◌, length, take, drop, map, Result, Ok, Err, refl, sym, ◌∙◌, ap, subst, arith, append_assoc, ◌⊎◌, inl, inr, ◌*◌, ◌/◌, Some, nat_lt, if◌then◌else◌, flat_map, Vec, IfOk, IfErr}
+use Rattle.std.proofs.Common.{◌≡◌, ℕ, zero, suc, ◌+◌, ◌≤◌, Bool, true, false, List, [], ◌∷◌, ◌++◌, length, take, drop, map, Result, Ok, Err, refl, sym, ◌∙◌, ap, subst, arith, append_assoc, ◌⊎◌, inl, inr, ◌*◌, ◌/◌, nat_lt, if◌then◌else◌, flat_map, Vec, IfOk, IfErr}
 use Rattle.std.proofs.lemmas.Bool.Decides.{nat_tests}
 use Rattle.std.proofs.lemmas.List.{take-append-drop}
 use Rattle.bufr_bits.specs.Prelude.{bits_of, padding}
 use Rattle.bufr_tables.specs.Prelude.{Row, AreRows, Sequence, Tree, IsLegal, tables_of, Record}
-use Rattle.bufr_walk.specs.Prelude.{FieldSpec, IsSpec, Content, content_in, bits_for, FieldFault, found, plain_field, Course, next_item, Item, plain, packed, ReadsItems, ReadsPass, ReadsSubsets, IsPackedReading, after, apart, together, Values, IsReading, max_values, IsPlainReading, data_of, View}
-use Rattle.bufr_fill.specs.Prelude.{IsMinusZero, content_of, plain_filler, plainly, written_item, Filler, fill, plain_data, ◌>>=◌, ItemRow, RowCell, rows, longest, are_many, packed_filler, packed_data, pack_across, packed_to, contents_here, first_line, packing, FaultAt, at_line, too_many_values, Subset, subsets_of, Draft, DraftEntry, AreDrafts, AreDumped, IsDumped, AreDumpedFrom, subsets_from, IsUnlike, IsTogetherOrNot}
-use Rattle.bufr_fill.proofs.FillSteps.{fill_end}
+use Rattle.bufr_walk.specs.Prelude.{FieldSpec, IsSpec, Content, content_in, bits_for, FieldFault, found, plain_field, Course, next_item, Item, plain, packed, ReadsItems, ReadsPass, ReadsSubsets, IsPackedReading, after, apart, together, Values, IsReading, max_values, IsPlainReading, data_of, View, subsets_from, each_subset}
+use Rattle.bufr_fill.specs.Prelude.{IsMinusZero, content_of, plain_filler, plainly, written_item, Filler, fill, plain_data, ◌>>=◌, ItemRow, RowCell, rows, longest, are_many, packed_filler, packed_data, pack_across, packed_to, contents_here, first_line, packing, at_line, too_many_values, Subset, subsets_of, Draft, DraftEntry, AreDrafts, AreDumped, IsDumped, IsUnlike, IsTogetherOrNot}
+use Rattle.bufr_fill.specs.declared.fault.ItemFault.{ItemFault}
+use Rattle.bufr_fill.proofs.FillSteps.{fill_end, plain_both}
 use Rattle.bufr_fill.proofs.PlainLaws.{AllSpecs, EachSpecs, draft_again, plain_read, same_draft, same_bits, IsDumpedAcross, HaveContents, join}
 use Rattle.bufr_frame.specs.Prelude.{with_even_length, message_octets, message_size, max_octets, MessageParts, parts_of, sections_from, Sections, sections_of}
 use Rattle.bufr_frame.proofs.AgainLemmas.{not-too-long, written-again, fitting-writable}
@@ -16,15 +17,18 @@ use Rattle.bufr_fill.proofs.WholeLaws.{rows_dumped, template_apart, template_tog
 use Rattle.bufr_fill.proofs.GoodReads.{plain_specs, packed_specs}
 use Rattle.bufr_fill.proofs.PackedLaws.{packed_count}
 use Rattle.bufr_fill.proofs.FormLaws.{packed_rewritten}
-use Rattle.bufr_text.specs.Prelude.{subset_entries, document_of, lines_before, items_shown, IsAccepted, dump_items, HaveNoMinusZero, ArePacked, AreWritten, IsCanonical, IsEncodedAgain, each_subset, HasReadingIn, IsForForm, IsFormed, IsFaultIn, EncodesForm, data_bits, octets_of_bits, encoding_of, by_item, too_long, RefusedAt, refused_at, report_of_items, parts_as, compressed_as, message_of, encoding_in, IsDocumentRefusal, reported_refusal, compressed_by, form_of_flag, compressed_in, Document, DocumentFault, Form}
+use Rattle.bufr_text.specs.Prelude.{subset_entries, document_of, lines_before, items_shown, IsAccepted, dump_items, HaveNoMinusZero, ArePacked, AreWritten, IsCanonical, IsEncodedAgain, HasReadingIn, IsForForm, IsFormed, IsFaultIn, EncodesForm, EncodesAgain, HasSameReading, data_bits, octets_of_bits, encoding_of, report_of_items, parts_as, compressed_as, message_of, encoding_in, IsDocumentRefusal, compressed_by, form_of_flag, compressed_in, Document, DocumentFault, Form}
 use Rattle.bufr_text.proofs.DumpableLemmas.{octets_are, sections_given}
-use Rattle.bufr_text.proofs.RoundTripLemmas.{all_apart, all_together, encoded_to, parts_back, parts_with, size_least, fills_as, bit_back, section2_back, padded, payload_bits, size_is, enough, suffix, encoded_again, as_written, no_data, octets_small, framed, parts_of_document}
+use Rattle.bufr_text.proofs.PushLemmas.{memory_alone}
+use Rattle.bufr_text.proofs.RoundTripLemmas.{all_apart, encoded_to, parts_back, parts_with, size_least, fills_as, bit_back, section2_back, padded, payload_bits, size_is, enough, suffix, encoded_again, as_written, data_refused, octets_small, framed, parts_of_document}
 use Rattle.std.specs.Global.{Global}
 use Rattle.bufr_bits.proofs.BitLemmas.{length-bits_of}
 use Rattle.bufr_tables.proofs.SoundLemmas.{tree_fine}
 use Rattle.bufr_fill.proofs.FieldLemmas.{octets_in-are}
 use Rattle.bufr_frame.specs.Layout as layout
 use Rattle.bufr_walk.specs.Reading as reading
+use Rattle.bufr_fill.specs.declared.fault.DraftFault.{DraftFault}
+use Rattle.bufr_text.specs.declared.fault.DocumentFault.TheVariants as fault
 use Rattle.bufr_text.specs.declared.encode.Form.TheVariants as form
 use Rattle.std.proofs.lemmas.Grind.{common_steps}
 
@@ -80,7 +84,7 @@ first_zeros course (i ∷ a) b bits mid h plus =
     let rest = first_zeros (after plain course i) a b h.0 mid h.3 (subst (HaveNoMinusZero (a ++ b)) t.suffix plus.1) in
     ((plus.0, subst (HaveNoMinusZero a) (sym t.suffix) rest.0), rest.1)
 
-record AreAllFilled (r : Result (List Bool) FaultAt) (bits suffix : List Bool) : Type 0 where
+record AreAllFilled (r : Result (List Bool) DraftFault) (bits suffix : List Bool) : Type 0 where
   out : List Bool
   fills : r ≡ Ok out
   splits : bits ≡ out ++ suffix
@@ -97,7 +101,7 @@ subsets_filled course (items ∷ subsets) (s ∷ ss) bits suffix specs dumped h 
     let rest = subsets_filled course subsets ss mid suffix specs.1 dumped.1 h.2 zeros.1 in
     record {
       out = first.out ++ rest.out;
-      fills = ap (λ r. r >>= λ x. plain_data course ss >>= λ y. Ok (x ++ y)) first.fills ∙ ap (λ r. r >>= λ y. Ok (first.out ++ y)) rest.fills;
+      fills = plain_both course s ss first.out rest.out first.fills rest.fills;
       splits = first.splits ∙ ap (λ x. first.out ++ x) rest.splits ∙ sym (append_assoc first.out rest.out suffix);
     }
 
@@ -111,7 +115,7 @@ packs_as spec cs cells xs out p h1 h2 = grind (arith, nat_tests, common_steps)
 packed_as : (spec : FieldSpec) (cs : List Content) (a : ItemRow) (out : List Bool) → pack_across spec a ≡ Ok (written_item cs out) → packing spec cs ≡ Ok out
 packed_as spec cs a out e = by (are_many a.place (length a.cells)) (contents_here spec a.cells) e
   where
-    by : (b : Bool) (r : Result (List Content) FaultAt) → (if b then Err (at_line (first_line a.cells) (too_many_values spec.fxy)) else (r >>= λ xs. packed_to xs a.cells (packing spec xs)))
+    by : (b : Bool) (r : Result (List Content) DraftFault) → (if b then Err (at_line (first_line a.cells) (too_many_values spec.fxy)) else (r >>= λ xs. packed_to xs a.cells (packing spec xs)))
         ≡ Ok (written_item cs out) → packing spec cs ≡ Ok out
     by true r q = absurd cc
     by false (Err why) q = absurd cc
@@ -138,15 +142,15 @@ have_contents : (n : ℕ) (course : Course) (items : List (Item (List Content)))
 have_contents n course [] bits suffix specs h = tt
 have_contents n course (i ∷ items) bits suffix specs h = (packed_count n i.spec specs.0 i.content bits h.0 h.2, have_contents n (after (packed n) course i) items h.0 suffix specs.1 h.3)
 
-all_packed : (n : ℕ) (course : Course) (items : List (Item (List Content))) (drafts : List Subset) (bits suffix : List Bool) → length drafts ≡ n
-    → ((n : ℕ) → ReadsItems (packed n) course items bits suffix → AllSpecs items) → AreDumpedFrom 0 items drafts → IsPackedReading n course items bits suffix → ArePacked items bits suffix
+all_packed : (n : ℕ) (course : Course) (items : List (Item (List Content))) (drafts : List Subset) (bits suffix : List Bool)
+    → ((n : ℕ) → ReadsItems (packed n) course items bits suffix → AllSpecs items) → AreDumped (subsets_from n 0 items) drafts → IsPackedReading n course items bits suffix → ArePacked items bits suffix
     → AreAllFilled (packed_data course drafts) bits suffix
-all_packed zero course items [] bits suffix count specs dumped h c = record { out = []; fills = refl; splits = h.1 }
-all_packed zero course items (s ∷ ss) bits suffix count specs dumped h c = absurd (omega (arith, count))
-all_packed (suc n) course items [] bits suffix count specs dumped h c = absurd (omega (arith, count))
-all_packed (suc n) course items (s ∷ ss) bits suffix count specs dumped h c =
+all_packed zero course items [] bits suffix specs dumped h c = record { out = []; fills = refl; splits = h.1 }
+all_packed zero course items (s ∷ ss) bits suffix specs dumped h c = absurd dumped
+all_packed (suc n) course items [] bits suffix specs dumped h c = absurd dumped
+all_packed (suc n) course items (s ∷ ss) bits suffix specs dumped h c =
     let good = specs (suc n) h.0.0 in
-    let rows_are = rows_dumped (suc n) items s ss count (have_contents (suc n) course items bits suffix good h.0.0) dumped h.1 in
+    let rows_are = rows_dumped (suc n) items s ss (have_contents (suc n) course items bits suffix good h.0.0) dumped h.1 in
     let many = are_many (longest (s ∷ ss)) (length (s ∷ ss)) in
     let f = packed_filled (suc n) s.end_line many (omega arith) course items (rows (longest (s ∷ ss)) 0 (s ∷ ss)) bits suffix bits suffix good rows_are h.0 c in
     record { out = f.out; fills = f.fills; splits = f.splits }
@@ -167,8 +171,8 @@ data_filled table template s (together items) used at rows legal read writes =
     let course = next_item table template in
     let bits = bits_of s.payload in
     let drafts = subsets_of (subset_entries at (map (items_shown table) (subsets_from s.subsets 0 items))) in
-    let dumped = all_together table at s.subsets 0 items in
-    let f = all_packed s.subsets course items drafts bits (drop used bits) dumped.1 (λ n r. packed_specs n course items bits (drop used bits) (next_field table template rows legal) r) dumped.0 read.2
+    let dumped = all_apart table at (subsets_from s.subsets 0 items) in
+    let f = all_packed s.subsets course items drafts bits (drop used bits) (λ n r. packed_specs n course items bits (drop used bits) (next_field table template rows legal) r) dumped read.2
     writes in
     record { out = f.out; fills = fills_as s.compressed true course drafts f.out read.0 f.fills; splits = f.splits }
 
@@ -226,9 +230,10 @@ record IsFilled (b : Bool) (table : List Row) (template : Tree) (s : Sections) (
   each : each_subset s.subsets found ≡ each_subset s.subsets values
 
 record IsUnfilled (table : List Row) (template : Tree) (entries : List DraftEntry) : Type 0 where
-  why : FaultAt
-  is : data_bits true (next_item table template) (subsets_of entries) ≡ Err why
-  unlike : IsUnlike why.fault
+  line : ℕ
+  why : ItemFault
+  is : data_bits true (next_item table template) (subsets_of entries) ≡ Err (at_line line why)
+  unlike : IsUnlike why
 
 module _ (table : List Row) (template : Tree) (s : Sections) (used at : ℕ) (rows : AreRead table) (legal : IsLegal template) where
   filled_plainly : (values : Values) → IsReading (next_item table template) (data_of s) values used → IsFilled false table template s values (subset_entries at (dump_items table s.subsets values))
@@ -244,8 +249,8 @@ module _ (table : List Row) (template : Tree) (s : Sections) (used at : ℕ) (ro
       }
   filled_plainly (together items) read =
       let entries = subset_entries at (map (items_shown table) (subsets_from s.subsets 0 items)) in
-      let dumped = all_together table at s.subsets 0 items in
-      let w = template_apart s.subsets table template items (subsets_of entries) (bits_of s.payload) (drop used (bits_of s.payload)) rows legal dumped.1 dumped.0 read.2 in
+      let dumped = all_apart table at (subsets_from s.subsets 0 items) in
+      let w = template_apart s.subsets table template items (subsets_of entries) (bits_of s.payload) (drop used (bits_of s.payload)) rows legal dumped read.2 in
       record {
         found = apart (subsets_from s.subsets 0 items);
         out = w.out;
@@ -258,8 +263,8 @@ module _ (table : List Row) (template : Tree) (s : Sections) (used at : ℕ) (ro
       → IsFilled true table template s values (subset_entries at (dump_items table s.subsets values)) ⊎ IsUnfilled table template (subset_entries at (dump_items table s.subsets values))
   packedly (together items) few read =
       let entries = subset_entries at (map (items_shown table) (subsets_from s.subsets 0 items)) in
-      let dumped = all_together table at s.subsets 0 items in
-      let w = packed_template_again s.subsets table template items (subsets_of entries) (bits_of s.payload) (drop used (bits_of s.payload)) rows legal dumped.1 dumped.0 read.2 in
+      let dumped = all_apart table at (subsets_from s.subsets 0 items) in
+      let w = packed_template_again s.subsets table template items (subsets_of entries) (bits_of s.payload) (drop used (bits_of s.payload)) rows legal dumped read.2 in
       inl (record {
         found = together items;
         out = w.out;
@@ -274,7 +279,7 @@ module _ (table : List Row) (template : Tree) (s : Sections) (used at : ℕ) (ro
       entries = subset_entries at (map (items_shown table) subsets)
 
       by : IsTogetherOrNot (next_item table template) subsets (subsets_of entries) → IsFilled true table template s (apart subsets) entries ⊎ IsUnfilled table template entries
-      by (inr x) = inr (record { why = x.0; is = x.1; unlike = x.2 })
+      by (inr x) = inr (record { line = x.0; why = x.1; is = x.2; unlike = x.3 })
       by (inl x) = inl (record {
         found = together x.items;
         out = x.out;
@@ -335,11 +340,11 @@ module _ (form : Form) (table : List Row) (sequences : List Sequence) (m : List 
         items = ap (map (items_shown table)) f.each;
       }
 
-  abbrev encoded : Result (List ℕ) RefusedAt
+  abbrev encoded : Result (List ℕ) DocumentFault
   encoded = encoding_in form table sequences (document_of at s (dump_items table s.subsets values))
 
   -- the data are written: nothing is at fault but the length
-  written : IsForForm form too_long → IsFilled (compressed_by form s.compressed) table template s values (subset_entries (at + lines_before s) (dump_items table s.subsets values))
+  written : IsForForm form (fault.TooLong at) → IsFilled (compressed_by form s.compressed) table template s values (subset_entries (at + lines_before s) (dump_items table s.subsets values))
       → IsFormed form table s template values encoded
   written long f = subst (IsFormed form table s template values) (sym is) (by (nat_lt max_octets (message_size s.head.edition parts)) refl)
     where
@@ -352,11 +357,11 @@ module _ (form : Form) (table : List Row) (sequences : List Sequence) (m : List 
       fills : data_bits (compressed_as form d) (next_item table template) (subsets_of d.entries) ≡ Ok f.out
       fills = ap (λ b. data_bits (compressed_by form b) (next_item table template) (subsets_of d.entries)) (bit_back s.compressed) ∙ f.fills
 
-      is : encoded ≡ (if nat_lt max_octets (message_size s.head.edition parts) then Err (refused_at at too_long) else Ok (message_octets s.head parts))
+      is : encoded ≡ (if nat_lt max_octets (message_size s.head.edition parts) then Err (fault.TooLong at) else Ok (message_octets s.head parts))
       is = as_written form table sequences d template f.out (octets_of_bits f.out) a.expands fills refl
           ∙ ap (message_of at s.head) (parts_back_as form at s (dump_items table s.subsets values) (octets_of_bits f.out))
 
-      by : (b : Bool) → nat_lt max_octets (message_size s.head.edition parts) ≡ b → IsFormed form table s template values (if b then Err (refused_at at too_long) else Ok (message_octets s.head parts))
+      by : (b : Bool) → nat_lt max_octets (message_size s.head.edition parts) ≡ b → IsFormed form table s template values (if b then Err (fault.TooLong at) else Ok (message_octets s.head parts))
       by true e = long
       by false e = has_reading f (within max_octets (message_size s.head.edition parts) e)
 
@@ -366,8 +371,8 @@ not_written : (table : List Row) (sequences : List Sequence) (m : List ℕ) (s :
     → IsFormed form.Compressed table s template values (encoding_in form.Compressed table sequences (document_of at s (dump_items table s.subsets values)))
 not_written table sequences m s template values used at a f =
     let d = document_of at s (dump_items table s.subsets values) in
-    let refused = refused_at f.why.line (by_item f.why.fault) in
-    let is : encoding_in form.Compressed table sequences d ≡ Err refused = no_data form.Compressed table sequences d template (Some refused) a.expands (ap report_of_items f.is) in
+    let is : encoding_in form.Compressed table sequences d ≡ Err (fault.Item f.line f.why) =
+    data_refused form.Compressed table sequences d template (fault.Item f.line f.why) a.expands (ap report_of_items f.is) in
     subst (IsFormed form.Compressed table s template values) (sym is) f.unlike
 
 as_it_is : (table : List Row) (m : List ℕ) (s : Sections) (template : Tree) (values : Values) (used at : ℕ) (sequences : List Sequence) → length m ≤ max_octets
@@ -394,9 +399,10 @@ formed form.Compressed table sequences m s template values used at rows legal a 
 -- ---- the faults that are answered
 
 -- what is answered is what the definition says
-pub answered : (form : Form) (table : List Row) (s : Sections) (template : Tree) (values : Values) (defined : Result (List ℕ) RefusedAt) (why : DocumentFault)
-    → IsFormed form table s template values defined → IsDocumentRefusal (reported_refusal why) defined → IsFaultIn form why
-answered form table s template values defined why h1 h2 = grind (arith, nat_tests, common_steps)
+pub answered : (form : Form) (table : List Row) (s : Sections) (template : Tree) (values : Values) (defined : Result (List ℕ) DocumentFault) (why : DocumentFault)
+    → IsFormed form table s template values defined → IsDocumentRefusal why defined → IsFaultIn form why
+answered form table s template values defined why h (inl out) = inl out
+answered form table s template values defined why h (inr is) = inr (subst (IsFormed form table s template values) is h)
 
 -- the document of a message that a table of records accepts
 pub formed_of : (form : Form) (records : List Record) (table : List Row) (sequences : List Sequence) (m : List ℕ) (s : Sections) (template : Tree) (values : Values) (used at : ℕ) (d : Document)
@@ -406,11 +412,20 @@ formed_of form records table sequences m s template values used at d rows a same
     subst (λ (x : Document). IsFormed form table s template values (encoding_in form table sequences x)) (sym same)
     (formed form table sequences m s template values used at (table_read records table rows) (tree_fine (tables_of table sequences) s.descriptors template a.expands).legal a)
 
-pub form_so : (form : Form) (table : List Row) (s : Sections) (template : Tree) (values : Values) (defined : Result (List ℕ) RefusedAt) (r : Result (Vec ℕ Global) DocumentFault)
-    → IfOk r (λ octets. defined ≡ Ok octets.items) → IfErr r (λ why. IsDocumentRefusal (reported_refusal why) defined)
+pub form_so : (form : Form) (table : List Row) (s : Sections) (template : Tree) (values : Values) (defined : Result (List ℕ) DocumentFault) (r : Result (Vec ℕ Global) DocumentFault)
+    → IfOk r (λ octets. defined ≡ Ok octets.items) → IfErr r (λ why. IsDocumentRefusal why defined)
     → IsFormed form table s template values defined → EncodesForm form table s template values r
 form_so form table s template values defined (Ok octets) ok err h = subst (IsFormed form table s template values) ok h
 form_so form table s template values defined (Err why) ok err h = answered form table s template values defined why h err
+
+pub again_so : (table : List Row) (sequences : List Sequence) (m : List ℕ) (s : Sections) (template : Tree) (values : Values) (d : Document) (r : Result (Vec ℕ Global) DocumentFault)
+    → IfOk r (λ octets. encoding_of table sequences d ≡ Ok octets.items) → IfErr r (λ why. IsDocumentRefusal why (encoding_of table sequences d))
+    → IsEncodedAgain table sequences m s template values d → EncodesAgain table m s template values r
+again_so table sequences m s template values d (Ok octets) ok err h =
+    let same : ◌≡◌ {A = Result (List ℕ) DocumentFault} (Ok h.octets) (Ok octets.items) = sym h.is ∙ ok in
+    let is : h.octets ≡ octets.items = cc in
+    subst (HasSameReading table m s template values) is h.same
+again_so table sequences m s template values d (Err why) ok err h = memory_alone why _ h.octets h.is err
 
 -- A message in another form is accepted, and its dump text differs in the flag alone. From it a
 -- canonical message comes back in its own form.

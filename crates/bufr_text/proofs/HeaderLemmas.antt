@@ -2,7 +2,9 @@
 use Rattle.std.proofs.Common.{◌≡◌, ℕ, ◌+◌, List, [], ◌∷◌, ◌++◌, length, refl, ap, ◌∙◌, subst, sym, arith, zero, suc, ◌-◌, ◌*◌, ◌<◌, ◌≤◌, ◌==◌, nat_le, nat_lt, Bool, true, false, Option, Some, None, codes, if◌then◌else◌, length-append, cond, map, take, drop, get_or, ◌&&◌, not, IfSome, slice_index, option_map, position}
 use Rattle.std.specs.List.{AllByRecursion, position_from}
 use Rattle.bufr_fill.specs.Prelude.{Draft, DraftEntry, Holds, Ends, Subset, prepend_to_subset, subsets_of, DraftValue, number_token, text_form, missing_form, reference_token, draft, HasOctets, AllHaveOctets, AreOctets}
-use Rattle.bufr_text.specs.Prelude.{Document, line_within_limit, edition_in, subsets_in, ParserState, Between, Heading, BeforeSubsets, Filling, Stopped, LineEffect, in_range, heading, before_subsets, filling, beginning, closing, with_entry, turn, are_in_range, head_from_values, IsHeaded, IsOctet, IsDescriptorWord, AreEnded, IsBare, HasLineGroups, EntryHasOctets, HasSubsets, IsParserState, without_space, upper_value, either_value, pair_value, onto_read, hex_read, fxy_read, descriptors_read, number_read, QuotedToken, Octet, quoting_of, quoted_on, quoted_read, is_number_octet, is_passed_after, prefix_while, suffix_while, Line, Passed, Opens, Header, Local1, Section2, Descriptors, Begins, Item, Closes, Wrong, keys, place_from, made, with_one_to, item_if_comment, number_value, value_read, valued, item_line, worded, line_of, leasts, mosts, is_named, lead_of, key_at, WalkGoes, Gives, Faults, IsProper}
+use Rattle.bufr_text.specs.Prelude.{Document, read_line, edition_in, subsets_in, Between, Heading, BeforeSubsets, Filling, Stopped, LineEffect, Parsing, Turn, IsTurn, in_range, heading, before_subsets, filling, beginning, closing, with_entry, turn, are_in_range, head_from_values, IsHeaded, IsOctet, IsDescriptorWord, AreEnded, IsBare, HasLineGroups, EntryHasOctets, HasSubsets, IsParsing, without_space, upper_value, either_value, pair_value, onto_read, hex_read, fxy_read, descriptors_read, number_read, QuotedToken, Octet, quoting_of, quoted_on, quoted_read, is_number_octet, is_passed_after, prefix_while, suffix_while, Line, Passed, Opens, Header, Local1, Section2, Descriptors, Begins, Item, Closes, Wrong, keys, place_from, made, with_one_to, item_if_comment, number_value, value_read, valued, item_line, worded, line_of, leasts, mosts, is_named, lead_of, key_at}
+use Rattle.bufr_text.specs.declared.document.LineGroup.{LineGroup}
+use Rattle.bufr_text.specs.declared.document.LineGroup.TheVariants as group
 use Rattle.std.specs.Str.{bytes_eq}
 use Rattle.std.proofs.lemmas.Bool.Decides.{nat_tests}
 use Rattle.bufr_bits.proofs.DecimalLemmas.{and_first, and_second}
@@ -24,12 +26,6 @@ with_section2 d octets = record d { section2 = d.section2 ++ octets }
 
 abbrev pub with_descriptors : Document → List ℕ → Document
 with_descriptors d words = record d { descriptors = d.descriptors ++ words }
-
--- the same after a turn at a line
-abbrev pub HoldsAfter : (at : ℕ) → LineEffect → Type 0
-HoldsAfter at (WalkGoes place) = IsParserState (at + 1) place
-HoldsAfter at (Gives d) = IsProper d × (length d.entries ≤ at)
-HoldsAfter at (Faults fault) = Unit {0}
 
 -- ---- The entries of a document, and the subsets that they are.
 
@@ -203,7 +199,7 @@ line-sound : (line : List ℕ) → IsSound (line_of line)
 unfolding line_of
 line-sound line = grind (arith, nat_tests, common_steps, if-line, item-line-sound, value-sound, worded-sound)
 
-pub said-sound : (line : List ℕ) → IsSound (line_within_limit line)
+pub said-sound : (line : List ℕ) → IsSound (read_line line)
 said-sound line = if-line (nat_lt 4096 (length line)) Wrong (line_of line) tt (line-sound line)
 
 both : (a b : Bool) → a ≡ true → b ≡ true → (a && b) ≡ true
@@ -318,12 +314,16 @@ ranges-again (x ∷ xs) v h g =
     let same : length (x ∷ xs) ≡ 0 + length (x ∷ xs) = omega arith in
     ranges-more x 0 (x ∷ xs) v h (ap (λ (n : ℕ). in_range x n v) (sym same) ∙ g)
 
-pub later : (at : ℕ) (place : ParserState) → IsParserState at place → IsParserState (at + 1) place
+pub later : (at : ℕ) (place : Parsing) → IsParsing at place → IsParsing (at + 1) place
 later at place h1 = grind (arith, nat_tests, common_steps)
 
-if-so : (at : ℕ) (b : Bool) (x y : LineEffect) → (b ≡ true → HoldsAfter at x) → (b ≡ false → HoldsAfter at y) → HoldsAfter at (if b then x else y)
+if-so : (at : ℕ) (b : Bool) (x y : Turn) → (b ≡ true → IsTurn at x) → (b ≡ false → IsTurn at y) → IsTurn at (if b then x else y)
 if-so at true x y p q = p refl
 if-so at false x y p q = q refl
+
+if-effect : (at : ℕ) (b : Bool) (x y : LineEffect) (d : Document) → (b ≡ true → IsTurn at (x, d)) → (b ≡ false → IsTurn at (y, d)) → IsTurn at (if b then x else y, d)
+if-effect at true x y d p q = p refl
+if-effect at false x y d p q = q refl
 
 same-key : (key n : ℕ) → not (key == n) ≡ false → key ≡ n
 same-key key n h1 = grind (arith, nat_tests, common_steps)
@@ -337,10 +337,11 @@ still-bare d value bare = record { local1 = bare.local1; section2 = bare.section
 
 value-so : (at key value : ℕ) (d : Document) (b : Bool) → (key == 19) ≡ b → length d.header < 20 → are_in_range (edition_in d) 0 d.header ≡ true → length d.entries < at → key ≡ length d.header
     → in_range (edition_in d) key value ≡ true → IsBare d
-    → IsParserState (at + 1) (if b then BeforeSubsets 0 (with_value d value) else Heading (with_value d value))
+    → IsParsing (at + 1) (if b then BeforeSubsets group.Local1 else Heading, with_value d value)
 value-so at key value d b h1 h2 h3 h4 h5 h6 h7 = grind (arith, nat_tests, common_steps, length-append, ranges-again, written-bare, still-bare)
 
-heading-so : (at key value : ℕ) (d : Document) → length d.header < 20 → are_in_range (edition_in d) 0 d.header ≡ true → length d.entries < at → IsBare d → HoldsAfter at (heading d (Header key value))
+heading-so : (at key value : ℕ) (d : Document) → length d.header < 20 → are_in_range (edition_in d) 0 d.header ≡ true → length d.entries < at → IsBare d
+    → IsTurn (at + 1) (heading d (Header key value))
 heading-so at key value d h1 h2 h3 h4 = grind (arith, nat_tests, common_steps, if-so, value-so, same-key, not-false)
 
 subset-few : (a b n : ℕ) → ((a == b) && nat_le a n) ≡ true → a ≤ n
@@ -349,16 +350,17 @@ subset-few a b n h = let le : nat_le a n ≡ true = and_second (a == b) (nat_le 
 same-number : (a b n : ℕ) → ((a == b) && nat_le a n) ≡ true → a ≡ b
 same-number a b n h = let is : (a == b) ≡ true = and_first (a == b) (nat_le a n) h in grind (arith, nat_tests, is)
 
-beginning-so : (at read subset : ℕ) (d : Document) → IsHeaded d → length d.entries < at + 1 → HasLineGroups d → HasSubsets read d → HoldsAfter at (beginning read d subset)
-beginning-so at read subset d h1 h2 h3 h4 = grind (arith, nat_tests, common_steps, if-so, subset-few, subsets-few, same-number)
+beginning-so : (at read subset : ℕ) (d : Document) → IsHeaded d → length d.entries < at + 1 → HasLineGroups d → HasSubsets read d → IsTurn (at + 1) (beginning read d subset, d)
+beginning-so at read subset d h1 h2 h3 h4 = grind (arith, nat_tests, common_steps, if-effect, subset-few, subsets-few, same-number)
 
 equal : (a b : ℕ) → (a == b) ≡ true → a ≡ b
 equal a b e = grind (arith, nat_tests, e)
 
-closing-so : (at read : ℕ) (d : Document) → IsHeaded d → length d.entries ≤ at → HasLineGroups d → HasSubsets read d → AreEnded d.entries → HoldsAfter at (closing read d)
-closing-so at read d h1 h2 h3 h4 h5 = grind (arith, nat_tests, common_steps, if-so, drafts-octets, equal)
+closing-so : (at read : ℕ) (d : Document) → IsHeaded d → length d.entries ≤ at → HasLineGroups d → HasSubsets read d → AreEnded d.entries → IsTurn (at + 1) (closing read d, d)
+closing-so at read d h1 h2 h3 h4 h5 = grind (arith, nat_tests, common_steps, if-effect, drafts-octets, equal)
 
-before_subsets-so : (at part : ℕ) (d : Document) (line : Line) → IsSound line → IsHeaded d → length d.entries < at → HasLineGroups d → d.entries ≡ [] → HoldsAfter at (before_subsets part d line)
+before_subsets-so : (at : ℕ) (part : LineGroup) (d : Document) (line : Line) → IsSound line → IsHeaded d → length d.entries < at → HasLineGroups d → d.entries ≡ []
+    → IsTurn (at + 1) (before_subsets part d line)
 before_subsets-so at part d line h1 h2 h3 h4 h5 = grind (arith, nat_tests, common_steps)
 
 one-entry : (d : Document) (entry : DraftEntry) → length (with_entry d entry).entries ≡ length d.entries + 1
@@ -378,7 +380,7 @@ by-number : (subset ended : ℕ) (d : Document) → subset ≡ ended + 1 → Has
 by-number subset ended d is has = subst (λ (n : ℕ). HasSubsets n d) (sym is) has
 
 filling-so : (at subset : ℕ) (d : Document) (line : Line) → IsSound line → IsHeaded d → length d.entries < at → subset < 65536 → HasLineGroups d
-    → ((ended : ℕ) × (subset ≡ ended + 1) × HasSubsets ended d) → HoldsAfter at (filling at subset d line)
+    → ((ended : ℕ) × (subset ≡ ended + 1) × HasSubsets ended d) → IsTurn (at + 1) (filling at subset d line)
 filling-so at subset d (Begins next) sound h lines few written (ended, is, has) =
     beginning-so at subset next (with_entry d (Ends at)) (still-headed d (Ends at) h) (omega (arith, lines, one-entry d (Ends at))) (still-written d (Ends at) written)
     (by-number subset ended (with_entry d (Ends at)) is (one-more at ended d has))
@@ -401,17 +403,18 @@ filling-so at subset d Closes sound h lines few written (ended, is, has) =
     (by-number subset ended (with_entry d (Ends at)) is (one-more at ended d has)) (ends-last d.entries at)
 filling-so at subset d line sound h lines few written has = tt
 
--- what holds of a place holds of the place after the line
-pub turn-holds : (at : ℕ) (place : ParserState) (line : Line) → 0 < at → IsSound line → IsParserState at place → HoldsAfter at (turn at place line)
+-- what holds before a line holds after it
+pub turn-holds : (at : ℕ) (place : Parsing) (line : Line) → 0 < at → IsSound line → IsParsing at place → IsTurn (at + 1) (turn at place line)
 unfolding turn
-turn-holds at Between Opens some sound s = (omega arith, refl, omega arith, record { local1 = refl; section2 = refl; descriptors = refl; entries = refl })
-turn-holds at (Heading d) Passed some sound s = later at (Heading d) s
-turn-holds at (Heading d) (Header key value) some sound s = heading-so at key value d s.0 s.1 s.2 s.3
-turn-holds at (BeforeSubsets part d) Passed some sound s = later at (BeforeSubsets part d) s
-turn-holds at (BeforeSubsets part d) line some sound s = before_subsets-so at part d line sound s.0 s.1 s.2 s.3
-turn-holds at (Filling subset d) Passed some sound s = later at (Filling subset d) s
-turn-holds at (Filling subset d) line some sound s = filling-so at subset d line sound s.0 s.1 s.2 s.3 s.4
-turn-holds at Stopped Passed some sound s = tt
+turn-holds at (Between, d) Passed some sound s = s
+turn-holds at (Between, d) Opens some sound s = (omega arith, refl, omega arith, record { local1 = refl; section2 = refl; descriptors = refl; entries = refl })
+turn-holds at (Heading, d) Passed some sound s = later at (Heading, d) s
+turn-holds at (Heading, d) (Header key value) some sound s = heading-so at key value d s.0 s.1 s.2 s.3
+turn-holds at (BeforeSubsets part, d) Passed some sound s = later at (BeforeSubsets part, d) s
+turn-holds at (BeforeSubsets part, d) line some sound s = before_subsets-so at part d line sound s.0 s.1 s.2 s.3
+turn-holds at (Filling subset, d) Passed some sound s = later at (Filling subset, d) s
+turn-holds at (Filling subset, d) line some sound s = filling-so at subset d line sound s.0 s.1 s.2 s.3 s.4
+turn-holds at (Stopped, d) line some sound s = absurd s
 turn-holds at place line some sound s = tt
 
 -- ---- The table of the keys of the header, beside its definition.

@@ -3,11 +3,13 @@ use Rattle.std.proofs.Common.{zero, suc, inl, inr, ◌⊎◌, ◌≡◌, ◌∙�
 use Rattle.std.specs.List.{concat, AllByRecursion}
 use Rattle.std.proofs.lemmas.Bool.Decides.{nat_tests}
 use Rattle.std.proofs.lemmas.List.{map-append, length-map}
-use Rattle.bufr_bits.proofs.DecimalLemmas.{and_first, and_second}
+use Rattle.bufr_bits.proofs.DecimalLemmas.{and_first}
 use Rattle.bufr_fill.specs.Prelude.{DraftValue, draft, DraftEntry, Holds, Ends}
-use Rattle.bufr_text.specs.Prelude.{leasts, mosts, Document, edition_in, optional_in, subsets_in, ParserState, Between, Heading, BeforeSubsets, Filling, Stopped, LineEffect, WalkGoes, Gives, Faults, NotAllowed, SubsetCount, HeaderRange, in_range, heading, beginning, closing, with_entry, turn, line_within_limit, parse_lines, place_after, reported_at, reported_at_end, lines_of, documents_of, blank, Complete, Line, Passed, Opens, Header, Local1, Section2, Descriptors, Begins, Item, Closes, NumberedLine, numbered_line, onto_heard, numbered_lines, header_says, Element, SubsetHeard, subsets_heard, first_at, entries_heard, IsDocument, AreReported, IsProperlyReported, AreProper, IsBare, IsParserState, header_lines, local1_line, section2_line, descriptors_line, subset_line, subset_lines, item_text, dump_value_of, item_entries, subset_entries, IsOctet, IsDescriptorWord, IsItem, header_of, bit, head_lines, dump_lines, dump_text_of, document_of, lines_before, IsDumpable, runs_of, runs_after}
+use Rattle.bufr_text.specs.Prelude.{leasts, mosts, Document, edition_in, optional_in, subsets_in, ParserState, Between, Heading, BeforeSubsets, Filling, Stopped, LineEffect, Continues, Completes, Refuses, Parsing, Turn, between, before_subsets, may_be_section2, IsTurn, NotAllowed, SubsetCount, HeaderRange, in_range, heading, beginning, closing, with_entry, turn, read_line, parse_lines, parsing_after, reported_at, reported_at_end, lines_of, documents_of, blank, Complete, Line, Passed, Opens, Header, Local1, Section2, Descriptors, Begins, Item, Closes, NumberedLine, numbered_line, onto_heard, numbered_lines, header_says, Element, SubsetHeard, subsets_heard, first_at, entries_heard, IsDocument, AreReported, IsProperlyReported, AreProper, IsBare, IsParsing, header_lines, local1_line, section2_line, descriptors_line, subset_line, subset_lines, item_text, dump_value_of, item_entries, subset_entries, IsOctet, IsDescriptorWord, IsItem, header_of, bit, head_lines, dump_lines, dump_text_of, document_of, lines_before, IsDumpable, runs_of, runs_after}
 use Rattle.bufr_text.proofs.ReaderLemmas.{stopped-reports}
-use Rattle.bufr_text.proofs.HeaderLemmas.{turn-holds, all-more, said-sound, any-edition, HoldsAfter, with_value, with_local1, with_section2, with_descriptors}
+use Rattle.bufr_text.specs.declared.document.LineGroup.{LineGroup}
+use Rattle.bufr_text.specs.declared.document.LineGroup.TheVariants as group
+use Rattle.bufr_text.proofs.HeaderLemmas.{turn-holds, all-more, said-sound, any-edition, with_value, with_local1, with_section2, with_descriptors}
 use Rattle.bufr_text.proofs.LineLemmas.{IsLineOf, header-line, local1-line, section2-line, descriptors-line, subset-line, item-line, end-line, IsRun, message-line, runs-after, concat-after, IsAbove, lines-back}
 use Rattle.bufr_frame.specs.Prelude.{IsFitting, is_edition, greatest_values, values_of, Sections}
 use Rattle.bufr_frame.proofs.AgainLemmas.{by-third}
@@ -109,10 +111,10 @@ record IsHeading (d : Document) (own : List NumberedLine) : Type 0 where
   bare : IsBare d
 
 -- the parts before the subsets are in their order
-record IsBeforeSubsets (part : ℕ) (d : Document) (own : List NumberedLine) : Type 0 where
+record IsBeforeSubsets (part : LineGroup) (d : Document) (own : List NumberedLine) : Type 0 where
   with_open_group : IsBegun d own
-  before_section2 : part ≡ 0 → with_open_group.section2 ≡ []
-  before_descriptors : part ≤ 1 → with_open_group.descriptors ≡ []
+  before_section2 : part ≡ group.Local1 → with_open_group.section2 ≡ []
+  before_descriptors : (part ≡ group.Descriptors → ⊥) → with_open_group.descriptors ≡ []
   none : d.entries ≡ []
 
 -- the subsets that were ended, and the one that is being read
@@ -126,21 +128,26 @@ record IsFilling (subset : ℕ) (d : Document) (own : List NumberedLine) : Type 
   entries : d.entries ≡ entries_heard done last.at ++ map item_entry last.items
 
 -- which lines are before a place in a document
-abbrev IsOpen : ParserState → List NumberedLine → Type 0
-IsOpen Between own = own ≡ []
-IsOpen (Heading d) own = IsHeading d own
-IsOpen (BeforeSubsets part d) own = IsBeforeSubsets part d own
-IsOpen (Filling subset d) own = IsFilling subset d own
-IsOpen Stopped own = ⊥
+abbrev IsOpen : Parsing → List NumberedLine → Type 0
+IsOpen (Between, d) own = own ≡ []
+IsOpen (Heading, d) own = IsHeading d own
+IsOpen (BeforeSubsets part, d) own = IsBeforeSubsets part d own
+IsOpen (Filling subset, d) own = IsFilling subset d own
+IsOpen (Stopped, d) own = ⊥
 
-abbrev IsOpenAfter : LineEffect → List NumberedLine → Type 0
-IsOpenAfter (WalkGoes place) own = IsOpen place own
-IsOpenAfter (Gives d) own = IsDocument d own
-IsOpenAfter (Faults fault) own = Unit {0}
+abbrev IsOpenAfter : Turn → List NumberedLine → Type 0
+IsOpenAfter (Continues state, d) own = IsOpen (state, d) own
+IsOpenAfter (Completes, d) own = IsDocument d own
+IsOpenAfter (Refuses fault, d) own = Unit {0}
 
-if-open : (own : List NumberedLine) (b : Bool) (x y : LineEffect) → (b ≡ true → IsOpenAfter x own) → (b ≡ false → IsOpenAfter y own) → IsOpenAfter (if b then x else y) own
+if-open : (own : List NumberedLine) (b : Bool) (x y : Turn) → (b ≡ true → IsOpenAfter x own) → (b ≡ false → IsOpenAfter y own) → IsOpenAfter (if b then x else y) own
 if-open own true x y p q = p refl
 if-open own false x y p q = q refl
+
+if-effect : (own : List NumberedLine) (b : Bool) (x y : LineEffect) (d : Document) → (b ≡ true → IsOpenAfter (x, d) own) → (b ≡ false → IsOpenAfter (y, d) own)
+    → IsOpenAfter (if b then x else y, d) own
+if-effect own true x y d p q = p refl
+if-effect own false x y d p q = q refl
 
 equal : (a b : ℕ) → (a == b) ≡ true → a ≡ b
 equal a b e = grind (arith, nat_tests, e)
@@ -150,7 +157,7 @@ not-false true e = refl
 not-false false e = absurd cc
 
 -- a line that is passed over
-passed : (place : ParserState) (own : List NumberedLine) → IsOpen place own → IsOpen place (own ++ [])
+passed : (place : Parsing) (own : List NumberedLine) → IsOpen place own → IsOpen place (own ++ [])
 passed place own is = subst (λ (t : List NumberedLine). IsOpen place t) (sym (append-nil own)) is
 
 -- a header line
@@ -162,12 +169,12 @@ heading-open : (at key value : ℕ) (d : Document) (own : List NumberedLine) →
 heading-open at key value d own is =
     let here = own ++ numbered_line at (Header key value) ∷ [] in
     let next = with_value d value in
-    let taken : LineEffect = WalkGoes (if key == 19 then BeforeSubsets 0 next else Heading next) in
-    let ranged : LineEffect = if not (in_range (edition_in d) key value) then Faults HeaderRange else taken in
-    if-open here (not (key == length d.header)) (Faults NotAllowed) ranged (λ e. tt) (λ e.
-    if-open here (not (in_range (edition_in d) key value)) (Faults HeaderRange) taken (λ f. tt) (λ f. by (key == 19) (equal key (length d.header) (not-false (key == length d.header) e))))
+    let taken : Turn = (Continues (if key == 19 then BeforeSubsets group.Local1 else Heading), next) in
+    let ranged : Turn = if not (in_range (edition_in d) key value) then (Refuses HeaderRange, d) else taken in
+    if-open here (not (key == length d.header)) (Refuses NotAllowed, d) ranged (λ e. tt) (λ e.
+    if-open here (not (in_range (edition_in d) key value)) (Refuses HeaderRange, d) taken (λ f. tt) (λ f. by (key == 19) (equal key (length d.header) (not-false (key == length d.header) e))))
   where
-    by : (last : Bool) → key ≡ length d.header → IsOpen (if last then BeforeSubsets 0 (with_value d value) else Heading (with_value d value)) (own ++ numbered_line at (Header key value) ∷ [])
+    by : (last : Bool) → key ≡ length d.header → IsOpen (if last then BeforeSubsets group.Local1 else Heading, with_value d value) (own ++ numbered_line at (Header key value) ∷ [])
     by true same = record {
       with_open_group = record {
         header = is.header ++ numbered_line at (Header key value) ∷ [];
@@ -202,11 +209,12 @@ written-more d own b x = ap (λ (t : List NumberedLine). t ++ x ∷ []) b.are �
 says-more : (written : List NumberedLine) (x : NumberedLine) (lines : List Line) → says written ≡ lines → says (written ++ x ∷ []) ≡ lines ++ x.says ∷ []
 says-more written x lines is = map-append (λ (l : NumberedLine). l.says) written (x ∷ []) ∙ ap (λ (t : List Line). t ++ x.says ∷ []) is
 
-local1-open : (at : ℕ) (d : Document) (octets : List ℕ) (own : List NumberedLine) → IsBeforeSubsets 0 d own → IsBeforeSubsets 0 (with_local1 d octets) (own ++ numbered_line at (Local1 octets) ∷ [])
+local1-open : (at : ℕ) (d : Document) (octets : List ℕ) (own : List NumberedLine) → IsBeforeSubsets group.Local1 d own
+    → IsBeforeSubsets group.Local1 (with_local1 d octets) (own ++ numbered_line at (Local1 octets) ∷ [])
 local1-open at d octets own is =
     let b = is.with_open_group in
     let none2 = is.before_section2 refl in
-    let none3 = is.before_descriptors (omega arith) in
+    let none3 = is.before_descriptors (λ e. cc) in
     let before : says b.written ≡ map Local1 b.local1 = b.parts ∙ ap (λ (t : List (List ℕ)). map Local1 b.local1 ++ (map Section2 t ++ map Descriptors b.descriptors)) none2
     ∙ ap (λ (t : List (List ℕ)). map Local1 b.local1 ++ map Descriptors t) none3 ∙ append-nil (map Local1 b.local1) in
     record {
@@ -230,8 +238,8 @@ local1-open at d octets own is =
       none = is.none;
     }
 
-section2-open : (at part : ℕ) (d : Document) (octets : List ℕ) (own : List NumberedLine) → part ≤ 1 → optional_in d ≡ 1 → IsBeforeSubsets part d own
-    → IsBeforeSubsets 1 (with_section2 d octets) (own ++ numbered_line at (Section2 octets) ∷ [])
+section2-open : (at : ℕ) (part : LineGroup) (d : Document) (octets : List ℕ) (own : List NumberedLine) → (part ≡ group.Descriptors → ⊥) → optional_in d ≡ 1 → IsBeforeSubsets part d own
+    → IsBeforeSubsets group.Section2 (with_section2 d octets) (own ++ numbered_line at (Section2 octets) ∷ [])
 section2-open at part d octets own early flag is =
     let b = is.with_open_group in
     let none3 = is.before_descriptors early in
@@ -254,13 +262,13 @@ section2-open at part d octets own early flag is =
         descriptors_are = b.descriptors_are ∙ ap (λ (t : List (List ℕ)). concat t) none3;
         flagged = inr flag;
       };
-      before_section2 = λ e. absurd (omega (arith, e));
+      before_section2 = λ e. absurd cc;
       before_descriptors = λ _. refl;
       none = is.none;
     }
 
-descriptors-open : (at part : ℕ) (d : Document) (words : List ℕ) (own : List NumberedLine) → IsBeforeSubsets part d own
-    → IsBeforeSubsets 2 (with_descriptors d words) (own ++ numbered_line at (Descriptors words) ∷ [])
+descriptors-open : (at : ℕ) (part : LineGroup) (d : Document) (words : List ℕ) (own : List NumberedLine) → IsBeforeSubsets part d own
+    → IsBeforeSubsets group.Descriptors (with_descriptors d words) (own ++ numbered_line at (Descriptors words) ∷ [])
 descriptors-open at part d words own is =
     let b = is.with_open_group in
     let first = map Local1 b.local1 in
@@ -283,8 +291,8 @@ descriptors-open at part d words own is =
         descriptors_are = ap (λ (t : List ℕ). t ++ words) b.descriptors_are ∙ sym (concat-more b.descriptors words);
         flagged = b.flagged;
       };
-      before_section2 = λ e. absurd (omega (arith, e));
-      before_descriptors = λ e. absurd (omega (arith, e));
+      before_section2 = λ e. absurd cc;
+      before_descriptors = λ some. absurd (some refl);
       none = is.none;
     }
 
@@ -292,9 +300,10 @@ descriptors-open at part d words own is =
 is-next : (subset read most : ℕ) → ((subset == read + 1) && nat_le subset most) ≡ true → subset ≡ read + 1
 is-next subset read most e = equal subset (read + 1) (and_first (subset == read + 1) (nat_le subset most) e)
 
-first-open : (at part subset : ℕ) (d : Document) (own : List NumberedLine) → IsBeforeSubsets part d own → IsOpenAfter (beginning 0 d subset) (own ++ numbered_line at (Begins subset) ∷ [])
-first-open at part subset d own is =
-    if-open (own ++ numbered_line at (Begins subset) ∷ []) ((subset == 0 + 1) && nat_le subset (subsets_in d)) (WalkGoes (Filling subset d)) (Faults SubsetCount) (λ e.
+first-open : (at subset : ℕ) (part : LineGroup) (d : Document) (own : List NumberedLine) → IsBeforeSubsets part d own
+    → IsOpenAfter (beginning 0 d subset, d) (own ++ numbered_line at (Begins subset) ∷ [])
+first-open at subset part d own is =
+    if-effect (own ++ numbered_line at (Begins subset) ∷ []) ((subset == 0 + 1) && nat_le subset (subsets_in d)) (Continues (Filling subset)) (Refuses SubsetCount) d (λ e.
     let number : subset ≡ 1 = is-next subset 0 (subsets_in d) e in record {
       prefix = own;
       with_open_group = is.with_open_group;
@@ -305,10 +314,10 @@ first-open at part subset d own is =
       entries = is.none;
     }) (λ e. tt)
 
-none-open : (at part : ℕ) (d : Document) (own : List NumberedLine) → IsBeforeSubsets part d own → IsOpenAfter (closing 0 d) (own ++ numbered_line at Closes ∷ [])
+none-open : (at : ℕ) (part : LineGroup) (d : Document) (own : List NumberedLine) → IsBeforeSubsets part d own → IsOpenAfter (closing 0 d, d) (own ++ numbered_line at Closes ∷ [])
 none-open at part d own is =
     let b = is.with_open_group in
-    if-open (own ++ numbered_line at Closes ∷ []) (0 == subsets_in d) (Gives d) (Faults SubsetCount) (λ e. record {
+    if-effect (own ++ numbered_line at Closes ∷ []) (0 == subsets_in d) Completes (Refuses SubsetCount) d (λ e. record {
       header = b.header;
       local1 = b.local1;
       section2 = b.section2;
@@ -335,10 +344,10 @@ ended-entries : (at subset : ℕ) (d : Document) (own : List NumberedLine) (is :
 ended-entries at subset d own is = ap (λ (t : List DraftEntry). t ++ Ends at ∷ []) is.entries ∙ sym (entries-more is.done is.last at)
 
 next-open : (at subset next : ℕ) (d : Document) (own : List NumberedLine) → IsFilling subset d own
-    → IsOpenAfter (beginning subset (with_entry d (Ends at)) next) (own ++ numbered_line at (Begins next) ∷ [])
+    → IsOpenAfter (beginning subset d next, with_entry d (Ends at)) (own ++ numbered_line at (Begins next) ∷ [])
 next-open at subset next d own is =
     let parts = is.done ++ is.last ∷ [] in
-    if-open (own ++ numbered_line at (Begins next) ∷ []) ((next == subset + 1) && nat_le next (subsets_in d)) (WalkGoes (Filling next (with_entry d (Ends at)))) (Faults SubsetCount) (λ e.
+    if-effect (own ++ numbered_line at (Begins next) ∷ []) ((next == subset + 1) && nat_le next (subsets_in d)) (Continues (Filling next)) (Refuses SubsetCount) (with_entry d (Ends at)) (λ e.
     let number : next ≡ 1 + length parts = omega (arith, is-next next subset (subsets_in d) e, is.counted, length-append is.done (is.last ∷ [])) in record {
       prefix = is.prefix;
       with_open_group = begun-still d (Ends at) is.prefix is.with_open_group;
@@ -363,11 +372,11 @@ item-open at subset d own i here is = record {
       ∙ ap (λ (t : List DraftEntry). entries_heard is.done is.last.at ++ t) (sym (map-append item_entry is.last.items (i ∷ [])));
 }
 
-end-open : (at subset : ℕ) (d : Document) (own : List NumberedLine) → IsFilling subset d own → IsOpenAfter (closing subset (with_entry d (Ends at))) (own ++ numbered_line at Closes ∷ [])
+end-open : (at subset : ℕ) (d : Document) (own : List NumberedLine) → IsFilling subset d own → IsOpenAfter (closing subset d, with_entry d (Ends at)) (own ++ numbered_line at Closes ∷ [])
 end-open at subset d own is =
     let b = is.with_open_group in
     let parts = is.done ++ is.last ∷ [] in
-    if-open (own ++ numbered_line at Closes ∷ []) (subset == subsets_in d) (Gives (with_entry d (Ends at))) (Faults SubsetCount) (λ e. record {
+    if-effect (own ++ numbered_line at Closes ∷ []) (subset == subsets_in d) Completes (Refuses SubsetCount) (with_entry d (Ends at)) (λ e. record {
       header = b.header;
       local1 = b.local1;
       section2 = b.section2;
@@ -389,106 +398,113 @@ end-open at subset d own is =
       entries = ended-entries at subset d own is;
     }) (λ e. tt)
 
-by-part : (at part : ℕ) (d : Document) (octets : List ℕ) (own : List NumberedLine) (b : Bool) → (part == 0) ≡ b → IsBeforeSubsets part d own
-    → IsOpenAfter (if b then WalkGoes (BeforeSubsets 0 (with_local1 d octets)) else Faults NotAllowed) (own ++ numbered_line at (Local1 octets) ∷ [])
-by-part at part d octets own true e is = local1-open at d octets own (subst (λ (n : ℕ). IsBeforeSubsets n d own) (equal part 0 e) is)
-by-part at part d octets own false e is = tt
+by-part : (at : ℕ) (part : LineGroup) (d : Document) (octets : List ℕ) (own : List NumberedLine) → IsBeforeSubsets part d own
+    → IsOpenAfter (before_subsets part d (Local1 octets)) (own ++ numbered_line at (Local1 octets) ∷ [])
+by-part at group.Local1 d octets own is = local1-open at d octets own is
+by-part at group.Section2 d octets own is = tt
+by-part at group.Descriptors d octets own is = tt
 
-by-flag : (at part : ℕ) (d : Document) (octets : List ℕ) (own : List NumberedLine) → IsBeforeSubsets part d own
-    → IsOpenAfter (if nat_le part 1 && (optional_in d == 1) then WalkGoes (BeforeSubsets 1 (with_section2 d octets)) else Faults NotAllowed) (own ++ numbered_line at (Section2 octets) ∷ [])
-by-flag at part d octets own is =
-    if-open (own ++ numbered_line at (Section2 octets) ∷ []) (nat_le part 1 && (optional_in d == 1)) (WalkGoes (BeforeSubsets 1 (with_section2 d octets))) (Faults NotAllowed) (λ e.
-    let early : nat_le part 1 ≡ true = and_first (nat_le part 1) (optional_in d == 1) e in
-    let most : part ≤ 1 = grind (arith, nat_tests, early) in
-    section2-open at part d octets own most (equal (optional_in d) 1 (and_second (nat_le part 1) (optional_in d == 1) e)) is) (λ e. tt)
+by-flag : (at : ℕ) (part : LineGroup) (d : Document) (octets : List ℕ) (own : List NumberedLine) → (part ≡ group.Descriptors → ⊥) → IsBeforeSubsets part d own
+    → IsOpenAfter (if optional_in d == 1 then (Continues (BeforeSubsets group.Section2), with_section2 d octets) else (Refuses NotAllowed, d)) (own ++ numbered_line at (Section2 octets) ∷ [])
+by-flag at part d octets own early is =
+    if-open (own ++ numbered_line at (Section2 octets) ∷ []) (optional_in d == 1) (Continues (BeforeSubsets group.Section2), with_section2 d octets) (Refuses NotAllowed, d)
+    (λ e. section2-open at part d octets own early (equal (optional_in d) 1 e) is) (λ e. tt)
+
+section2-after : (at : ℕ) (part : LineGroup) (d : Document) (octets : List ℕ) (own : List NumberedLine) → IsBeforeSubsets part d own
+    → IsOpenAfter (before_subsets part d (Section2 octets)) (own ++ numbered_line at (Section2 octets) ∷ [])
+section2-after at group.Local1 d octets own is = by-flag at group.Local1 d octets own (λ e. cc) is
+section2-after at group.Section2 d octets own is = by-flag at group.Section2 d octets own (λ e. cc) is
+section2-after at group.Descriptors d octets own is = tt
 
 -- each line keeps it
-turn-opens : (at : ℕ) (place : ParserState) (line : Line) (own : List NumberedLine) → IsOpen place own → IsOpenAfter (turn at place line) (own ++ one at line)
+turn-opens : (at : ℕ) (place : Parsing) (line : Line) (own : List NumberedLine) → IsOpen place own → IsOpenAfter (turn at place line) (own ++ one at line)
 unfolding turn
-turn-opens at Between Passed own is = passed Between own is
-turn-opens at Between Opens own is = record {
+turn-opens at (Between, d) Passed own is = passed (Between, d) own is
+turn-opens at (Between, d) Opens own is = record {
   header = [];
   are = ap (λ (t : List NumberedLine). t ++ numbered_line at Opens ∷ []) is;
   in_order = refl;
   bare = record { local1 = refl; section2 = refl; descriptors = refl; entries = refl };
 }
-turn-opens at (Heading d) Passed own is = passed (Heading d) own is
-turn-opens at (Heading d) (Header key value) own is = heading-open at key value d own is
-turn-opens at (BeforeSubsets part d) Passed own is = passed (BeforeSubsets part d) own is
-turn-opens at (BeforeSubsets part d) (Local1 octets) own is = by-part at part d octets own (part == 0) refl is
-turn-opens at (BeforeSubsets part d) (Section2 octets) own is = by-flag at part d octets own is
-turn-opens at (BeforeSubsets part d) (Descriptors words) own is = descriptors-open at part d words own is
-turn-opens at (BeforeSubsets part d) (Begins subset) own is = first-open at part subset d own is
-turn-opens at (BeforeSubsets part d) Closes own is = none-open at part d own is
-turn-opens at (Filling subset d) Passed own is = passed (Filling subset d) own is
-turn-opens at (Filling subset d) (Begins next) own is = next-open at subset next d own is
-turn-opens at (Filling subset d) (Item fxy form) own is = item-open at subset d own (element at fxy form) refl is
-turn-opens at (Filling subset d) Closes own is = end-open at subset d own is
-turn-opens at Stopped line own is = absurd is
+turn-opens at (Heading, d) Passed own is = passed (Heading, d) own is
+turn-opens at (Heading, d) (Header key value) own is = heading-open at key value d own is
+turn-opens at (BeforeSubsets part, d) Passed own is = passed (BeforeSubsets part, d) own is
+turn-opens at (BeforeSubsets part, d) (Local1 octets) own is = by-part at part d octets own is
+turn-opens at (BeforeSubsets part, d) (Section2 octets) own is = section2-after at part d octets own is
+turn-opens at (BeforeSubsets part, d) (Descriptors words) own is = descriptors-open at part d words own is
+turn-opens at (BeforeSubsets part, d) (Begins subset) own is = first-open at subset part d own is
+turn-opens at (BeforeSubsets part, d) Closes own is = none-open at part d own is
+turn-opens at (Filling subset, d) Passed own is = passed (Filling subset, d) own is
+turn-opens at (Filling subset, d) (Begins next) own is = next-open at subset next d own is
+turn-opens at (Filling subset, d) (Item fxy form) own is = item-open at subset d own (element at fxy form) refl is
+turn-opens at (Filling subset, d) Closes own is = end-open at subset d own is
+turn-opens at (Stopped, d) line own is = absurd is
 turn-opens at place line own is = tt
 
-on : (at : ℕ) (line : List ℕ) (more : List (List ℕ)) (own : List NumberedLine) → (own ++ one at (line_within_limit line)) ++ numbered_lines (at + 1) more ≡ own ++ numbered_lines at (line ∷ more)
+on : (at : ℕ) (line : List ℕ) (more : List (List ℕ)) (own : List NumberedLine) → (own ++ one at (read_line line)) ++ numbered_lines (at + 1) more ≡ own ++ numbered_lines at (line ∷ more)
 unfolding numbered_lines
-on at line more own = append_assoc own (one at (line_within_limit line)) (numbered_lines (at + 1) more)
-    ∙ ap (λ (t : List NumberedLine). own ++ t) (sym (onto-one at (line_within_limit line) (numbered_lines (at + 1) more)))
+on at line more own = append_assoc own (one at (read_line line)) (numbered_lines (at + 1) more)
+    ∙ ap (λ (t : List NumberedLine). own ++ t) (sym (onto-one at (read_line line) (numbered_lines (at + 1) more)))
 
-end-reported : (at : ℕ) (place : ParserState) (own : List NumberedLine) → IsOpen place own → AreReported (own ++ []) (reported_at_end at place)
+end-reported : (at : ℕ) (place : Parsing) (own : List NumberedLine) → IsOpen place own → AreReported (own ++ []) (reported_at_end at place.0)
 end-reported at place own h1 = grind (arith, nat_tests, common_steps)
 
-reported-on : (at : ℕ) (line : List ℕ) (more : List (List ℕ)) (own : List NumberedLine) (here : LineEffect) → IsOpenAfter here (own ++ one at (line_within_limit line))
-    → ((next : ParserState) (own' : List NumberedLine) → IsOpen next own' → AreReported (own' ++ numbered_lines (at + 1) more) (parse_lines (at + 1) next more))
-    → AreReported (own ++ numbered_lines at (line ∷ more)) (reported_at at here ++ parse_lines (at + 1) (place_after here) more)
-reported-on at line more own (WalkGoes next) opens rest = subst (λ (t : List NumberedLine). AreReported t (parse_lines (at + 1) next more)) (on at line more own)
-    (rest next (own ++ one at (line_within_limit line)) opens)
-reported-on at line more own (Gives d) is rest = (own ++ one at (line_within_limit line), numbered_lines (at + 1) more, sym (on at line more own), is, rest Between [] refl)
-reported-on at line more own (Faults fault) is rest = stopped-reports (at + 1) more
+reported-on : (at : ℕ) (line : List ℕ) (more : List (List ℕ)) (own : List NumberedLine) (here : Turn) → IsOpenAfter here (own ++ one at (read_line line))
+    → ((next : Parsing) (own' : List NumberedLine) → IsOpen next own' → AreReported (own' ++ numbered_lines (at + 1) more) (parse_lines (at + 1) next more))
+    → AreReported (own ++ numbered_lines at (line ∷ more)) (reported_at at here ++ parse_lines (at + 1) (parsing_after here) more)
+reported-on at line more own (Continues state, d) opens rest = subst (λ (t : List NumberedLine). AreReported t (parse_lines (at + 1) (state, d) more)) (on at line more own)
+    (rest (state, d) (own ++ one at (read_line line)) opens)
+reported-on at line more own (Completes, d) is rest = (own ++ one at (read_line line), numbered_lines (at + 1) more, sym (on at line more own), is, rest between [] refl)
+reported-on at line more own (Refuses fault, d) is rest = stopped-reports (at + 1) d more
 
-lines-reported : (at : ℕ) (place : ParserState) (lines : List (List ℕ)) (own : List NumberedLine) → IsOpen place own → AreReported (own ++ numbered_lines at lines) (parse_lines at place lines)
+lines-reported : (at : ℕ) (place : Parsing) (lines : List (List ℕ)) (own : List NumberedLine) → IsOpen place own → AreReported (own ++ numbered_lines at lines) (parse_lines at place lines)
 unfolding parse_lines numbered_lines
 lines-reported at place [] own is = end-reported at place own is
-lines-reported at place (line ∷ more) own is = reported-on at line more own (turn at place (line_within_limit line)) (turn-opens at place (line_within_limit line) own is)
+lines-reported at place (line ∷ more) own is = reported-on at line more own (turn at place (read_line line)) (turn-opens at place (read_line line) own is)
     (λ next own' opens. lines-reported (at + 1) next more own' opens)
 
 pub text-reported : (text : List ℕ) → AreReported (numbered_lines 1 (lines_of text)) (documents_of text)
-text-reported text = lines-reported 1 Between (lines_of text) [] refl
+text-reported text = lines-reported 1 between (lines_of text) [] refl
 
 -- ---- The documents that a text spells are proper.
 
-end-proper : (at : ℕ) (place : ParserState) → AreProper (reported_at_end at place)
-end-proper at place = grind (arith, nat_tests, common_steps)
+end-proper : (at : ℕ) (state : ParserState) → AreProper (reported_at_end at state)
+end-proper at state = grind (arith, nat_tests, common_steps)
 
-reported-proper : (at : ℕ) (here : LineEffect) → HoldsAfter at here → AreProper (reported_at at here)
+reported-proper : (at : ℕ) (here : Turn) → IsTurn (at + 1) here → AreProper (reported_at at here)
 reported-proper at here h1 = grind (arith, nat_tests, common_steps)
 
-holds-on : (at : ℕ) (here : LineEffect) → HoldsAfter at here → IsParserState (at + 1) (place_after here)
-holds-on at (WalkGoes place) after = after
-holds-on at here after = tt
+proper-on : (at : ℕ) (here : Turn) (more : List (List ℕ)) → IsTurn at here → ((next : Parsing) → IsParsing at next → AreProper (parse_lines at next more))
+    → AreProper (parse_lines at (parsing_after here) more)
+proper-on at (Continues state, d) more is rest = rest (state, d) is
+proper-on at (Completes, d) more is rest = rest between refl
+proper-on at (Refuses fault, d) more is rest = rw (stopped-reports at d more) tt
 
-pub spelled-proper : (at : ℕ) (place : ParserState) (lines : List (List ℕ)) → 0 < at → IsParserState at place → AreProper (parse_lines at place lines)
+pub spelled-proper : (at : ℕ) (place : Parsing) (lines : List (List ℕ)) → 0 < at → IsParsing at place → AreProper (parse_lines at place lines)
 unfolding parse_lines
-spelled-proper at place [] some holds = end-proper at place
+spelled-proper at place [] some holds = end-proper at place.0
 spelled-proper at place (line ∷ more) some holds =
-    let here = turn at place (line_within_limit line) in
-    let after = turn-holds at place (line_within_limit line) some (said-sound line) holds in
-    all-more IsProperlyReported (reported_at at here) (parse_lines (at + 1) (place_after here) more) (reported-proper at here after)
-    (spelled-proper (at + 1) (place_after here) more (omega arith) (holds-on at here after))
+    let here = turn at place (read_line line) in
+    let after = turn-holds at place (read_line line) some (said-sound line) holds in
+    all-more IsProperlyReported (reported_at at here) (parse_lines (at + 1) (parsing_after here) more) (reported-proper at here after)
+    (proper-on (at + 1) here more after (λ next holds. spelled-proper (at + 1) next more (omega arith) holds))
 
 -- ---- A dump text spells the document of its message, and nothing else.
 
 -- ---- The lines of a dump text, one after another, spell one document.
 
 -- a line is said whole
-said-is : (line : List ℕ) (meaning : Line) → IsLineOf line meaning → line_within_limit line ≡ meaning
+said-is : (line : List ℕ) (meaning : Line) → IsLineOf line meaning → read_line line ≡ meaning
 said-is line meaning h1 = grind (arith, nat_tests, common_steps)
 
 -- the reading goes on after a line, or gives a document
-pub goes : (at : ℕ) (place next : ParserState) (line : List ℕ) (meaning : Line) (more : List (List ℕ)) → IsLineOf line meaning → turn at place meaning ≡ WalkGoes next
+pub goes : (at : ℕ) (place next : Parsing) (line : List ℕ) (meaning : Line) (more : List (List ℕ)) → IsLineOf line meaning → turn at place meaning ≡ (Continues next.0, next.1)
     → parse_lines at place (line ∷ more) ≡ parse_lines (at + 1) next more
 unfolding parse_lines
 goes at place next line meaning more is e = rw (said-is line meaning is, e) refl
 
-pub gives : (at : ℕ) (place : ParserState) (d : Document) (line : List ℕ) (meaning : Line) (more : List (List ℕ)) → IsLineOf line meaning → turn at place meaning ≡ Gives d
-    → parse_lines at place (line ∷ more) ≡ Complete d ∷ parse_lines (at + 1) Between more
+pub gives : (at : ℕ) (place : Parsing) (d : Document) (line : List ℕ) (meaning : Line) (more : List (List ℕ)) → IsLineOf line meaning → turn at place meaning ≡ (Completes, d)
+    → parse_lines at place (line ∷ more) ≡ Complete d ∷ parse_lines (at + 1) between more
 unfolding parse_lines
 gives at place d line meaning more is e = rw (said-is line meaning is, e) refl
 
@@ -516,123 +532,133 @@ ranged edition k value d same range = ap (λ (n : ℕ). in_range n k value) same
 
 run-on : (edition k : ℕ) (value : ℕ) (values : List ℕ) (d : Document) (at : ℕ) (more : List (List ℕ)) → 0 < k → k + length values ≡ 19 → k ≡ length d.header → edition_in d ≡ edition
     → InRange edition k (value ∷ values)
-    → parse_lines at (Heading d) (header_lines k (value ∷ values) ++ more) ≡ parse_lines (at + 1 + length values) (BeforeSubsets 0 (with_header d (d.header ++ value ∷ values))) more
+    → parse_lines at (Heading, d) (header_lines k (value ∷ values) ++ more) ≡ parse_lines (at + 1 + length values) (BeforeSubsets group.Local1, with_header d (d.header ++ value ∷ values)) more
 unfolding header_lines turn
 run-on edition k value [] d at more suffix count is same (range, small, rest) =
     let last : k ≡ 19 = omega (arith, count) in
     let is_last : (k == 19) ≡ true = grind (arith, nat_tests, last) in
-    goes at (Heading d) (BeforeSubsets 0 (with_value d value)) _ (Header k value) more (header-line k value (omega (arith, last)) small)
+    goes at (Heading, d) (BeforeSubsets group.Local1, with_value d value) _ (Header k value) more (header-line k value (omega (arith, last)) small)
     (rw (same-key k d is, ranged edition k value d same range, is_last) refl)
-    ∙ ap (λ n. parse_lines n (BeforeSubsets 0 (with_value d value)) more) (omega arith)
+    ∙ ap (λ n. parse_lines n (BeforeSubsets group.Local1, with_value d value) more) (omega arith)
 run-on edition k value (v ∷ values) d at more suffix count is same (range, small, rest) =
-    goes at (Heading d) (Heading (with_value d value)) _ (Header k value) (header_lines (k + 1) (v ∷ values) ++ more) (header-line k value (omega (arith, count)) small)
+    goes at (Heading, d) (Heading, with_value d value) _ (Header k value) (header_lines (k + 1) (v ∷ values) ++ more) (header-line k value (omega (arith, count)) small)
     (rw (same-key k d is, ranged edition k value d same range, not-last k (omega (arith, count))) refl)
     ∙ run-on edition (k + 1) v values (with_value d value) (at + 1) more (omega arith) (omega (arith, count)) (omega (arith, length-append d.header (value ∷ []), is))
     (first-stays d.header (value ∷ []) (omega (arith, suffix, is)) ∙ same) rest
-    ∙ ap (λ (t : List ℕ). parse_lines (at + 1 + 1 + length values) (BeforeSubsets 0 (with_header d t)) more) (append_assoc d.header (value ∷ []) (v ∷ values))
-    ∙ ap (λ n. parse_lines n (BeforeSubsets 0 (with_header d (d.header ++ value ∷ v ∷ values))) more) (omega arith)
+    ∙ ap (λ (t : List ℕ). parse_lines (at + 1 + 1 + length values) (BeforeSubsets group.Local1, with_header d t) more) (append_assoc d.header (value ∷ []) (v ∷ values))
+    ∙ ap (λ n. parse_lines n (BeforeSubsets group.Local1, with_header d (d.header ++ value ∷ v ∷ values)) more) (omega arith)
 
 -- the edition comes first, and its range goes by none
 pub header-run : (edition v : ℕ) (values : List ℕ) (line at : ℕ) (more : List (List ℕ)) → length values ≡ 18 → InRange edition 0 (edition ∷ v ∷ values)
-    → parse_lines at (Heading (blank line)) (header_lines 0 (edition ∷ v ∷ values) ++ more) ≡ parse_lines (at + 1 + 19) (BeforeSubsets 0 (with_header (blank line) (edition ∷ v ∷ values))) more
+    → parse_lines at (Heading, blank line) (header_lines 0 (edition ∷ v ∷ values) ++ more)
+    ≡ parse_lines (at + 1 + 19) (BeforeSubsets group.Local1, with_header (blank line) (edition ∷ v ∷ values)) more
 unfolding header_lines turn
 header-run edition v values line at more count (range, small, rest) =
     let d = blank line in
     let first : in_range 0 0 edition ≡ true = any-edition 0 edition edition ∙ range in
-    goes at (Heading d) (Heading (with_value d edition)) _ (Header 0 edition) (header_lines 1 (v ∷ values) ++ more) (header-line 0 edition (omega arith) small) (rw first refl)
+    goes at (Heading, d) (Heading, with_value d edition) _ (Header 0 edition) (header_lines 1 (v ∷ values) ++ more) (header-line 0 edition (omega arith) small) (rw first refl)
     ∙ run-on edition 1 v values (with_value d edition) (at + 1) more (omega arith) (omega (arith, count)) refl refl rest
-    ∙ ap (λ n. parse_lines n (BeforeSubsets 0 (with_header d (edition ∷ v ∷ values))) more) (omega (arith, count))
+    ∙ ap (λ n. parse_lines n (BeforeSubsets group.Local1, with_header d (edition ∷ v ∷ values)) more) (omega (arith, count))
 
 -- local use
 pub local1-run : (runs : List (List ℕ)) (d : Document) (at : ℕ) (more : List (List ℕ)) → AllByRecursion (IsRun IsOctet 32) runs
-    → parse_lines at (BeforeSubsets 0 d) (map local1_line runs ++ more) ≡ parse_lines (at + length runs) (BeforeSubsets 0 (with_local1 d (concat runs))) more
+    → parse_lines at (BeforeSubsets group.Local1, d) (map local1_line runs ++ more) ≡ parse_lines (at + length runs) (BeforeSubsets group.Local1, with_local1 d (concat runs)) more
 unfolding turn
 local1-run [] d at more all =
-    ap (λ (t : List ℕ). parse_lines at (BeforeSubsets 0 (record d { local1 = t })) more) (sym (append-nil d.local1)) ∙ ap (λ n. parse_lines n (BeforeSubsets 0 (with_local1 d [])) more) (omega arith)
+    ap (λ (t : List ℕ). parse_lines at (BeforeSubsets group.Local1, record d { local1 = t }) more) (sym (append-nil d.local1))
+    ∙ ap (λ n. parse_lines n (BeforeSubsets group.Local1, with_local1 d []) more) (omega arith)
 local1-run (run ∷ runs) d at more (here, all) =
-    goes at (BeforeSubsets 0 d) (BeforeSubsets 0 (with_local1 d run)) _ (Local1 run) (map local1_line runs ++ more) (local1-line run here.all here.some here.few) refl
+    goes at (BeforeSubsets group.Local1, d) (BeforeSubsets group.Local1, with_local1 d run) _ (Local1 run) (map local1_line runs ++ more) (local1-line run here.all here.some here.few) refl
     ∙ local1-run runs (with_local1 d run) (at + 1) more all
-    ∙ ap (λ (t : List ℕ). parse_lines (at + 1 + length runs) (BeforeSubsets 0 (record d { local1 = t })) more) (append_assoc d.local1 run (concat runs))
-    ∙ ap (λ n. parse_lines n (BeforeSubsets 0 (with_local1 d (concat (run ∷ runs)))) more) (omega arith)
+    ∙ ap (λ (t : List ℕ). parse_lines (at + 1 + length runs) (BeforeSubsets group.Local1, record d { local1 = t }) more) (append_assoc d.local1 run (concat runs))
+    ∙ ap (λ n. parse_lines n (BeforeSubsets group.Local1, with_local1 d (concat (run ∷ runs))) more) (omega arith)
 
 -- section 2; where it has lines, local use can follow no more
-pub written : (part : ℕ) → List (List ℕ) → (next : ℕ) → ℕ
+pub written : (part : LineGroup) → List (List ℕ) → (next : LineGroup) → LineGroup
 written part [] next = part
 written part (run ∷ runs) next = next
 
-written-again : (runs : List (List ℕ)) (next : ℕ) → written next runs next ≡ next
+written-again : (runs : List (List ℕ)) (next : LineGroup) → written next runs next ≡ next
 unfolding written
 written-again [] next = refl
 written-again (run ∷ runs) next = refl
 
-pub section2-run : (runs : List (List ℕ)) (part : ℕ) (d : Document) (at : ℕ) (more : List (List ℕ)) → part ≤ 1 → (0 < length runs → optional_in d ≡ 1) → AllByRecursion (IsRun IsOctet 32) runs
-    → parse_lines at (BeforeSubsets part d) (map section2_line runs ++ more) ≡ parse_lines (at + length runs) (BeforeSubsets (written part runs 1) (with_section2 d (concat runs))) more
+may-section2 : (part : LineGroup) (d : Document) → (part ≡ group.Descriptors → ⊥) → (optional_in d == 1) ≡ true → may_be_section2 part d ≡ true
+may-section2 group.Local1 d early there = there
+may-section2 group.Section2 d early there = there
+may-section2 group.Descriptors d early there = absurd (early refl)
+
+pub section2-run : (runs : List (List ℕ)) (part : LineGroup) (d : Document) (at : ℕ) (more : List (List ℕ)) → (part ≡ group.Descriptors → ⊥) → (0 < length runs → optional_in d ≡ 1)
+    → AllByRecursion (IsRun IsOctet 32) runs
+    → parse_lines at (BeforeSubsets part, d) (map section2_line runs ++ more) ≡ parse_lines (at + length runs) (BeforeSubsets (written part runs group.Section2), with_section2 d (concat runs)) more
 unfolding turn written
 section2-run [] part d at more early optional all =
-    ap (λ (t : List ℕ). parse_lines at (BeforeSubsets part (record d { section2 = t })) more) (sym (append-nil d.section2))
-    ∙ ap (λ n. parse_lines n (BeforeSubsets part (with_section2 d [])) more) (omega arith)
+    ap (λ (t : List ℕ). parse_lines at (BeforeSubsets part, record d { section2 = t }) more) (sym (append-nil d.section2))
+    ∙ ap (λ n. parse_lines n (BeforeSubsets part, with_section2 d []) more) (omega arith)
 section2-run (run ∷ runs) part d at more early optional (here, all) =
-    let first : nat_le part 1 ≡ true = grind (arith, nat_tests, early) in
     let there : (optional_in d == 1) ≡ true = grind (arith, nat_tests, optional (omega arith)) in
-    goes at (BeforeSubsets part d) (BeforeSubsets 1 (with_section2 d run)) _ (Section2 run) (map section2_line runs ++ more) (section2-line run here.all here.some here.few) (rw (first, there) refl)
-    ∙ section2-run runs 1 (with_section2 d run) (at + 1) more (omega arith) (λ some. optional (omega arith)) all
-    ∙ ap (λ (p : ℕ). parse_lines (at + 1 + length runs) (BeforeSubsets p (with_section2 (with_section2 d run) (concat runs))) more) (written-again runs 1)
-    ∙ ap (λ (t : List ℕ). parse_lines (at + 1 + length runs) (BeforeSubsets 1 (record d { section2 = t })) more) (append_assoc d.section2 run (concat runs))
-    ∙ ap (λ n. parse_lines n (BeforeSubsets 1 (with_section2 d (concat (run ∷ runs)))) more) (omega arith)
+    goes at (BeforeSubsets part, d) (BeforeSubsets group.Section2, with_section2 d run) _ (Section2 run) (map section2_line runs ++ more) (section2-line run here.all here.some here.few)
+    (rw (may-section2 part d early there) refl)
+    ∙ section2-run runs group.Section2 (with_section2 d run) (at + 1) more (λ e. cc) (λ some. optional (omega arith)) all
+    ∙ ap (λ (p : LineGroup). parse_lines (at + 1 + length runs) (BeforeSubsets p, with_section2 (with_section2 d run) (concat runs)) more) (written-again runs group.Section2)
+    ∙ ap (λ (t : List ℕ). parse_lines (at + 1 + length runs) (BeforeSubsets group.Section2, record d { section2 = t }) more) (append_assoc d.section2 run (concat runs))
+    ∙ ap (λ n. parse_lines n (BeforeSubsets group.Section2, with_section2 d (concat (run ∷ runs))) more) (omega arith)
 
-pub descriptors-run : (runs : List (List ℕ)) (part : ℕ) (d : Document) (at : ℕ) (more : List (List ℕ)) → AllByRecursion (IsRun IsDescriptorWord 8) runs
-    → parse_lines at (BeforeSubsets part d) (map descriptors_line runs ++ more) ≡ parse_lines (at + length runs) (BeforeSubsets (written part runs 2) (with_descriptors d (concat runs))) more
+pub descriptors-run : (runs : List (List ℕ)) (part : LineGroup) (d : Document) (at : ℕ) (more : List (List ℕ)) → AllByRecursion (IsRun IsDescriptorWord 8) runs
+    → parse_lines at (BeforeSubsets part, d) (map descriptors_line runs ++ more)
+    ≡ parse_lines (at + length runs) (BeforeSubsets (written part runs group.Descriptors), with_descriptors d (concat runs)) more
 unfolding turn written
 descriptors-run [] part d at more all =
-    ap (λ (t : List ℕ). parse_lines at (BeforeSubsets part (record d { descriptors = t })) more) (sym (append-nil d.descriptors))
-    ∙ ap (λ n. parse_lines n (BeforeSubsets part (with_descriptors d [])) more) (omega arith)
+    ap (λ (t : List ℕ). parse_lines at (BeforeSubsets part, record d { descriptors = t }) more) (sym (append-nil d.descriptors))
+    ∙ ap (λ n. parse_lines n (BeforeSubsets part, with_descriptors d []) more) (omega arith)
 descriptors-run (run ∷ runs) part d at more (here, all) =
-    goes at (BeforeSubsets part d) (BeforeSubsets 2 (with_descriptors d run)) _ (Descriptors run) (map descriptors_line runs ++ more) (descriptors-line run here.all here.some here.few) refl
-    ∙ descriptors-run runs 2 (with_descriptors d run) (at + 1) more all
-    ∙ ap (λ (p : ℕ). parse_lines (at + 1 + length runs) (BeforeSubsets p (with_descriptors (with_descriptors d run) (concat runs))) more) (written-again runs 2)
-    ∙ ap (λ (t : List ℕ). parse_lines (at + 1 + length runs) (BeforeSubsets 2 (record d { descriptors = t })) more) (append_assoc d.descriptors run (concat runs))
-    ∙ ap (λ n. parse_lines n (BeforeSubsets 2 (with_descriptors d (concat (run ∷ runs)))) more) (omega arith)
+    goes at (BeforeSubsets part, d) (BeforeSubsets group.Descriptors, with_descriptors d run) _ (Descriptors run) (map descriptors_line runs ++ more)
+    (descriptors-line run here.all here.some here.few) refl
+    ∙ descriptors-run runs group.Descriptors (with_descriptors d run) (at + 1) more all
+    ∙ ap (λ (p : LineGroup). parse_lines (at + 1 + length runs) (BeforeSubsets p, with_descriptors (with_descriptors d run) (concat runs)) more) (written-again runs group.Descriptors)
+    ∙ ap (λ (t : List ℕ). parse_lines (at + 1 + length runs) (BeforeSubsets group.Descriptors, record d { descriptors = t }) more) (append_assoc d.descriptors run (concat runs))
+    ∙ ap (λ n. parse_lines n (BeforeSubsets group.Descriptors, with_descriptors d (concat (run ∷ runs))) more) (omega arith)
 
 -- items
 abbrev pub with_entries : Document → List DraftEntry → Document
 with_entries d entries = record d { entries = d.entries ++ entries }
 
 items-run : (items : List View) (subset : ℕ) (d : Document) (at : ℕ) (more : List (List ℕ)) → AllByRecursion IsItem items
-    → parse_lines at (Filling subset d) (map item_text items ++ more) ≡ parse_lines (at + length items) (Filling subset (with_entries d (item_entries at items))) more
+    → parse_lines at (Filling subset, d) (map item_text items ++ more) ≡ parse_lines (at + length items) (Filling subset, with_entries d (item_entries at items)) more
 unfolding turn item_entries
 items-run [] subset d at more all =
-    ap (λ (t : List DraftEntry). parse_lines at (Filling subset (record d { entries = t })) more) (sym (append-nil d.entries))
-    ∙ ap (λ n. parse_lines n (Filling subset (with_entries d [])) more) (omega arith)
+    ap (λ (t : List DraftEntry). parse_lines at (Filling subset, record d { entries = t }) more) (sym (append-nil d.entries))
+    ∙ ap (λ n. parse_lines n (Filling subset, with_entries d []) more) (omega arith)
 items-run (item ∷ items) subset d at more (here, all) =
     let one : DraftEntry = Holds (draft at item.fxy (dump_value_of item.value)) in
-    goes at (Filling subset d) (Filling subset (with_entry d one)) _ (Item item.fxy (dump_value_of item.value)) (map item_text items ++ more) (item-line item here) refl
+    goes at (Filling subset, d) (Filling subset, with_entry d one) _ (Item item.fxy (dump_value_of item.value)) (map item_text items ++ more) (item-line item here) refl
     ∙ items-run items subset (with_entry d one) (at + 1) more all
-    ∙ ap (λ (t : List DraftEntry). parse_lines (at + 1 + length items) (Filling subset (record d { entries = t })) more) (append_assoc d.entries (one ∷ []) (item_entries (at + 1) items))
-    ∙ ap (λ n. parse_lines n (Filling subset (with_entries d (item_entries at (item ∷ items)))) more) (omega arith)
+    ∙ ap (λ (t : List DraftEntry). parse_lines (at + 1 + length items) (Filling subset, record d { entries = t }) more) (append_assoc d.entries (one ∷ []) (item_entries (at + 1) items))
+    ∙ ap (λ n. parse_lines n (Filling subset, with_entries d (item_entries at (item ∷ items))) more) (omega arith)
 
 subset-lines-count : (n : ℕ) (items : List View) (subsets : List (List View)) → length (subset_lines n (items ∷ subsets)) ≡ 1 + length items + length (subset_lines (n + 1) subsets)
 unfolding subset_lines
 subset-lines-count n items subsets = omega (arith, length-append (map item_text items) (subset_lines (n + 1) subsets), length-map items item_text)
 
 -- a subset begins and its items follow
-subset-run : (items : List View) (subset : ℕ) (d : Document) (at : ℕ) (place : ParserState) (tail more : List (List ℕ)) → subset < 65536 → AllByRecursion IsItem items
-    → turn at place (Begins subset) ≡ WalkGoes (Filling subset d)
+subset-run : (items : List View) (subset : ℕ) (d : Document) (at : ℕ) (place : Parsing) (tail more : List (List ℕ)) → subset < 65536 → AllByRecursion IsItem items
+    → turn at place (Begins subset) ≡ (Continues (Filling subset), d)
     → parse_lines at place ((subset_line subset ∷ (map item_text items ++ tail)) ++ more)
-    ≡ parse_lines (at + 1 + length items) (Filling subset (with_entries d (item_entries (at + 1) items))) (tail ++ more)
+    ≡ parse_lines (at + 1 + length items) (Filling subset, with_entries d (item_entries (at + 1) items)) (tail ++ more)
 subset-run items subset d at place tail more few all begins =
-    goes at place (Filling subset d) _ (Begins subset) ((map item_text items ++ tail) ++ more) (subset-line subset few) begins
-    ∙ ap (parse_lines (at + 1) (Filling subset d)) (append_assoc (map item_text items) tail more)
+    goes at place (Filling subset, d) _ (Begins subset) ((map item_text items ++ tail) ++ more) (subset-line subset few) begins
+    ∙ ap (parse_lines (at + 1) (Filling subset, d)) (append_assoc (map item_text items) tail more)
     ∙ items-run items subset d (at + 1) (tail ++ more) all
 
 subsets-run : (subsets : List (List View)) (n : ℕ) (d : Document) (at : ℕ) (more : List (List ℕ)) → n + length subsets ≡ subsets_in d → subsets_in d < 65536
     → AllByRecursion (λ items. AllByRecursion IsItem items) subsets
-    → parse_lines at (Filling n d) (subset_lines (n + 1) subsets ++ codes "end" ∷ more)
-    ≡ Complete (with_entries d (Ends at ∷ subset_entries at subsets)) ∷ parse_lines (at + length (subset_lines (n + 1) subsets) + 1) Between more
+    → parse_lines at (Filling n, d) (subset_lines (n + 1) subsets ++ codes "end" ∷ more)
+    ≡ Complete (with_entries d (Ends at ∷ subset_entries at subsets)) ∷ parse_lines (at + length (subset_lines (n + 1) subsets) + 1) between more
 unfolding turn subset_entries subset_lines
 subsets-run [] n d at more stated few all =
     let closed : (n == subsets_in d) ≡ true = grind (arith, nat_tests, stated) in
-    gives at (Filling n d) (with_entry d (Ends at)) _ Closes more end-line (rw closed refl)
-    ∙ ap (λ k. Complete (with_entry d (Ends at)) ∷ parse_lines k Between more) (omega arith)
+    gives at (Filling n, d) (with_entry d (Ends at)) _ Closes more end-line (rw closed refl)
+    ∙ ap (λ k. Complete (with_entry d (Ends at)) ∷ parse_lines k between more) (omega arith)
 subsets-run (items ∷ subsets) n d at more stated few (here, all) =
     let next : (n + 1 == n + 1) ≡ true = grind (arith, nat_tests) in
     let allowed : nat_le (n + 1) (subsets_in d) ≡ true = grind (arith, nat_tests, stated) in
@@ -640,33 +666,33 @@ subsets-run (items ∷ subsets) n d at more stated few (here, all) =
     let own = item_entries (at + 1) items in
     let later = subset_entries (at + 1 + length items) subsets in
     let tail = subset_lines (n + 1 + 1) subsets in
-    subset-run items (n + 1) d' at (Filling n d) tail (codes "end" ∷ more) (omega (arith, stated, few)) here (rw (next, allowed) refl)
+    subset-run items (n + 1) d' at (Filling n, d) tail (codes "end" ∷ more) (omega (arith, stated, few)) here (rw (next, allowed) refl)
     ∙ subsets-run subsets (n + 1) (with_entries d' own) (at + 1 + length items) more (omega (arith, stated)) few all
-    ∙ ap (λ (t : List DraftEntry). Complete (record d { entries = t }) ∷ parse_lines (at + 1 + length items + length tail + 1) Between more)
+    ∙ ap (λ (t : List DraftEntry). Complete (record d { entries = t }) ∷ parse_lines (at + 1 + length items + length tail + 1) between more)
     (append_assoc (d.entries ++ Ends at ∷ []) own (Ends (at + 1 + length items) ∷ later) ∙ append_assoc d.entries (Ends at ∷ []) (own ++ (Ends (at + 1 + length items) ∷ later)))
-    ∙ ap (λ k. Complete (with_entries d (Ends at ∷ subset_entries at (items ∷ subsets))) ∷ parse_lines k Between more) (omega (arith, subset-lines-count (n + 1) items subsets))
+    ∙ ap (λ k. Complete (with_entries d (Ends at ∷ subset_entries at (items ∷ subsets))) ∷ parse_lines k between more) (omega (arith, subset-lines-count (n + 1) items subsets))
 
 -- the subsets and the end, where they are after the parts before them
-pub subsets-written : (subsets : List (List View)) (part : ℕ) (d : Document) (at : ℕ) (more : List (List ℕ)) → d.entries ≡ [] → length subsets ≡ subsets_in d → subsets_in d < 65536
+pub subsets-written : (subsets : List (List View)) (part : LineGroup) (d : Document) (at : ℕ) (more : List (List ℕ)) → d.entries ≡ [] → length subsets ≡ subsets_in d → subsets_in d < 65536
     → AllByRecursion (λ items. AllByRecursion IsItem items) subsets
-    → parse_lines at (BeforeSubsets part d) (subset_lines 1 subsets ++ codes "end" ∷ more)
-    ≡ Complete (with_entries d (subset_entries at subsets)) ∷ parse_lines (at + length (subset_lines 1 subsets) + 1) Between more
+    → parse_lines at (BeforeSubsets part, d) (subset_lines 1 subsets ++ codes "end" ∷ more)
+    ≡ Complete (with_entries d (subset_entries at subsets)) ∷ parse_lines (at + length (subset_lines 1 subsets) + 1) between more
 unfolding turn subset_entries subset_lines
 subsets-written [] part d at more none stated few all =
     let closed : (0 == subsets_in d) ≡ true = grind (arith, nat_tests, stated) in
-    gives at (BeforeSubsets part d) d _ Closes more end-line (rw closed refl)
-    ∙ ap (λ (t : List DraftEntry). Complete (record d { entries = t }) ∷ parse_lines (at + 1) Between more) (sym (append-nil d.entries))
-    ∙ ap (λ k. Complete (with_entries d []) ∷ parse_lines k Between more) (omega arith)
+    gives at (BeforeSubsets part, d) d _ Closes more end-line (rw closed refl)
+    ∙ ap (λ (t : List DraftEntry). Complete (record d { entries = t }) ∷ parse_lines (at + 1) between more) (sym (append-nil d.entries))
+    ∙ ap (λ k. Complete (with_entries d []) ∷ parse_lines k between more) (omega arith)
 subsets-written (items ∷ subsets) part d at more none stated few (here, all) =
     let allowed : nat_le 1 (subsets_in d) ≡ true = grind (arith, nat_tests, stated) in
     let own = item_entries (at + 1) items in
     let later = subset_entries (at + 1 + length items) subsets in
     let tail = subset_lines 2 subsets in
-    subset-run items 1 d at (BeforeSubsets part d) tail (codes "end" ∷ more) (omega arith) here (rw allowed refl)
+    subset-run items 1 d at (BeforeSubsets part, d) tail (codes "end" ∷ more) (omega arith) here (rw allowed refl)
     ∙ subsets-run subsets 1 (with_entries d own) (at + 1 + length items) more (omega (arith, stated)) few all
-    ∙ ap (λ (t : List DraftEntry). Complete (record d { entries = t }) ∷ parse_lines (at + 1 + length items + length tail + 1) Between more)
+    ∙ ap (λ (t : List DraftEntry). Complete (record d { entries = t }) ∷ parse_lines (at + 1 + length items + length tail + 1) between more)
     (append_assoc d.entries own (Ends (at + 1 + length items) ∷ later))
-    ∙ ap (λ k. Complete (with_entries d (subset_entries at (items ∷ subsets))) ∷ parse_lines k Between more) (omega (arith, subset-lines-count 1 items subsets))
+    ∙ ap (λ k. Complete (with_entries d (subset_entries at (items ∷ subsets))) ∷ parse_lines k between more) (omega (arith, subset-lines-count 1 items subsets))
 
 -- the header's values are within their ranges
 up_to : (least most v : ℕ) → least ≤ v → v ≤ most → (nat_le least v && nat_le v most) ≡ true
@@ -795,8 +821,8 @@ all-lines-run : (s : Sections) (subsets : List (List View)) (at : ℕ) (more : L
     let b = runs_of 32 (unwrap_or s.section2 []) in
     let c = runs_of 8 s.descriptors in
     let e = at + 1 + 1 + 19 + length a + length b + length c in
-    parse_lines at Between (codes "message" ∷ (header_lines 0 (header_of s) ++ (map local1_line a ++ (map section2_line b ++ (map descriptors_line c ++ (subset_lines 1 subsets ++ codes "end" ∷ more))))))
-    ≡ Complete (document_with at (header_of s) (concat a) (concat b) (concat c) subsets e) ∷ parse_lines (e + length (subset_lines 1 subsets) + 1) Between more
+    parse_lines at between (codes "message" ∷ (header_lines 0 (header_of s) ++ (map local1_line a ++ (map section2_line b ++ (map descriptors_line c ++ (subset_lines 1 subsets ++ codes "end" ∷ more))))))
+    ≡ Complete (document_with at (header_of s) (concat a) (concat b) (concat c) subsets e) ∷ parse_lines (e + length (subset_lines 1 subsets) + 1) between more
 unfolding turn header-tail
 all-lines-run s subsets at more given =
     let a = runs_of 32 s.local1 in
@@ -811,12 +837,13 @@ all-lines-run s subsets at more given =
     let C = map descriptors_line c ++ D in
     let B = map section2_line b ++ C in
     let A = map local1_line a ++ B in
-    goes at Between (Heading d0) (codes "message") Opens (header_lines 0 (header_of s) ++ A) message-line refl
+    goes at between (Heading, d0) (codes "message") Opens (header_lines 0 (header_of s) ++ A) message-line refl
     ∙ header-run s.head.edition s.head.master (header-tail s) at (at + 1) A refl (header-fits s given.head given.few)
     ∙ local1-run a d1 (at + 1 + 1 + 19) B (runs-after IsOctet 0 31 s.local1 given.local1)
-    ∙ section2-run b 0 d2 (at + 1 + 1 + 19 + length a) C (omega arith) (λ some. optional-there s.section2 some) (runs-after IsOctet 0 31 (unwrap_or s.section2 []) given.section2)
-    ∙ descriptors-run c (written 0 b 1) d3 (at + 1 + 1 + 19 + length a + length b) D (runs-after IsDescriptorWord 0 7 s.descriptors given.descriptors)
-    ∙ subsets-written subsets (written (written 0 b 1) c 2) d4 (at + 1 + 1 + 19 + length a + length b + length c) more refl given.counted (omega (arith, given.few)) given.items
+    ∙ section2-run b group.Local1 d2 (at + 1 + 1 + 19 + length a) C (λ e. cc) (λ some. optional-there s.section2 some) (runs-after IsOctet 0 31 (unwrap_or s.section2 []) given.section2)
+    ∙ descriptors-run c (written group.Local1 b group.Section2) d3 (at + 1 + 1 + 19 + length a + length b) D (runs-after IsDescriptorWord 0 7 s.descriptors given.descriptors)
+    ∙ subsets-written subsets (written (written group.Local1 b group.Section2) c group.Descriptors) d4 (at + 1 + 1 + 19 + length a + length b + length c) more refl given.counted
+    (omega (arith, given.few)) given.items
 
 header-lines-count : (k : ℕ) (values : List ℕ) → length (header_lines k values) ≡ length values
 unfolding header_lines
@@ -831,7 +858,7 @@ dump-lines-more : (s : Sections) (subsets : List (List View)) (more : List (List
 dump-lines-more s subsets more = grind (arith, nat_tests, common_steps)
 
 pub dump-spells : (s : Sections) (subsets : List (List View)) (at : ℕ) (more : List (List ℕ)) → IsDumpable s subsets
-    → parse_lines at Between (dump_lines s subsets ++ more) ≡ Complete (document_of at s subsets) ∷ parse_lines (at + length (dump_lines s subsets)) Between more
+    → parse_lines at between (dump_lines s subsets ++ more) ≡ Complete (document_of at s subsets) ∷ parse_lines (at + length (dump_lines s subsets)) between more
 dump-spells s subsets at more given =
     let a = runs_of 32 s.local1 in
     let b = runs_of 32 (unwrap_or s.section2 []) in
@@ -839,14 +866,14 @@ dump-spells s subsets at more given =
     let n = length (subset_lines 1 subsets) in
     let e = at + 1 + 1 + 19 + length a + length b + length c in
     let H = header_of s in
-    let rest = parse_lines (e + n + 1) Between more in
-    ap (parse_lines at Between) (dump-lines-more s subsets more)
+    let rest = parse_lines (e + n + 1) between more in
+    ap (parse_lines at between) (dump-lines-more s subsets more)
     ∙ all-lines-run s subsets at more given
     ∙ ap (λ (t : List ℕ). Complete (document_with at H t (concat b) (concat c) subsets e) ∷ rest) (concat-after 0 31 s.local1)
     ∙ ap (λ (t : List ℕ). Complete (document_with at H s.local1 t (concat c) subsets e) ∷ rest) (concat-after 0 31 (unwrap_or s.section2 []))
     ∙ ap (λ (t : List ℕ). Complete (document_with at H s.local1 (unwrap_or s.section2 []) t subsets e) ∷ rest) (concat-after 0 7 s.descriptors)
     ∙ ap (λ (k : ℕ). Complete (document_with at H s.local1 (unwrap_or s.section2 []) s.descriptors subsets k) ∷ rest) (omega arith)
-    ∙ ap (λ (k : ℕ). Complete (document_of at s subsets) ∷ parse_lines k Between more) (omega (arith, dump-lines-count s subsets))
+    ∙ ap (λ (k : ℕ). Complete (document_of at s subsets) ∷ parse_lines k between more) (omega (arith, dump-lines-count s subsets))
 
 -- no line has a line feed
 above-both : (a b : List (List ℕ)) → AllByRecursion IsAbove a → AllByRecursion IsAbove b → AllByRecursion IsAbove (a ++ b)
@@ -895,8 +922,8 @@ above-dump s subsets given =
 
 -- the law: after a dump text the reading goes on between documents
 pub text-spells : (s : Sections) (subsets : List (List View)) (at : ℕ) (t : List ℕ) → IsDumpable s subsets
-    → parse_lines at Between (lines_of (dump_text_of s subsets ++ t)) ≡ Complete (document_of at s subsets) ∷ parse_lines (at + length (dump_lines s subsets)) Between (lines_of t)
-text-spells s subsets at t given = ap (parse_lines at Between) (lines-back (dump_lines s subsets) t (above-dump s subsets given)) ∙ dump-spells s subsets at (lines_of t) given
+    → parse_lines at between (lines_of (dump_text_of s subsets ++ t)) ≡ Complete (document_of at s subsets) ∷ parse_lines (at + length (dump_lines s subsets)) between (lines_of t)
+text-spells s subsets at t given = ap (parse_lines at between) (lines-back (dump_lines s subsets) t (above-dump s subsets given)) ∙ dump-spells s subsets at (lines_of t) given
 
 pub one-document : (s : Sections) (subsets : List (List View)) → IsDumpable s subsets → documents_of (dump_text_of s subsets) ≡ Complete (document_of 1 s subsets) ∷ []
 unfolding parse_lines lines_of

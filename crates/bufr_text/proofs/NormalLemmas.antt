@@ -9,20 +9,22 @@ use Rattle.bufr_tables.proofs.SoundLemmas.{tree_fine}
 use Rattle.bufr_frame.specs.Prelude.{with_even_length, message_octets, message_size, max_octets, sections_from, MessageParts, parts_of}
 use Rattle.bufr_frame.proofs.LayoutLemmas.{evened-bits, read-back}
 use Rattle.bufr_frame.proofs.AgainLemmas.{fitting-writable}
-use Rattle.bufr_walk.specs.Prelude.{Content, FieldSpec, next_item, Course, Values, apart, together, Item, IsReading, plain, after, data_of, view_of, View}
-use Rattle.bufr_fill.specs.Prelude.{Subset, subsets_of, Draft, FaultAt, AllHaveOctets, AreSaid, IsSaid, AreDrafts, content_of, subsets_from}
+use Rattle.bufr_walk.specs.Prelude.{Content, FieldSpec, next_item, Course, Values, apart, together, Item, IsReading, plain, after, data_of, view_of, View, subsets_from, each_subset}
+use Rattle.bufr_fill.specs.Prelude.{Subset, subsets_of, Draft, AllHaveOctets, AreSaid, IsSaid, AreDrafts, content_of}
+use Rattle.bufr_fill.specs.declared.fault.DraftFault.{DraftFault}
 use Rattle.bufr_fill.proofs.BackLaws.{plain_template_back, packed_template_back}
 use Rattle.bufr_fill.proofs.FieldLemmas.{octets_in-are}
-use Rattle.bufr_text.specs.Prelude.{mosts, Form, Document, optional_in, head_from_values, Complete, documents_of, key_value, compressed_in, section2_in, too_long, refused_at, ◌>>=◌, report_of_template, report_of_items, data_bits, octets_of_bits, parts_as, compressed_as, message_of, encoding_in, RefusedAt, encoding_of, IsOctet, bit, header_lines, local1_line, section2_line, descriptors_line, head_lines, item_text, subset_line, subset_lines, text_of_lines, dump_text_of, subset_entries, lines_before, document_of, IsProper, header_as, normal_head, normal_line, draft_answer, line_and, normal_items, normal_subsets, normal, AreValuesOf, IsReadAs, each_subset, runs_of, items_shown, dump_items}
+use Rattle.bufr_text.specs.Prelude.{mosts, Form, Document, optional_in, head_from_values, Complete, documents_of, key_value, compressed_in, section2_in, ◌>>=◌, report_of_template, report_of_items, data_bits, octets_of_bits, parts_as, compressed_as, message_of, encoding_in, DocumentFault, encoding_of, IsOctet, bit, header_lines, local1_line, section2_line, descriptors_line, head_lines, item_text, subset_line, subset_lines, text_of_lines, dump_text_of, subset_entries, lines_before, document_of, IsProper, header_as, normal_head, normal_line, draft_answer, line_and, normal_items, normal_subsets, normal, AreValuesOf, IsReadAs, runs_of, items_shown, dump_items}
 use Rattle.bufr_text.proofs.DumpableLemmas.{octets_are, dumpable}
 use Rattle.bufr_walk.proofs.NextField.{table_read}
-use Rattle.bufr_text.proofs.RoundTripLemmas.{padded, payload_bits, size_is, octets_small, framed, same_form, all_apart, all_together, bit_back, parts_back, parts_with, parts_of_document}
+use Rattle.bufr_text.proofs.RoundTripLemmas.{padded, payload_bits, size_is, octets_small, framed, same_form, all_apart, bit_back, parts_back, parts_with, parts_of_document}
 use Rattle.bufr_text.proofs.FormLemmas.{plain_reading, packed_reading}
 use Rattle.bufr_text.proofs.HeaderLemmas.{headed-fits, subsets-few, header-widest}
 use Rattle.bufr_frame.specs.declared.section1.Head.{Head}
 use Rattle.bufr_fill.proofs.PlainLaws.{normal_dumped, said_fxy}
-use Rattle.bufr_fill.proofs.FormLaws.{Follows, AllFollow}
-use Rattle.bufr_fill.proofs.WholeLaws.{subsets_said, together_said, said_from, plain_follows, packed_follows, plain_said_alike, packed_said_alike}
+use Rattle.bufr_fill.proofs.FormLaws.{Follows, AllFollow, subset_count}
+use Rattle.bufr_fill.proofs.WholeLaws.{subsets_said, plain_follows, packed_follows, plain_said_alike, packed_said_alike}
+use Rattle.bufr_text.specs.declared.fault.DocumentFault.TheVariants as fault
 use Rattle.bufr_text.specs.declared.encode.Form.TheVariants.{AsWritten, Plain, Compressed}
 use Rattle.bufr_text.proofs.LawLemmas.{one-document}
 use Rattle.bufr_walk.specs.Reading as reading
@@ -61,7 +63,7 @@ module _ (records : List Record) (table : List Row) (template : Tree) (rows : Ar
       record { values = apart w.subsets; said = w.said; read = plain_reading (next_item table template) w.subsets (length drafts) out (λ more. (w.read more, said_length w.subsets drafts w.said)) }
 
 module _ (form : Form) (records : List Record) (table : List Row) (sequences : List Sequence) (rows : AreRows records table) (d : Document) (proper : IsProper d) (octets : List ℕ) where
-  abbrev data_in : Tree → Result (List Bool) FaultAt
+  abbrev data_in : Tree → Result (List Bool) DraftFault
   data_in template = data_bits (compressed_as form d) (next_item table template) (subsets_of d.entries)
 
   made : (template : Tree) (bits : List Bool) → tree_of (tables_of table sequences) d.descriptors ≡ Ok template → data_in template ≡ Ok bits
@@ -110,14 +112,14 @@ module _ (form : Form) (records : List Record) (table : List Row) (sequences : L
 
   by_size : (template : Tree) (bits : List Bool) → tree_of (tables_of table sequences) d.descriptors ≡ Ok template → data_in template ≡ Ok bits → (b : Bool)
       → nat_lt max_octets (message_size (head_from_values d).edition (parts_as (compressed_as form d) d (octets_of_bits bits))) ≡ b
-      → (if b then Err (refused_at d.line too_long) else Ok (message_octets (head_from_values d) (parts_as (compressed_as form d) d (octets_of_bits bits)))) ≡ Ok octets
+      → (if b then Err (fault.TooLong d.line) else Ok (message_octets (head_from_values d) (parts_as (compressed_as form d) d (octets_of_bits bits)))) ≡ Ok octets
       → IsReadAs form table sequences d octets
   by_size template bits expands fills true p e = absurd cc
   by_size template bits expands fills false p e =
       subst (IsReadAs form table sequences d) (same_ok (message_octets (head_from_values d) (parts_as (compressed_as form d) d (octets_of_bits bits))) octets e)
       (made template bits expands fills (at_most max_octets (message_size (head_from_values d).edition (parts_as (compressed_as form d) d (octets_of_bits bits))) p))
 
-  by_bits : (template : Tree) → tree_of (tables_of table sequences) d.descriptors ≡ Ok template → (r : Result (List Bool) FaultAt) → data_in template ≡ r
+  by_bits : (template : Tree) → tree_of (tables_of table sequences) d.descriptors ≡ Ok template → (r : Result (List Bool) DraftFault) → data_in template ≡ r
       → (report_of_items r >>= λ b. message_of d.line (head_from_values d) (parts_as (compressed_as form d) d (octets_of_bits b))) ≡ Ok octets → IsReadAs form table sequences d octets
   by_bits template expands (Err why) p e = absurd cc
   by_bits template expands (Ok bits) p e = by_size template bits expands p (nat_lt max_octets (message_size (head_from_values d).edition (parts_as (compressed_as form d) d (octets_of_bits bits))))
@@ -260,8 +262,7 @@ module _ (form : Form) (records : List Record) (table : List Row) (sequences : L
   follow (together items) used read = packed_follows records table h.template rows legal h.sections.subsets items bits (drop used bits) read.2
 
   says : (values : Values) (drafts : List Subset) → length drafts ≡ h.sections.subsets → AreValuesOf values drafts → AreSaid (each_subset h.sections.subsets values) drafts
-  says (apart subsets) drafts count said = said
-  says (together items) drafts count said = said_from h.sections.subsets 0 items drafts count said
+  says values drafts count said = subst (λ n. AreSaid (each_subset n values) drafts) count said
 
   lines_of_items : (drafts : List Subset) → length drafts ≡ h.sections.subsets → AreValuesOf h.values drafts → subset_lines 1 shown_items ≡ normal_subsets table course 1 drafts
   lines_of_items drafts count said =
@@ -304,14 +305,14 @@ module _ (form : Form) (records : List Record) (table : List Row) (sequences : L
         }
     are_again (together items) used place read =
         let drafts = subsets_of (subset_entries place (map (items_shown table) (subsets_from h.sections.subsets 0 items))) in
-        let dumped = all_together table place h.sections.subsets 0 items in
-        let said = together_said course h.sections.subsets 0 items drafts dumped.1 (packed_follows records table h.template rows legal h.sections.subsets items bits (drop used bits) read.2)
-        dumped.0 in
+        let each = subsets_from h.sections.subsets 0 items in
+        let said = subsets_said course each drafts (packed_follows records table h.template rows legal h.sections.subsets items bits (drop used bits) read.2) (all_apart table place each) in
+        let count = subset_count _ h.sections.subsets items drafts said in
         record {
-          count = dumped.1;
-          said = said;
+          count = count;
+          said = subst (λ n. AreSaid (subsets_from n 0 items) drafts) (sym count) said;
           alike = λ others count is. by_flag h.sections.compressed true others drafts read.0
-              (packed_said_alike h.sections.subsets records table h.template items others drafts bits (drop used bits) rows legal read.2 count is dumped.1 said);
+              (packed_said_alike h.sections.subsets records table h.template items others drafts bits (drop used bits) rows legal read.2 (says (together items) others count is) said);
         }
 
     drafts_are : AreAgain h.values drafts_again
@@ -322,16 +323,16 @@ module _ (form : Form) (records : List Record) (table : List Row) (sequences : L
     normal_again = sym (ap (λ ls. text_of_lines (head_lines h.sections ++ (ls ++ codes "end" ∷ []))) (lines_of_items drafts_again drafts_are.count drafts_are.said))
 
     -- what is made of the bits of the data
-    abbrev message_with : (line : ℕ) → Head → (List ℕ → MessageParts) → Result (List Bool) FaultAt → Result (List ℕ) RefusedAt
+    abbrev message_with : (line : ℕ) → Head → (List ℕ → MessageParts) → Result (List Bool) DraftFault → Result (List ℕ) DocumentFault
     message_with line head parts r = report_of_items r >>= λ b. message_of line head (parts (octets_of_bits b))
 
     -- the line is in a refusal alone
-    other_line : (line : ℕ) (head : Head) (parts : List ℕ → MessageParts) (r : Result (List Bool) FaultAt) → message_with line head parts r ≡ Ok octets → message_with at head parts r ≡ Ok octets
+    other_line : (line : ℕ) (head : Head) (parts : List ℕ → MessageParts) (r : Result (List Bool) DraftFault) → message_with line head parts r ≡ Ok octets → message_with at head parts r ≡ Ok octets
     other_line line head parts (Err why) e = absurd cc
     other_line line head parts (Ok b) e = by (nat_lt max_octets (message_size head.edition (parts (octets_of_bits b)))) e
       where
-        by : (x : Bool) → (if x then Err (refused_at line too_long) else Ok (message_octets head (parts (octets_of_bits b)))) ≡ Ok octets
-            → (if x then Err (refused_at at too_long) else Ok (message_octets head (parts (octets_of_bits b)))) ≡ Ok octets
+        by : (x : Bool) → (if x then Err (fault.TooLong line) else Ok (message_octets head (parts (octets_of_bits b)))) ≡ Ok octets
+            → (if x then Err (fault.TooLong at) else Ok (message_octets head (parts (octets_of_bits b)))) ≡ Ok octets
         by true q = absurd cc
         by false q = q
 

@@ -4,7 +4,7 @@ use Rattle.std.specs.Io.KnownBytes.{Appends}
 use Rattle.std.proofs.KnownBytes.{Appends-trans}
 use Rattle.std.proofs.lemmas.List.{take_rest, take-append-drop, length-take-le, take_all, length-replicate, at_drop_more, at_drop_all, take_more, length-set, take_more_set}
 use Rattle.bufr_frame.specs.declared.fault.RunFault.{RunFault}
-use Rattle.bufr_text.specs.Prelude.{MovesPrefix, Writes, GrowsByPrefix, CountsWrites, LineModel, Moves, MovesOn, StaysFailed, PushesFrom, Pushes, Puts, joined, flag, zero_padded, item_text, comment_text, subset_line, subset_lines, text_of_lines, head_lines, dump_text_of, bit, header_of, header_lines, local1_line, section2_line, descriptors_line, CountsFaults, MakesSteps, StepsWithin, WritesPrefix, call_line, PushesCall, descriptors_text, runs_after, runs_of, escaped, hex_pair, hex_text, is_unescaped, quoted, lead_of, key_at, counts_texts, ls_line, source_texts, time_texts, DocumentFault, RefusedAt, IsDocumentRefusal, reported_refusal, items_shown, dump_items}
+use Rattle.bufr_text.specs.Prelude.{MovesPrefix, Writes, GrowsByPrefix, CountsWrites, LineModel, Moves, MovesOn, StaysFailed, PushesFrom, Pushes, Puts, joined, flag, zero_padded, item_text, comment_text, subset_line, subset_lines, text_of_lines, head_lines, dump_text_of, bit, header_of, header_lines, local1_line, section2_line, descriptors_line, CountsFaults, MakesSteps, StepsWithin, WritesPrefix, call_line, PushesCall, descriptors_text, runs_after, runs_of, escaped, hex_pair, hex_text, is_unescaped, quoted, lead_of, key_at, counts_texts, ls_line, source_texts, time_texts, DocumentFault, IsDocumentRefusal, items_shown, dump_items}
 use Rattle.std.proofs.Math.Seq.{take-append_seam}
 use borrow.Rule.Slice.PartMut.{put_mid, post_of}
 use Rattle.std.proofs.lemmas.Grind.{common_steps}
@@ -12,7 +12,7 @@ use Rattle.bufr_frame.specs.Prelude.{Sections}
 use Rattle.bufr_frame.specs.declared.fault.RunFault.TheVariants.{Write, Memory}
 use Rattle.bufr_tables.specs.Prelude.{Row, fxy_text, places, row_comment, row_line_start}
 use Rattle.bufr_walk.specs.declared.fault.ShowFault.{ShowFault}
-use Rattle.bufr_walk.specs.Prelude.{item_call, Timed, View, shown_number, view_of, content_at, item_calls, subset_calls, compressed_item_calls, compressed_subset_calls, calls_for, turns_for, calls_of, turns_shown, values_read, Shows, EndsAt, Content, Course, ticked, Item, Values, apart, together, plain, after, turns_after}
+use Rattle.bufr_walk.specs.Prelude.{item_call, Timed, View, shown_missing, shown_number, view_of, item_calls, subset_calls, calls_for, calls_of, turns_shown, values_read, Shows, EndsAt, Content, Course, ticked, Item, Values, plain, after, turns_after, walk_shown, each_subset, turns_in}
 use Rattle.std.specs.Int.{from_bool}
 use Rattle.std.proofs.lemmas.Bool.{cases_lt}
 use lib.Ieee.Fits.{and_l, and_r}
@@ -31,7 +31,6 @@ use Rattle.bufr_walk.specs.declared.fault.ShowFault.TheVariants as show
 use Rattle.bufr_walk.specs.Reading as outcome
 use Rattle.bufr_text.specs.declared.fault.DocumentFault.TheVariants as fault
 use Rattle.bufr_bits.proofs.CountLemmas.{empty_writes_after-some}
-use Rattle.bufr_fill.specs.Prelude.{subsets_from, items_of_subset}
 
 -- the digits that were passed write a number
 pub record IsNumberTo (text : List ℕ) (at n : ℕ) : Type 0 where
@@ -143,6 +142,14 @@ number_line item row n scale fxy entry value =
     rw (fxy, entry, value)
     (ap (λ l. row_line_start row ++ l) (ap (λ l. text ++ l) (sym (comment_line row)) ∙ sym (append_assoc text (comment_text (Some row)) (10 ∷ []))))
 
+-- the line of a missing value that was read by a row
+pub missing_line : (item : View) (row : Row) → item.fxy ≡ row.fxy → item.entry ≡ Some row → item.value ≡ shown_missing
+    → row_line_start row ++ (codes "MISSING" ++ row_comment row) ≡ item_text item ++ 10 ∷ []
+missing_line item row fxy entry value =
+    let text = codes "MISSING" in
+    rw (fxy, entry, value)
+    (ap (λ l. row_line_start row ++ l) (ap (λ l. text ++ l) (sym (comment_line row)) ∙ sym (append_assoc text (comment_text (Some row)) (10 ∷ []))))
+
 pub all_written : {a b c : LineModel} {text : List ℕ} {r : Result Unit RunFault} {old new : Option (List ℕ)} (x : Unit) → Pushes a text b → Pushes b [] c → a.status ≡ Ok x → a.held ≡ [] → c.held ≡ []
     → a.taken ≡ old → new ≡ c.taken → r ≡ c.status → Writes old new text r
 all_written x h1 h2 h3 h4 h5 h6 h7 h8 = grind (arith, nat_tests, common_steps)
@@ -218,12 +225,6 @@ items-text table before course [] = refl
 items-text table before course (i ∷ items) =
     ap (λ l. (call_line (item_call (view_of table i.spec i.content)) ++ 10 ∷ []) ++ l) (items-text table before (after plain course i) items)
 
-together-text : (table : List Row) (j : ℕ) (items : List (Item (List Content)))
-    → calls_text (compressed_item_calls table j items) ≡ text_of_lines (map item_text (items_shown table (items_of_subset j items)))
-together-text table j [] = refl
-together-text table j (i ∷ items) =
-    ap (λ l. (call_line (item_call (view_of table i.spec (content_at j i.content))) ++ 10 ∷ []) ++ l) (together-text table j items)
-
 -- a subset, and those after it
 subset-text : (number : ℕ) (calls more : List Timed) (lines suffix : List (List ℕ)) → calls_text calls ≡ text_of_lines lines → calls_text more ≡ text_of_lines suffix
     → (subset_line number ++ 10 ∷ []) ++ calls_text (calls ++ more) ≡ text_of_lines (subset_line number ∷ (lines ++ suffix))
@@ -238,22 +239,9 @@ subsets-text table course before number (items ∷ subsets) =
     (map item_text (items_shown table items)) (subset_lines (number + 1) (map (items_shown table) subsets))
     (items-text table before course items) (subsets-text table course (before + turns_after plain course items) (number + 1) subsets)
 
-all-together-text : (table : List Row) (left j : ℕ) (items : List (Item (List Content)))
-    → calls_text (compressed_subset_calls table left j items) ≡ text_of_lines (subset_lines (j + 1) (map (items_shown table) (subsets_from left j items)))
-unfolding subset_lines
-all-together-text table zero j items = refl
-all-together-text table (suc left) j items =
-    let next : j + 1 ≡ suc j = omega arith in
-    subset-text (j + 1) (compressed_item_calls table j items) (compressed_subset_calls table left (j + 1) items)
-    (map item_text (items_shown table (items_of_subset j items))) (subset_lines (j + 1 + 1) (map (items_shown table) (subsets_from left (suc j) items)))
-    (together-text table j items)
-    (subst (λ k. calls_text (compressed_subset_calls table left (j + 1) items) ≡ text_of_lines (subset_lines (j + 1 + 1) (map (items_shown table) (subsets_from left k items)))) next
-    (all-together-text table left (j + 1) items))
-
 -- the calls of a reading write its subsets
 pub reading-text : (r : outcome.Read) (values : Values) → calls_text (calls_for r values) ≡ text_of_lines (subset_lines 1 (dump_items r.table r.source.subsets values))
-reading-text r (apart subsets) = subsets-text r.table (outcome.course_of r) 0 1 subsets
-reading-text r (together items) = all-together-text r.table r.source.subsets 0 items
+reading-text r values = subsets-text r.table (walk_shown r values) 0 1 (each_subset r.source.subsets values)
 
 -- a text was written after all that was held
 moved : (r : Result Unit RunFault) (old new : Option (List ℕ)) (octets held held' : List ℕ) → held ≡ [] → held' ≡ [] → Writes old new octets r → Moves old new (held ++ octets) held' r
@@ -341,17 +329,15 @@ steps-of calls turns steps (Ok x) made = made
 steps-of calls turns steps (Err fault) made = all-steps calls turns steps made
 
 -- no step was made yet
-compressed-none : (table : List Row) (subsets : ℕ) (items : List (Item (List Content))) → StepsWithin (compressed_subset_calls table subsets 0 items) 0 0
-compressed-none table zero items = refl
-compressed-none table (suc n) items = inl refl
-
 pub no-steps : (r : outcome.Read) → StepsWithin (calls_of r) (turns_shown r) 0
-no-steps r = by (values_read r)
+no-steps r = by (each_subset r.source.subsets (values_read r))
   where
-    by : (values : Values) → StepsWithin (calls_for r values) (turns_for r values) 0
-    by (apart []) = refl
-    by (apart (items ∷ subsets)) = inl refl
-    by (together items) = compressed-none r.table r.source.subsets items
+    course : Course
+    course = walk_shown r (values_read r)
+
+    by : (subsets : List (List (Item Content))) → StepsWithin (subset_calls r.table course 0 1 subsets) (turns_in course subsets) 0
+    by [] = refl
+    by (items ∷ subsets) = inl refl
 
 -- a prefix of a text was pushed, and with it one of a longer text
 prefix-longer : {a b : LineModel} {s : List ℕ} (t : List ℕ) → PushesPrefix a s b → PushesPrefix a (s ++ t) b
@@ -812,8 +798,9 @@ unescaped_below (suc n) c t h =
     ]
 
 -- what is encoded is refused for nothing else
-pub memory_alone : (why : DocumentFault) (defined : Result (List ℕ) RefusedAt) (octets : List ℕ) → defined ≡ Ok octets → IsDocumentRefusal (reported_refusal why) defined → why ≡ fault.Memory
-memory_alone why defined octets h1 h2 = grind (arith, nat_tests, common_steps)
+pub memory_alone : (why : DocumentFault) (defined : Result (List ℕ) DocumentFault) (octets : List ℕ) → defined ≡ Ok octets → IsDocumentRefusal why defined → why ≡ fault.Memory
+memory_alone why defined octets is (inl out) = out
+memory_alone why defined octets is (inr refused) = let both : ◌≡◌ {A = Result (List ℕ) DocumentFault} (Ok octets) (Err why) = sym is ∙ refused in cc
 
 -- what closes the goals of single functions, and those of `numbers`
 pub ruleset held_steps = (holds_pushes, held_filled)

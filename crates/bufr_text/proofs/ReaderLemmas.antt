@@ -2,7 +2,7 @@
 use Rattle.std.proofs.Common.{◌≡◌, ℕ, ◌+◌, ◌<◌, ◌≤◌, ◌==◌, nat_lt, not, Bool, true, false, List, [], ◌∷◌, ◌++◌, length, refl, sym, ap, ◌∙◌, arith, append_assoc, append-nil, length-append, subst, if◌then◌else◌, ◌⊎◌, inl, inr, zero, suc, ◌&&◌, take, drop, Option, Some, None, ◌-◌, length-drop, Result, Ok, Err, OnErr, slice_index}
 use Rattle.std.proofs.lemmas.Bool.Decides.{nat_tests}
 use Rattle.bufr_bits.proofs.DecimalLemmas.{and_first, and_second}
-use Rattle.bufr_text.specs.Prelude.{line_fault_of, Line, Passed, Item, Closes, Wrong, line_of, ParserState, Between, Heading, BeforeSubsets, Filling, Stopped, WalkGoes, Faults, ParseResult, Refused, NotAllowed, turn, line_within_limit, parse_lines, place_after, reported_at, reported_at_end, lines_of, prepend_to_line, Split, onto_split, split_of, parse_open_lines, documents_of, open_documents_of, Document, LineEffect, Gives, with_entry, has_no_feed, ReaderPosition, parse, parse_open, ContinuesParse, ReaderModel, KeepsUnread, IsMissingFeed, ReadsLines, TakesWholeLines, position_of, place_with, turned, IsParserState, step_results, position_with, position_after_take, TakesLines, IsTaking, place_following, WantsAt, adds, ends_by_feed, place_now, IsProgress, IsReader, ParsesHeldLines, WantsHere, TakesHeldLines, read_fault_at, stopped, text_of_lines, ReadFault}
+use Rattle.bufr_text.specs.Prelude.{blank, Line, Passed, Item, Closes, Wrong, line_of, ParserState, Between, Heading, BeforeSubsets, Filling, Stopped, LineEffect, Continues, Completes, Refuses, Parsing, Turn, between, ParseResult, Refused, NotAllowed, turn, read_line, parse_lines, parsing_after, reported_at, reported_at_end, lines_of, prepend_to_line, Split, onto_split, split_of, parse_open_lines, documents_of, open_documents_of, Document, with_entry, has_no_feed, ReaderPosition, parse, parse_open, ContinuesParse, ReaderModel, KeepsUnread, IsMissingFeed, ReadsLines, TakesWholeLines, position_of, parsing_of, IsParsing, IsTurn, position_with, TakesLines, IsTaking, WantsAt, adds, ends_by_feed, IsProgress, IsReader, ParsesHeldLines, WantsHere, stopped, text_of_lines, ReadFault}
 use Rattle.std.proofs.lemmas.Bool.{true≢false}
 use Rattle.memchr.specs.Find.{IsFirstByte, is_byte}
 use Rattle.std.proofs.lemmas.List.{take_at}
@@ -10,17 +10,9 @@ use Rattle.bufr_fill.specs.Prelude.{DraftValue, DraftEntry, draft, Holds}
 use Rattle.std.specs.List.{AllByRecursion}
 use Rattle.std.proofs.lemmas.Grind.{common_steps, flat_map-append}
 use Rattle.bufr_text.specs.declared.document.Progress.{Progress}
-use Rattle.bufr_text.specs.declared.document.LineRefusal.{LineRefusal}
-use Rattle.bufr_text.proofs.HeaderLemmas.{turn-holds, said-sound, HoldsAfter}
+use Rattle.bufr_text.proofs.HeaderLemmas.{turn-holds, said-sound}
 use Rattle.bufr_frame.specs.Prelude.{InputModel}
-use Rattle.bufr_text.specs.declared.document.TakeResult.{TakeResult}
-use Rattle.bufr_text.specs.Documents as documents
-use Rattle.bufr_text.specs.declared.document.TakeResult.TheVariants as taken
-use Rattle.bufr_text.specs.declared.document.LineEffect.TheVariants as turn
-use Rattle.bufr_text.specs.declared.document.ParserState.TheVariants as place
-use Rattle.bufr_text.specs.declared.document.LineRefusal.TheVariants as refusal
 use Rattle.bufr_text.specs.declared.fault.ReadFault.TheVariants as fault
-use Rattle.bufr_text.specs.declared.document.ParserState.{ParserState as CodeState}
 
 -- the first line feed, or there is none
 abbrev pub FeedAt : List ℕ → Option ℕ → Type 0
@@ -31,30 +23,30 @@ FeedAt held (Some place) = (place < length held) × (has_no_feed (take place hel
 -- what the end comes to, where no line is held
 abbrev pub HandlesEnd : ReaderModel → ReaderModel → Result (Option Document) ReadFault → Type 0
 HandlesEnd old new (Ok None) = (new ≡ old) × (new.held ≡ []) × (parse (position_of new) [] ≡ [])
-HandlesEnd old new (Err (fault.Line line)) =
-    ParsesHeldLines old new (Refused line NotAllowed ∷ [])
-    × (new.fault ≡ Some (fault.Line line)) × (new.ended ≡ old.ended) × (new.reads ≡ old.reads)
+HandlesEnd old new (Err (fault.Line line why)) =
+    ParsesHeldLines old new (Refused line why ∷ [])
+    × (new.fault ≡ Some (fault.Line line why)) × (new.ended ≡ old.ended) × (new.reads ≡ old.reads)
 HandlesEnd old new result = ⊥
 
 -- after a fault nothing is reported
-stays-stopped : (at : ℕ) (meaning : Line) → turn at Stopped meaning ≡ WalkGoes Stopped
+stays-stopped : (at : ℕ) (d : Document) (meaning : Line) → turn at (Stopped, d) meaning ≡ (Continues Stopped, d)
 unfolding turn
-stays-stopped at Passed = refl
-stays-stopped at meaning = refl
+stays-stopped at d Passed = refl
+stays-stopped at d meaning = refl
 
-pub stopped-reports : (at : ℕ) (lines : List (List ℕ)) → parse_lines at Stopped lines ≡ []
+pub stopped-reports : (at : ℕ) (d : Document) (lines : List (List ℕ)) → parse_lines at (Stopped, d) lines ≡ []
 unfolding parse_lines
-stopped-reports at [] = refl
-stopped-reports at (line ∷ lines) = rw (stays-stopped at (line_within_limit line)) (stopped-reports (at + 1) lines)
+stopped-reports at d [] = refl
+stopped-reports at d (line ∷ lines) = rw (stays-stopped at d (read_line line)) (stopped-reports (at + 1) d lines)
 
-pub stopped-reports-openly : (at : ℕ) (lines : List (List ℕ)) (rest : List ℕ) → parse_open_lines at Stopped lines rest ≡ []
+pub stopped-reports-openly : (at : ℕ) (d : Document) (lines : List (List ℕ)) (rest : List ℕ) → parse_open_lines at (Stopped, d) lines rest ≡ []
 unfolding parse_open_lines
-stopped-reports-openly at [] rest = by-length (nat_lt 4096 (length rest))
+stopped-reports-openly at d [] rest = by-length (nat_lt 4096 (length rest))
   where
-    by-length : (b : Bool) → (if b then reported_at at (turn at Stopped Wrong) else []) ≡ []
-    by-length true = ap (reported_at at) (stays-stopped at Wrong)
+    by-length : (b : Bool) → (if b then reported_at at (turn at (Stopped, d) Wrong) else []) ≡ []
+    by-length true = ap (reported_at at) (stays-stopped at d Wrong)
     by-length false = refl
-stopped-reports-openly at (line ∷ lines) rest = rw (stays-stopped at (line_within_limit line)) (stopped-reports-openly (at + 1) lines rest)
+stopped-reports-openly at d (line ∷ lines) rest = rw (stays-stopped at d (read_line line)) (stopped-reports-openly (at + 1) d lines rest)
 
 -- a line that is held whole
 no-feed-first : (c : ℕ) → not (c == 10) ≡ true → (c == 10) ≡ false
@@ -77,12 +69,12 @@ line-split (c ∷ line) t h =
     split-octet c (line ++ 10 ∷ t) (record { whole = line ∷ (split_of t).whole; rest = (split_of t).rest }) (no-feed-first c (and_first (not (c == 10)) (has_no_feed line) h))
     (line-split line t (and_second (not (c == 10)) (has_no_feed line) h))
 
-abbrev openly-from : ℕ → ParserState → Split → List ParseResult
+abbrev openly-from : ℕ → Parsing → Split → List ParseResult
 openly-from at place s = parse_open_lines at place s.whole s.rest
 
-pub takes-line : (at : ℕ) (place : ParserState) (line rest : List ℕ) (ended : Bool) → has_no_feed line ≡ true
-    → let here = turn at place (line_within_limit line) in
-    ContinuesParse (record { at = at; place = place; held = line ++ 10 ∷ rest; ended = ended }) (record { at = at + 1; place = place_after here; held = rest; ended = ended }) (reported_at at here)
+pub takes-line : (at : ℕ) (place : Parsing) (line rest : List ℕ) (ended : Bool) → has_no_feed line ≡ true
+    → let here = turn at place (read_line line) in
+    ContinuesParse (record { at = at; place = place; held = line ++ 10 ∷ rest; ended = ended }) (record { at = at + 1; place = parsing_after here; held = rest; ended = ended }) (reported_at at here)
 unfolding parse_lines parse_open_lines
 takes-line at place line rest ended h1 = grind (arith, nat_tests, common_steps, append_assoc, line-held, line-split)
 
@@ -120,9 +112,9 @@ abbrev pub Reads : ParserState → Type 0
 Reads Stopped = ⊥
 Reads other = Unit {0}
 
-pub wrong-faults : (at : ℕ) (place : ParserState) → Reads place → turn at place Wrong ≡ Faults NotAllowed
+pub wrong-faults : (at : ℕ) (place : Parsing) → Reads place.0 → turn at place Wrong ≡ (Refuses NotAllowed, place.1)
 unfolding turn
-wrong-faults at Stopped r = absurd r
+wrong-faults at (Stopped, d) r = absurd r
 wrong-faults at place r = refl
 
 -- the first line or the rest is too long
@@ -151,12 +143,12 @@ long-split (c ∷ d ∷ held) t h some =
     subst (LongSplit (c ∷ d ∷ held)) (sym (split-octet c ((d ∷ held) ++ t) (split_of ((d ∷ held) ++ t)) (no-feed-first c (and_first (not (c == 10)) (has_no_feed (d ∷ held)) h)) refl))
     (long-onto c (d ∷ held) (split_of ((d ∷ held) ++ t)) rest)
 
-openly-long : (at : ℕ) (place : ParserState) (held : List ℕ) (s : Split) → Reads place → 4096 < length held → LongSplit held s → openly-from at place s ≡ Refused at NotAllowed ∷ []
+openly-long : (at : ℕ) (place : Parsing) (held : List ℕ) (s : Split) → Reads place.0 → 4096 < length held → LongSplit held s → openly-from at place s ≡ Refused at NotAllowed ∷ []
 unfolding LongSplit parse_open_lines
 openly-long at place held s h1 h2 h3 = grind (arith, nat_tests, common_steps, LongSplit, length-append, wrong-faults, stopped-reports-openly)
 
-pub refuses-long : (at : ℕ) (place : ParserState) (held : List ℕ) (ended : Bool) → Reads place → has_no_feed held ≡ true → 4096 < length held
-    → ContinuesParse (record { at = at; place = place; held = held; ended = ended }) (record { at = at; place = Stopped; held = held; ended = ended }) (Refused at NotAllowed ∷ [])
+pub refuses-long : (at : ℕ) (place : Parsing) (held : List ℕ) (ended : Bool) → Reads place.0 → has_no_feed held ≡ true → 4096 < length held
+    → ContinuesParse (record { at = at; place = place; held = held; ended = ended }) (record { at = at; place = (Stopped, place.1); held = held; ended = ended }) (Refused at NotAllowed ∷ [])
 unfolding parse_lines
 refuses-long at place held ended r h long = record {
   openly = λ unended t. grind (arith, nat_tests, common_steps, openly-long, long-split, stopped-reports-openly);
@@ -164,8 +156,8 @@ refuses-long at place held ended r h long = record {
       let (more, rest, e) = long-first held t h (omega (arith, long)) in
       let over : nat_lt 4096 (length (held ++ more)) ≡ true = grind (arith, nat_tests, length-append held more, long) in
       ap (parse_lines at place) e
-      ∙ rw (over, wrong-faults at place r) (ap (λ (z : List ParseResult). Refused at NotAllowed ∷ z) (stopped-reports (at + 1) rest))
-      ∙ ap (λ (z : List ParseResult). Refused at NotAllowed ∷ z) (sym (stopped-reports at (lines_of (held ++ t))));
+      ∙ rw (over, wrong-faults at place r) (ap (λ (z : List ParseResult). Refused at NotAllowed ∷ z) (stopped-reports (at + 1) place.1 rest))
+      ∙ ap (λ (z : List ParseResult). Refused at NotAllowed ∷ z) (sym (stopped-reports at place.1 (lines_of (held ++ t))));
 }
 
 -- at the end the last line may lack its line feed
@@ -176,8 +168,8 @@ one-line (c ∷ []) h some = rw (no-feed-first c (and_first (not (c == 10)) true
 one-line (c ∷ d ∷ held) h some =
     rw (no-feed-first c (and_first (not (c == 10)) (has_no_feed (d ∷ held)) h)) (ap (prepend_to_line c) (one-line (d ∷ held) (and_second (not (c == 10)) (has_no_feed (d ∷ held)) h) (omega arith)))
 
-pub ends-inside : (at : ℕ) (place : ParserState)
-    → ContinuesParse (record { at = at; place = place; held = []; ended = true }) (record { at = at; place = Stopped; held = []; ended = true }) (reported_at_end at place)
+pub ends-inside : (at : ℕ) (place : Parsing)
+    → ContinuesParse (record { at = at; place = place; held = []; ended = true }) (record { at = at; place = (Stopped, place.1); held = []; ended = true }) (reported_at_end at place.0)
 unfolding parse_lines lines_of
 ends-inside at place = grind (arith, nat_tests, common_steps)
 
@@ -188,7 +180,7 @@ rest-alone [] h = refl
 rest-alone (c ∷ held) h = split-octet c held (record { whole = []; rest = held }) (no-feed-first c (and_first (not (c == 10)) (has_no_feed held) h))
     (rest-alone held (and_second (not (c == 10)) (has_no_feed held) h))
 
-pub nothing-yet : (at : ℕ) (place : ParserState) (held : List ℕ) (ended : Bool) → has_no_feed held ≡ true → length held ≤ 4096
+pub nothing-yet : (at : ℕ) (place : Parsing) (held : List ℕ) (ended : Bool) → has_no_feed held ≡ true → length held ≤ 4096
     → parse_open (record { at = at; place = place; held = held; ended = ended }) [] ≡ []
 unfolding parse_open_lines
 nothing-yet at place held ended h1 h2 = grind (arith, nat_tests, common_steps, append-nil, rest-alone)
@@ -287,37 +279,37 @@ prefix-more : (x results all : List ParseResult) → IsPrefix results all → Is
 prefix-more x results all (more, e) = (more, ap (λ (z : List ParseResult). x ++ z) e ∙ sym (append_assoc x results more))
 
 -- a rest that is short reports nothing yet, one that is long is refused either way
-rest-prefix : (at : ℕ) (place : ParserState) (rest t : List ℕ) (b : Bool) → nat_lt 4096 (length rest) ≡ b → Reads place → has_no_feed rest ≡ true
+rest-prefix : (at : ℕ) (place : Parsing) (rest t : List ℕ) (b : Bool) → nat_lt 4096 (length rest) ≡ b → Reads place.0 → has_no_feed rest ≡ true
     → IsPrefix (parse_open_lines at place [] rest) (parse_lines at place (lines_of (rest ++ t)))
 unfolding parse_open_lines
 rest-prefix at place rest t true h r clean =
     let long : 4096 < length rest = grind (arith, nat_tests, h) in
-    (parse_lines at Stopped (lines_of (rest ++ t)), rw (h, wrong-faults at place r) ((refuses-long at place rest false r clean long).whole t (λ e. absurd cc)))
+    (parse_lines at (Stopped, place.1) (lines_of (rest ++ t)), rw (h, wrong-faults at place r) ((refuses-long at place rest false r clean long).whole t (λ e. absurd cc)))
 rest-prefix at place rest t false h r clean = (parse_lines at place (lines_of (rest ++ t)), rw h refl)
 
-any-prefix : (at : ℕ) (place : ParserState) (rest t : List ℕ) → has_no_feed rest ≡ true → IsPrefix (parse_open_lines at place [] rest) (parse_lines at place (lines_of (rest ++ t)))
-any-prefix at Between rest t clean = rest-prefix at Between rest t (nat_lt 4096 (length rest)) refl tt clean
-any-prefix at (Heading d) rest t clean = rest-prefix at (Heading d) rest t (nat_lt 4096 (length rest)) refl tt clean
-any-prefix at (BeforeSubsets part d) rest t clean = rest-prefix at (BeforeSubsets part d) rest t (nat_lt 4096 (length rest)) refl tt clean
-any-prefix at (Filling subset d) rest t clean = rest-prefix at (Filling subset d) rest t (nat_lt 4096 (length rest)) refl tt clean
-any-prefix at Stopped rest t clean = (
-  parse_lines at Stopped (lines_of (rest ++ t)),
-  ap (λ (z : List ParseResult). z ++ parse_lines at Stopped (lines_of (rest ++ t))) (sym (stopped-reports-openly at [] rest)),
+any-prefix : (at : ℕ) (place : Parsing) (rest t : List ℕ) → has_no_feed rest ≡ true → IsPrefix (parse_open_lines at place [] rest) (parse_lines at place (lines_of (rest ++ t)))
+any-prefix at (Between, d) rest t clean = rest-prefix at (Between, d) rest t (nat_lt 4096 (length rest)) refl tt clean
+any-prefix at (Heading, d) rest t clean = rest-prefix at (Heading, d) rest t (nat_lt 4096 (length rest)) refl tt clean
+any-prefix at (BeforeSubsets part, d) rest t clean = rest-prefix at (BeforeSubsets part, d) rest t (nat_lt 4096 (length rest)) refl tt clean
+any-prefix at (Filling subset, d) rest t clean = rest-prefix at (Filling subset, d) rest t (nat_lt 4096 (length rest)) refl tt clean
+any-prefix at (Stopped, d) rest t clean = (
+  parse_lines at (Stopped, d) (lines_of (rest ++ t)),
+  ap (λ (z : List ParseResult). z ++ parse_lines at (Stopped, d) (lines_of (rest ++ t))) (sym (stopped-reports-openly at d [] rest)),
 )
 
-lines-prefix : (lines : List (List ℕ)) (at : ℕ) (place : ParserState) (rest t : List ℕ) → has_no_feed rest ≡ true
+lines-prefix : (lines : List (List ℕ)) (at : ℕ) (place : Parsing) (rest t : List ℕ) → has_no_feed rest ≡ true
     → IsPrefix (parse_open_lines at place lines rest) (parse_lines at place (lines ++ lines_of (rest ++ t)))
 unfolding parse_lines parse_open_lines
 lines-prefix [] at place rest t clean = any-prefix at place rest t clean
 lines-prefix (line ∷ lines) at place rest t clean =
-    prefix-more (reported_at at (turn at place (line_within_limit line))) _ _ (lines-prefix lines (at + 1) (place_after (turn at place (line_within_limit line))) rest t clean)
+    prefix-more (reported_at at (turn at place (read_line line))) _ _ (lines-prefix lines (at + 1) (parsing_after (turn at place (read_line line))) rest t clean)
 
 -- the documents that are reported while the end is not known stay the first ones, whatever comes
 -- after
 pub open-prefix : (s t : List ℕ) → IsPrefix (open_documents_of s) (documents_of (s ++ t))
 open-prefix s t =
-    let (more, e) = lines-prefix (split_of s).whole 1 Between (split_of s).rest t (rest-clean s) in
-    (more, ap (parse_lines 1 Between) (lines-split s t) ∙ e)
+    let (more, e) = lines-prefix (split_of s).whole 1 between (split_of s).rest t (rest-clean s) in
+    (more, ap (parse_lines 1 between) (lines-split s t) ∙ e)
 
 -- ---- What is held of the text itself.
 
@@ -370,34 +362,35 @@ keeps-same old s new bs (taken, same) held ended = (
 
 -- ---- Only an `end` line makes a document whole.
 
--- a turn that gives a document was made by an `end` line
-abbrev IsByEnd : Line → LineEffect → Type 0
-IsByEnd line (Gives d) = line ≡ Closes
-IsByEnd line other = Unit {0}
+-- a line that completes a document is an `end` line
+abbrev IsByEnd : Line → Turn → Type 0
+IsByEnd line (Continues state, d) = Unit {0}
+IsByEnd line (Completes, d) = line ≡ Closes
+IsByEnd line (Refuses fault, d) = Unit {0}
 
-turn-end : (at : ℕ) (place : ParserState) (line : Line) → IsByEnd line (turn at place line)
+turn-end : (at : ℕ) (place : Parsing) (line : Line) → IsByEnd line (turn at place line)
 unfolding turn
 turn-end at place line = grind (arith, nat_tests, common_steps)
 
-pub gives-end : (at : ℕ) (place : ParserState) (line : Line) (d : Document) → Gives d ≡ turn at place line → line ≡ Closes
-gives-end at place line d e = subst (IsByEnd line) (sym e) (turn-end at place line)
+completes-end : (at : ℕ) (place : Parsing) (line : Line) (effect : LineEffect) (d : Document) → effect ≡ Completes → (effect, d) ≡ turn at place line → line ≡ Closes
+completes-end at place line effect d is e = subst (IsByEnd line) (sym e ∙ ap (λ (x : LineEffect). (x, d)) is) (turn-end at place line)
 
 -- ---- Lines that are taken one after another.
 
 -- a line with an item, in a subset
-item-turn : (at subset : ℕ) (line : List ℕ) (d new : documents.Document) (fxy : ℕ) (form : DraftValue) → length line ≤ 4096 → line_of line ≡ Item fxy form
+item-turn : (at subset : ℕ) (line : List ℕ) (d new : Document) (fxy : ℕ) (form : DraftValue) → length line ≤ 4096 → line_of line ≡ Item fxy form
     → new ≡ with_entry d (Holds (draft at fxy form))
-    → documents.WalkGoes (documents.Filling subset new) ≡ documents.turn at (documents.Filling subset d) (line_within_limit line)
-unfolding documents.turn
+    → (Continues (Filling subset), new) ≡ turn at (Filling subset, d) (read_line line)
+unfolding turn
 item-turn at subset line d new fxy form h1 h2 h3 = grind (arith, nat_tests, common_steps)
 
-pub item-taken : (old p : Progress) (line : List ℕ) (entries : List DraftEntry) (subset fxy : ℕ) (form : DraftValue) → p ≡ old → p.place ≡ place.Filling subset → length line ≤ 4096
+pub item-taken : (old p : Progress) (line : List ℕ) (entries : List DraftEntry) (subset fxy : ℕ) (form : DraftValue) → p ≡ old → p.state ≡ Filling subset → length line ≤ 4096
     → line_of line ≡ Item fxy form → entries ≡ p.parts.entries ++ Holds (draft p.at fxy form) ∷ []
-    → documents.WalkGoes (place_with p.place (record p.parts { entries = entries })) ≡ documents.turn old.at (place_with old.place old.parts) (line_within_limit line)
+    → (Continues p.state, record p.parts { entries = entries }) ≡ turn old.at (parsing_of old) (read_line line)
 item-taken old p line entries subset fxy form same inside short says more =
-    let T : Progress → Type 0 = λ x. documents.WalkGoes (place_with x.place (record x.parts { entries = entries })) ≡ documents.turn old.at (place_with old.place old.parts) (line_within_limit line) in
+    let T : Progress → Type 0 = λ x. (Continues x.state, record x.parts { entries = entries }) ≡ turn old.at (parsing_of old) (read_line line) in
     let E : Progress → Type 0 = λ x. entries ≡ x.parts.entries ++ Holds (draft x.at fxy form) ∷ [] in
-    let here : T old = rw (sym (ap (λ x. x.place) same) ∙ inside) (item-turn old.at subset line old.parts (record old.parts { entries = entries }) fxy form short says
+    let here : T old = rw (sym (ap (λ x. x.state) same) ∙ inside) (item-turn old.at subset line old.parts (record old.parts { entries = entries }) fxy form short says
     (ap (λ es. record old.parts { entries = es }) (subst E same more))) in
     subst T (sym same) here
 
@@ -405,9 +398,9 @@ drop-on : (a b : ℕ) (s : List ℕ) → drop a (drop b s) ≡ drop (b + a) s
 drop-on a b s = grind (arith, common_steps)
 
 -- a line is taken
-line-taken : (new : Progress) (held : List ℕ) (from n : ℕ) (t : documents.LineEffect) (ended : Bool) → FeedAt (drop from held) (Some n)
-    → t ≡ documents.turn new.at (place_with new.place new.parts) (line_within_limit (take n (drop from held)))
-    → ContinuesParse (position_with new (drop from held) ended) (record { at = new.at + 1; place = place_after t; held = drop (from + (n + 1)) held; ended = ended }) (reported_at new.at t)
+line-taken : (new : Progress) (held : List ℕ) (from n : ℕ) (t : Turn) (ended : Bool) → FeedAt (drop from held) (Some n)
+    → t ≡ turn new.at (parsing_of new) (read_line (take n (drop from held)))
+    → ContinuesParse (position_with new.at (parsing_of new) (drop from held) ended) (position_with (new.at + 1) (parsing_after t) (drop (from + (n + 1)) held) ended) (reported_at new.at t)
 line-taken new held from n t ended h1 h2 = grind (arith, nat_tests, common_steps, before, takes-line, drop-on)
 
 pub all-append : (P : List ℕ → Type 0) (a b : List (List ℕ)) → AllByRecursion P a → AllByRecursion P b → AllByRecursion P (a ++ b)
@@ -435,77 +428,90 @@ passes-feed : (at at' : ℕ) (held : List ℕ) (from n : ℕ) → TakesWholeLine
     → TakesWholeLines at held (at' + 1) (drop (from + (n + 1)) held)
 passes-feed at at' held from n h1 h2 = grind (arith, nat_tests, common_steps, drop-on, passes-line)
 
--- what holds after a turn
-holds-after : (new : Progress) (t : documents.LineEffect) (line : List ℕ) → IsParserState new.at (place_with new.place new.parts) → 0 < new.at
-    → t ≡ documents.turn new.at (place_with new.place new.parts) (line_within_limit line) → HoldsAfter new.at t
-holds-after new t line s some e = subst (HoldsAfter new.at) (sym e) (turn-holds new.at (place_with new.place new.parts) (line_within_limit line) some (said-sound line) s)
+-- what holds after a line
+holds-after : (new : Progress) (t : Turn) (line : List ℕ) → IsParsing new.at (parsing_of new) → 0 < new.at → t ≡ turn new.at (parsing_of new) (read_line line) → IsTurn (new.at + 1) t
+holds-after new t line s some e = subst (IsTurn (new.at + 1)) (sym e) (turn-holds new.at (parsing_of new) (read_line line) some (said-sound line) s)
 
-further : (a b c : ReaderPosition) (x : List documents.ParseResult) → b.ended ≡ c.ended → ContinuesParse a b [] → ContinuesParse b c x → ContinuesParse a c x
+further : (a b c : ReaderPosition) (x : List ParseResult) → b.ended ≡ c.ended → ContinuesParse a b [] → ContinuesParse b c x → ContinuesParse a c x
 further a b c x same f g = goes-further a b c [] x (λ e. sym same ∙ e) f g
 
-pub taking-goes : (old new : Progress) (held : List ℕ) (from n : ℕ) (place : CodeState) (d : documents.Document) → IsTaking old new held from → FeedAt (drop from held) (Some n)
-    → turned (turn.WalkGoes place) d ≡ documents.turn new.at (place_with new.place new.parts) (line_within_limit (take n (drop from held)))
-    → IsTaking old (record { place = place; at = new.at + 1; parts = d }) held (from + (n + 1))
-taking-goes old new held from n place d is feed e = record {
-  goes = λ ended. further (position_with old held ended) (position_with new (drop from held) ended)
-      (position_with (record { place = place; at = new.at + 1; parts = d }) (drop (from + (n + 1)) held) ended) [] refl (is.goes ended)
-      (line-taken new held from n (turned (turn.WalkGoes place) d) ended feed e);
+-- lines were taken, and one more
+one-further : (old new : Progress) (held : List ℕ) (from n : ℕ) (t : Turn) (ended : Bool) → IsTaking old new held from → FeedAt (drop from held) (Some n)
+    → t ≡ turn new.at (parsing_of new) (read_line (take n (drop from held)))
+    → ContinuesParse (position_with old.at (parsing_of old) held ended) (position_with (new.at + 1) (parsing_after t) (drop (from + (n + 1)) held) ended) (reported_at new.at t)
+one-further old new held from n t ended is feed e =
+    further (position_with old.at (parsing_of old) held ended) (position_with new.at (parsing_of new) (drop from held) ended)
+    (position_with (new.at + 1) (parsing_after t) (drop (from + (n + 1)) held) ended) (reported_at new.at t) refl (is.goes ended) (line-taken new held from n t ended feed e)
+
+pub taking-goes : (old new : Progress) (held : List ℕ) (from n : ℕ) (state : ParserState) (d : Document) → IsTaking old new held from → FeedAt (drop from held) (Some n)
+    → (Continues state, d) ≡ turn new.at (parsing_of new) (read_line (take n (drop from held)))
+    → IsTaking old (record { state = state; at = new.at + 1; parts = d }) held (from + (n + 1))
+taking-goes old new held from n state d is feed e = record {
+  goes = λ ended. one-further old new held from n (Continues state, d) ended is feed e;
   within = omega (arith, feed.0, length-drop from held);
-  holds = holds-after new (turned (turn.WalkGoes place) d) (take n (drop from held)) is.holds is.some e;
+  holds = holds-after new (Continues state, d) (take n (drop from held)) is.holds is.some e;
   some = omega arith;
   near = omega (arith, is.near);
   passes = passes-feed old.at new.at held from n is.passes feed;
 }
 
-pub taking-gives : (old new : Progress) (held : List ℕ) (from n : ℕ) (last : Progress) → IsTaking old new held from → FeedAt (drop from held) (Some n) → last.at ≡ new.at + 1
-    → turned turn.Gives last.parts ≡ documents.turn new.at (place_with new.place new.parts) (line_within_limit (take n (drop from held)))
-    → TakesLines old last held (from + (n + 1)) taken.Gives
-taking-gives old new held from n last is feed at e = record {
-  goes = λ ended. further (position_with old held ended) (position_with new (drop from held) ended) (position_after_take taken.Gives last (drop (from + (n + 1)) held) ended)
-      (step_results taken.Gives last.parts) refl (is.goes ended)
-      (subst (λ (k : ℕ). ContinuesParse (position_with new (drop from held) ended) (record { at = k; place = documents.Between; held = drop (from + (n + 1)) held; ended = ended })
-      (step_results taken.Gives last.parts)) (sym at) (line-taken new held from n (turned turn.Gives last.parts) ended feed e));
-  all = λ more. absurd cc;
-  within = omega (arith, feed.0, length-drop from held);
-  near = omega (arith, is.near, at);
-  passes = subst (λ (k : ℕ). TakesWholeLines old.at held k (drop (from + (n + 1)) held)) (sym at) (passes-feed old.at new.at held from n is.passes feed);
-  holds = (let after = holds-after new (turned turn.Gives last.parts) (take n (drop from held)) is.holds is.some e in (after.0, omega (arith, after.1, at)));
-  closes = λ gives. record {
-    line = new.at;
-    last = take n (drop from held);
-    prefix = (let P : List ℕ → Type 0 = λ t. TakesWholeLines old.at held new.at (take n (drop from held) ++ 10 ∷ t) in let Q : List ℕ
-        → Type 0 = λ t. TakesWholeLines old.at held new.at t in subst P (drop-on (n + 1) from held) (subst Q feed.2 is.passes));
-    single = feed.1;
-    closes = gives-end new.at (place_with new.place new.parts) (line_within_limit (take n (drop from held))) last.parts e;
-    counted = at;
-  };
-}
+-- a line that ends a document or is refused is the last
+pub taking-ends : (old new : Progress) (held : List ℕ) (from n : ℕ) (effect : LineEffect) (last : Progress) → IsTaking old new held from → FeedAt (drop from held) (Some n) → last.at ≡ new.at + 1
+    → ((state : ParserState) → effect ≡ Continues state → ⊥) → (effect, last.parts) ≡ turn new.at (parsing_of new) (read_line (take n (drop from held)))
+    → TakesLines old last held (from + (n + 1)) effect
+taking-ends old new held from n effect last is feed at ends e =
+    let t : Turn = (effect, last.parts) in
+    let rest = drop (from + (n + 1)) held in
+    let here : new.at ≡ last.at - 1 = omega (arith, at) in
+    record {
+      goes = λ ended.
+          let old' = position_with old.at (parsing_of old) held ended in
+          subst (λ (k : ℕ). ContinuesParse old' (position_with last.at (parsing_after t) rest ended) (reported_at k t)) here
+          (subst (λ (k : ℕ). ContinuesParse old' (position_with k (parsing_after t) rest ended) (reported_at new.at t)) (sym at) (one-further old new held from n t ended is feed e));
+      all = λ state goes. absurd (ends state goes);
+      within = omega (arith, feed.0, length-drop from held);
+      holds = subst (λ (k : ℕ). IsTurn k t) (sym at) (holds-after new t (take n (drop from held)) is.holds is.some e);
+      some = omega (arith, at);
+      near = omega (arith, is.near, at);
+      passes = subst (λ (k : ℕ). TakesWholeLines old.at held k rest) (sym at) (passes-feed old.at new.at held from n is.passes feed);
+      closes = λ whole. record {
+        line = new.at;
+        last = take n (drop from held);
+        prefix = (let P : List ℕ → Type 0 = λ t. TakesWholeLines old.at held new.at (take n (drop from held) ++ 10 ∷ t) in let Q : List ℕ
+            → Type 0 = λ t. TakesWholeLines old.at held new.at t in subst P (drop-on (n + 1) from held) (subst Q feed.2 is.passes));
+        single = feed.1;
+        closes = completes-end new.at (parsing_of new) (read_line (take n (drop from held))) effect last.parts whole e;
+        counted = at;
+      };
+    }
 
-pub taking-refuses : (old new : Progress) (held : List ℕ) (from n line : ℕ) (refusal : LineRefusal) (last : Progress) → IsTaking old new held from → FeedAt (drop from held) (Some n)
-    → last.at ≡ new.at + 1 → line ≡ new.at
-    → turned (turn.Refuses refusal) last.parts ≡ documents.turn new.at (place_with new.place new.parts) (line_within_limit (take n (drop from held)))
-    → TakesLines old last held (from + (n + 1)) (taken.Refuses line refusal)
-taking-refuses old new held from n line refusal last is feed at here e = record {
-  goes = λ ended. further (position_with old held ended) (position_with new (drop from held) ended) (position_after_take (taken.Refuses line refusal) last (drop (from + (n + 1)) held) ended)
-      (step_results (taken.Refuses line refusal) last.parts) refl (is.goes ended)
-      (subst (λ (k : ℕ). ContinuesParse (position_with new (drop from held) ended) (record { at = last.at; place = documents.Stopped; held = drop (from + (n + 1)) held; ended = ended })
-      (documents.Refused k (line_fault_of refusal) ∷ [])) (sym here)
-      (subst (λ (k : ℕ). ContinuesParse (position_with new (drop from held) ended) (record { at = k; place = documents.Stopped; held = drop (from + (n + 1)) held; ended = ended })
-      (documents.Refused new.at (line_fault_of refusal) ∷ [])) (sym at) (line-taken new held from n (turned (turn.Refuses refusal) last.parts) ended feed e)));
-  all = λ more. absurd cc;
-  within = omega (arith, feed.0, length-drop from held);
-  near = omega (arith, is.near, at);
-  passes = subst (λ (k : ℕ). TakesWholeLines old.at held k (drop (from + (n + 1)) held)) (sym at) (passes-feed old.at new.at held from n is.passes feed);
-  holds = tt;
-  closes = λ gives. absurd cc;
+abbrev state_of : ParserState → LineEffect → ParserState
+state_of other (Continues state) = state
+state_of other Completes = other
+state_of other (Refuses fault) = other
+
+-- no whole line is left
+pub taking-more : (old new : Progress) (held : List ℕ) (from : ℕ) → IsTaking old new held from → has_no_feed (drop from held) ≡ true → TakesLines old new held from (Continues new.state)
+taking-more old new held from is none = record {
+  goes = is.goes;
+  all = λ state same. (same-state new.state state same, none);
+  within = is.within;
+  holds = is.holds;
+  some = is.some;
+  near = is.near;
+  passes = is.passes;
+  closes = λ whole. absurd cc;
 }
+  where
+    same-state : (a b : ParserState) → ◌≡◌ {A = LineEffect} (Continues a) (Continues b) → b ≡ a
+    same-state a b e = ap (λ (x : LineEffect). state_of b x) (sym e)
 
 -- the next line adds to the document, and memory is wanted
 pub wants-at : (old new : Progress) (held : List ℕ) (from n : ℕ) → IsTaking old new held from → FeedAt (drop from held) (Some n)
-    → adds (place_with new.place new.parts) (line_within_limit (take n (drop from held))) ≡ true → WantsAt old held
+    → adds new.state (read_line (take n (drop from held))) ≡ true → WantsAt old held
 wants-at old new held from n is feed more = record {
   progress = new;
-  place = from;
+  offset = from;
   taking = is;
   line = take n (drop from held);
   rest = drop (n + 1) (drop from held);
@@ -516,29 +522,33 @@ wants-at old new held from n is feed more = record {
 
 -- ---- What the steps of a reader of dump texts do.
 
--- where a reader is that goes on
-pub place-sound : (f : Option ReadFault) (progress : Progress) → f ≡ None → place_now f progress ≡ place_with progress.place progress.parts
-place-sound None progress e = refl
-place-sound (Some f) progress e = absurd cc
-
--- a reader that stops
-abbrev pub state : (at : ℕ) → documents.ParserState → List ℕ → Bool → Option ReadFault → ℕ → ReaderModel
-state at place held ended fault reads = record { at = at; place = place; held = held; ended = ended; fault = fault; reads = reads }
+abbrev pub reader : (at : ℕ) → Parsing → List ℕ → Bool → Option ReadFault → ℕ → ReaderModel
+reader at place held ended fault reads = record { at = at; place = place; held = held; ended = ended; fault = fault; reads = reads }
 
 -- what lines report that were taken
-pub takes-reports : (old new : Progress) (f f' : Option ReadFault) (held : List ℕ) (len : ℕ) (ended : Bool) (reads : ℕ) (step : TakeResult) (p : documents.ParserState)
-    → TakesLines old new held len step → f ≡ None → p ≡ place_following step new
-    → ParsesHeldLines (state old.at (place_now f old) held ended f reads) (state new.at p (drop len held) ended f' reads) (step_results step new.parts)
-takes-reports old new f f' held len ended reads step p h1 h2 h3 = grind (arith, nat_tests, common_steps)
+pub takes-reports : (old new : Progress) (f f' : Option ReadFault) (held : List ℕ) (len : ℕ) (ended : Bool) (reads : ℕ) (effect : LineEffect) (p : Parsing)
+    → TakesLines old new held len effect → p ≡ parsing_after (effect, new.parts)
+    → ParsesHeldLines (reader old.at (parsing_of old) held ended f reads) (reader new.at p (drop len held) ended f' reads) (reported_at (new.at - 1) (effect, new.parts))
+takes-reports old new f f' held len ended reads effect p h1 h2 = grind (arith, nat_tests, common_steps)
+
+-- the input skips them
+pub taken-held : (old new : Progress) (before : ReaderModel) (f f' : Option ReadFault) (input input' : InputModel) (len : ℕ) (effect : LineEffect) (p : Parsing)
+    → reader old.at (parsing_of old) input.held input.ended f input.reads ≡ before → TakesLines old new input.held len effect → p ≡ parsing_after (effect, new.parts)
+    → input' ≡ record input { held = drop len input.held }
+    → ParsesHeldLines before (reader new.at p input'.held input'.ended f' input'.reads) (reported_at (new.at - 1) (effect, new.parts))
+taken-held old new before f f' input input' len effect p is takes after skip =
+    let results = reported_at (new.at - 1) (effect, new.parts) in
+    let B : ReaderModel → Type 0 = λ s. ParsesHeldLines s (reader new.at p (drop len input.held) input.ended f' input.reads) results in
+    let I : InputModel → Type 0 = λ i. ParsesHeldLines before (reader new.at p i.held i.ended f' i.reads) results in
+    subst I (sym skip) (subst B is (takes-reports old new f f' input.held len input.ended input.reads effect p takes after))
 
 -- where memory was wanted
-pub wants-here : (old : Progress) (f : Option ReadFault) (held : List ℕ) (ended : Bool) (reads : ℕ) → WantsAt old held → f ≡ None → WantsHere (state old.at (place_now f old) held ended f reads)
-wants-here old f held ended reads w none =
+pub wants-here : (old : Progress) (f : Option ReadFault) (held : List ℕ) (ended : Bool) (reads : ℕ) → WantsAt old held → WantsHere (reader old.at (parsing_of old) held ended f reads)
+wants-here old f held ended reads w =
     let n = w.progress in
-    let place = place_with n.place n.parts in
     record {
-      mid = state n.at place (drop w.place held) ended None reads;
-      taken = record { goes = rw (place-sound f old none) (w.taking.goes ended); passes = w.taking.passes };
+      mid = reader n.at (parsing_of n) (drop w.offset held) ended None reads;
+      taken = record { goes = w.taking.goes ended; passes = w.taking.passes };
       ended = refl;
       reads = refl;
       next = record { line = w.line; rest = w.rest; held = w.holds; single = w.single; adds_to = w.adds_to };
@@ -550,58 +560,50 @@ pub reader-skips : (f f' : Option ReadFault) (old new : Progress) (input : Input
 reader-skips f f' old new input len progress is = (omega (arith, is.0, length-drop len input.held), is.1, λ ended. ends-drop len input.held (is.2 ended), progress, is.4)
 
 -- the progress of a reader that goes on
-pub progress-more : (old new : Progress) (held : List ℕ) (len reads : ℕ) → TakesLines old new held len taken.More → IsProgress old (length held) reads → IsProgress new (length (drop len held)) reads
-progress-more old new held len reads h1 h2 = grind (arith, nat_tests, common_steps)
+pub progress-more : (old new : Progress) (held : List ℕ) (len reads : ℕ) (state : ParserState) → TakesLines old new held len (Continues state) → IsProgress old (length held) reads
+    → IsProgress new (length (drop len held)) reads
+progress-more old new held len reads state h1 h2 = grind (arith, nat_tests, common_steps)
 
-pub progress-between : (old new d : Progress) (held : List ℕ) (len reads : ℕ) (step : TakeResult) → TakesLines old new held len step → IsProgress old (length held) reads → d.at ≡ new.at
-    → d.place ≡ place.Between → IsProgress d (length (drop len held)) reads
-progress-between old new d held len reads step h1 h2 h3 h4 = grind (arith, nat_tests, common_steps)
+pub progress-between : (old new d : Progress) (held : List ℕ) (len reads : ℕ) (effect : LineEffect) → TakesLines old new held len effect → IsProgress old (length held) reads → d.at ≡ new.at
+    → d.state ≡ Between → d.parts ≡ blank 0 → IsProgress d (length (drop len held)) reads
+progress-between old new d held len reads effect h1 h2 h3 h4 h5 = grind (arith, nat_tests, common_steps)
 
 -- the end
-pub reported-inside : (p : CodeState) (d : documents.Document) (at : ℕ) → (p ≡ place.Between → ⊥) → reported_at_end at (place_with p d) ≡ Refused at NotAllowed ∷ []
-reported-inside place.Between d at not = absurd (not refl)
-reported-inside p d at not = refl
+pub reported-inside : (state : ParserState) (at : ℕ) → Reads state → (state ≡ Between → ⊥) → reported_at_end at state ≡ Refused at NotAllowed ∷ []
+reported-inside Between at reads inside = absurd (inside refl)
+reported-inside Stopped at reads inside = absurd reads
+reported-inside state at reads inside = refl
 
-pub done-between : (s : ReaderModel) → s.place ≡ Between → s.held ≡ [] → parse (position_of s) [] ≡ []
+pub done-between : (s : ReaderModel) → s.place.0 ≡ Between → s.held ≡ [] → parse (position_of s) [] ≡ []
 unfolding parse_lines lines_of
 done-between s place held =
-    ap (λ (z : List ℕ). parse_lines s.at s.place (lines_of (z ++ []))) held ∙ ap (λ (p : documents.ParserState). parse_lines s.at p []) place
+    ap (λ (z : List ℕ). parse_lines s.at s.place (lines_of (z ++ []))) held ∙ ap (λ (p : ParserState). reported_at_end s.at p) place
 
-pub end-reports : (s : ReaderModel) → s.ended ≡ true → s.held ≡ [] → reported_at_end s.at s.place ≡ Refused s.at NotAllowed ∷ []
-    → ParsesHeldLines s (stopped s (fault.Line s.at)) (Refused s.at NotAllowed ∷ [])
+pub end-reports : (s : ReaderModel) → s.ended ≡ true → s.held ≡ [] → reported_at_end s.at s.place.0 ≡ Refused s.at NotAllowed ∷ []
+    → ParsesHeldLines s (stopped s (fault.Line s.at NotAllowed)) (Refused s.at NotAllowed ∷ [])
 end-reports s h1 h2 h3 = grind (arith, nat_tests, common_steps, ends-inside, passes-none)
 
 -- the end inside of a document stops the reading
-pub end-inside : (s s' : ReaderModel) (line : ℕ) (f : ReadFault) → s.ended ≡ true → s.held ≡ [] → reported_at_end s.at s.place ≡ Refused s.at NotAllowed ∷ [] → line ≡ s.at
-    → s' ≡ stopped s (fault.Line line) → f ≡ fault.Line line → HandlesEnd s s' (Err f)
+pub end-inside : (s s' : ReaderModel) (line : ℕ) (f : ReadFault) → s.ended ≡ true → s.held ≡ [] → reported_at_end s.at s.place.0 ≡ Refused s.at NotAllowed ∷ [] → line ≡ s.at
+    → s' ≡ stopped s (fault.Line line NotAllowed) → f ≡ fault.Line line NotAllowed → HandlesEnd s s' (Err f)
 end-inside s s' line f ended held reports at new is =
     let F : ReadFault → Type 0 = λ f. HandlesEnd s s' (Err f) in
-    let N : ReaderModel → Type 0 = λ n. HandlesEnd s n (Err (fault.Line line)) in
-    let K : ℕ → Type 0 = λ k. HandlesEnd s (stopped s (fault.Line k)) (Err (fault.Line k)) in
+    let N : ReaderModel → Type 0 = λ n. HandlesEnd s n (Err (fault.Line line NotAllowed)) in
+    let K : ℕ → Type 0 = λ k. HandlesEnd s (stopped s (fault.Line k NotAllowed)) (Err (fault.Line k NotAllowed)) in
     subst F (sym is) (subst N (sym new) (subst K (sym at) (end-reports s ended held reports, refl, refl, refl)))
 
+-- where lines are taken no fault was met
+pub parsing-reads : (at : ℕ) (place : Parsing) → IsParsing at place → Reads place.0
+parsing-reads at (Between, d) is = tt
+parsing-reads at (Heading, d) is = tt
+parsing-reads at (BeforeSubsets part, d) is = tt
+parsing-reads at (Filling subset, d) is = tt
+parsing-reads at (Stopped, d) is = is
+
 -- a line that is too long
-pub reads-place : (p : CodeState) (d : documents.Document) → Reads (place_with p d)
-reads-place place.Between d = tt
-reads-place p d = tt
-
-pub long-reports : (s : ReaderModel) → Reads s.place → has_no_feed s.held ≡ true → 4096 < length s.held → ParsesHeldLines s (stopped s (fault.Line s.at)) (Refused s.at NotAllowed ∷ [])
+pub long-reports : (s : ReaderModel) → Reads s.place.0 → has_no_feed s.held ≡ true → 4096 < length s.held
+    → ParsesHeldLines s (stopped s (fault.Line s.at NotAllowed)) (Refused s.at NotAllowed ∷ [])
 long-reports s reads clean long = record { goes = refuses-long s.at s.place s.held s.ended reads clean long; passes = passes-none s.at s.held }
-
--- a line that is refused
-by-fault : (now : ReaderModel) (at line : ℕ) (progress : Progress) (held : List ℕ) (ended : Bool) (reads : ℕ) (refusal : LineRefusal)
-    → ((f : Option ReadFault) → ParsesHeldLines now (state at Stopped held ended f reads) (Refused line (line_fault_of refusal) ∷ []))
-    → TakesHeldLines now (state at (place_now (Some (read_fault_at line refusal)) progress) held ended (Some (read_fault_at line refusal)) reads) (Err (read_fault_at line refusal))
-by-fault now at line progress held ended reads refusal.NotAllowed reports = (reports (Some (fault.Line line)), refl)
-by-fault now at line progress held ended reads refusal.SubsetCount reports = (reports (Some (fault.SubsetCount line)), refl)
-by-fault now at line progress held ended reads refusal.HeaderRange reports = (reports (Some (fault.HeaderRange line)), refl)
-
-pub refuses-went : (now : ReaderModel) (at line : ℕ) (progress : Progress) (held : List ℕ) (ended : Bool) (reads : ℕ) (refusal : LineRefusal) (f : ReadFault) → f ≡ read_fault_at line refusal
-    → ((f : Option ReadFault) → ParsesHeldLines now (state at Stopped held ended f reads) (Refused line (line_fault_of refusal) ∷ []))
-    → TakesHeldLines now (state at (place_now (Some f) progress) held ended (Some f) reads) (Err f)
-refuses-went now at line progress held ended reads refusal f is reports =
-    let W : ReadFault → Type 0 = λ f. TakesHeldLines now (state at (place_now (Some f) progress) held ended (Some f) reads) (Err f) in
-    subst W (sym is) (by-fault now at line progress held ended reads refusal reports)
 
 -- a reader that read
 pub progress-read : (d : Progress) (held held' reads : ℕ) → IsProgress d held reads → held' ≤ held + 4096 → IsProgress d held' (reads + 1)
@@ -611,6 +613,26 @@ progress-read d held held' reads is few = record { holds = is.holds; some = is.s
 pub room-made : (reads reads' room room' : ℕ) → (0 < reads → 8192 ≤ room) → room ≤ room' → (reads ≡ 0 → 0 < reads' → 8192 ≤ room') → 0 < reads' → 8192 ≤ room'
 room-made zero reads' room room' made order first some = first refl some
 room-made (suc reads) reads' room room' made order first some = omega (arith, made (omega arith), order)
+
+-- each line reports at most one document or fault, and so does the end
+reported-few : (at : ℕ) (t : Turn) → length (reported_at at t) ≤ 1
+reported-few at (Continues state, d) = omega arith
+reported-few at (Completes, d) = omega arith
+reported-few at (Refuses fault, d) = omega arith
+
+end-few : (at : ℕ) (state : ParserState) → length (reported_at_end at state) ≤ 1
+end-few at Between = omega arith
+end-few at Heading = omega arith
+end-few at (BeforeSubsets part) = omega arith
+end-few at (Filling subset) = omega arith
+end-few at Stopped = omega arith
+
+pub spelled-few : (lines : List (List ℕ)) (at : ℕ) (place : Parsing) → length (parse_lines at place lines) ≤ length lines + 1
+unfolding parse_lines
+spelled-few [] at place = end-few at place.0
+spelled-few (line ∷ more) at place =
+    let here = turn at place (read_line line) in
+    omega (arith, reported-few at here, spelled-few more (at + 1) (parsing_after here), length-append (reported_at at here) (parse_lines (at + 1) (parsing_after here) more))
 
 -- what closes the goals of single functions
 pub ruleset more_steps = (length-append, ends-append, progress-read, room-made)

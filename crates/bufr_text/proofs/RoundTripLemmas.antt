@@ -1,16 +1,16 @@
 -- The document of an accepted message is encoded to a message with the same reading.
-use Rattle.std.proofs.Common.{◌≡◌, ℕ, suc, ◌/◌, ◌<◌, ◌≤◌, ◌^◌, Bool, true, false, List, [], ◌∷◌, map, Option, Some, None, refl, subst, arith, zero, ◌*◌, ◌&&◌, Result, Ok, Err, ◌+◌, ◌-◌, length, take, drop, sym, ◌∙◌, ap, ◌%◌, ◌++◌, codes, append_assoc, length-append, ◌≢◌, ◌==◌, nat_lt, if◌then◌else◌, unwrap_or, is_some, ◌||◌, IfOk, IfErr, Vec}
+use Rattle.std.proofs.Common.{inl, inr, ◌≡◌, ℕ, ◌/◌, ◌<◌, ◌≤◌, ◌^◌, Bool, true, false, List, [], ◌∷◌, map, Option, Some, None, refl, subst, arith, ◌*◌, ◌&&◌, Result, Ok, Err, ◌+◌, ◌-◌, length, take, drop, sym, ◌∙◌, ap, ◌%◌, ◌++◌, codes, append_assoc, length-append, ◌≢◌, ◌==◌, nat_lt, if◌then◌else◌, unwrap_or, is_some, ◌||◌, IfOk, IfErr, Vec}
 use Rattle.std.specs.List.{AllByRecursion}
 use Rattle.std.proofs.lemmas.Bool.Decides.{nat_tests}
 use Rattle.bufr_tables.specs.Prelude.{Row, IsLegal, tree_of, tables_of, Tree, Sequence, places}
 use Rattle.bufr_walk.proofs.NextField.{AreRead}
-use Rattle.bufr_walk.specs.Prelude.{FieldSpec, Content, shown, Course, next_item, content_at, data_of, Item, ReadsSubsets, IsPackedReading, IsReading, Values, apart, together, View}
-use Rattle.bufr_text.specs.Prelude.{IsDescriptorWord, items_shown, IsOctet, bit, dump_value_of, item_entries, subset_entries, document_of, dump_text_of, lines_before, IsAccepted, dump_items, extra_octets, SaySame, HasSameReading, IsEncodedAgain, Document, head_from_values, compressed_in, ◌>>=◌, report_of_template, report_of_items, data_bits, octets_of_bits, message_of, encoding_in, encoding_of, RefusedAt, compressed_as, parts_as, AreOctetsOf, IsData, IsDocumentRefusal, Form, WritesForm, by_template, refused_at, reported_refusal, DocumentFault}
+use Rattle.bufr_walk.specs.Prelude.{FieldSpec, Content, shown, Course, next_item, data_of, Item, ReadsSubsets, IsPackedReading, IsReading, Values, apart, together, View, subsets_from}
+use Rattle.bufr_text.specs.Prelude.{IsDescriptorWord, items_shown, IsOctet, bit, dump_value_of, item_entries, subset_entries, document_of, dump_text_of, lines_before, IsAccepted, dump_items, extra_octets, SaySame, HasSameReading, IsEncodedAgain, Document, head_from_values, compressed_in, ◌>>=◌, report_of_template, report_of_items, data_bits, octets_of_bits, message_of, encoding_in, encoding_of, compressed_as, parts_as, AreOctetsOf, IsData, IsDocumentRefusal, Form, WritesForm, DocumentFault}
 use Rattle.std.proofs.lemmas.List.{take_at, drop_at, length-replicate}
 use Rattle.bufr_bits.specs.Prelude.{bits_of, padding}
 use Rattle.bufr_frame.specs.Prelude.{three_octets, octets_of_words, u24_at, Sections, sections_of, edition_of, section3_begins, section4_begins, IsFitting, MessageParts, even_size, with_even_length, message_octets, message_size, max_octets, section0_octets, section1_octets, section2_octets, section3_octets, section4_octets, data_flags, head_octets, max_extra_octets, parts_in, parts_of, sections_from, first_least, FrameAt, has_word_at, stated_length, classify, stream_event, candidate_len, scan_from}
 use Rattle.bufr_frame.proofs.AgainLemmas.{sections-ended, edition-cases, head-small, least-when-even, no-longer, not-too-long, fitting-writable}
-use Rattle.bufr_fill.specs.Prelude.{IsDumped, AreDrafts, AreDumped, AreDumpedFrom, Draft, draft, DraftEntry, Ends, Subset, subset, prepend_to_subset, subsets_of, subsets_from, items_of_subset}
+use Rattle.bufr_fill.specs.Prelude.{IsDumped, AreDrafts, AreDumped, Draft, draft, DraftEntry, Ends, Subset, subset, prepend_to_subset, subsets_of}
 use Rattle.bufr_fill.proofs.FieldLemmas.{octet_bits_again, octets_in-are, length-octets_in}
 use Rattle.bufr_frame.specs.declared.section1.Head.{Head}
 use Rattle.bufr_frame.proofs.LayoutLemmas.{three-number, length-evened, length-octets_of_words, read-back, evened-bits, size-least}
@@ -190,11 +190,6 @@ apart_drafted : (table : List Row) (at : ℕ) (items : List (reading.Item Conten
 apart_drafted table at [] = tt
 apart_drafted table at (i ∷ items) = ((refl, same_form i.spec i.content), apart_drafted table (at + 1) items)
 
-together_drafted : (table : List Row) (at j : ℕ) (items : List (reading.Item (List Content)))
-    → AreDrafts IsDumped (items_of_subset j items) (drafts_from at (items_shown table (items_of_subset j items)))
-together_drafted table at j [] = tt
-together_drafted table at j (i ∷ items) = ((refl, same_form i.spec (content_at j i.content)), together_drafted table (at + 1) j items)
-
 pub all_apart : (table : List Row) (at : ℕ) (subsets : List (List (reading.Item Content))) → AreDumped subsets (subsets_of (subset_entries at (map (items_shown table) subsets)))
 unfolding subset_entries
 all_apart table at [] = tt
@@ -203,20 +198,6 @@ all_apart table at (items ∷ subsets) =
     let line = at + 1 + length here in
     subst (AreDumped (items ∷ subsets)) (sym (items_drafted (at + 1) line here (subset_entries line (map (items_shown table) subsets))))
     (apart_drafted table (at + 1) items, all_apart table line subsets)
-
-pub all_together : (table : List Row) (at n j : ℕ) (items : List (reading.Item (List Content)))
-    → AreDumpedFrom j items (subsets_of (subset_entries at (map (items_shown table) (subsets_from n j items))))
-    × (length (subsets_of (subset_entries at (map (items_shown table) (subsets_from n j items)))) ≡ n)
-unfolding subset_entries
-all_together table at zero j items = (tt, refl)
-all_together table at (suc n) j items =
-    let here = items_shown table (items_of_subset j items) in
-    let line = at + 1 + length here in
-    let rest = all_together table line n (suc j) items in
-    let is = sym (items_drafted (at + 1) line here (subset_entries line (map (items_shown table) (subsets_from n (suc j) items)))) in (
-      subst (AreDumpedFrom j items) is (together_drafted table (at + 1) j items, rest.0),
-      subst (λ (ds : List Subset). length ds ≡ suc n) is (ap suc rest.1),
-    )
 
 -- ---- the octets of the data
 
@@ -301,8 +282,8 @@ filled table template s (apart subsets) used at rows legal read =
 filled table template s (together items) used at rows legal read =
     let course = next_item table template in
     let entries = subset_entries at (map (items_shown table) (subsets_from s.subsets 0 items)) in
-    let dumped = all_together table at s.subsets 0 items in
-    let w = packed_template_again s.subsets table template items (subsets_of entries) (bits_of s.payload) (drop used (bits_of s.payload)) rows legal dumped.1 dumped.0 read.2 in
+    let dumped = all_apart table at (subsets_from s.subsets 0 items) in
+    let w = packed_template_again s.subsets table template items (subsets_of entries) (bits_of s.payload) (drop used (bits_of s.payload)) rows legal dumped read.2 in
     record {
       out = w.out;
       fills = fills_as s.compressed true course (subsets_of entries) w.out read.0 w.is;
@@ -414,34 +395,38 @@ module _ (form : Form) (table : List Row) (sequences : List Sequence) (d : Docum
       → message_of d.line (head_from_values d) (parts_as (compressed_as form d) d payload) ≡ Ok octets → encoding_in form table sequences d ≡ Ok octets
   whole n template payload octets steps e h p m = as_written template h.out payload e h.is (p h.out h.octets_are) ∙ m
 
-  pub not_whole : (n : ℕ) (template : Tree) (payload : List ℕ) (steps : ℕ) (o : Option RefusedAt) → tree_of (tables_of table sequences) d.descriptors ≡ Ok template
+  pub not_whole : (n : ℕ) (template : Tree) (payload : List ℕ) (steps : ℕ) (o : DocumentFault) → tree_of (tables_of table sequences) d.descriptors ≡ Ok template
       → (h : IsData n (compressed_as form d) (next_item table template) (subsets_of d.entries) payload steps) → ((bits : List Bool) → AreOctetsOf payload bits → payload ≡ octets_of_bits bits)
       → IsDocumentRefusal o (message_of d.line (head_from_values d) (parts_as (compressed_as form d) d payload)) → IsDocumentRefusal o (encoding_in form table sequences d)
   not_whole n template payload steps o e h p m = subst (λ r. IsDocumentRefusal o r) (sym (as_written template h.out payload e h.is (p h.out h.octets_are))) m
 
-  pub no_data : (template : Tree) (o : Option RefusedAt) → tree_of (tables_of table sequences) d.descriptors ≡ Ok template
-      → IsDocumentRefusal o (report_of_items (data_bits (compressed_as form d) (next_item table template) (subsets_of d.entries))) → IsDocumentRefusal o (encoding_in form table sequences d)
+  pub data_refused : (template : Tree) (why : DocumentFault) → tree_of (tables_of table sequences) d.descriptors ≡ Ok template
+      → report_of_items (data_bits (compressed_as form d) (next_item table template) (subsets_of d.entries)) ≡ Err why → encoding_in form table sequences d ≡ Err why
   unfolding encoding_in
-  no_data template None e h = tt
-  no_data template (Some f) e h =
+  data_refused template why e h =
       ap (λ r. report_of_template d.line r >>= λ t. report_of_items (data_bits (compressed_as form d) (next_item table t) (subsets_of d.entries)) >>= λ b. message_of d.line (head_from_values d)
       (parts_as (compressed_as form d) d (octets_of_bits b))) e
       ∙ ap (λ r. r >>= λ b. message_of d.line (head_from_values d) (parts_as (compressed_as form d) d (octets_of_bits b))) h
 
-  pub no_template : (o : Option RefusedAt) → IsDocumentRefusal o (report_of_template d.line (tree_of (tables_of table sequences) d.descriptors))
+  pub no_data : (template : Tree) (o : DocumentFault) → tree_of (tables_of table sequences) d.descriptors ≡ Ok template
+      → IsDocumentRefusal o (report_of_items (data_bits (compressed_as form d) (next_item table template) (subsets_of d.entries))) → IsDocumentRefusal o (encoding_in form table sequences d)
+  no_data template o e (inl out) = inl out
+  no_data template o e (inr h) = inr (data_refused template o e h)
+
+  pub no_template : (o : DocumentFault) → IsDocumentRefusal o (report_of_template d.line (tree_of (tables_of table sequences) d.descriptors))
       → IsDocumentRefusal o (encoding_in form table sequences d)
   unfolding encoding_in
-  no_template None h = tt
-  no_template (Some f) h = ap (λ r. r >>= λ t. report_of_items (data_bits (compressed_as form d) (next_item table t) (subsets_of d.entries)) >>= λ b. message_of d.line (head_from_values d)
-      (parts_as (compressed_as form d) d (octets_of_bits b))) h
+  no_template o (inl out) = inl out
+  no_template o (inr h) = inr (ap (λ r. r >>= λ t. report_of_items (data_bits (compressed_as form d) (next_item table t) (subsets_of d.entries)) >>= λ b. message_of d.line (head_from_values d)
+      (parts_as (compressed_as form d) d (octets_of_bits b))) h)
 
   -- a document whose data are not written is refused
   pub refused_form : (made : Result Tree TemplateFault) (why : DocumentFault) (steps : ℕ) → tree_of (tables_of table sequences) d.descriptors ≡ made → WritesForm form table d made (Err why) steps
-      → IsDocumentRefusal (reported_refusal why) (encoding_in form table sequences d)
-  refused_form (Ok template) why steps e h = no_data template (reported_refusal why) e h.refuses
+      → IsDocumentRefusal why (encoding_in form table sequences d)
+  refused_form (Ok template) why steps e h = no_data template why e h.refuses
   refused_form (Err why) w steps e h =
-      let R : DocumentFault → Type 0 = λ w. IsDocumentRefusal (reported_refusal w) (encoding_in form table sequences d) in
-      subst R (sym (same_fault w (fault.Template d.line why) h.0)) (no_template (Some (refused_at d.line (by_template why))) (ap (report_of_template d.line) e))
+      let R : DocumentFault → Type 0 = λ w. IsDocumentRefusal w (encoding_in form table sequences d) in
+      subst R (sym (same_fault w (fault.Template d.line why) h.0)) (no_template (fault.Template d.line why) (inr (ap (report_of_template d.line) e)))
     where
       same_fault : (a b : DocumentFault) → ◌≡◌ {A = Result (Vec ℕ Global) DocumentFault} (Err a) (Err b) → a ≡ b
       same_fault a b e = cc

@@ -5,6 +5,14 @@ use Rattle.std.specs.Prelude.{ℕ, List, [], slice_index, ◌+◌, ◌==◌, nat
 use Rattle.bufr_fill.specs.Prelude.{DraftEntry, draft, Holds, Ends}
 use Rattle.bufr_text.specs.Line.{Line, Passed, Opens, Header, Local1, Section2, Descriptors, Begins, Item, Closes, Wrong, leasts, mosts, line_of}
 use Rattle.bufr_frame.specs.declared.section1.Head.{Head}
+use Rattle.bufr_text.specs.declared.fault.TextLineFault.{TextLineFault}
+use Rattle.bufr_text.specs.declared.fault.TextLineFault.TheVariants.{NotAllowed, SubsetCount, HeaderRange}
+use Rattle.bufr_text.specs.declared.document.ParserState.{ParserState}
+use Rattle.bufr_text.specs.declared.document.ParserState.TheVariants.{Between, Heading, BeforeSubsets, Filling, Stopped}
+use Rattle.bufr_text.specs.declared.document.LineEffect.{LineEffect}
+use Rattle.bufr_text.specs.declared.document.LineEffect.TheVariants.{Continues, Completes, Refuses}
+use Rattle.bufr_text.specs.declared.document.LineGroup.{LineGroup}
+use Rattle.bufr_text.specs.declared.document.LineGroup.TheVariants as group
 
 -- ---- A message as its text gives it; no value is looked at yet. (a choice of this project)
 
@@ -36,26 +44,17 @@ optional_in d = slice_index d.header 18
 abbrev pub subsets_in : Document → ℕ
 subsets_in d = slice_index d.header 19
 
--- why a line is refused: not allowed there (50), the number of subsets (57), a header value (61)
-pub data TextLineFault : Type 0 where
-  NotAllowed : TextLineFault
-  SubsetCount : TextLineFault
-  HeaderRange : TextLineFault
+-- where the reading is, and the document as far as it was read
+abbrev pub Parsing : Type 0
+Parsing = ParserState × Document
 
--- where the reading is: between documents, in the header, in a subset of this number, or after a
--- fault; or in the parts before the subsets (0 local use, 1 section 2, 2 descriptors)
-pub data ParserState : Type 0 where
-  Between : ParserState
-  Heading : Document → ParserState
-  BeforeSubsets : (part : ℕ) → Document → ParserState
-  Filling : (subset : ℕ) → Document → ParserState
-  Stopped : ParserState
+-- between documents
+abbrev pub between : Parsing
+between = (Between, blank 0)
 
--- what a line does: the reading goes on, a document is whole, or the line is refused
-pub data LineEffect : Type 0 where
-  WalkGoes : ParserState → LineEffect
-  Gives : Document → LineEffect
-  Faults : TextLineFault → LineEffect
+-- what a line does, and the document after it
+abbrev pub Turn : Type 0
+Turn = LineEffect × Document
 
 -- a document, or the fault that ends the reading, with its line
 pub data ParseResult : Type 0 where
@@ -73,100 +72,116 @@ in_range edition key value = nat_le (slice_index leasts key) value
 
 -- a header line
 -- rule: reading-header-order, fault-61, fault-order-of-a-line
-abbrev pub heading : Document → Line → LineEffect
-heading d (Header key value) = if not (key == length d.header) then Faults NotAllowed
-    else if not (in_range (edition_in d) key value) then Faults HeaderRange
-    else let next = record d { header = d.header ++ value ∷ [] } in
-    WalkGoes (if key == 19 then BeforeSubsets 0 next else Heading next)
-heading d line = Faults NotAllowed
+abbrev pub heading : Document → Line → Turn
+heading d (Header key value) = if not (key == length d.header) then (Refuses NotAllowed, d)
+    else if not (in_range (edition_in d) key value) then (Refuses HeaderRange, d) else (
+      Continues (if key == 19 then BeforeSubsets group.Local1 else Heading),
+      record d { header = d.header ++ value ∷ [] },
+    )
+heading d line = (Refuses NotAllowed, d)
 
 -- `subset` and its number, where so many subsets were read
 -- rule: reading-subsets, fault-57
 abbrev pub beginning : (read : ℕ) → Document → (subset : ℕ) → LineEffect
-beginning read d subset =
-    if (subset == read + 1) && nat_le subset (subsets_in d) then WalkGoes (Filling subset d)
-    else Faults SubsetCount
+beginning read d subset = if (subset == read + 1) && nat_le subset (subsets_in d)
+    then Continues (Filling subset) else Refuses SubsetCount
 
 -- `end`
 -- rule: reading-subsets, fault-57
 abbrev pub closing : (read : ℕ) → Document → LineEffect
-closing read d = if read == subsets_in d then Gives d else Faults SubsetCount
+closing read d = if read == subsets_in d then Completes else Refuses SubsetCount
+
+-- octets of local use come first, then those of section 2, where there is one
+-- rule: reading-section2
+abbrev pub may_be_local1 : LineGroup → Bool
+may_be_local1 group.Local1 = true
+may_be_local1 group.Section2 = false
+may_be_local1 group.Descriptors = false
+
+abbrev pub may_be_section2 : LineGroup → Document → Bool
+may_be_section2 group.Local1 d = optional_in d == 1
+may_be_section2 group.Section2 d = optional_in d == 1
+may_be_section2 group.Descriptors d = false
 
 -- a line after the header and before the first subset
--- rule: reading-section2
-abbrev pub before_subsets : (part : ℕ) → Document → Line → LineEffect
-before_subsets part d (Local1 octets) =
-    if part == 0 then WalkGoes (BeforeSubsets 0 (record d { local1 = d.local1 ++ octets }))
-    else Faults NotAllowed
-before_subsets part d (Section2 octets) = if nat_le part 1 && (optional_in d == 1)
-    then WalkGoes (BeforeSubsets 1 (record d { section2 = d.section2 ++ octets }))
-    else Faults NotAllowed
-before_subsets part d (Descriptors words) =
-    WalkGoes (BeforeSubsets 2 (record d { descriptors = d.descriptors ++ words }))
-before_subsets part d (Begins subset) = beginning 0 d subset
-before_subsets part d Closes = closing 0 d
-before_subsets part d line = Faults NotAllowed
+abbrev pub before_subsets : LineGroup → Document → Line → Turn
+before_subsets part d (Local1 octets) = if may_be_local1 part then (
+  Continues (BeforeSubsets group.Local1),
+  record d { local1 = d.local1 ++ octets },
+) else (Refuses NotAllowed, d)
+before_subsets part d (Section2 octets) = if may_be_section2 part d then (
+  Continues (BeforeSubsets group.Section2),
+  record d { section2 = d.section2 ++ octets },
+) else (Refuses NotAllowed, d)
+before_subsets part d (Descriptors words) = (
+  Continues (BeforeSubsets group.Descriptors),
+  record d { descriptors = d.descriptors ++ words },
+)
+before_subsets part d (Begins subset) = (beginning 0 d subset, d)
+before_subsets part d Closes = (closing 0 d, d)
+before_subsets part d line = (Refuses NotAllowed, d)
 
 -- a line in a subset
 -- rule: reading-subset-end
-abbrev pub filling : (at subset : ℕ) → Document → Line → LineEffect
+abbrev pub filling : (at subset : ℕ) → Document → Line → Turn
 filling at subset d (Item fxy form) =
-    WalkGoes (Filling subset (with_entry d (Holds (draft at fxy form))))
-filling at subset d (Begins next) = beginning subset (with_entry d (Ends at)) next
-filling at subset d Closes = closing subset (with_entry d (Ends at))
-filling at subset d line = Faults NotAllowed
+    (Continues (Filling subset), with_entry d (Holds (draft at fxy form)))
+filling at subset d (Begins next) = (beginning subset d next, with_entry d (Ends at))
+filling at subset d Closes = (closing subset d, with_entry d (Ends at))
+filling at subset d line = (Refuses NotAllowed, d)
 
--- what a line does at a place; between documents only `message` may be
+-- what a line does; between documents only `message` may be
 -- rule: reading-empty-lines, reading-between-documents, fault-50
-unfoldable pub turn : (at : ℕ) → ParserState → Line → LineEffect
-turn at place Passed = WalkGoes place
-turn at Between Opens = WalkGoes (Heading (blank at))
-turn at Between line = Faults NotAllowed
-turn at (Heading d) line = heading d line
-turn at (BeforeSubsets part d) line = before_subsets part d line
-turn at (Filling subset d) line = filling at subset d line
-turn at Stopped line = WalkGoes Stopped
+unfoldable pub turn : (at : ℕ) → Parsing → Line → Turn
+turn at (state, d) Passed = (Continues state, d)
+turn at (Between, d) Opens = (Continues Heading, blank at)
+turn at (Between, d) line = (Refuses NotAllowed, d)
+turn at (Heading, d) line = heading d line
+turn at (BeforeSubsets part, d) line = before_subsets part d line
+turn at (Filling subset, d) line = filling at subset d line
+turn at (Stopped, d) line = (Continues Stopped, d)
 
 -- whether a line adds to the document that is being read: octets, descriptors, an item, or the end
 -- of a subset
 abbrev pub adds : ParserState → Line → Bool
-adds (BeforeSubsets part d) (Local1 octets) = true
-adds (BeforeSubsets part d) (Section2 octets) = true
-adds (BeforeSubsets part d) (Descriptors words) = true
-adds (Filling subset d) (Item fxy form) = true
-adds (Filling subset d) (Begins next) = true
-adds (Filling subset d) Closes = true
-adds place line = false
+adds (BeforeSubsets part) (Local1 octets) = true
+adds (BeforeSubsets part) (Section2 octets) = true
+adds (BeforeSubsets part) (Descriptors words) = true
+adds (Filling subset) (Item fxy form) = true
+adds (Filling subset) (Begins next) = true
+adds (Filling subset) Closes = true
+adds state line = false
 
--- a line has at most 4,096 octets
+-- what a line says, which has at most 4,096 octets
 -- rule: reading-longest-line
-abbrev pub line_within_limit : List ℕ → Line
-line_within_limit line = if nat_lt 4096 (length line) then Wrong else line_of line
+abbrev pub read_line : List ℕ → Line
+read_line line = if nat_lt 4096 (length line) then Wrong else line_of line
 
-abbrev pub place_after : LineEffect → ParserState
-place_after (WalkGoes place) = place
-place_after (Gives d) = Between
-place_after (Faults fault) = Stopped
+-- where the reading is after a line
+abbrev pub parsing_after : Turn → Parsing
+parsing_after (Continues state, d) = (state, d)
+parsing_after (Completes, d) = between
+parsing_after (Refuses fault, d) = (Stopped, d)
 
-abbrev pub reported_at : (at : ℕ) → LineEffect → List ParseResult
-reported_at at (WalkGoes place) = []
-reported_at at (Gives d) = Complete d ∷ []
-reported_at at (Faults fault) = Refused at fault ∷ []
+abbrev pub reported_at : (at : ℕ) → Turn → List ParseResult
+reported_at at (Continues state, d) = []
+reported_at at (Completes, d) = Complete d ∷ []
+reported_at at (Refuses fault, d) = Refused at fault ∷ []
 
 -- the end of the text: inside a document it is a fault at the next line
 -- rule: fault-50, input-ends-early
 abbrev pub reported_at_end : (at : ℕ) → ParserState → List ParseResult
 reported_at_end at Between = []
 reported_at_end at Stopped = []
-reported_at_end at place = Refused at NotAllowed ∷ []
+reported_at_end at state = Refused at NotAllowed ∷ []
 
--- the documents that lines spell, from a place on
+-- the documents that lines spell, from a line on
 -- rule: reading-line-numbers
-unfoldable pub parse_lines : (at : ℕ) → ParserState → List (List ℕ) → List ParseResult
-parse_lines at place [] = reported_at_end at place
-parse_lines at place (line ∷ more) =
-    let here = turn at place (line_within_limit line) in reported_at at here ++ parse_lines (at + 1)
-    (place_after here) more
+unfoldable pub parse_lines : (at : ℕ) → Parsing → List (List ℕ) → List ParseResult
+parse_lines at p [] = reported_at_end at p.0
+parse_lines at p (line ∷ more) =
+    let here = turn at p (read_line line) in reported_at at here
+    ++ parse_lines (at + 1) (parsing_after here) more
 
 -- one more octet before the first line
 abbrev pub prepend_to_line : ℕ → List (List ℕ) → List (List ℕ)
@@ -181,16 +196,16 @@ lines_of (c ∷ more) = if c == 10 then [] ∷ lines_of more else prepend_to_lin
 
 -- the documents of a text, up to its end or to the first line that is refused
 abbrev pub documents_of : List ℕ → List ParseResult
-documents_of text = parse_lines 1 Between (lines_of text)
+documents_of text = parse_lines 1 between (lines_of text)
 
 -- the documents that lines spell, where more lines may come
-unfoldable pub parse_open_lines : (at : ℕ) → ParserState → List (List ℕ) → (rest : List ℕ)
+unfoldable pub parse_open_lines : (at : ℕ) → Parsing → List (List ℕ) → (rest : List ℕ)
     → List ParseResult
-parse_open_lines at place [] rest =
-    if nat_lt 4096 (length rest) then reported_at at (turn at place Wrong) else []
-parse_open_lines at place (line ∷ more) rest =
-    let here = turn at place (line_within_limit line) in reported_at at here
-    ++ parse_open_lines (at + 1) (place_after here) more rest
+parse_open_lines at p [] rest =
+    if nat_lt 4096 (length rest) then reported_at at (turn at p Wrong) else []
+parse_open_lines at p (line ∷ more) rest =
+    let here = turn at p (read_line line) in reported_at at here
+    ++ parse_open_lines (at + 1) (parsing_after here) more rest
 
 -- the lines of a text that end by a line feed, and what is after the last of them
 pub record Split : Type 0 where
@@ -210,7 +225,7 @@ split_of (c ∷ more) =
 
 -- the documents of a text whose end is not known
 abbrev pub open_documents_of : List ℕ → List ParseResult
-open_documents_of text = parse_open_lines 1 Between (split_of text).whole (split_of text).rest
+open_documents_of text = parse_open_lines 1 between (split_of text).whole (split_of text).rest
 
 -- ---- What the header of a document says, in the words of a message. (a choice of this project)
 

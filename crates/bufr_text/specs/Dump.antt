@@ -5,10 +5,10 @@ use Rattle.std.specs.Prelude.{ℕ, ◌+◌, Bool, if◌then◌else◌, List, [],
 use Rattle.bufr_bits.specs.Prelude.{decimal_text_of}
 use Rattle.bufr_tables.specs.Prelude.{fxy_text, Row, is_name}
 use Rattle.bufr_frame.specs.Prelude.{Sections, IsFitting, values_of}
-use Rattle.bufr_fill.specs.Prelude.{DraftValue, draft, number_token, text_form, missing_form, reference_token, DraftEntry, Holds, Ends, subsets_from}
+use Rattle.bufr_fill.specs.Prelude.{DraftValue, draft, number_token, text_form, missing_form, reference_token, DraftEntry, Holds, Ends}
 use Rattle.bufr_text.specs.Documents.{Document}
 use Rattle.bufr_text.specs.Line.{key_at, runs_of, hex_text, descriptors_text, quoted}
-use Rattle.bufr_walk.specs.Prelude.{View, view_of, Content, Item, ShownValue, shown_number, shown_text, shown_missing, shown_reference, Values, apart, together}
+use Rattle.bufr_walk.specs.Prelude.{View, view_of, Content, Item, ShownValue, shown_number, shown_text, shown_missing, shown_reference, Values, each_subset}
 use Rattle.std.specs.List.{AllByRecursion}
 use Rattle.bufr_frame.specs.declared.section1.Head.{Head}
 
@@ -143,11 +143,6 @@ document_of at s subsets = record {
 -- the items of a subset, each as it is shown
 abbrev pub items_shown : List Row → List (Item Content) → List View
 items_shown table items = map (λ i. view_of table i.spec i.content) items
-
--- the items of each subset, whatever the form in which they were read
-abbrev pub each_subset : (subsets : ℕ) → Values → List (List (Item Content))
-each_subset n (apart subsets) = subsets
-each_subset n (together items) = subsets_from n 0 items
 
 -- the items of each of so many subsets, as the dump text of a message gives them
 abbrev pub dump_items : List Row → (subsets : ℕ) → Values → List (List View)

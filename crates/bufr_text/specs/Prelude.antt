@@ -1,21 +1,27 @@
 -- Passes on the names that proofs and other crates cite. Declares nothing.
 pub use Rattle.bufr_text.specs.Line.{runs_of, escaped, hex_pair, is_unescaped, without_space, is_number_octet, is_passed_after, onto_read, either_value, pair_value, QuotedToken, Closed, Octet, Nothing, upper_value, says_pair, escape_of, quoting_of, octet_onto, quoted_on, number_read, hex_digit, Line, Passed, Opens, Header, Local1, Section2, Descriptors, Begins, Item, Closes, lead_of, key_at, Wrong, Describes, Unhexes, Unquotes, number_value, made, with_one_to, item_line, is_no_space, item_if_comment, valued, is_named}
 unfoldable pub use Rattle.bufr_text.specs.Line.{runs_after, descriptors_text, hex_text, quoted, prefix_while, suffix_while, without_prefix, hex_read, fxy_read, descriptors_read, quoted_read, is_hashed, keys, place_from, value_read, worded, line_of}
-pub use Rattle.bufr_text.specs.Dump.{joined, flag, zero_padded, counts_texts, ls_line, source_texts, time_texts, local1_line, section2_line, descriptors_line, subset_line, item_text, dump_value_of, IsOctet, IsDescriptorWord, IsItem, header_of, bit, head_lines, dump_lines, dump_text_of, document_of, lines_before, IsDumpable, items_shown, each_subset, text_of_lines, dump_items, IsValue, IsComment, comment_text, form_text}
+pub use Rattle.bufr_text.specs.Dump.{joined, flag, zero_padded, counts_texts, ls_line, source_texts, time_texts, local1_line, section2_line, descriptors_line, subset_line, item_text, dump_value_of, IsOctet, IsDescriptorWord, IsItem, header_of, bit, head_lines, dump_lines, dump_text_of, document_of, lines_before, IsDumpable, items_shown, text_of_lines, dump_items, IsValue, IsComment, comment_text, form_text}
 unfoldable pub use Rattle.bufr_text.specs.Dump.{header_lines, subset_lines, item_entries, subset_entries}
-pub use Rattle.bufr_text.specs.Reader.{NeedsLine, GivesHeldDocument, has_no_feed, ReaderPosition, ContinuesParse, TakesWholeLines, TakesEndLine, ReaderModel, position_of, position_after, IsMissingFeed, ReadsLines, EndsAtEndLine, parse, parse_open, new_reader, HasNoMoreLines, KeepsUnread, ReadsOnlyIfNoLine, ReturnsNextDocument, HasNoWholeLine, unfed, parse_results, ReadsDocument, LeavesReader, failures_by, number_of_read_fault}
+pub use Rattle.bufr_text.specs.Reader.{NeedsLine, GivesHeldDocument, has_no_feed, ReaderPosition, ContinuesParse, TakesWholeLines, TakesEndLine, ReaderModel, position_of, position_after, IsMissingFeed, ReadsLines, EndsAtEndLine, parse, parse_open, new_reader, HasNoMoreLines, KeepsUnread, ReadsOnlyIfNoLine, ReturnsNextDocument, HasNoWholeLine, unfed, parse_results, ReadsDocument, LeavesReader, failures_by, line_report, number_of_read_fault}
 pub use Rattle.bufr_text.specs.Writing.{MovesPrefix, Writes, GrowsByPrefix, CountsWrites, LineModel, Moves, MovesOn, StaysFailed, PushesFrom, Pushes, Puts, Stays, Fails, CountsFaults, MakesSteps, StepsWithin, WritesPrefix, call_line, PushesCall}
 unfoldable pub use Rattle.bufr_text.specs.Line.{leasts, mosts}
-pub use Rattle.bufr_text.specs.Documents.{most_entries, Document, edition_in, optional_in, subsets_in, ParserState, Between, Heading, BeforeSubsets, Filling, Stopped, LineEffect, WalkGoes, Gives, Faults, NotAllowed, SubsetCount, HeaderRange, in_range, heading, beginning, closing, with_entry, line_within_limit, place_after, reported_at, reported_at_end, documents_of, blank, Complete, compressed_in, ParseResult, Refused, open_documents_of, head_from_values, IsHeaded, key_value, section2_in, prepend_to_line, Split, onto_split, before_subsets, filling, are_in_range, TextLineFault, adds}
+pub use Rattle.bufr_text.specs.Documents.{most_entries, Document, edition_in, optional_in, subsets_in, Parsing, between, Turn, may_be_local1, may_be_section2, in_range, heading, beginning, closing, with_entry, read_line, parsing_after, reported_at, reported_at_end, documents_of, blank, Complete, compressed_in, ParseResult, Refused, open_documents_of, head_from_values, IsHeaded, key_value, section2_in, prepend_to_line, Split, onto_split, before_subsets, filling, are_in_range, adds}
 unfoldable pub use Rattle.bufr_text.specs.Documents.{turn, parse_lines, lines_of, parse_open_lines, split_of}
 pub use Rattle.bufr_text.specs.Spelling.{NumberedLine, numbered_line, onto_heard, header_says, Element, SubsetHeard, subsets_heard, first_at, entries_heard, IsDocument, AreReported, IsProperlyReported, AreProper, IsProper, AreEnded, header_as, normal_head, normal_line, draft_answer, line_and, normal_items, normal_subsets, normal, IsWhole}
 unfoldable pub use Rattle.bufr_text.specs.Spelling.{numbered_lines}
-pub use Rattle.bufr_text.specs.Taking.{IsBare, IsParserState, ParsesHeldLines, ReadsMoreText, TakesHeldLines, FillsBuffer, text_input, stopped, place_with, line_fault_of, turned, step_results, position_with, position_after_take, TakesLines, IsTaking, place_following, WantsAt, ends_by_feed, place_now, IsProgress, IsReader, WantsHere, read_fault_at, HasLineGroups, EntryHasOctets, HasSubsets, meaning, part_number}
+pub use Rattle.bufr_text.specs.Taking.{IsBare, IsParsing, IsTurn, parsing_of, ParsesHeldLines, ReadsMoreText, TakesHeldLines, FillsBuffer, text_input, stopped, position_with, TakesLines, IsTaking, WantsAt, ends_by_feed, IsProgress, IsReader, WantsHere, HasLineGroups, EntryHasOctets, HasSubsets, meaning}
 pub use Rattle.bufr_bits.specs.Prelude.{◌>>=◌}
-pub use Rattle.bufr_text.specs.Encoding.{bits_by, places_by, WritesData, data_bits, octets_of_bits, encoding_of, by_item, too_long, RefusedAt, refused_at, report_of_items, parts_as, compressed_as, message_of, IsDocumentRefusal, WritesForm, reported_refusal, compressed_by, form_of_flag, by_template, turns_by, report_of_template, AreOctetsOf, IsData, report_of_draft, reported_stop, count_filled, turns_filled, CountsSteps, IsNoData, count_plain, turns_plain, count_after, count_packed, turns_packed, DocumentRefusal, number_of_walk_refusal, walk_report, number_of_document_fault}
+pub use Rattle.bufr_text.specs.Encoding.{bits_by, places_by, WritesData, data_bits, octets_of_bits, encoding_of, report_of_items, parts_as, compressed_as, message_of, IsDocumentRefusal, WritesForm, document_fault, document_report, line_of_fault, compressed_by, form_of_flag, turns_by, report_of_template, AreOctetsOf, IsData, stop_fault, CountsSteps, IsNoData, writing_in}
 unfoldable pub use Rattle.bufr_text.specs.Encoding.{encoding_in}
-pub use Rattle.bufr_text.specs.RoundTrip.{IsCanonical, IsAccepted, HaveNoMinusZero, ArePacked, AreWritten, IsEncodedAgain, HasReadingIn, IsForForm, IsFormed, IsFaultIn, EncodesForm, extra_octets, SaySame, HasSameReading, AreValuesOf, IsReadAs}
+pub use Rattle.bufr_text.specs.RoundTrip.{IsCanonical, IsAccepted, HaveNoMinusZero, ArePacked, AreWritten, IsEncodedAgain, EncodesAgain, HasReadingIn, IsForForm, IsFormed, IsFaultIn, EncodesForm, extra_octets, SaySame, HasSameReading, AreValuesOf, IsReadAs}
 pub use Rattle.bufr_text.specs.declared.encode.Form.{Form}
 pub use Rattle.bufr_text.specs.declared.encode.Form.TheVariants.{AsWritten}
 pub use Rattle.bufr_text.specs.declared.fault.DocumentFault.{DocumentFault}
 pub use Rattle.bufr_text.specs.declared.fault.ReadFault.{ReadFault}
+pub use Rattle.bufr_text.specs.declared.fault.TextLineFault.{TextLineFault}
+pub use Rattle.bufr_text.specs.declared.fault.TextLineFault.TheVariants.{NotAllowed, SubsetCount, HeaderRange}
+pub use Rattle.bufr_text.specs.declared.document.ParserState.{ParserState}
+pub use Rattle.bufr_text.specs.declared.document.ParserState.TheVariants.{Between, Heading, BeforeSubsets, Filling, Stopped}
+pub use Rattle.bufr_text.specs.declared.document.LineEffect.{LineEffect}
+pub use Rattle.bufr_text.specs.declared.document.LineEffect.TheVariants.{Continues, Completes, Refuses}

@@ -1,23 +1,29 @@
 -- What a reader of dump texts does, call by call, and its faults.
 -- (A choice of this project)
 -- Cited by public contracts.
-use Rattle.std.specs.Prelude.{ℕ, ◌≡◌, ◌+◌, ◌==◌, Bool, true, false, not, List, [], ◌∷◌, ◌++◌, length, ◌⊎◌, ◌-◌, ◌*◌, ◌<◌, ◌≤◌, if◌then◌else◌, take, Option, Some, None, Result, Ok, Err}
+use Rattle.std.specs.Prelude.{ℕ, ◌≡◌, ◌+◌, ◌==◌, Bool, true, false, not, List, [], ◌∷◌, ◌++◌, length, ◌⊎◌, ◌-◌, ◌*◌, ◌<◌, ◌≤◌, if◌then◌else◌, take, Option, Some, None, Result, Ok, Err, codes}
 use Rattle.bufr_frame.specs.Prelude.{run_report, max_reads, read_failures_after}
 use Rattle.bufr_text.specs.declared.fault.ReadFault.{ReadFault}
-use Rattle.bufr_text.specs.declared.fault.ReadFault.TheVariants.{Line, SubsetCount, HeaderRange, Run}
+use Rattle.bufr_text.specs.declared.fault.ReadFault.TheVariants.{Line, Run}
 use Rattle.std.specs.List.{list_all, AllByRecursion}
-use Rattle.bufr_text.specs.Documents.{ParserState, ParseResult, line_within_limit, parse_lines, parse_open_lines, lines_of, split_of, Document, Between, Complete, Refused, adds}
+use Rattle.bufr_text.specs.declared.fault.TextLineFault.{TextLineFault}
+use Rattle.bufr_text.specs.declared.fault.TextLineFault.TheVariants.{NotAllowed, SubsetCount, HeaderRange}
+use Rattle.bufr_text.specs.Documents.{Parsing, between, ParseResult, read_line, parse_lines, parse_open_lines, lines_of, split_of, Document, Complete, Refused, adds}
 use Rattle.bufr_text.specs.Dump.{text_of_lines}
 use Rattle.bufr_text.specs.Line.{Closes}
 use Rattle.std.specs.Io.KnownBytes.{Consumes, IsAtEnd}
 use Rattle.bufr_frame.specs.declared.fault.RunFault.TheVariants.{Read, Write, InputTooLong, Memory}
-use Rattle.bufr_text.specs.Documents as documents
 
 -- ---- The faults of a dump text, and their numbers. (a choice of this project)
+
+-- the number of a fault of a line, and its text in parts
+abbrev pub line_report : TextLineFault → ℕ × List (List ℕ)
+line_report NotAllowed = (50, codes "line" ∷ [])
+line_report SubsetCount = (57, codes "subset count" ∷ [])
+line_report HeaderRange = (61, codes "header range" ∷ [])
+
 abbrev pub number_of_read_fault : ReadFault → ℕ
-number_of_read_fault (Line line) = 50
-number_of_read_fault (SubsetCount line) = 57
-number_of_read_fault (HeaderRange line) = 61
+number_of_read_fault (Line line fault) = (line_report fault).0
 number_of_read_fault (Run fault) = (run_report fault).0
 
 -- ---- How a reading of documents goes on, piece by piece. (a choice of this project)
@@ -30,7 +36,7 @@ has_no_feed octets = list_all (λ c. not (c == 10)) octets
 -- holds, whether the end was reached
 pub record ReaderPosition : Type 0 where
   pub at : ℕ
-  pub place : ParserState
+  pub place : Parsing
   pub held : List ℕ
   pub ended : Bool
 
@@ -64,7 +70,7 @@ pub record TakesEndLine (at : ℕ) (held : List ℕ) (at' : ℕ) (rest : List �
   pub last : List ℕ
   pub prefix : TakesWholeLines at held line (last ++ 10 ∷ rest)
   pub single : has_no_feed last ≡ true
-  pub closes : line_within_limit last ≡ Closes
+  pub closes : read_line last ≡ Closes
   pub counted : at' ≡ line + 1
 
 -- what a reader means
@@ -72,7 +78,7 @@ pub record ReaderModel : Type 0 where
   -- the number of the next line
   pub at : ℕ
   -- where the reading is, with the document as far as it was read
-  pub place : ParserState
+  pub place : Parsing
   -- the octets that were read and not yet taken as lines
   pub held : List ℕ
   -- whether the end was reached
@@ -84,7 +90,7 @@ pub record ReaderModel : Type 0 where
 
 -- a reader that has read nothing
 abbrev pub new_reader : ReaderModel
-new_reader = record { at = 1; place = Between; held = []; ended = false; fault = None; reads = 0 }
+new_reader = record { at = 1; place = between; held = []; ended = false; fault = None; reads = 0 }
 
 abbrev pub position_of : ReaderModel → ReaderPosition
 position_of s = record { at = s.at; place = s.place; held = s.held; ended = s.ended }
@@ -96,9 +102,7 @@ position_after s bs = record { at = s.at; place = s.place; held = s.held ++ bs; 
 -- what an answer reports
 abbrev pub parse_results : Result (Option Document) ReadFault → List ParseResult
 parse_results (Ok (Some document)) = Complete document ∷ []
-parse_results (Err (Line line)) = Refused line documents.NotAllowed ∷ []
-parse_results (Err (SubsetCount line)) = Refused line documents.SubsetCount ∷ []
-parse_results (Err (HeaderRange line)) = Refused line documents.HeaderRange ∷ []
+parse_results (Err (Line line fault)) = Refused line fault ∷ []
 parse_results result = []
 
 -- the line feed that the last line may lack, where the end was reached
@@ -175,7 +179,7 @@ LeavesReader new (Err (Run InputTooLong)) =
     (new.fault ≡ Some (Run InputTooLong)) × HasNoWholeLine new × (new.reads ≡ max_reads)
 LeavesReader new (Err (Run Memory)) =
     (new.fault ≡ Some (Run Memory)) × ((has_no_feed new.held ≡ false) ⊎ (new.reads ≡ 0))
-LeavesReader new (Err fault) = new.fault ≡ Some fault
+LeavesReader new (Err (Line line fault)) = new.fault ≡ Some (Line line fault)
 
 -- After what was taken is a whole line that adds to the document.
 pub record AddsNext (s : ReaderModel) : Type 0 where
@@ -183,7 +187,7 @@ pub record AddsNext (s : ReaderModel) : Type 0 where
   pub rest : List ℕ
   pub held : s.held ≡ line ++ 10 ∷ rest
   pub single : has_no_feed line ≡ true
-  pub adds_to : adds s.place (line_within_limit line) ≡ true
+  pub adds_to : adds s.place.0 (read_line line) ≡ true
 
 -- what a call reads and reports; where memory was wanted it reports nothing, and says no more of
 -- what it holds; it is wanted only where a line was held or the end was not reached; after the

@@ -1,18 +1,19 @@
 -- An accepted message and the message that its dump text is encoded to, in either form.
 -- Cited by public contracts.
-use Rattle.std.specs.Prelude.{◌≡◌, ℕ, ◌+◌, ◌%◌, ◌≤◌, ◌==◌, ◌&&◌, ◌||◌, Bool, List, ◌∷◌, ◌++◌, length, if◌then◌else◌, Ok, Vec, Some, Result, Err, [], take, drop, flat_map}
+use Rattle.std.specs.Prelude.{◌≡◌, ℕ, ◌+◌, ◌%◌, ◌≤◌, ◌==◌, ◌&&◌, ◌||◌, Bool, List, ◌∷◌, ◌++◌, length, if◌then◌else◌, Ok, Vec, Result, Err, [], take, drop, flat_map, ◌⊎◌}
 use Rattle.std.specs.List.{AllByRecursion}
 use Rattle.bufr_tables.specs.Prelude.{tree_of, tables_of, Row, Sequence, Tree}
 use Rattle.bufr_frame.specs.Prelude.{max_octets, with_even_length, u24_at, section3_begins, section4_begins, Sections, sections_of, edition_of, IsPlain, FrameAt, scan_from}
-use Rattle.bufr_walk.specs.Prelude.{next_item, data_of, Values, IsReading, Item, apart, together, Content}
+use Rattle.bufr_walk.specs.Prelude.{next_item, data_of, Values, IsReading, Item, apart, together, Content, each_subset}
 use Rattle.bufr_text.specs.declared.encode.Form.{Form}
 use Rattle.bufr_text.specs.declared.encode.Form.TheVariants.{AsWritten}
 use Rattle.bufr_text.specs.Documents.{Document, subsets_in, head_from_values, key_value, section2_in}
-use Rattle.bufr_text.specs.Dump.{dump_items, each_subset, IsOctet}
-use Rattle.bufr_text.specs.Encoding.{compressed_by, encoding_of, DocumentRefusal, by_template, by_item, too_long, RefusedAt, reported_refusal, octets_of_bits, compressed_as}
+use Rattle.bufr_text.specs.Dump.{dump_items, IsOctet}
+use Rattle.bufr_text.specs.Encoding.{compressed_by, encoding_of, octets_of_bits, compressed_as}
 use Rattle.std.specs.Global.{Global}
-use Rattle.bufr_fill.specs.Prelude.{IsUnlike, AreSaid, AreSaidFrom, IsMinusZero, packing, Subset, subsets_of}
+use Rattle.bufr_fill.specs.Prelude.{IsUnlike, AreSaid, IsMinusZero, packing, Subset, subsets_of}
 use Rattle.bufr_text.specs.declared.fault.DocumentFault.{DocumentFault}
+use Rattle.bufr_text.specs.declared.fault.DocumentFault.TheVariants as fault
 use Rattle.bufr_bits.specs.Prelude.{bits_of}
 use Rattle.bufr_text.specs.declared.encode.Form.TheVariants as form
 
@@ -68,6 +69,13 @@ pub record IsEncodedAgain (table : List Row) (sequences : List Sequence) (m : Li
   pub is : encoding_of table sequences d ≡ Ok octets
   pub same : HasSameReading table m s template values octets
 
+-- what is answered for the document of a message, in the form that it says
+abbrev pub EncodesAgain : List Row → List ℕ → Sections → Tree → Values
+    → Result (Vec ℕ Global) DocumentFault → Type 0
+EncodesAgain table m s template values (Ok octets) =
+    HasSameReading table m s template values octets.items
+EncodesAgain table m s template values (Err why) = why ≡ fault.Memory
+
 -- ---- The message that the document of an accepted message is encoded to in a form.
 
 -- octets are a message in a form, with the same reading as the message of sections s but for the
@@ -93,25 +101,23 @@ pub record HasReadingIn (form : Form) (table : List Row) (s : Sections) (templat
 -- what the document of an accepted message may be refused for in a form: in the one that it has,
 -- nothing; else the length, and in compressed data factors that differ and contents that no
 -- increments distinguish
-abbrev pub IsForForm : Form → DocumentRefusal → Type 0
+abbrev pub IsForForm : Form → DocumentFault → Type 0
 IsForForm form.AsWritten why = ⊥
-IsForForm form.Plain too_long = Unit {0}
+IsForForm form.Plain (fault.TooLong line) = Unit {0}
 IsForForm form.Plain why = ⊥
-IsForForm form.Compressed (by_template why) = ⊥
-IsForForm form.Compressed (by_item fault) = IsUnlike fault
-IsForForm form.Compressed too_long = Unit {0}
+IsForForm form.Compressed (fault.Item line why) = IsUnlike why
+IsForForm form.Compressed (fault.TooLong line) = Unit {0}
+IsForForm form.Compressed why = ⊥
 
 -- what the document of a message is encoded to in a form
 abbrev pub IsFormed : Form → List Row → Sections → Tree → Values
-    → Result (List ℕ) RefusedAt → Type 0
+    → Result (List ℕ) DocumentFault → Type 0
 IsFormed form table s template values (Ok octets) = HasReadingIn form table s template values octets
-IsFormed form table s template values (Err refused) = IsForForm form refused.why
+IsFormed form table s template values (Err why) = IsForForm form why
 
--- a fault that is answered is such a refusal; want of memory, which the definition has not, may
--- come in each form
+-- a fault that is answered is such a refusal, or memory ran out
 abbrev pub IsFaultIn : Form → DocumentFault → Type 0
-IsFaultIn form why =
-    (refused : RefusedAt) → reported_refusal why ≡ Some refused → IsForForm form refused.why
+IsFaultIn form why = (why ≡ fault.Memory) ⊎ IsForForm form why
 
 -- what is answered for the document of a message in a form
 abbrev pub EncodesForm : Form → List Row → Sections → Tree → Values
@@ -153,8 +159,7 @@ pub record IsCanonical (m : List ℕ) (s : Sections) (values : Values) (used : �
 
 -- the values are what the drafts say
 abbrev pub AreValuesOf : Values → List Subset → Type 0
-AreValuesOf (apart subsets) drafts = AreSaid subsets drafts
-AreValuesOf (together items) drafts = AreSaidFrom 0 items drafts
+AreValuesOf values drafts = AreSaid (each_subset (length drafts) values) drafts
 
 -- octets are one message, accepted, and it says what the document says, in a form; of the data it
 -- says the items, not how many octets they take

@@ -3,8 +3,9 @@
 -- Cited by public contracts.
 use Rattle.std.specs.Prelude.{◌≡◌, ◌==◌, false, List, [], ◌∷◌, length, ◌≤◌, ◌⊎◌, ℕ, ◌+◌, ◌++◌, map, if◌then◌else◌, take, drop, codes, None, Result, Ok, Err}
 use Rattle.std.specs.List.{AllByRecursion, concat}
-use Rattle.bufr_fill.specs.Prelude.{AllHaveOctets, DraftEntry, Holds, Ends, subsets_of, DraftValue, draft, Draft, Subset, DraftFaultKind, content_of, normal_form}
-use Rattle.bufr_text.specs.Documents.{Document, optional_in, subsets_in, IsHeaded, ParseResult, Complete, Refused, most_entries, line_within_limit}
+use Rattle.bufr_fill.specs.Prelude.{AllHaveOctets, DraftEntry, Holds, Ends, subsets_of, DraftValue, draft, Draft, Subset, content_of, normal_form}
+use Rattle.bufr_fill.specs.declared.fault.ItemFault.{ItemFault}
+use Rattle.bufr_text.specs.Documents.{Document, optional_in, subsets_in, IsHeaded, ParseResult, Complete, Refused, most_entries, read_line}
 use Rattle.bufr_text.specs.Dump.{IsOctet, IsDescriptorWord, header_lines, local1_line, section2_line, descriptors_line, form_text, comment_text, subset_line, text_of_lines}
 use Rattle.bufr_text.specs.Line.{Line, Passed, Opens, Header, Local1, Section2, Descriptors, Begins, Item, Closes, runs_of}
 use Rattle.bufr_tables.specs.Prelude.{Row, entry_of, Tree}
@@ -65,7 +66,7 @@ onto_heard at line more = numbered_line at line ∷ more
 
 unfoldable pub numbered_lines : (at : ℕ) → List (List ℕ) → List NumberedLine
 numbered_lines at [] = []
-numbered_lines at (line ∷ more) = onto_heard at (line_within_limit line)
+numbered_lines at (line ∷ more) = onto_heard at (read_line line)
     (numbered_lines (at + 1) more)
 
 -- the header lines, key by key
@@ -157,7 +158,7 @@ normal_line table spec d =
     ++ comment_text (if spec.listed then entry_of table spec.fxy else None)
 
 -- what an item says to those after it; one that is no content of its field reports nothing
-abbrev pub draft_answer : FieldSpec → Result Content DraftFaultKind → Taken
+abbrev pub draft_answer : FieldSpec → Result Content ItemFault → Taken
 draft_answer spec (Ok c) = answer_of spec c
 draft_answer spec (Err why) = taken.Plain
 

@@ -1,35 +1,28 @@
 -- Private: how a document is kept while it is read, and what taking held lines comes to.
 -- Cited by private steps only.
-use Rattle.std.specs.Prelude.{◌≡◌, ◌≤◌, length, take, ◌<◌, ◌+◌, ◌==◌, ℕ, true, false, [], List, ◌∷◌, ◌++◌, drop, Bool, Option, None, Some, ◌⊎◌, ◌*◌, Result, Ok, Err}
+use Rattle.std.specs.Prelude.{◌≡◌, ◌≤◌, length, take, ◌<◌, ◌+◌, ◌==◌, ℕ, true, false, [], List, ◌∷◌, ◌++◌, drop, Bool, Option, None, Some, ◌⊎◌, ◌*◌, ◌-◌, Result, Ok, Err}
 use Rattle.bufr_text.specs.declared.document.DocumentParts.TheInside.{Inside}
 use Rattle.std.specs.List.{AllByRecursion}
 use Rattle.bufr_fill.specs.Prelude.{HasOctets, DraftEntry, Holds, Ends, subsets_of, form_in}
-use Rattle.bufr_text.specs.Documents.{are_in_range, IsHeaded, adds, line_within_limit, Document, Between, Stopped, ParseResult, Complete, Refused}
+use Rattle.bufr_text.specs.declared.document.ParserState.{ParserState}
+use Rattle.bufr_text.specs.declared.document.ParserState.TheVariants.{Between, Heading, BeforeSubsets, Filling, Stopped}
+use Rattle.bufr_text.specs.declared.document.LineEffect.{LineEffect}
+use Rattle.bufr_text.specs.declared.document.LineEffect.TheVariants.{Continues, Completes, Refuses}
+use Rattle.bufr_text.specs.Documents.{are_in_range, IsHeaded, adds, read_line, Document, Parsing, Turn, parsing_after, reported_at, blank, ParseResult, Complete, Refused, edition_in, optional_in}
 use Rattle.bufr_text.specs.Dump.{IsOctet, IsDescriptorWord}
 use Rattle.bufr_text.specs.Spelling.{IsProper}
 use Rattle.bufr_text.specs.declared.document.ParsedLine.{ParsedLine}
-use Rattle.bufr_text.specs.declared.document.LineGroup.{LineGroup}
-use Rattle.bufr_text.specs.declared.document.ParserState.{ParserState}
-use Rattle.bufr_text.specs.declared.document.LineRefusal.{LineRefusal}
-use Rattle.bufr_text.specs.declared.document.LineEffect.{LineEffect}
-use Rattle.bufr_text.specs.Reader.{has_no_feed, ReaderPosition, ContinuesParse, TakesWholeLines, TakesEndLine, parse_results, ReaderModel, position_of, AddsNext}
+use Rattle.bufr_text.specs.Reader.{has_no_feed, ReaderPosition, ContinuesParse, TakesWholeLines, TakesEndLine, ReaderModel, position_of, AddsNext}
 use Rattle.bufr_text.specs.declared.document.Progress.{Progress}
-use Rattle.bufr_text.specs.declared.document.TakeResult.{TakeResult}
 use Rattle.bufr_frame.specs.Prelude.{max_reads, InputModel, FillsInput}
 use Rattle.bufr_frame.specs.declared.fault.RunFault.{RunFault}
 use Rattle.bufr_frame.specs.declared.fault.RunFault.TheVariants.{Memory}
 use Rattle.bufr_text.specs.declared.fault.ReadFault.{ReadFault}
-use Rattle.bufr_text.specs.declared.fault.ReadFault.TheVariants.{Line, SubsetCount, HeaderRange, Run}
+use Rattle.bufr_text.specs.declared.fault.ReadFault.TheVariants.{Line, Run}
 use Rattle.bufr_text.specs.Line as line
-use Rattle.bufr_text.specs.Documents as documents
 use Rattle.bufr_text.specs.declared.document.ParsedLine.TheVariants as said
-use Rattle.bufr_text.specs.declared.document.LineGroup.TheVariants as written
-use Rattle.bufr_text.specs.declared.document.ParserState.TheVariants as place
-use Rattle.bufr_text.specs.declared.document.LineRefusal.TheVariants as refusal
-use Rattle.bufr_text.specs.declared.document.LineEffect.TheVariants as turn
-use Rattle.bufr_text.specs.declared.document.TakeResult.TheVariants as taken
 
-abbrev pub document_kept : Inside → documents.Document
+abbrev pub document_kept : Inside → Document
 document_kept d = record {
   line = d.line;
   header = take d.known d.header;
@@ -54,32 +47,8 @@ meaning (said.Item fxy form) = line.Item fxy (form_in form)
 meaning said.Closes = line.Closes
 meaning said.Wrong = line.Wrong
 
--- how far the parts before the subsets have come
-abbrev pub part_number : LineGroup → ℕ
-part_number written.Local1 = 0
-part_number written.Section2 = 1
-part_number written.Descriptors = 2
-
--- where the reading is, with the document as far as it was read
-abbrev pub place_with : ParserState → documents.Document → documents.ParserState
-place_with place.Between d = documents.Between
-place_with place.Heading d = documents.Heading d
-place_with (place.BeforeSubsets part) d = documents.BeforeSubsets (part_number part) d
-place_with (place.Filling subset) d = documents.Filling subset d
-
-abbrev pub line_fault_of : LineRefusal → documents.TextLineFault
-line_fault_of refusal.NotAllowed = documents.NotAllowed
-line_fault_of refusal.SubsetCount = documents.SubsetCount
-line_fault_of refusal.HeaderRange = documents.HeaderRange
-
--- what a turn does, with the document after it
-abbrev pub turned : LineEffect → documents.Document → documents.LineEffect
-turned (turn.WalkGoes place) d = documents.WalkGoes (place_with place d)
-turned turn.Gives d = documents.Gives d
-turned (turn.Refuses refusal) d = documents.Faults (line_fault_of refusal)
-
 -- Nothing was read after the header.
-pub record IsBare (d : documents.Document) : Type 0 where
+pub record IsBare (d : Document) : Type 0 where
   pub local1 : d.local1 ≡ []
   pub section2 : d.section2 ≡ []
   pub descriptors : d.descriptors ≡ []
@@ -87,10 +56,10 @@ pub record IsBare (d : documents.Document) : Type 0 where
 
 -- The parts before the subsets are octets and descriptors, and there are no octets of a section 2
 -- that is absent.
-pub record HasLineGroups (d : documents.Document) : Type 0 where
+pub record HasLineGroups (d : Document) : Type 0 where
   pub local1 : AllByRecursion IsOctet d.local1
   pub section2 : AllByRecursion IsOctet d.section2
-  pub no_section2 : (documents.optional_in d == 1) ≡ false → d.section2 ≡ []
+  pub no_section2 : (optional_in d == 1) ≡ false → d.section2 ≡ []
   pub descriptors : AllByRecursion IsDescriptorWord d.descriptors
 
 -- the text of an item is of octets
@@ -99,98 +68,76 @@ EntryHasOctets (Holds item) = HasOctets item.form
 EntryHasOctets (Ends line) = Unit {0}
 
 -- So many subsets were ended, and each text is of octets.
-pub record HasSubsets (ended : ℕ) (d : documents.Document) : Type 0 where
+pub record HasSubsets (ended : ℕ) (d : Document) : Type 0 where
   pub texts : AllByRecursion EntryHasOctets d.entries
   pub counted : length (subsets_of d.entries) ≡ ended
 
--- What holds of a place where the line of this number is next. The header is not whole in the
--- header, and whole after it. The number of a subset is small, and one more than those that were
--- ended. Each entry has a line.
-abbrev pub IsParserState : (at : ℕ) → documents.ParserState → Type 0
-IsParserState at (documents.Heading d) =
-    (length d.header < 20) × (are_in_range (documents.edition_in d) 0 d.header ≡ true)
-    × (length d.entries < at) × IsBare d
-IsParserState at (documents.BeforeSubsets part d) =
+-- What holds where the line of this number is next. Between documents nothing is kept, and after a
+-- fault no line is taken. The header is not whole in the header, and whole after it. The number of a subset is small, and one more than
+-- those that were ended. Each entry has a line.
+abbrev pub IsParsing : (at : ℕ) → Parsing → Type 0
+IsParsing at (Between, d) = d ≡ blank 0
+IsParsing at (Heading, d) = (length d.header < 20)
+    × (are_in_range (edition_in d) 0 d.header ≡ true) × (length d.entries < at) × IsBare d
+IsParsing at (BeforeSubsets part, d) =
     IsHeaded d × (length d.entries < at) × HasLineGroups d × (d.entries ≡ [])
-IsParserState at (documents.Filling subset d) =
+IsParsing at (Filling subset, d) =
     IsHeaded d × (length d.entries < at) × (subset < 65536) × HasLineGroups d
     × ((ended : ℕ) × (subset ≡ ended + 1) × HasSubsets ended d)
-IsParserState at place = Unit {0}
+IsParsing at (Stopped, d) = ⊥
+
+-- what holds after a line; a document that is whole has a line for each entry
+abbrev pub IsTurn : (at : ℕ) → Turn → Type 0
+IsTurn at (Continues state, d) = IsParsing at (state, d)
+IsTurn at (Completes, d) = IsProper d × (length d.entries < at)
+IsTurn at (Refuses fault, d) = Unit {0}
 
 -- ---- What taking the lines that are held comes to.
 
--- what was reported
-abbrev pub step_results : TakeResult → documents.Document → List documents.ParseResult
-step_results taken.More d = []
-step_results taken.Gives d = documents.Complete d ∷ []
-step_results (taken.Refuses line refusal) d = documents.Refused line (line_fault_of refusal) ∷ []
+abbrev pub parsing_of : Progress → Parsing
+parsing_of progress = (progress.state, progress.parts)
 
--- where the reading is after it
-abbrev pub place_following : TakeResult → Progress → documents.ParserState
-place_following taken.More progress = place_with progress.place progress.parts
-place_following taken.Gives progress = documents.Between
-place_following (taken.Refuses line refusal) progress = documents.Stopped
+abbrev pub position_with : (at : ℕ) → Parsing → List ℕ → Bool → ReaderPosition
+position_with at parsing held ended =
+    record { at = at; place = parsing; held = held; ended = ended }
 
-abbrev pub position_with : Progress → List ℕ → Bool → ReaderPosition
-position_with progress held ended = record {
-  at = progress.at;
-  place = place_with progress.place progress.parts;
-  held = held;
-  ended = ended;
-}
-
-abbrev pub position_after_take : TakeResult → Progress → List ℕ → Bool → ReaderPosition
-position_after_take step progress held ended =
-    record { at = progress.at; place = place_following step progress; held = held; ended = ended }
-
--- a document that is whole has a line for each entry
-abbrev pub HoldsAfterTake : TakeResult → Progress → Type 0
-HoldsAfterTake taken.More progress = IsParserState progress.at
-    (place_with progress.place progress.parts)
-HoldsAfterTake taken.Gives progress =
-    IsProper progress.parts × (length progress.parts.entries < progress.at)
-HoldsAfterTake (taken.Refuses line refusal) progress = Unit {0}
-
--- The lines up to a place were taken.
-pub record TakesLines (old new : Progress) (held : List ℕ) (place : ℕ)
-    (step : TakeResult) : Type 0 where
-  pub goes : (ended : Bool) → ContinuesParse (position_with old held ended)
-      (position_after_take step new (drop place held) ended) (step_results step new.parts)
-  pub all : step ≡ taken.More → has_no_feed (drop place held) ≡ true
-  pub within : place ≤ length held
-  pub holds : HoldsAfterTake step new
-  pub near : new.at ≤ old.at + place
-  pub passes : TakesWholeLines old.at held new.at (drop place held)
-  pub closes : step ≡ taken.Gives → TakesEndLine old.at held new.at (drop place held)
-
--- Lines up to a place were taken, and nothing was reported yet.
-pub record IsTaking (old new : Progress) (held : List ℕ) (place : ℕ) : Type 0 where
-  pub goes : (ended : Bool)
-      → ContinuesParse (position_with old held ended) (position_with new (drop place held) ended) []
-  pub within : place ≤ length held
-  pub holds : IsParserState new.at (place_with new.place new.parts)
+-- The lines before an offset were taken, and the last of them did this.
+pub record TakesLines (old new : Progress) (held : List ℕ) (offset : ℕ)
+    (effect : LineEffect) : Type 0 where
+  pub goes : (ended : Bool) → ContinuesParse (position_with old.at (parsing_of old) held ended)
+      (position_with new.at (parsing_after (effect, new.parts)) (drop offset held) ended)
+      (reported_at (new.at - 1) (effect, new.parts))
+  pub all : (state : ParserState) → effect ≡ Continues state
+      → (state ≡ new.state) × (has_no_feed (drop offset held) ≡ true)
+  pub within : offset ≤ length held
+  pub holds : IsTurn new.at (effect, new.parts)
   pub some : 0 < new.at
-  pub near : new.at ≤ old.at + place
-  pub passes : TakesWholeLines old.at held new.at (drop place held)
+  pub near : new.at ≤ old.at + offset
+  pub passes : TakesWholeLines old.at held new.at (drop offset held)
+  pub closes : effect ≡ Completes → TakesEndLine old.at held new.at (drop offset held)
+
+-- The lines before an offset were taken, and nothing was reported yet.
+pub record IsTaking (old new : Progress) (held : List ℕ) (offset : ℕ) : Type 0 where
+  pub goes : (ended : Bool) → ContinuesParse (position_with old.at (parsing_of old) held ended)
+      (position_with new.at (parsing_of new) (drop offset held) ended) []
+  pub within : offset ≤ length held
+  pub holds : IsParsing new.at (parsing_of new)
+  pub some : 0 < new.at
+  pub near : new.at ≤ old.at + offset
+  pub passes : TakesWholeLines old.at held new.at (drop offset held)
 
 -- Lines were taken that reported nothing, and the next one is whole and adds to the document.
 pub record WantsAt (old : Progress) (held : List ℕ) : Type 0 where
   pub progress : Progress
-  pub place : ℕ
-  pub taking : IsTaking old progress held place
+  pub offset : ℕ
+  pub taking : IsTaking old progress held offset
   pub line : List ℕ
   pub rest : List ℕ
-  pub holds : drop place held ≡ line ++ 10 ∷ rest
+  pub holds : drop offset held ≡ line ++ 10 ∷ rest
   pub single : has_no_feed line ≡ true
-  pub adds_to : adds (place_with progress.place progress.parts) (line_within_limit line) ≡ true
+  pub adds_to : adds progress.state (read_line line) ≡ true
 
 -- ---- What the steps of a reader do, one by one.
-
--- where a reader is: after a refused line nothing more is reported
-abbrev pub place_now : Option ReadFault → Progress → documents.ParserState
-place_now None progress = place_with progress.place progress.parts
-place_now (Some (Run fault)) progress = place_with progress.place progress.parts
-place_now fault progress = Stopped
 
 -- nothing, or octets of which the last is a line feed
 abbrev pub ends_by_feed : List ℕ → Bool
@@ -200,7 +147,7 @@ ends_by_feed (c ∷ d ∷ more) = ends_by_feed (d ∷ more)
 
 -- The progress of a reader that goes on: each line had an octet at least.
 pub record IsProgress (progress : Progress) (held reads : ℕ) : Type 0 where
-  pub holds : IsParserState progress.at (place_with progress.place progress.parts)
+  pub holds : IsParsing progress.at (parsing_of progress)
   pub some : 0 < progress.at
   pub near : progress.at + held ≤ 4096 * reads + 1
 
@@ -236,8 +183,8 @@ TakesHeldLines old new (Err (Run Memory)) =
     (new.fault ≡ Some (Run Memory)) × (has_no_feed old.held ≡ false)
     × (new.held ≡ old.held) × WantsHere old
 TakesHeldLines old new (Err (Run fault)) = ⊥
-TakesHeldLines old new (Err fault) =
-    ParsesHeldLines old new (parse_results (Err fault)) × (new.fault ≡ Some fault)
+TakesHeldLines old new (Err (Line line fault)) =
+    ParsesHeldLines old new (Refused line fault ∷ []) × (new.fault ≡ Some (Line line fault))
 
 -- the input of a reader that holds these octets
 abbrev pub text_input : ReaderModel → List ℕ → InputModel
@@ -258,16 +205,11 @@ pub record ReadsMoreText (left left' : Option (List ℕ)) (old new : ReaderModel
   pub place : new.place ≡ old.place
   pub fault : new.fault ≡ None
 
--- the fault of a refused line
-abbrev pub read_fault_at : (line : ℕ) → LineRefusal → ReadFault
-read_fault_at line refusal.NotAllowed = Line line
-read_fault_at line refusal.SubsetCount = SubsetCount line
-read_fault_at line refusal.HeaderRange = HeaderRange line
-
--- a reader that a fault stopped
+-- a reader that a fault stopped; after a refused line nothing more is reported
 abbrev pub stopped : ReaderModel → ReadFault → ReaderModel
 stopped s (Run fault) = record s { fault = Some (Run fault) }
-stopped s fault = record s { fault = Some fault; place = Stopped }
+stopped s (Line line fault) =
+    record s { fault = Some (Line line fault); place = (Stopped, s.place.1) }
 
 -- one read, or why none is made
 abbrev pub FillsBuffer : (left left' : Option (List ℕ)) → ReaderModel → ReaderModel
@@ -277,4 +219,4 @@ FillsBuffer left left' old new (Ok u) bs = ReadsMoreText left left' old new (Ok 
 FillsBuffer left left' old new (Err (Run fault)) bs =
     (s : ReaderModel) × ReadsMoreText left left' old s (Err fault) bs
     × (new ≡ stopped s (Run fault)) × (length old.held ≤ 4096)
-FillsBuffer left left' old new result bs = ⊥
+FillsBuffer left left' old new (Err (Line line fault)) bs = ⊥

@@ -2,9 +2,9 @@
 ghost use Rattle.std.specs.Prelude.{◌==◌, ◌≡◌, ◌+◌, ◌<◌, ◌≤◌, length, IsTrue, slice_index, option_map, true, IfOk, OnErr, ◌^◌, false};
 ghost use Rattle.bufr_fill.specs.Prelude.{subsets_of};
 ghost use Rattle.bufr_frame.specs.Prelude.{is_writable};
-ghost use Rattle.bufr_text.specs.Prelude.{subsets_in, beginning, closing, turn, adds, line_within_limit, head_from_values, key_value, compressed_in, section2_in, most_entries, IsWhole, mosts, meaning, place_with, turned, IsParserState, TakesLines, WantsAt, has_no_feed, Header, blank};
-ghost use Rattle.bufr_text.specs.declared.document.ParserState.TheVariants.{Between};
+ghost use Rattle.bufr_text.specs.Prelude.{subsets_in, beginning, closing, turn, adds, read_line, head_from_values, key_value, compressed_in, section2_in, most_entries, IsWhole, mosts, meaning, IsParsing, parsing_of, TakesLines, WantsAt, has_no_feed, Header, blank};
 
+use crate::fault::TextLineFault;
 use crate::header::{MOST_WORDS, in_range};
 use crate::line::{MAX_LINE, ahead, decimal_item, read_line, suffix};
 use bufr_fill::{DraftItem, DraftValue, Entries};
@@ -57,6 +57,18 @@ impl DocumentParts {
             descriptors: Vec::new(alloc),
             entries: Entries::new(alloc),
         }
+    }
+
+    /// Forgets the document, and keeps its memory.
+    pub(crate) fn clear(&mut self)
+        ensures { self.new ≡ blank 0 }
+    {
+        self.line = 0;
+        self.known = 0;
+        self.local1.clear();
+        self.section2.clear();
+        self.descriptors.clear();
+        self.entries.clear();
     }
 
     /// The value of a key of the header, or 0 where it was not read yet.
@@ -227,128 +239,123 @@ pub(crate) enum LineGroup {
 /// Where the reading is.
 #[derive(Clone, Copy)]
 pub(crate) enum ParserState {
+    /// Between documents.
     Between,
+    /// In the header.
     Heading,
-    /// Behind the header, before the first subset.
+    /// After the header, before the first subset.
     BeforeSubsets(LineGroup),
     /// In this subset.
     Filling(u32),
-}
-
-/// Why a line is refused.
-#[derive(Clone, Copy)]
-pub(crate) enum LineRefusal {
-    NotAllowed,
-    SubsetCount,
-    HeaderRange,
+    /// After a line that was refused.
+    Stopped,
 }
 
 /// What a line does.
 #[derive(Clone, Copy)]
 pub(crate) enum LineEffect {
-    WalkGoes(ParserState),
-    Gives,
-    Refuses(LineRefusal),
+    /// The reading goes on there.
+    Continues(ParserState),
+    /// The document is whole.
+    Completes,
+    /// The line is refused.
+    Refuses(TextLineFault),
 }
 
 /// `subset` and its number, where so many subsets were read.
 // rule: reading-subsets, fault-57
 fn beginning(parts: &DocumentParts, read: u32, subset: u32) -> LineEffect
     requires { read < 65536 }
-    ensures turns { turned result parts.now ≡ beginning read parts.now subset }
+    ensures { result ≡ beginning read parts.now subset }
 {
     if subset == read + 1 && subset <= u32::from(parts.value(19)) {
-        LineEffect::WalkGoes(ParserState::Filling(subset))
+        LineEffect::Continues(ParserState::Filling(subset))
     } else {
-        LineEffect::Refuses(LineRefusal::SubsetCount)
+        LineEffect::Refuses(TextLineFault::SubsetCount)
     }
 }
 
 /// `end`
 // rule: reading-subsets, fault-57
 fn closing(parts: &DocumentParts, read: u32) -> LineEffect
-    ensures turns { turned result parts.now ≡ closing read parts.now }
+    ensures { result ≡ closing read parts.now }
 {
     if read == u32::from(parts.value(19)) {
-        LineEffect::Gives
+        LineEffect::Completes
     } else {
-        LineEffect::Refuses(LineRefusal::SubsetCount)
+        LineEffect::Refuses(TextLineFault::SubsetCount)
     }
 }
 
-/// A line at a place.
+/// A line in a state, for the document that is being read.
 #[tactic(auto, unfolding(crate::specs::Documents::turn))]
 // rule: fault-50, fault-61, fault-order-of-a-line, reading-header-order, reading-section2
 // rule: reading-subset-end, reading-between-documents
-pub(crate) fn step(
-    place: ParserState,
+pub(crate) fn turn(
+    state: ParserState,
     parts: &mut DocumentParts,
     at: u64,
     said: ParsedLine<'_>,
 ) -> Result<LineEffect, AllocError>
-    requires { IsParserState at (place_with place parts.old) }
+    requires { IsParsing at (state, parts.old) }
     ensures turns { IfOk result
-        (λ t. turned t parts.new ≡ turn at (place_with place parts.old) (meaning said.entry)) }
-    ensures wants { OnErr result (adds (place_with place parts.old) (meaning said.entry) ≡ true) }
+        (λ effect. (effect, parts.new) ≡ turn at (state, parts.old) (meaning said.entry)) }
+    ensures wants { OnErr result (adds state (meaning said.entry) ≡ true) }
 {
     if matches!(said, ParsedLine::Passed) {
-        return Ok(LineEffect::WalkGoes(place));
+        return Ok(LineEffect::Continues(state));
     }
-    let turn = match place {
-        ParserState::Between => match said {
+    let effect = match state {
+        // After a refused line none is taken.
+        ParserState::Between | ParserState::Stopped => match said {
             ParsedLine::Opens => {
                 parts.line = at;
-                parts.known = 0;
-                parts.local1.clear();
-                parts.section2.clear();
-                parts.descriptors.clear();
-                parts.entries.clear();
-                LineEffect::WalkGoes(ParserState::Heading)
+                LineEffect::Continues(ParserState::Heading)
             }
-            _ => LineEffect::Refuses(LineRefusal::NotAllowed),
+            _ => LineEffect::Refuses(TextLineFault::NotAllowed),
         },
         ParserState::Heading => match said {
             ParsedLine::Header { key, value } => {
                 if key != parts.known {
-                    return Ok(LineEffect::Refuses(LineRefusal::NotAllowed));
+                    return Ok(LineEffect::Refuses(TextLineFault::NotAllowed));
                 }
                 // The edition is the first value; its own range goes by none.
                 if !in_range(parts.value(0), key, value) {
-                    return Ok(LineEffect::Refuses(LineRefusal::HeaderRange));
+                    return Ok(LineEffect::Refuses(TextLineFault::HeaderRange));
                 }
                 parts.header[parts.known] = value as u16;
                 parts.known += 1;
                 if key == 19 {
-                    LineEffect::WalkGoes(ParserState::BeforeSubsets(LineGroup::Local1))
+                    LineEffect::Continues(ParserState::BeforeSubsets(LineGroup::Local1))
                 } else {
-                    LineEffect::WalkGoes(ParserState::Heading)
+                    LineEffect::Continues(ParserState::Heading)
                 }
             }
-            _ => LineEffect::Refuses(LineRefusal::NotAllowed),
+            _ => LineEffect::Refuses(TextLineFault::NotAllowed),
         },
         ParserState::BeforeSubsets(part) => match said {
             ParsedLine::Local1(octets) if matches!(part, LineGroup::Local1) => {
                 parts.local1.extend_from_slice(octets)?;
-                LineEffect::WalkGoes(ParserState::BeforeSubsets(LineGroup::Local1))
+                LineEffect::Continues(ParserState::BeforeSubsets(LineGroup::Local1))
             }
             ParsedLine::Section2(octets)
                 if !matches!(part, LineGroup::Descriptors) && parts.value(18) == 1 => {
                 parts.section2.extend_from_slice(octets)?;
-                LineEffect::WalkGoes(ParserState::BeforeSubsets(LineGroup::Section2))
+                LineEffect::Continues(ParserState::BeforeSubsets(LineGroup::Section2))
             }
             ParsedLine::Descriptors(words) => {
                 parts.descriptors.extend_from_slice(words)?;
-                LineEffect::WalkGoes(ParserState::BeforeSubsets(LineGroup::Descriptors))
+                LineEffect::Continues(ParserState::BeforeSubsets(LineGroup::Descriptors))
             }
             ParsedLine::Begins(subset) => beginning(parts, 0, subset),
             ParsedLine::Closes => closing(parts, 0),
-            _ => LineEffect::Refuses(LineRefusal::NotAllowed),
+            _ => LineEffect::Refuses(TextLineFault::NotAllowed),
         },
         ParserState::Filling(subset) => match said {
             ParsedLine::Item { fxy, form } => {
                 let (line, fxy) = (at, Fxy::from_word(fxy));
                 parts.entries.push_item(DraftItem { line, fxy, form })?;
-                LineEffect::WalkGoes(ParserState::Filling(subset))
+                LineEffect::Continues(ParserState::Filling(subset))
             }
             ParsedLine::Begins(next) => {
                 parts.entries.push_end(at)?;
@@ -358,30 +365,19 @@ pub(crate) fn step(
                 parts.entries.push_end(at)?;
                 closing(parts, subset)
             }
-            _ => LineEffect::Refuses(LineRefusal::NotAllowed),
+            _ => LineEffect::Refuses(TextLineFault::NotAllowed),
         },
     };
-    Ok(turn)
+    Ok(effect)
 }
 
 /// How far the reading has come: where it is, and the document that is being read.
 #[derive(Drop)]
 pub(crate) struct Progress {
-    pub(crate) place: ParserState,
+    pub(crate) state: ParserState,
     /// The number of the next line.
     pub(crate) at: u64,
     pub(crate) parts: DocumentParts,
-}
-
-/// What the lines that are held come to.
-#[derive(Clone, Copy)]
-pub(crate) enum TakeResult {
-    /// No whole line is held any more.
-    More,
-    /// A document is whole.
-    Gives,
-    /// This line is refused.
-    Refuses(u64, LineRefusal),
 }
 
 /// A line that is whole, mostly an item with a short decimal.
@@ -393,16 +389,13 @@ fn take_line(
     octets: &mut [u8; MAX_LINE],
     words: &mut [u16; MOST_WORDS],
 ) -> Result<LineEffect, AllocError>
-    requires holds { IsParserState progress.old.at
-        (place_with progress.old.place progress.old.parts) }
-    ensures turns { IfOk result (λ t. turned t progress.new.parts ≡ turn progress.old.at
-        (place_with progress.old.place progress.old.parts) (line_within_limit line.now)) }
+    requires holds { IsParsing progress.old.at (parsing_of progress.old) }
+    ensures turns { IfOk result (λ effect. (effect, progress.new.parts) ≡ turn progress.old.at
+        (parsing_of progress.old) (read_line line.now)) }
     ensures at { progress.new.at ≡ progress.old.at }
-    ensures wants { OnErr result
-        (adds (place_with progress.old.place progress.old.parts) (line_within_limit line.now)
-        ≡ true) }
+    ensures wants { OnErr result (adds progress.old.state (read_line line.now) ≡ true) }
 {
-    if let ParserState::Filling(_) = progress.place
+    if let ParserState::Filling(_) = progress.state
         && line.len() <= MAX_LINE
         && let Some((fxy, number)) = decimal_item(line)
     {
@@ -410,21 +403,21 @@ fn take_line(
             .parts
             .entries
             .push_decimal(progress.at, fxy, number)?;
-        return Ok(LineEffect::WalkGoes(progress.place));
+        return Ok(LineEffect::Continues(progress.state));
     }
     let said = read_line(line, progress.parts.known, octets, words);
-    step(progress.place, &mut progress.parts, progress.at, said)
+    turn(progress.state, &mut progress.parts, progress.at, said)
 }
 
-/// Takes held lines, up to the first that ends a document or is refused: how many octets they took.
+/// Takes held lines, up to the first that ends a document or is refused: how many octets they took,
+/// and what the last one does.
 // rule: reading-line-numbers
 pub(crate) fn take_lines(
     progress: &mut Progress,
     held: &[u8],
     octets: &mut [u8; MAX_LINE],
-) -> Result<(usize, TakeResult), AllocError>
-    requires holds { IsParserState progress.old.at
-        (place_with progress.old.place progress.old.parts) }
+) -> Result<(usize, LineEffect), AllocError>
+    requires holds { IsParsing progress.old.at (parsing_of progress.old) }
     requires some { 0 < progress.old.at }
     requires few { progress.old.at + length held.now < 2 ^ 63 }
     ensures takes { IfOk result (λ r. TakesLines progress.old progress.new held.now r.0 r.1) }
@@ -435,15 +428,13 @@ pub(crate) fn take_lines(
     let mut from = 0;
     while let Some(length) = memchr(b'\n', suffix(held, from)) {
         let line = ahead(suffix(held, from), length);
-        let at = progress.at;
-        let turn = take_line(progress, line, octets, &mut words)?;
+        let effect = take_line(progress, line, octets, &mut words)?;
         progress.at += 1;
         from += length + 1;
-        match turn {
-            LineEffect::WalkGoes(place) => progress.place = place,
-            LineEffect::Gives => return Ok((from, TakeResult::Gives)),
-            LineEffect::Refuses(refusal) => return Ok((from, TakeResult::Refuses(at, refusal))),
+        match effect {
+            LineEffect::Continues(state) => progress.state = state,
+            _ => return Ok((from, effect)),
         }
     }
-    Ok((from, TakeResult::More))
+    Ok((from, LineEffect::Continues(progress.state)))
 }

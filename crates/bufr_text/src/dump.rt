@@ -225,6 +225,11 @@ impl<'b, 'w, W: Sink> Visitor for LineWriter<'b, 'w, W> {
             && let Ok(number) = i64::try_from(number)
         {
             self.push_number_line(entry, number, scale);
+        } else if let Value::Missing = value
+            && let Some(entry) = entry
+            && entry.fxy() == fxy
+        {
+            self.push_missing_line(entry);
         } else {
             push_any_item(self, fxy, entry, value);
         }

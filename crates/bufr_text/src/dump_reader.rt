@@ -1,12 +1,10 @@
 //! The documents of an input.
-ghost use Rattle.std.specs.Prelude.{◌≡◌, ◌≢◌, ◌≤◌, ◌<◌, ◌-◌, ℕ, List, None, Some, Err, true, false, length, IfSome, IfOk};
-ghost use Rattle.bufr_text.specs.Prelude.{read_fault_at, IsProper, has_no_feed, ReaderModel, new_reader, unfed, ReturnsNextDocument, failures_by, TakesHeldLines, GivesHeldDocument, FillsBuffer, ReadsMoreText, stopped};
-ghost use Rattle.bufr_frame.specs.Prelude.{read_failures_after, AddsReads};
+ghost use Rattle.std.specs.Prelude.{◌≡◌, ◌≢◌, ◌≤◌, ◌<◌, ◌-◌, ◌*◌, ℕ, List, None, Some, Err, true, false, length, IfSome, IfOk};
+ghost use Rattle.bufr_text.specs.Prelude.{IsProper, has_no_feed, ReaderModel, new_reader, unfed, ReturnsNextDocument, failures_by, TakesHeldLines, GivesHeldDocument, FillsBuffer, ReadsMoreText, stopped};
+ghost use Rattle.bufr_frame.specs.Prelude.{read_failures_after, AddsReads, AsksAtMost};
 
-use crate::document::{
-    Document, DocumentParts, LineRefusal, ParserState, Progress, TakeResult, take_lines,
-};
-use crate::fault::ReadFault;
+use crate::document::{Document, DocumentParts, LineEffect, ParserState, Progress, take_lines};
+use crate::fault::{ReadFault, TextLineFault};
 use crate::line::MAX_LINE;
 use bufr_bits::Source;
 use bufr_frame::{InputBuffer, RunFault};
@@ -41,13 +39,13 @@ pub struct DumpReader {
 
 impl Model for DumpReader {
     ghost use Rattle.bufr_text.specs.Reader.{ReaderModel};
-    ghost use Rattle.bufr_text.specs.Taking.{place_now, IsReader};
+    ghost use Rattle.bufr_text.specs.Taking.{parsing_of, IsReader};
 
     ghost Value = { ReaderModel };
 
     ghost view = { λ f. record {
       at = f.progress.at;
-      place = place_now f.fault f.progress;
+      place = parsing_of f.progress;
       held = f.input.held;
       ended = f.input.ended;
       fault = f.fault;
@@ -55,19 +53,6 @@ impl Model for DumpReader {
     } };
 
     ghost invariant = { λ f. IsReader f.fault f.progress f.input };
-}
-
-impl LineRefusal {
-    /// The fault of this line.
-    fn at(self, line: u64) -> ReadFault
-        ensures { result ≡ read_fault_at line self }
-    {
-        match self {
-            LineRefusal::NotAllowed => ReadFault::Line(line),
-            LineRefusal::SubsetCount => ReadFault::SubsetCount(line),
-            LineRefusal::HeaderRange => ReadFault::HeaderRange(line),
-        }
-    }
 }
 
 impl DumpReader {
@@ -80,7 +65,7 @@ impl DumpReader {
             input: InputBuffer::new(alloc),
             scratch: [0; MAX_LINE],
             progress: Progress {
-                place: ParserState::Between,
+                state: ParserState::Between,
                 at: 1,
                 parts: DocumentParts::blank(alloc, 0),
             },
@@ -90,12 +75,13 @@ impl DumpReader {
 
     /// Takes the memory of a document for those to come. So a long text of long documents does not
     /// take and give back memory for each. Nothing else changes. Inside of a document that is being
-    /// read, or was refused there, the memory is given back instead.
+    /// read, and after a fault, the memory is given back instead.
     pub fn reuse(&mut self, document: Document)
         ensures { self.new ≡ self.old }
     {
-        if let ParserState::Between = self.progress.place {
+        if self.fault.is_none() && matches!(self.progress.state, ParserState::Between) {
             self.progress.parts = document.parts;
+            self.progress.parts.clear();
         }
     }
 
@@ -120,6 +106,9 @@ impl DumpReader {
         ensures value { result ≡ fault }
         ensures bound { length self.new.held ≤ 8192 }
     {
+        if let ReadFault::Line(_, _) = fault {
+            self.progress.state = ParserState::Stopped;
+        }
         self.fault = Some(fault);
         fault
     }
@@ -134,22 +123,23 @@ impl DumpReader {
         ensures reads { self.new.reads ≡ self.old.reads }
     {
         let held = self.input.held();
-        let Ok((len, taken)) = take_lines(&mut self.progress, held, &mut self.scratch) else {
+        let Ok((len, effect)) = take_lines(&mut self.progress, held, &mut self.scratch) else {
             let fault = ReadFault::Run(RunFault::Memory);
             self.fault = Some(fault);
             return Err(fault);
         };
         self.input.skip(len);
-        match taken {
-            TakeResult::More => Ok(None),
-            TakeResult::Gives => {
-                self.progress.place = ParserState::Between;
+        match effect {
+            LineEffect::Continues(_) => Ok(None),
+            LineEffect::Completes => {
+                self.progress.state = ParserState::Between;
                 let blank = DocumentParts::blank(self.alloc, 0);
                 let parts = std::mem::replace(&mut self.progress.parts, blank);
                 Ok(Some(Document { parts }))
             }
-            TakeResult::Refuses(line, refusal) => {
-                let fault = refusal.at(line);
+            LineEffect::Refuses(fault) => {
+                let fault = ReadFault::Line(self.progress.at - 1, fault);
+                self.progress.state = ParserState::Stopped;
                 self.fault = Some(fault);
                 Err(fault)
             }
@@ -168,6 +158,8 @@ impl DumpReader {
         ensures failed { R.failures r.new ≡ read_failures_after (R.failures r.old) result }
         ensures sure { R.waits r.old ≡ false → result ≢ Err RunFault.Read }
         ensures counts { AddsReads (R.reads r.old) (R.reads r.new) self.old.reads self.new.reads }
+        ensures asked { AsksAtMost (R.asked r.old) (R.asked r.new)
+            (4096 * (self.new.reads - self.old.reads)) }
     {
         self.input.fill(r, MAX_LINE, 2 * MAX_LINE)?;
         if self.input.ended() && !self.input.held().is_empty() {
@@ -179,6 +171,7 @@ impl DumpReader {
     /// The next document if the lines that are held decide it, as [`DumpReader::next_document`]
     /// returns it. `None` where a read is needed first ([`DumpReader::read_more`]). Then no whole
     /// line is held, and the end was not reached.
+    #[inline(never)]
     pub fn next_held(&mut self) -> Option<Result<Option<Document>, ReadFault>>
         ensures gives { self.old.fault ≡ None → GivesHeldDocument self.old self.new result }
         ensures proper { IfSome result (λ next. IfOk next (λ found. IfSome found
@@ -186,6 +179,8 @@ impl DumpReader {
         ensures reads { self.new.reads ≡ self.old.reads }
         ensures unread { self.old.fault ≡ None
             → result ≢ Some (Err (ReadFault.Run RunFault.Read)) }
+        ensures short { self.old.fault ≡ None
+            → result ≢ Some (Err (ReadFault.Run RunFault.InputTooLong)) }
         ensures held { length self.new.held ≤ 8192 }
         ensures again { IfSome self.old.fault (λ fault. result ≡ Some (Err fault)) }
         ensures same_self { IfSome self.old.fault (λ _. self.new ≡ self.old) }
@@ -200,14 +195,14 @@ impl DumpReader {
         }
         if self.input.ended() {
             // At the end no line may be missing.
-            if let ParserState::Between = self.progress.place {
+            if let ParserState::Between = self.progress.state {
                 return Some(Ok(None));
             }
-            let fault = ReadFault::Line(self.progress.at);
+            let fault = ReadFault::Line(self.progress.at, TextLineFault::NotAllowed);
             return Some(Err(self.stop(fault)));
         }
         if self.input.held().len() > MAX_LINE {
-            let fault = ReadFault::Line(self.progress.at);
+            let fault = ReadFault::Line(self.progress.at, TextLineFault::NotAllowed);
             return Some(Err(self.stop(fault)));
         }
         None
@@ -230,6 +225,8 @@ impl DumpReader {
         ensures sure { self.old.fault ≡ None → R.waits r.old ≡ false
             → result ≢ Err (ReadFault.Run RunFault.Read) }
         ensures counts { AddsReads (R.reads r.old) (R.reads r.new) self.old.reads self.new.reads }
+        ensures asked { AsksAtMost (R.asked r.old) (R.asked r.new)
+            (4096 * (self.new.reads - self.old.reads)) }
         ensures held { length self.new.held ≤ 8192 }
         ensures again { IfSome self.old.fault (λ fault. result ≡ Err fault) }
         ensures same { IfSome self.old.fault (λ _. r.new ≡ r.old) }
@@ -251,13 +248,12 @@ impl DumpReader {
     ///
     /// # Errors
     ///
-    /// [`ReadFault::Line`], [`ReadFault::SubsetCount`] and [`ReadFault::HeaderRange`] where the
-    /// next document is refused, with the line. [`ReadFault::Run`] with [`RunFault::Read`] where a
-    /// read failed in this call, and with [`RunFault::InputTooLong`] where the end was not reached
-    /// in 2^32 reads. [`ReadFault::Run`] with [`RunFault::Memory`] where a document could not grow
-    /// by a line that is held. The same where the buffer could not be made before the first read.
-    /// All documents that were read whole were given before. After a fault each call returns the
-    /// same one, and reads nothing.
+    /// [`ReadFault::Line`] where the next document is refused. [`ReadFault::Run`] with
+    /// [`RunFault::Read`] where a read failed in this call, and with [`RunFault::InputTooLong`]
+    /// where the end was not reached in 2^32 reads. [`ReadFault::Run`] with [`RunFault::Memory`]
+    /// where a document could not grow by a line that is held. The same where the buffer could not
+    /// be made before the first read. All documents that were read whole were given before. After a
+    /// fault each call returns the same one, and reads nothing.
     // rule: fault-50, input-ends-early
     pub fn next_document<R: Source>(&mut self, r: &mut R) -> Result<Option<Document>, ReadFault>
         ensures next { self.old.fault ≡ None
@@ -266,6 +262,8 @@ impl DumpReader {
         ensures failed { self.old.fault ≡ None
             → R.failures r.new ≡ failures_by (R.failures r.old) result }
         ensures counts { AddsReads (R.reads r.old) (R.reads r.new) self.old.reads self.new.reads }
+        ensures asked { AsksAtMost (R.asked r.old) (R.asked r.new)
+            (4096 * (self.new.reads - self.old.reads)) }
         ensures held { length self.new.held ≤ 8192 }
         ensures again { IfSome self.old.fault (λ fault. result ≡ Err fault) }
         ensures same { IfSome self.old.fault (λ _. r.new ≡ r.old) }

@@ -1,14 +1,14 @@
 //! The message of a document, in a form.
-ghost use Rattle.std.specs.Prelude.{ℕ, ◌≡◌, ◌≢◌, ◌≤◌, ◌*◌, ◌+◌, ◌^◌, List, Bool, length, IfOk, IfErr, OnOk, OnErr, Ok, option_map, false, true};
+ghost use Rattle.std.specs.Prelude.{ℕ, ◌≡◌, ◌≢◌, ◌≤◌, ◌*◌, ◌+◌, ◌^◌, List, Bool, length, IfOk, IfErr, OnOk, OnErr, Ok, false, true};
 ghost use Rattle.bufr_tables.specs.Prelude.{Tree, places, Record, AreRows, tree_of, tables_of};
 ghost use Rattle.bufr_frame.specs.Prelude.{Sections};
 ghost use Rattle.bufr_walk.specs.Prelude.{Values, next_item, ticked};
-ghost use Rattle.bufr_text.specs.Prelude.{document_of, IsAccepted, dump_items, EncodesForm, encoding_in, encoding_of, octets_of_bits, message_of, compressed_as, parts_as, IsDocumentRefusal, report_of_draft, reported_refusal, AreOctetsOf, WritesData, reported_stop, CountsSteps, places_by, bits_by, turns_by, compressed_by, head_from_values, AsWritten, WritesForm};
+ghost use Rattle.bufr_text.specs.Prelude.{document_of, IsAccepted, dump_items, EncodesAgain, EncodesForm, encoding_in, encoding_of, octets_of_bits, message_of, compressed_as, parts_as, IsDocumentRefusal, AreOctetsOf, WritesData, stop_fault, CountsSteps, places_by, bits_by, turns_by, compressed_by, head_from_values, AsWritten, WritesForm};
 ghost use Rattle.bufr_fill.specs.Prelude.{subsets_of};
 
 use crate::document::Document;
-use crate::fault::{DocumentFault, WalkRefusal, of_draft};
-use bufr_fill::{DraftFault, Entries, PackedOut, PlainOut};
+use crate::fault::DocumentFault;
+use bufr_fill::{DraftFault, Entries, ItemFault, PackedOut, PlainOut, WalkRefusal};
 use bufr_frame::{WriteFault, write_message};
 use bufr_tables::{Fxy, TableB, TableD, Template, TemplateFault};
 use bufr_walk::{SpecCache, Steps, TemplateCache, WalkStop, walk_by};
@@ -16,15 +16,16 @@ use std::alloc::{AllocError, Global};
 
 /// The fault of a walk that stopped, where the next entry is on a line.
 // rule: fault-62
-fn of_stop(stop: WalkStop<DraftFault>, line: u64) -> DocumentFault
-    ensures { reported_refusal result ≡ option_map report_of_draft (reported_stop line stop) }
+fn of_stop(stop: WalkStop<DraftFault>, line: u64) -> DraftFault
+    ensures { result ≡ stop_fault line stop }
 {
-    match stop {
-        WalkStop::Width(fxy) => DocumentFault::Walk(line, WalkRefusal::Width(fxy)),
-        WalkStop::Defining(fxy) => DocumentFault::Walk(line, WalkRefusal::Defining(fxy)),
-        WalkStop::Field(fault) => of_draft(fault),
-        WalkStop::Memory => DocumentFault::Memory,
-    }
+    let refusal = match stop {
+        WalkStop::Width(fxy) => WalkRefusal::Width(fxy),
+        WalkStop::Defining(fxy) => WalkRefusal::Defining(fxy),
+        WalkStop::Field(fault) => return fault,
+        WalkStop::Memory => return DraftFault::Memory,
+    };
+    DraftFault::Item(line, ItemFault::Walk(refusal))
 }
 
 /// The descriptors of a document.
@@ -56,12 +57,8 @@ fn write_plain(
     let mut out = PlainOut::new(cache.allocator(), entries);
     'subsets: for done in 0..subsets {
         match walk_by(template, cache, &mut out, steps) {
-            Ok(()) => {
-                if let Err(why) = out.end_subset() {
-                    return Err(of_draft(why));
-                }
-            }
-            Err(why) => return Err(of_stop(why, out.line())),
+            Ok(()) => out.end_subset()?,
+            Err(why) => return Err(of_stop(why, out.line()).into()),
         }
     }
     Ok(out.into_octets())
@@ -86,11 +83,11 @@ fn write_packed(
         None => return Ok(Vec::new(alloc)),
     };
     match walk_by(template, cache, &mut out, steps) {
-        Ok(()) => match out.end() {
-            Ok(()) => Ok(out.into_octets()),
-            Err(why) => Err(of_draft(why)),
-        },
-        Err(why) => Err(of_stop(why, out.line())),
+        Ok(()) => {
+            out.end()?;
+            Ok(out.into_octets())
+        }
+        Err(why) => Err(of_stop(why, out.line()).into()),
     }
 }
 
@@ -133,7 +130,7 @@ fn write_whole(
     ensures octets { IfOk result (λ octets. message_of document.now.line
         (head_from_values document.now)
         (parts_as (compressed_as form document.now) document.now payload.now) ≡ Ok octets.items) }
-    ensures fault { IfErr result (λ why. IsDocumentRefusal (reported_refusal why)
+    ensures fault { IfErr result (λ why. IsDocumentRefusal why
         (message_of document.now.line (head_from_values document.now)
         (parts_as (compressed_as form document.now) document.now payload.now))) }
     ensures payload { (bits : List Bool) → AreOctetsOf payload.now bits
@@ -184,14 +181,14 @@ pub fn encode_by(
         encoding_in form templates.old.table_b templates.old.table_d document.now
         ≡ Ok octets.items) }
     // Want of memory is the only freedom.
-    ensures fault { IfErr result (λ why. IsDocumentRefusal (reported_refusal why)
+    ensures fault { IfErr result (λ why. IsDocumentRefusal why
         (encoding_in form templates.old.table_b templates.old.table_d document.now)) }
     // It has one name, `Memory`.
     ensures memory { IfErr result
         (λ why. (line : ℕ) → why ≢ DocumentFault.Template line TemplateFault.Memory) }
     ensures made { OnOk result (steps.new
         ≡ ticked 0 (turns_by form templates.old.table_b templates.old.table_d document.now)) }
-    ensures made_refused { IfErr result (λ why. CountsSteps (reported_refusal why) 0
+    ensures made_refused { IfErr result (λ why. CountsSteps (why ≡ DocumentFault.Memory) 0
         (turns_by form templates.old.table_b templates.old.table_d document.now) steps.new) }
     ensures accepted { OnOk result (steps.new
         ≤ places_by templates.old.table_b templates.old.table_d document.now
@@ -232,12 +229,12 @@ pub fn encode_by(
 ///
 /// # Errors
 ///
-/// The first that is met: [`DocumentFault::Template`]; at an item [`DocumentFault::Walk`],
-/// [`DocumentFault::WrongDescriptor`], [`DocumentFault::Number`],
-/// [`DocumentFault::MissingForbidden`], [`DocumentFault::TextLong`],
-/// [`DocumentFault::OutOfRange`], in compressed data for each subset in turn, then
-/// [`DocumentFault::UnequalFactor`] and [`DocumentFault::Increment`]; [`DocumentFault::TooLong`];
-/// and [`DocumentFault::Memory`], and no other, where memory runs out.
+/// The first that is met: [`DocumentFault::Template`]; [`DocumentFault::Item`] with
+/// [`ItemFault::Walk`], [`ItemFault::WrongDescriptor`], [`ItemFault::Number`],
+/// [`ItemFault::MissingForbidden`], [`ItemFault::TextLong`], [`ItemFault::OutOfRange`], in
+/// compressed data for each subset in turn, then [`ItemFault::UnequalFactor`] and
+/// [`ItemFault::Increment`]; [`DocumentFault::TooLong`]; and [`DocumentFault::Memory`], and no
+/// other, where memory runs out.
 pub fn encode_form(
     alloc: Global,
     document: &Document,
@@ -249,14 +246,14 @@ pub fn encode_form(
     ensures octets { IfOk result
         (λ octets. encoding_in form table_b.now table_d.now document.now ≡ Ok octets.items) }
     // Want of memory is the only freedom.
-    ensures fault { IfErr result (λ why. IsDocumentRefusal (reported_refusal why)
+    ensures fault { IfErr result (λ why. IsDocumentRefusal why
         (encoding_in form table_b.now table_d.now document.now)) }
     // It has one name, `Memory`.
     ensures memory { IfErr result
         (λ why. (line : ℕ) → why ≢ DocumentFault.Template line TemplateFault.Memory) }
     ensures made { OnOk result
         (steps.new ≡ ticked 0 (turns_by form table_b.now table_d.now document.now)) }
-    ensures made_refused { IfErr result (λ why. CountsSteps (reported_refusal why) 0
+    ensures made_refused { IfErr result (λ why. CountsSteps (why ≡ DocumentFault.Memory) 0
         (turns_by form table_b.now table_d.now document.now) steps.new) }
     ensures accepted { OnOk result (steps.new ≤ places_by table_b.now table_d.now document.now
         * bits_by form table_b.now table_d.now document.now) }
@@ -296,19 +293,26 @@ pub fn encode_document(
     ensures octets { IfOk result
         (λ octets. encoding_of table_b.now table_d.now document.now ≡ Ok octets.items) }
     // Want of memory is the only freedom.
-    ensures fault { IfErr result (λ why. IsDocumentRefusal (reported_refusal why)
+    ensures fault { IfErr result (λ why. IsDocumentRefusal why
         (encoding_of table_b.now table_d.now document.now)) }
     // It has one name, `Memory`.
     ensures memory { IfErr result
         (λ why. (line : ℕ) → why ≢ DocumentFault.Template line TemplateFault.Memory) }
     ensures made { OnOk result
         (steps.new ≡ ticked 0 (turns_by AsWritten table_b.now table_d.now document.now)) }
-    ensures made_refused { IfErr result (λ why. CountsSteps (reported_refusal why) 0
+    ensures made_refused { IfErr result (λ why. CountsSteps (why ≡ DocumentFault.Memory) 0
         (turns_by AsWritten table_b.now table_d.now document.now) steps.new) }
     ensures accepted { OnOk result (steps.new ≤ places_by table_b.now table_d.now document.now
         * bits_by AsWritten table_b.now table_d.now document.now) }
     ensures refused { OnErr result (steps.new ≤ places_by table_b.now table_d.now document.now
         * (bits_by AsWritten table_b.now table_d.now document.now + 1)) }
+    // The document of an accepted message keeps its reading, and the message is no longer, but up
+    // to two octets in edition 3. It is refused for want of memory alone.
+    ensures again { (records : List Record) (m : List ℕ) (s : Sections) (template : Tree)
+        (values : Values) (used at : ℕ)
+        → AreRows records table_b.now → IsAccepted table_b.now table_d.now m s template values used
+        → document.now ≡ document_of at s (dump_items table_b.now s.subsets values)
+        → EncodesAgain table_b.now m s template values result }
 {
     encode_form(alloc, document, Form::AsWritten, table_b, table_d, steps)
 }

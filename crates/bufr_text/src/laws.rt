@@ -2,7 +2,7 @@
 //! encoded and read.
 ghost use Rattle.std.specs.Prelude.{◌≡◌, ℕ, ◌+◌, true, false, List, [], ◌∷◌, ◌++◌, length, Option, None, Result, Ok};
 ghost use Rattle.bufr_frame.specs.Prelude.{Sections};
-ghost use Rattle.bufr_text.specs.Prelude.{Between, ParseResult, Complete, documents_of, open_documents_of, lines_of, parse_lines, Document, document_of, dump_lines, dump_text_of, IsDumpable, TakesWholeLines, parse, parse_open, ReaderModel, new_reader, unfed, position_of, IsMissingFeed, ReadsLines, ReturnsNextDocument, HasNoMoreLines, HasNoWholeLine, AreReported, numbered_lines, AreProper, normal, IsProper, ReadFault, DocumentFault, IsCanonical, HasSameReading, IsAccepted, IsEncodedAgain, dump_items, HasReadingIn, IsFaultIn, IsFormed, IsReadAs, encoding_in, encoding_of, IsDocumentRefusal, reported_refusal, compressed_by, form_of_flag, Form, AsWritten};
+ghost use Rattle.bufr_text.specs.Prelude.{between, ParseResult, Complete, documents_of, open_documents_of, lines_of, parse_lines, Document, document_of, dump_lines, dump_text_of, IsDumpable, TakesWholeLines, parse, parse_open, ReaderModel, new_reader, unfed, position_of, IsMissingFeed, ReadsLines, ReturnsNextDocument, HasNoMoreLines, HasNoWholeLine, AreReported, numbered_lines, AreProper, normal, IsProper, ReadFault, DocumentFault, IsCanonical, HasSameReading, IsAccepted, IsEncodedAgain, dump_items, HasReadingIn, IsFaultIn, IsFormed, IsReadAs, encoding_in, encoding_of, IsDocumentRefusal, compressed_by, form_of_flag, Form, AsWritten};
 ghost use Rattle.bufr_tables.specs.Prelude.{Record, AreRows, Row, Sequence, Tree};
 ghost use Rattle.bufr_walk.specs.Prelude.{Values, View};
 ghost use Rattle.bufr_text.specs.declared.fault.DocumentFault.TheVariants.{Memory};
@@ -11,9 +11,9 @@ ghost use Rattle.bufr_text.specs.declared.fault.DocumentFault.TheVariants.{Memor
 /// spells one document, and nothing else.
 pub fn dump_text_spells_its_document()
     ensures { (s : Sections) (subsets : List (List View)) → IsDumpable s subsets
-        → ((at : ℕ) (t : List ℕ) → parse_lines at Between (lines_of (dump_text_of s subsets ++ t))
+        → ((at : ℕ) (t : List ℕ) → parse_lines at between (lines_of (dump_text_of s subsets ++ t))
         ≡ Complete (document_of at s subsets)
-        ∷ parse_lines (at + length (dump_lines s subsets)) Between (lines_of t))
+        ∷ parse_lines (at + length (dump_lines s subsets)) between (lines_of t))
         × (documents_of (dump_text_of s subsets) ≡ Complete (document_of 1 s subsets) ∷ []) }
 {}
 
@@ -83,7 +83,7 @@ pub fn dumped_messages_are_encoded_again()
         → let items = dump_items table s.subsets values in IsDumpable s items
         × (documents_of (dump_text_of s items) ≡ Complete (document_of 1 s items) ∷ [])
         × ((at : ℕ) → IsEncodedAgain table sequences m s template values (document_of at s items))
-        × ((at : ℕ) (why : DocumentFault) → IsDocumentRefusal (reported_refusal why)
+        × ((at : ℕ) (why : DocumentFault) → IsDocumentRefusal why
         (encoding_of table sequences (document_of at s items)) → why ≡ Memory) }
 {}
 
@@ -133,7 +133,7 @@ pub fn dumped_messages_are_encoded_in_each_form()
         → let result = encoding_in form table sequences
         (document_of at s (dump_items table s.subsets values)) in
         IsFormed form table s template values result × ((why : DocumentFault)
-        → IsDocumentRefusal (reported_refusal why) result → IsFaultIn form why) }
+        → IsDocumentRefusal why result → IsFaultIn form why) }
 {}
 
 /// A canonical message is encoded from its dump text to the same octets. One that was encoded in

@@ -18,6 +18,6 @@ pub use document::Document;
 pub use dump::{DumpMemory, write_dump, write_dump_by};
 pub use dump_reader::DumpReader;
 pub use encode::{Form, encode_by, encode_document, encode_form};
-pub use fault::{DocumentFault, ReadFault, WalkRefusal};
+pub use fault::{DocumentFault, ReadFault, TextLineFault};
 pub use line_writer::{LineWriter, write_all};
 pub use ls::write_ls;

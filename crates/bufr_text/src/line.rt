@@ -1,7 +1,7 @@
 //! What a line says: its first word, numbers, items, texts in quotes and octets.
 ghost use Rattle.std.specs.Prelude.{◌≡◌, ℕ, ◌<◌, ◌≤◌, ◌==◌, IfSome, List, length, take, drop, option_map, if◌then◌else◌, min, ◌+◌, ◌-◌, slice_index, Some, ◌*◌};
 ghost use Rattle.std.specs.Str.{bytes_eq};
-ghost use Rattle.bufr_text.specs.Prelude.{line_within_limit, prefix_while, suffix_while, without_space, hex_read, number_read, without_prefix, is_number_octet, is_hashed, is_passed_after, is_unescaped, upper_value, quoting_of, either_value, Line, made, with_one_to, worded, line_of, value_read, item_line, number_value, Item, Unquotes, Unhexes, meaning, Wrong};
+ghost use Rattle.bufr_text.specs.Prelude.{read_line, prefix_while, suffix_while, without_space, hex_read, number_read, without_prefix, is_number_octet, is_hashed, is_passed_after, is_unescaped, upper_value, quoting_of, either_value, Line, made, with_one_to, worded, line_of, value_read, item_line, number_value, Item, Unquotes, Unhexes, meaning, Wrong};
 ghost use Rattle.bufr_bits.specs.Prelude.{short_text};
 ghost use Rattle.bufr_fill.specs.Prelude.{number_token, reference_token, form_in};
 
@@ -110,13 +110,13 @@ pub(crate) fn read_line<'a>(
     octets: &'a mut [u8; MAX_LINE],
     words: &'a mut [u16; MOST_WORDS],
 ) -> ParsedLine<'a>
-    ensures { meaning result ≡ line_within_limit line.now }
+    ensures { meaning result ≡ read_line line.now }
 {
     if line.len() > MAX_LINE {
         return ParsedLine::Wrong;
     }
     match line_said(line, next, octets, words) {
-        Some(line_within_limit) => line_within_limit,
+        Some(said) => said,
         None => ParsedLine::Wrong,
     }
 }

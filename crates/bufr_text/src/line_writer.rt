@@ -1,11 +1,11 @@
 //! A writer of lines: octets put into a block of memory, and handed on to a sink.
-ghost use Rattle.std.specs.Prelude.{◌≡◌, ◌≤◌, ◌++◌, [], Ok, length, take, decimal, replicate, ◌<◌, Some, drop};
+ghost use Rattle.std.specs.Prelude.{◌≡◌, ◌≤◌, ◌++◌, [], Ok, length, take, decimal, replicate, ◌<◌, Some, drop, codes};
 ghost use Rattle.bufr_bits.specs.Prelude.{decimal_text_of};
 ghost use Rattle.bufr_tables.specs.Prelude.{row_of_entry, row_comment, row_line_start};
 ghost use Rattle.bufr_text.specs.Prelude.{Pushes, Writes, CountsWrites, zero_padded, Puts, escaped, hex_digit, hex_text, is_unescaped, quoted};
 
 use crate::line::{is_unescaped, suffix};
-use crate::numbers::{fill_named, fill_number_line, put};
+use crate::numbers::{fill_missing_line, fill_named, fill_number_line, put};
 use bufr_bits::Sink;
 use bufr_frame::RunFault;
 use bufr_tables::Entry;
@@ -232,6 +232,56 @@ impl<'b, 'w, W: Sink> LineWriter<'b, 'w, W> {
     {
         self.push(entry.line_start());
         self.push_scaled(i128::from(number), scale);
+        self.push(entry.comment());
+    }
+
+    /// Pushes a number at a scale. No zeros come after the digit 0.
+    #[inline(never)]
+    // rule: decimal-sign, decimal-point, decimal-zeros-after
+    pub(crate) fn push_scaled(&mut self, value: i128, scale: i16)
+        ensures { Pushes self.old (decimal_text_of value scale) self.new }
+    {
+        let mut buffer = Buffer::new();
+        let size = value.unsigned_abs();
+        let digits = buffer.format(size).as_bytes();
+        let places = usize::from(scale.unsigned_abs());
+        let sign: &[u8] = if value < 0 { b"-" } else { b"" };
+        self.push(sign);
+        if scale > 0 {
+            if digits.len() <= places {
+                self.push(b"0.");
+                self.push_zeros(places - digits.len());
+                return self.push(digits);
+            }
+            let (whole, fraction) = digits.split_at(digits.len() - places);
+            self.push(whole);
+            self.push(b".");
+            return self.push(fraction);
+        }
+        self.push(digits);
+        self.push_zeros(if size == 0 { 0 } else { places });
+    }
+
+    /// Pushes the line of a missing value that was read by an entry.
+    #[inline(always)]
+    pub(crate) fn push_missing_line(&mut self, entry: Entry<'_>)
+        ensures { Pushes self.old (row_line_start (row_of_entry entry.entry)
+            ++ (codes "MISSING" ++ row_comment (row_of_entry entry.entry))) self.new }
+    {
+        match fill_missing_line(entry, &mut self.octets[self.len..]) {
+            Some(len) => self.len += len,
+            None => self.push_long_missing(entry),
+        }
+    }
+
+    /// Pushes the line of a missing value that was read by an entry, text by text.
+    #[inline(never)]
+    fn push_long_missing(&mut self, entry: Entry<'_>)
+        ensures { Pushes self.old (row_line_start (row_of_entry entry.entry)
+            ++ (codes "MISSING" ++ row_comment (row_of_entry entry.entry))) self.new }
+    {
+        self.push(entry.line_start());
+        self.push(b"MISSING");
         self.push(entry.comment());
     }
 

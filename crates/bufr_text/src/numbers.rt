@@ -1,13 +1,11 @@
-//! Numbers: put into free octets where there is room, and pushed at any scale.
+//! Numbers, put into free octets where there is room.
 #![tactic(auto, using(crate::proofs::PushLemmas::number_steps))]
 
-ghost use Rattle.std.specs.Prelude.{◌≡◌, ◌≤◌, ◌<◌, ◌+◌, ◌/◌, ◌%◌, ◌++◌, [], ◌∷◌, decimal, take, ◌==◌};
+ghost use Rattle.std.specs.Prelude.{◌≡◌, ◌≤◌, ◌<◌, ◌+◌, ◌/◌, ◌%◌, ◌++◌, [], ◌∷◌, decimal, take, ◌==◌, codes};
 ghost use Rattle.bufr_bits.specs.Prelude.{decimal_text_of, pointed, unsigned_text};
 ghost use Rattle.bufr_tables.specs.Prelude.{row_of_entry, row_comment, row_line_start};
-ghost use Rattle.bufr_text.specs.Prelude.{Puts, Pushes};
+ghost use Rattle.bufr_text.specs.Prelude.{Puts};
 
-use crate::line_writer::LineWriter;
-use bufr_bits::Sink;
 use bufr_tables::Entry;
 use itoa::Buffer;
 
@@ -239,31 +237,19 @@ pub(crate) fn fill_number_line(
     put_block::<COMMENT>(&row[7..], len, free, at)
 }
 
-impl<'b, 'w, W: Sink> LineWriter<'b, 'w, W> {
-    /// Pushes a number at a scale. No zeros come after the digit 0.
-    #[inline(never)]
-    // rule: decimal-sign, decimal-point, decimal-zeros-after
-    pub(crate) fn push_scaled(&mut self, value: i128, scale: i16)
-        ensures { Pushes self.old (decimal_text_of value scale) self.new }
-    {
-        let mut buffer = Buffer::new();
-        let size = value.unsigned_abs();
-        let digits = buffer.format(size).as_bytes();
-        let places = usize::from(scale.unsigned_abs());
-        let sign: &[u8] = if value < 0 { b"-" } else { b"" };
-        self.push(sign);
-        if scale > 0 {
-            if digits.len() <= places {
-                self.push(b"0.");
-                self.push_zeros(places - digits.len());
-                return self.push(digits);
-            }
-            let (whole, fraction) = digits.split_at(digits.len() - places);
-            self.push(whole);
-            self.push(b".");
-            return self.push(fraction);
-        }
-        self.push(digits);
-        self.push_zeros(if size == 0 { 0 } else { places });
+/// Fills a prefix with the line of a missing value that was read by an entry. `None` also for a
+/// long comment, and for a row near the end of the table.
+#[inline(always)]
+pub(crate) fn fill_missing_line(entry: Entry<'_>, free: &mut [u8]) -> Option<usize>
+    ensures { Puts free.old 0 (row_line_start (row_of_entry entry.entry)
+        ++ (codes "MISSING" ++ row_comment (row_of_entry entry.entry))) free.new result }
+{
+    let (row, len) = entry.line_on();
+    // After these checks the compiler drops most of those in the parts.
+    if row.len() < 7 + COMMENT || len > COMMENT || free.len() < LINE {
+        return None;
     }
+    let at = put_block::<START>(row, 7, free, 0)?;
+    let at = put(*b"MISSING", free, at)?;
+    put_block::<COMMENT>(&row[7..], len, free, at)
 }

@@ -2,10 +2,11 @@
 use Rattle.std.proofs.Common.{◌≡◌, ℕ, zero, suc, ◌+◌, ◌-◌, ◌*◌, ◌<◌, ◌≤◌, List, [], ◌∷◌, length, Bool, true, false, ◌||◌, Result, Ok, Err, refl, ap, subst, arith, ◌++◌, inl, inr, drop, sym, ◌∙◌, if◌then◌else◌}
 use Rattle.std.proofs.Math.Nat.{mul-le-mul_left}
 use Rattle.bufr_tables.specs.Prelude.{Tree, bare, element, operator, fixed, delayed, size, places, consumes, is_inserted_text, Row, EveryGroupConsumes, IsSound}
-use Rattle.bufr_walk.specs.Prelude.{Taken, TurnRefusal, FieldSpec, Content, OperatorModel, begin, after_operator, after_field, element_spec, factor_spec, inserted_spec, Turns, finish, operator_turn, Rest, unroll, passes, pass_end, at_end, astray, NextTurn, ahead, asked, operated, stop, Course, next_item, counts_of, TakenField, Takes, oks, answers_of, Walked, ticked, WalkStop, ShowFault, Call, Timed, item_calls, subset_calls, compressed_item_calls, compressed_subset_calls, calls_for, items_called, turns_for, Shows, IsStoredReading, PaysBits, items_in, Read, course_of, Item, plain, item_answer, after, next_after, turns_after, turns_in, ReadsSubsets, Values, apart, together, IsReading, IsPackedReading, max_values}
+use Rattle.bufr_walk.specs.Prelude.{Taken, TurnRefusal, FieldSpec, Content, OperatorModel, begin, after_operator, after_field, element_spec, factor_spec, inserted_spec, Turns, finish, operator_turn, Rest, unroll, passes, pass_end, at_end, astray, NextTurn, ahead, asked, operated, stop, Course, next_item, counts_of, TakenField, Takes, oks, answers_of, Walked, ticked, WalkStop, ShowFault, Call, Timed, item_calls, subset_calls, calls_for, items_called, turns_for, Shows, IsStoredReading, PaysBits, items_in, Read, course_of, Item, plain, item_answer, after, next_after, turns_after, turns_in, ReadsSubsets, Values, apart, together, IsReading, IsPackedReading, max_values, items_of_subset, subsets_from, each_subset, without_turns, walk_shown, group}
 use Rattle.bufr_walk.specs.declared.reading.StoredItems.{StoredItems}
 use Rattle.bufr_walk.specs.Pass.{values_read, calls_of, turns_shown}
 use Rattle.bufr_walk.proofs.WalkLemmas.{stop_cases}
+use Rattle.bufr_walk.proofs.PackedShowing.{no_turns, no_turns_in}
 
 module _ (table : List Row) (n : ℕ) where
   -- each item pays for n turns, and what follows for `a`
@@ -116,118 +117,69 @@ module _ (table : List Row) (n : ℕ) where
               (bounded more (omega arith) g.1.1 a rest b)) counts s items,
         )
 
-  -- the same where the walk comes to its end, with `d` turns to spare
-  abbrev pub Ends : ℕ → ℕ → Rest → Type 0
-  Ends d a rest = (counts : List ℕ) (s : OperatorModel) (items : List Taken) → (ahead table (rest counts) s items).next ≡ at_end → (ahead table (rest counts) s items).turns + d ≤ a + n * length items
+  -- the same walk to its end, with n turns more there
+  abbrev Longer : Rest → Rest → Type 0
+  Longer rest rest' = (counts : List ℕ) (s : OperatorModel) (items : List Taken) → (ahead table (rest counts) s items).next ≡ at_end
+      → (ahead table (rest counts) s items).turns + n ≤ (ahead table (rest' counts) s items).turns
 
-  asked_end : (r : Result FieldSpec TurnRefusal) (go : Taken → List Taken → NextTurn) (items : List Taken) (d a : ℕ)
-      → ((t : Taken) (more : List Taken) → (go t more).next ≡ at_end → (go t more).turns + d ≤ a + n * length more) → (asked r go items).next ≡ at_end
-      → (asked r go items).turns + d + n ≤ 1 + a + n * length items
-  asked_end (Err why) go items d a h e = cc
-  asked_end (Ok spec) go [] d a h e = cc
-  asked_end (Ok spec) go (t ∷ items) d a h e = omega (arith, h t items e)
+  asked_longer : (r : Result FieldSpec TurnRefusal) (go go' : Taken → List Taken → NextTurn) (items : List Taken)
+      → ((t : Taken) (more : List Taken) → (go t more).next ≡ at_end → (go t more).turns + n ≤ (go' t more).turns) → (asked r go items).next ≡ at_end
+      → (asked r go items).turns + n ≤ (asked r go' items).turns
+  asked_longer (Err why) go go' items h e = cc
+  asked_longer (Ok spec) go go' [] h e = cc
+  asked_longer (Ok spec) go go' (t ∷ items) h e = omega (arith, h t items e)
 
-  operated_end : (r : Result OperatorModel TurnRefusal) (go : OperatorModel → NextTurn) (items : List Taken) (d a : ℕ)
-      → ((s : OperatorModel) → (go s).next ≡ at_end → (go s).turns + d ≤ a + n * length items) → (operated r go).next ≡ at_end → (operated r go).turns + d ≤ 1 + a + n * length items
-  operated_end (Err why) go items d a h e = cc
-  operated_end (Ok s) go items d a h e = omega (arith, h s e)
+  operated_longer : (r : Result OperatorModel TurnRefusal) (go go' : OperatorModel → NextTurn) → ((s : OperatorModel) → (go s).next ≡ at_end → (go s).turns + n ≤ (go' s).turns)
+      → (operated r go).next ≡ at_end → (operated r go).turns + n ≤ (operated r go').turns
+  operated_longer (Err why) go go' h e = cc
+  operated_longer (Ok s) go go' h e = omega (arith, h s e)
 
-  operator_end : (fxy : ℕ) (s : OperatorModel) (next : Turns) (items : List Taken) (d a : ℕ)
-      → ((s' : OperatorModel) (more : List Taken) → (ahead table next s' more).next ≡ at_end → (ahead table next s' more).turns + d ≤ a + n * length more)
-      → (ahead table (operator_turn fxy next) s items).next ≡ at_end → (ahead table (operator_turn fxy next) s items).turns + d ≤ 1 + a + n * length items
-  operator_end fxy s next items d a h e = by (is_inserted_text fxy) e
+  operator_longer : (fxy : ℕ) (rest rest' : Rest) → Longer rest rest' → Longer (λ counts. operator_turn fxy (rest counts)) (λ counts. operator_turn fxy (rest' counts))
+  operator_longer fxy rest rest' h counts s items e = by (is_inserted_text fxy) e
     where
-      by : (b : Bool) → (if b then asked (inserted_spec s fxy) (λ t more. ahead table next (after_field s fxy t) more) items else operated (after_operator s fxy)
-          (λ s'. ahead table next s' items)).next ≡ at_end
-          → (if b then asked (inserted_spec s fxy) (λ t more. ahead table next (after_field s fxy t) more) items else operated (after_operator s fxy) (λ s'. ahead table next s' items)).turns + d
-          ≤ 1 + a + n * length items
-      by true q = omega (arith, asked_end (inserted_spec s fxy) (λ t more. ahead table next (after_field s fxy t) more) items d a (λ t more w. h (after_field s fxy t) more w) q)
-      by false q = operated_end (after_operator s fxy) (λ s'. ahead table next s' items) items d a (λ s' w. h s' items w) q
+      turn : Bool → Rest → NextTurn
+      turn b rest = if b then asked (inserted_spec s fxy) (λ t more. ahead table (rest counts) (after_field s fxy t) more) items
+          else operated (after_operator s fxy) (λ s'. ahead table (rest counts) s' items)
 
-  operator_pays_end : (fxy : ℕ) (suffix : Bool) (s : OperatorModel) (next : Turns) (items : List Taken) (d a : ℕ)
-      → ((s' : OperatorModel) (more : List Taken) → (ahead table next s' more).next ≡ at_end → (ahead table next s' more).turns + d ≤ a + n * length more)
-      → (suffix ≡ true → (s' : OperatorModel) → (ahead table next s' items).next ≡ at_end → (ahead table next s' items).turns + (n + d) ≤ a + n * length items)
-      → (is_inserted_text fxy || suffix) ≡ true → (ahead table (operator_turn fxy next) s items).next ≡ at_end
-      → (ahead table (operator_turn fxy next) s items).turns + (n + d) ≤ 1 + a + n * length items
-  operator_pays_end fxy suffix s next items d a h g c e = by (is_inserted_text fxy) c e
-    where
-      by : (b : Bool) → (b || suffix) ≡ true → (if b then asked (inserted_spec s fxy) (λ t more. ahead table next (after_field s fxy t) more) items else operated (after_operator s fxy)
-          (λ s'. ahead table next s' items)).next ≡ at_end
-          → (if b then asked (inserted_spec s fxy) (λ t more. ahead table next (after_field s fxy t) more) items else operated (after_operator s fxy) (λ s'. ahead table next s' items)).turns +
-          (n + d) ≤ 1 + a + n * length items
-      by true p q = omega (arith, asked_end (inserted_spec s fxy) (λ t more. ahead table next (after_field s fxy t) more) items d a (λ t more w. h (after_field s fxy t) more w) q)
-      by false p q = operated_end (after_operator s fxy) (λ s'. ahead table next s' items) items (n + d) a (λ s' w. g p s' w) q
+      by : (b : Bool) → (turn b rest).next ≡ at_end → (turn b rest).turns + n ≤ (turn b rest').turns
+      by true q = asked_longer (inserted_spec s fxy) _ _ items (λ t more. h counts (after_field s fxy t) more) q
+      by false q = operated_longer (after_operator s fxy) _ _ (λ s'. h counts s' items) q
 
-  abbrev pub PaysAtEnd : Tree → Type 0
-  PaysAtEnd body = (d a : ℕ) (rest : Rest) → Ends d a rest → Ends (n + d) (size body + a) (unroll body rest)
+  abbrev LongerAfter : Tree → Type 0
+  LongerAfter body = (rest rest' : Rest) → Longer rest rest' → Longer (unroll body rest) (unroll body rest')
 
-  some_end : (body : Tree) → 1 + size body ≤ n → PaysAtEnd body → (k d a : ℕ) (rest : Rest) → Ends d a rest → Ends (n + d) (size body + (1 + a)) (passes (suc k) (unroll body) rest)
-  some_end body h pays zero d a rest b = pays d (1 + a) (λ later_counts. pass_end (rest later_counts)) (λ counts s items e. omega (arith, b counts s items e))
-  some_end body h pays (suc k) d a rest b = λ counts s items e.
-      omega (
-        arith,
-        pays (n + d) (1 + (size body + (1 + a))) (λ later_counts. pass_end (passes (suc k) (unroll body) rest later_counts))
-            (λ counts' s' items' e'. omega (arith, some_end body h pays k d a rest b counts' s' items' e')) counts s items e,
-      )
+  passes_longer : (body : Tree) → LongerAfter body → (k : ℕ) (rest rest' : Rest) → Longer rest rest' → Longer (passes k (unroll body) rest) (passes k (unroll body) rest')
+  passes_longer body go zero rest rest' h = h
+  passes_longer body go (suc k) rest rest' h =
+      go (λ counts. pass_end (passes k (unroll body) rest counts)) (λ counts. pass_end (passes k (unroll body) rest' counts))
+      (λ counts s items e. omega (arith, passes_longer body go k rest rest' h counts s items e))
 
-  any_end : (body : Tree) → 1 + size body ≤ n → PaysAtEnd body → (k d a : ℕ) (rest : Rest) → Ends d a rest → Ends d (size body + a) (passes k (unroll body) rest)
-  any_end body h pays zero d a rest b = λ counts s items e. omega (arith, b counts s items e)
-  any_end body h pays (suc k) d a rest b = λ counts s items e. omega (arith, some_end body h pays k d a rest b counts s items e)
+  delayed_longer : (fxy : ℕ) (body more : Tree) (rest rest' : Rest) → ((k : ℕ) → Longer (passes k (unroll body) (unroll more rest)) (passes k (unroll body) (unroll more rest')))
+      → Longer (unroll (delayed fxy body more) rest) (unroll (delayed fxy body more) rest')
+  delayed_longer fxy body more rest rest' h [] s items e =
+      omega (arith, asked_longer (factor_spec table s fxy) (λ t answers. stop astray) (λ t answers. stop astray) items (λ t answers q. cc) e)
+  delayed_longer fxy body more rest rest' h (k ∷ counts) s items e =
+      let go : Rest → Taken → List Taken → NextTurn = λ end t answers. ahead table (passes k (unroll body) (unroll more end) counts) (after_field s fxy t) answers in
+      omega (arith, asked_longer (factor_spec table s fxy) (go rest) (go rest') items (λ t answers. h k counts (after_field s fxy t) answers) e)
 
-  delayed_end : (fxy : ℕ) (body more : Tree) (rest : Rest) (d a : ℕ) → ((c : ℕ) → Ends d (size body + (size more + a)) (passes c (unroll body) (unroll more rest)))
-      → Ends (n + d) (3 + size body + size more + a) (unroll (delayed fxy body more) rest)
-  delayed_end fxy body more rest d a h [] s items e =
-      omega (arith, asked_end (factor_spec table s fxy) (λ t more_items. stop astray) items d 1 (λ t more_items w. cc) e)
-  delayed_end fxy body more rest d a h (c ∷ counts) s items e =
-      omega (
-        arith,
-        asked_end (factor_spec table s fxy) (λ t more_items. ahead table (passes c (unroll body) (unroll more rest) counts) (after_field s fxy t) more_items) items d
-            (size body + (size more + a)) (λ t more_items w. h c counts (after_field s fxy t) more_items w) e,
-      )
+  pub longer : (t : Tree) → LongerAfter t
+  longer bare rest rest' h = h
+  longer (element fxy more) rest rest' h = λ counts s items.
+      asked_longer (element_spec table s fxy) _ _ items (λ t answers. longer more rest rest' h counts (after_field s fxy t) answers)
+  longer (operator fxy more) rest rest' h = operator_longer fxy (unroll more rest) (unroll more rest') (longer more rest rest' h)
+  longer (fixed count body more) rest rest' h = λ counts s items e.
+      omega (arith, passes_longer body (longer body) count (unroll more rest) (unroll more rest') (longer more rest rest' h) counts s items e)
+  longer (delayed fxy body more) rest rest' h =
+      delayed_longer fxy body more rest rest' (λ k. passes_longer body (longer body) k (unroll more rest) (unroll more rest') (longer more rest rest' h))
 
-  mutual
-    pub ended : (t : Tree) → size t < n → EveryGroupConsumes t → (d a : ℕ) (rest : Rest) → Ends d a rest → Ends d (size t + a) (unroll t rest)
-    ended bare h g d a rest b = λ counts s items e. omega (arith, b counts s items e)
-    ended (element fxy more) h g d a rest b = λ counts s items e.
-        omega (
-          arith,
-          asked_end (element_spec table s fxy) (λ t more_items. ahead table (unroll more rest counts) (after_field s fxy t) more_items) items d (size more + a)
-              (λ t more_items w. ended more (omega arith) g d a rest b counts (after_field s fxy t) more_items w) e,
-        )
-    ended (operator fxy more) h g d a rest b = λ counts s items e.
-        omega (arith, operator_end fxy s (unroll more rest counts) items d (size more + a) (λ s' answers w. ended more (omega arith) g d a rest b counts s' answers w) e)
-    ended (fixed count body more) h g d a rest b = λ counts s items e.
-        omega (arith, any_end body (omega arith) (pays_end body (omega arith) g.1.1.0 g.1.0) count d (size more + a) (unroll more rest) (ended more (omega arith) g.1.1.1 d a rest b) counts s items e)
-    ended (delayed fxy body more) h g d a rest b = λ counts s items e.
-        omega (
-          arith,
-          delayed_end fxy body more rest d a (λ c. any_end body (omega arith) (pays_end body (omega arith) g.1.0 g.0) c d (size more + a) (unroll more rest)
-              (ended more (omega arith) g.1.1 d a rest b)) counts s items e,
-        )
+-- so many turns, and then the end
+abbrev groups : ℕ → Turns
+groups zero = finish
+groups (suc k) = group (groups k)
 
-    pub pays_end : (t : Tree) → size t < n → EveryGroupConsumes t → consumes t ≡ true → PaysAtEnd t
-    pays_end bare h g c d a rest b = cc
-    pays_end (element fxy more) h g c d a rest b = λ counts s items e.
-        omega (
-          arith,
-          asked_end (element_spec table s fxy) (λ t more_items. ahead table (unroll more rest counts) (after_field s fxy t) more_items) items d (size more + a)
-              (λ t more_items w. ended more (omega arith) g d a rest b counts (after_field s fxy t) more_items w) e,
-        )
-    pays_end (operator fxy more) h g c d a rest b = λ counts s items e.
-        omega (
-          arith,
-          operator_pays_end fxy (consumes more) s (unroll more rest counts) items d (size more + a) (λ s' answers w. ended more (omega arith) g d a rest b counts s' answers w)
-              (λ c' s' w. pays_end more (omega arith) g c' d a rest b counts s' items w) c e,
-        )
-    pays_end (fixed zero body more) h g c d a rest b = absurd (omega arith)
-    pays_end (fixed (suc k) body more) h g c d a rest b = λ counts s items e.
-        omega (arith, some_end body (omega arith) (pays_end body (omega arith) g.1.1.0 g.1.0) k d (size more + a) (unroll more rest) (ended more (omega arith) g.1.1.1 d a rest b) counts s items e)
-    pays_end (delayed fxy body more) h g c d a rest b = λ counts s items e.
-        omega (
-          arith,
-          delayed_end fxy body more rest d a (λ j. any_end body (omega arith) (pays_end body (omega arith) g.1.0 g.0) j d (size more + a) (unroll more rest)
-              (ended more (omega arith) g.1.1 d a rest b)) counts s items e,
-        )
+group_turns : (table : List Row) (k : ℕ) (s : OperatorModel) (items : List Taken) → (ahead table (groups k) s items).turns ≡ k + 1
+group_turns table zero s items = refl
+group_turns table (suc k) s items = omega (arith, group_turns table k s items)
 
 -- up to any next: at most n turns for each item, and n more
 pub turns_before : (table : List Row) (t : Tree) (answers : List Taken) → IsSound t → (next_item table t answers).turns ≤ places t * (length answers + 1)
@@ -237,7 +189,13 @@ turns_before table t answers g = omega (arith, bounded table (1 + size t) t (ome
 -- up to the end: at most n turns for each item
 pub turns_in_all : (table : List Row) (t : Tree) (answers : List Taken) → IsSound t → (next_item table t answers).next ≡ at_end → (next_item table t answers).turns ≤ places t * length answers
 unfolding next_item
-turns_in_all table t answers g e = omega (arith, pays_end table (1 + size t) t (omega arith) g.0 g.1 0 1 (λ _. finish) (λ counts s items' w. omega arith) (counts_of answers) begin answers e)
+turns_in_all table t answers g e =
+    let n : ℕ = 1 + size t in
+    omega (
+      arith,
+      longer table n t (λ _. finish) (λ _. groups n) (λ counts s items q. omega (arith, group_turns table n s items)) (counts_of answers) begin answers e,
+      pays table n t (omega arith) g.0 g.1 (n + 1) (λ _. groups n) (λ counts s items. omega (arith, group_turns table n s items)) (counts_of answers) begin answers,
+    )
 
 answer_length : (items : List TakenField) → length (answers_of items) ≡ length items
 answer_length [] = refl
@@ -298,16 +256,16 @@ called_subsets table course before number (items ∷ subsets) =
       called_subsets table course (before + turns_after plain course items) (number + 1) subsets,
     )
 
-called_together : (table : List Row) (j : ℕ) (items : List (Item (List Content))) → items_called (compressed_item_calls table j items) ≡ length items
-called_together table j [] = refl
-called_together table j (i ∷ items) = omega (arith, called_together table j items)
+pub length-items_of : (j : ℕ) (items : List (Item (List Content))) → length (items_of_subset j items) ≡ length items
+length-items_of j [] = refl
+length-items_of j (i ∷ items) = ap suc (length-items_of j items)
 
-called_all : (table : List Row) (n j : ℕ) (items : List (Item (List Content))) → items_called (compressed_subset_calls table n j items) ≡ length items * n
-called_all table zero j items = omega arith
-called_all table (suc n) j items =
-    let suffix : List Timed = compressed_subset_calls table n (j + 1) items in
+-- each item of compressed data is one of each subset
+items_apart : (n j : ℕ) (items : List (Item (List Content))) → items_in (subsets_from n j items) ≡ length items * n
+items_apart zero j items = omega arith
+items_apart (suc n) j items =
     let more : length items * suc n ≡ length items + length items * n = grind arith in
-    omega (arith, more, called_more (compressed_item_calls table j items) suffix, called_together table j items, called_all table n (j + 1) items)
+    omega (arith, more, length-items_of j items, items_apart n (suc j) items)
 
 packed_few : (table : List Row) (n used : ℕ) (course : Course) (items : List (Item (List Content))) (bits suffix : List Bool) → IsPackedReading n course items bits suffix
     → length items * n ≤ max_values
@@ -316,11 +274,13 @@ packed_few table (suc n) used course items bits suffix h = h.1
 
 -- the items of all calls
 pub few_items : (r : Read) (k : StoredItems) → IsStoredReading r k → items_called (calls_of r) ≤ max_values
-few_items r k h = by (values_read r) h.reading h.pays
+few_items r k h =
+    let v = values_read r in
+    omega (arith, called_subsets r.table (walk_shown r v) 0 1 (each_subset r.source.subsets v), by v h.reading h.pays)
   where
-    by : (v : Values) → IsReading (course_of r) r.source v r.bits → PaysBits v r.bits → items_called (calls_for r v) ≤ max_values
-    by (apart xs) g p = omega (arith, called_subsets r.table (course_of r) 0 1 xs, p, h.short)
-    by (together xs) g p = omega (arith, called_all r.table r.source.subsets 0 xs, packed_few r.table r.source.subsets r.bits (course_of r) xs r.source.bits (drop r.bits r.source.bits) g.2)
+    by : (v : Values) → IsReading (course_of r) r.source v r.bits → PaysBits v r.bits → items_in (each_subset r.source.subsets v) ≤ max_values
+    by (apart xs) g p = omega (arith, p, h.short)
+    by (together xs) g p = omega (arith, items_apart r.source.subsets 0 xs, packed_few r.table r.source.subsets r.bits (course_of r) xs r.source.bits (drop r.bits r.source.bits) g.2)
 
 -- calls before each of which at most so many turns are made
 abbrev AllWithin : ℕ → List Timed → Type 0
@@ -413,17 +373,17 @@ subsets_within most table template before paid number (items ∷ subsets) bits s
     zeroed : (l : ℕ) → l + 1 ≡ 0 + l + 1
     zeroed l = omega arith
 
-together_within : (most : ℕ) (table : List Row) (n j : ℕ) (items : List (Item (List Content))) → AllWithin most (compressed_subset_calls table n j items)
-together_within most table zero j items = tt
-together_within most table (suc n) j items = (
-  omega arith,
-  within_more most (compressed_item_calls table j items) (compressed_subset_calls table n (j + 1) items) (one items)
-      (together_within most table n (j + 1) items),
+untimed_within : (most : ℕ) (table : List Row) (before number : ℕ) (subsets : List (List (Item Content))) → before ≡ 0 → AllWithin most (subset_calls table without_turns before number subsets)
+untimed_within most table before number [] none = tt
+untimed_within most table before number (items ∷ subsets) none = (
+  omega (arith, none),
+  within_more most (item_calls table before without_turns items) (subset_calls table without_turns (before + turns_after plain without_turns items) (number + 1) subsets) (one items)
+      (untimed_within most table (before + turns_after plain without_turns items) (number + 1) subsets (omega (arith, none, no_turns items))),
 )
   where
-    one : (items : List (Item (List Content))) → AllWithin most (compressed_item_calls table j items)
+    one : (items : List (Item Content)) → AllWithin most (item_calls table before without_turns items)
     one [] = tt
-    one (i ∷ items) = (omega arith, one items)
+    one (i ∷ items) = (omega (arith, none), one items)
 
 -- the steps of a showing
 pub steps_within : {S E : Type 0} (sees : S → Call → Result (Unit {0}) E → S → Type 0) (r : Read) (k : StoredItems) (s s' : S) (result : Result (Unit {0}) (ShowFault E)) (steps : ℕ)
@@ -437,5 +397,6 @@ steps_within sees r k s s' result steps sound h shows = by (values_read r) h.rea
         let all = subsets_within (places r.template * r.bits) r.table r.template 0 0 1 subsets r.source.bits (drop r.bits r.source.bits) sound g.2.0 (omega arith)
         (mono (places r.template) (0 + items_in subsets) r.bits (omega (arith, p))) in
         shows_within sees (places r.template * r.bits) s (calls_for r (apart subsets)) (turns_for r (apart subsets)) result s' steps w (omega (arith, all.1)) all.0
-    by (together items) g p w = shows_within sees (places r.template * r.bits) s (calls_for r (together items)) (turns_for r (together items)) result s' steps w (omega arith)
-        (together_within (places r.template * r.bits) r.table r.source.subsets 0 items)
+    by (together items) g p w = shows_within sees (places r.template * r.bits) s (calls_for r (together items)) (turns_for r (together items)) result s' steps w
+        (omega (arith, no_turns_in (subsets_from r.source.subsets 0 items)))
+        (untimed_within (places r.template * r.bits) r.table 0 1 (subsets_from r.source.subsets 0 items) refl)

@@ -1,7 +1,7 @@
 -- What is cached: specs by their keys, and lists of descriptors in slots.
 use Rattle.std.proofs.lemmas.Grind.{common_steps}
-use Rattle.std.proofs.Common.{◌≡◌, ℕ, ◌+◌, ◌*◌, ◌<◌, arith, sym, ◌^◌, false, List, Ok, ap, subst, ◌≤◌, [], ◌∷◌, ◌++◌, length, length-append, nat_lt}
-use Rattle.bufr_walk.specs.Prelude.{MayStay, list_of, lists_of, OperatorModel, IsKey, is_defining, element_spec, factor_spec, unsigned_field, IsFieldKey, descriptor_of, key_word, spec_of, FieldSpec, is_reference, IsSpecBy, IsOther, TableField}
+use Rattle.std.proofs.Common.{◌≡◌, ◌≢◌, ℕ, zero, suc, inl, inr, Contains, slice_set, ◌+◌, ◌*◌, ◌<◌, arith, sym, ◌^◌, false, List, Ok, ap, subst, ◌≤◌, [], ◌∷◌, ◌++◌, length, length-append, nat_lt}
+use Rattle.bufr_walk.specs.Prelude.{Lists, IsKept, MayStay, list_of, lists_of, OperatorModel, IsKey, is_defining, element_spec, factor_spec, unsigned_field, IsFieldKey, descriptor_of, key_word, spec_of, FieldSpec, is_reference, IsSpecBy, IsOther, TableField}
 use Rattle.std.proofs.lemmas.Bool.Decides.{nat_tests}
 use Rattle.bufr_tables.specs.Prelude.{Row, Sequence}
 use Rattle.bufr_walk.proofs.WalkLemmas.{fitted_role, element_cases, kind_role}
@@ -83,5 +83,23 @@ all_stay b d (s ∷ slots) h = All-cons (MayStay b d) (list_of s) (lists_of slot
 pub one_more : (b : List Row) (d : List Sequence) (slots : List Slot) (s : Slot) → All (IsOther b d) slots → IsOther b d s → All (IsOther b d) (slots ++ s ∷ [])
 one_more b d slots s h p = All-append (IsOther b d) slots (s ∷ []) h (All-cons (IsOther b d) s [] p (All-nil (IsOther b d)))
 
-pub one_longer : (slots : List Slot) (s : Slot) → length slots ≤ 14 → length (slots ++ s ∷ []) ≤ 15
+pub one_longer : (slots : List Slot) (s : Slot) → length slots ≤ 126 → length (slots ++ s ∷ []) ≤ 127
 one_longer slots s h = simp length-append (omega arith)
+
+-- a list is among those of the slots where one of them was replaced by its slot
+pub set_contains : (slots : List Slot) (i : ℕ) (s : Slot) (list : List ℕ) → i < length slots → list_of s ≡ list → Contains (lists_of (slice_set slots i s)) list
+set_contains [] i s list h e = absurd (omega (arith, h))
+set_contains (t ∷ slots) zero s list h e = (0, omega arith, e)
+set_contains (t ∷ slots) (suc i) s list h e =
+    let more = set_contains slots i s list (omega (arith, h)) e in
+    (suc more.0, omega (arith, more.1), more.2)
+
+-- a list is not kept where no slot has it
+none_contains : (slots : List Slot) (list : List ℕ) → All (λ s. s.templates.list ≢ list) slots → Contains (lists_of slots) list → ⊥
+none_contains [] list h (k, few, is) = omega (arith, few)
+none_contains (s ∷ slots) list h (zero, few, is) = All-head (λ (s : Slot). s.templates.list ≢ list) s slots h is
+none_contains (s ∷ slots) list h (suc k, few, is) = none_contains slots list (All-tail (λ (s : Slot). s.templates.list ≢ list) s slots h) (k, omega (arith, few), is)
+
+pub none_kept : (l : Lists) (slots : List Slot) (list : List ℕ) → l.others ≡ lists_of slots → l.list ≢ list → All (λ s. s.templates.list ≢ list) slots → IsKept l list → ⊥
+none_kept l slots list are last others (inl is) = last is
+none_kept l slots list are last others (inr is) = none_contains slots list others (subst (λ xs. Contains xs list) are is)

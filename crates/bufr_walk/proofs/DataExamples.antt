@@ -1,11 +1,14 @@
 -- Worked examples of whole readings: what stops them and where, and how many turns they take.
-use Rattle.std.proofs.Common.{◌≡◌, ℕ, Bool, true, false, List, [], ◌∷◌, length, Option, Some, None, refl}
+use Rattle.std.proofs.Common.{◌≡◌, ℕ, Bool, true, false, List, [], ◌∷◌, length, Option, Some, None, refl, zero, suc, ◌+◌, ◌-◌, Result, Ok, Err, if◌then◌else◌, option_map}
 use Rattle.bufr_bits.specs.Prelude.{bits_of}
 use Rattle.bufr_tables.specs.Prelude.{Tree, bare, element, operator, fixed}
-use Rattle.bufr_walk.specs.Prelude.{data_end, increment, next_item, Stop, walk_stop, too_many, field_stop, data_in, Course}
-use Rattle.bufr_walk.specs.Pass.{reading_of, reading_in}
-use Rattle.bufr_walk.proofs.ExampleTables.{fxy, table}
+use Rattle.bufr_walk.specs.Prelude.{next_item, Stop, data_in, Course, DataCoding, plain, packed, Content, FieldSpec, FieldRead, FieldFault, unequal_factor, data_end, increment, Next, take_next, at_end, astray, refused, would_be_many, fault_at, Data, fault_of}
+use Rattle.bufr_walk.specs.Pass.{reading_of, reading_in, Pass, Place, Step, DataPass, pass, pass_next, pass_field, read_field, reading, place_at, read_pass, first_stop, stop_of, passes_apart, unless_stopped}
+use Rattle.bufr_walk.specs.declared.walker.WalkStop.TheVariants as stops
+use Rattle.bufr_walk.specs.declared.fault.DataFault.TheVariants as wrong
+use Rattle.bufr_walk.specs.declared.fault.WalkFault.TheVariants as fault
 use Rattle.bufr_walk.specs.declared.spec.TurnRefusal.TheVariants as turn
+use Rattle.bufr_walk.proofs.ExampleTables.{fxy, table}
 
 -- how a reading of so many subsets ends: what stops it, in which subset, with how many bits left,
 -- and after how many turns
@@ -26,13 +29,13 @@ two_subsets = refl
 
 -- The second subset is refused, and no third is read: fails where its number does not grow.
 -- rule: stream-fault-place
-second_subset_refused : ends false 3 block (20 ∷ []) ≡ (Some (field_stop 257 data_end), 2, 1, 3)
+second_subset_refused : ends false 3 block (20 ∷ []) ≡ (Some (stops.Field (wrong.DataEnd 257)), 2, 1, 3)
 unfolding ends block
 second_subset_refused = refl
 
 -- All subsets of compressed data are refused as subset 0, also at their second item.
 -- rule: stream-fault-place
-together_refused : ends true 2 (element (fxy 0 1 1) block) (20 ∷ 0 ∷ []) ≡ (Some (field_stop 257 data_end), 0, 3, 2)
+together_refused : ends true 2 (element (fxy 0 1 1) block) (20 ∷ 0 ∷ []) ≡ (Some (stops.Field (wrong.DataEnd 257)), 0, 3, 2)
 unfolding ends block fxy
 together_refused = refl
 
@@ -48,7 +51,7 @@ width_after_an_item : Tree
 unfolding fxy
 width_after_an_item = element (fxy 0 1 1) (operator (fxy 2 1 121) (element (fxy 0 1 1) bare))
 
-items_first : (ends false 1 width_after_an_item (20 ∷ []) ≡ (Some (walk_stop (turn.Width 257)), 1, 1, 3)) × (ends false 1 width_after_an_item [] ≡ (Some (field_stop 257 data_end), 1, 0, 1))
+items_first : (ends false 1 width_after_an_item (20 ∷ []) ≡ (Some (stops.Width 257), 1, 1, 3)) × (ends false 1 width_after_an_item [] ≡ (Some (stops.Field (wrong.DataEnd 257)), 1, 0, 1))
 unfolding ends width_after_an_item
 items_first = (refl, refl)
 
@@ -58,18 +61,18 @@ eight_or_nine : ℕ → Tree
 unfolding fxy
 eight_or_nine n = fixed n (element (fxy 0 31 0) bare) bare
 
-as_many_items_as_bits : (ends false 1 (eight_or_nine 8) (255 ∷ []) ≡ (None, 1, 0, 18)) × (ends false 1 (eight_or_nine 9) (255 ∷ []) ≡ (Some (field_stop 7936 data_end), 1, 0, 18))
+as_many_items_as_bits : (ends false 1 (eight_or_nine 8) (255 ∷ []) ≡ (None, 1, 0, 18)) × (ends false 1 (eight_or_nine 9) (255 ∷ []) ≡ (Some (stops.Field (wrong.DataEnd 7936)), 1, 0, 18))
 unfolding ends eight_or_nine
 as_many_items_as_bits = (refl, refl)
 
 -- A refusal is at the bits before its item: fails where the base is counted too.
-refused_at_its_item : ends true 2 block (252 ∷ 17 ∷ 0 ∷ []) ≡ (Some (field_stop 257 increment), 0, 24, 1)
+refused_at_its_item : ends true 2 block (252 ∷ 17 ∷ 0 ∷ []) ≡ (Some (stops.Field (wrong.Increment 257)), 0, 24, 1)
 unfolding ends block
 refused_at_its_item = refl
 
 -- Too many values are refused before the data end: fails where the bound is another.
 -- rule: too-many-values
-too_many_values : (ends true 134217729 block [] ≡ (Some (too_many 257), 0, 0, 1)) × (ends true 134217728 block [] ≡ (Some (field_stop 257 data_end), 0, 0, 1))
+too_many_values : (ends true 134217729 block [] ≡ (Some (stops.Field (wrong.TooManyValues 257)), 0, 0, 1)) × (ends true 134217728 block [] ≡ (Some (stops.Field (wrong.DataEnd 257)), 0, 0, 1))
 unfolding ends block
 too_many_values = (refl, refl)
 
@@ -77,3 +80,77 @@ too_many_values = (refl, refl)
 -- rule: no-subsets
 never_refused : (course : Course) (bits : List Bool) → ((reading_in course false 0 bits).stop ≡ None) × ((reading_in course true 0 bits).stop ≡ None)
 never_refused course bits = (refl, refl)
+
+-- ---- Want of memory stops no reading of the definitions: it is a case of its own in `ReadsData`.
+
+-- a stop that is no want of memory
+abbrev IsOther : Stop → Type 0
+IsOther (stops.Width fxy) = Unit {0}
+IsOther (stops.Defining fxy) = Unit {0}
+IsOther (stops.Field (wrong.DataEnd fxy)) = Unit {0}
+IsOther (stops.Field (wrong.Increment fxy)) = Unit {0}
+IsOther (stops.Field (wrong.UnequalFactor fxy)) = Unit {0}
+IsOther (stops.Field (wrong.TooManyValues fxy)) = Unit {0}
+IsOther (stops.Field wrong.Memory) = ⊥
+IsOther stops.Memory = ⊥
+
+abbrev IsNoneOrOther : Option Stop → Type 0
+IsNoneOrOther None = Unit {0}
+IsNoneOrOther (Some why) = IsOther why
+
+pass_stop : {C : Type 0} (form : DataCoding C) (many : ℕ → Bool) (most : ℕ) (course : Course) (s : Place) → IsNoneOrOther (pass (reading form many) most course s).stop
+pass_stop form many zero course s = tt
+pass_stop {C} form many (suc more) course s = by (course []).next (pass_stop form many more)
+  where
+    go : Step Place C → Pass Place C Stop
+    go f = pass (reading form many) more (λ answers. course (f.returned ∷ answers)) f.state
+
+    field : (spec : FieldSpec) (b : Bool) (r : Result (FieldRead C) FieldFault) → ((course : Course) (s : Place) → IsNoneOrOther (pass (reading form many) more course s).stop)
+        → IsNoneOrOther (pass_field (reading form many) (course []).turns spec s (if b then Err (stops.Field (wrong.TooManyValues spec.fxy)) else read_field form spec s.items r) go).stop
+    field spec true r rest = tt
+    field spec false (Err data_end) rest = tt
+    field spec false (Err increment) rest = tt
+    field spec false (Err unequal_factor) rest = tt
+    field spec false (Ok f) rest = rest (λ answers. course (form.gives spec f.content ∷ answers)) (place_at (s.items + 1) f.suffix)
+
+    by : (next : Next) → ((course : Course) (s : Place) → IsNoneOrOther (pass (reading form many) more course s).stop)
+        → IsNoneOrOther (pass_next (reading form many) (course []).turns next s go).stop
+    by (take_next spec) rest = field spec (many s.items) (form.field spec s.left) rest
+    by at_end rest = tt
+    by astray rest = tt
+    by (refused (turn.Width fxy)) rest = tt
+    by (refused (turn.Defining fxy)) rest = tt
+
+first_of : (first later : Option Stop) → IsNoneOrOther first → IsNoneOrOther later → IsNoneOrOther (first_stop first later)
+first_of None later h g = g
+first_of (Some why) later h g = h
+
+apart_stop : (course : Course) (n : ℕ) (bits : List Bool) → IsNoneOrOther (stop_of (passes_apart course n bits))
+apart_stop course zero bits = tt
+apart_stop course (suc n) bits =
+    let p = read_pass plain (λ items. false) course bits in
+    first_of p.stop _ (pass_stop plain (λ items. false) (suc (length bits)) course (place_at 0 bits)) (unless p.stop (passes_apart course n p.state.left) (apart_stop course n p.state.left))
+  where
+    unless : (o : Option Stop) (passes : List (DataPass Content)) → IsNoneOrOther (stop_of passes) → IsNoneOrOther (stop_of (unless_stopped o passes))
+    unless None passes h = h
+    unless (Some why) passes h = tt
+
+reading_stop : (course : Course) (compressed : Bool) (n : ℕ) (bits : List Bool) → IsNoneOrOther (reading_in course compressed n bits).stop
+reading_stop course false n bits = apart_stop course n bits
+reading_stop course true zero bits = tt
+reading_stop course true (suc n) bits = first_of _ None (pass_stop (packed (suc n)) (would_be_many (suc n)) (suc (length bits)) course (place_at 0 bits)) tt
+
+never_for_memory : (course : Course) (d : Data) → fault_of d (reading_of course d) ≡ Some fault.Memory → ⊥
+never_for_memory course d = by (reading_of course d).stop (reading_stop course d.compressed d.subsets d.bits)
+  where
+    by : (o : Option Stop) → IsNoneOrOther o
+        → option_map (λ why. fault_at why (reading_of course d).subset (length d.bits - length (reading_of course d).left)) o ≡ Some fault.Memory → ⊥
+    by None h e = cc
+    by (Some (stops.Width fxy)) h e = cc
+    by (Some (stops.Defining fxy)) h e = cc
+    by (Some (stops.Field (wrong.DataEnd fxy))) h e = cc
+    by (Some (stops.Field (wrong.Increment fxy))) h e = cc
+    by (Some (stops.Field (wrong.UnequalFactor fxy))) h e = cc
+    by (Some (stops.Field (wrong.TooManyValues fxy))) h e = cc
+    by (Some (stops.Field wrong.Memory)) h e = h
+    by (Some stops.Memory) h e = h

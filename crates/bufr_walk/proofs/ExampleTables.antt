@@ -1,11 +1,12 @@
 -- The table of the worked examples, and readings by it: a pass over a template with all that it
 -- shows, and its end. They compute the reading that the contracts cite.
-use Rattle.std.proofs.Common.{ℕ, ◌+◌, ◌*◌, List, [], ◌∷◌, length, map, ℤ, pos, negsuc, true, false, Option, Some, None}
+use Rattle.std.proofs.Common.{ℕ, ◌+◌, ◌*◌, List, [], ◌∷◌, length, map, ℤ, pos, negsuc, Option, Some, None}
 use Rattle.bufr_bits.specs.Prelude.{bits_of}
 use Rattle.bufr_tables.specs.declared.table_b.Kind.TheVariants as kind
 use Rattle.bufr_tables.specs.Prelude.{Row, Tree}
-use Rattle.bufr_walk.specs.Prelude.{Kind, TurnRefusal, FieldSpec, ShownValue, shown, FieldFault, Content, next_item, Stop, walk_stop, too_many, field_stop, data_in}
-use Rattle.bufr_walk.specs.Pass.{Pass as DataPass, Place, Passes, each, all, reading_of}
+use Rattle.bufr_walk.specs.Prelude.{Kind, TurnRefusal, FieldSpec, ShownValue, shown, FieldFault, next_item, Stop, stop_by, wrong_of}
+use Rattle.bufr_walk.specs.declared.walker.WalkStop.TheVariants as stops
+use Rattle.bufr_walk.specs.Pass.{Pass as DataPass, Place, passes_apart, passes_together}
 
 -- the descriptor of F, X and Y
 unfoldable pub fxy : (f x y : ℕ) → ℕ
@@ -34,12 +35,18 @@ table =
     ∷ listed 0 31 250 kind.Character (pos 0) (pos 0) 8
     ∷ []
 
--- the end of a pass: with so many bits left, or at a fault of the walk or of a field
+-- the end of a pass: with so many bits left, or at a stop
 pub data Ending : Type 0 where
   done : (left turns : ℕ) → Ending
-  walk_fault : (why : TurnRefusal) (left turns : ℕ) → Ending
-  field_fault : (fxy : ℕ) (why : FieldFault) (left turns : ℕ) → Ending
+  stopped : (why : Stop) (left turns : ℕ) → Ending
   unknown : Ending
+
+-- at a refused turn, or at a fault of a field
+abbrev pub walk_fault : TurnRefusal → (left turns : ℕ) → Ending
+walk_fault why left turns = stopped (stop_by why) left turns
+
+abbrev pub field_fault : (fxy : ℕ) → FieldFault → (left turns : ℕ) → Ending
+field_fault fxy why left turns = stopped (stops.Field (wrong_of fxy why)) left turns
 
 -- one pass: what each item shows, by its descriptor, and its end
 pub record Pass (C : Type 0) : Type 0 where
@@ -49,24 +56,12 @@ pub record Pass (C : Type 0) : Type 0 where
 -- how a pass of the definitions ended
 ending_of : Option Stop → ℕ → ℕ → Ending
 ending_of None left turns = done left turns
-ending_of (Some (walk_stop why)) left turns = walk_fault why left turns
-ending_of (Some (field_stop fxy why)) left turns = field_fault fxy why left turns
-ending_of (Some (too_many fxy)) left turns = unknown
+ending_of (Some stop) left turns = stopped stop left turns
 
 -- what a pass of the definitions shows
 seen : {C V : Type 0} → (FieldSpec → C → V) → DataPass Place C Stop → Pass V
 unfolding ending_of
 seen shows p = record { items = map (λ i. (i.spec.fxy, shows i.spec i.content)) p.items; ending = ending_of p.stop (length p.state.left) p.turns }
-
--- the passes of a reading of data that are not compressed
-apart_in : Passes → List (DataPass Place Content Stop)
-apart_in (each passes) = passes
-apart_in (all passes) = []
-
--- the passes of a reading of compressed data
-together_in : Passes → List (DataPass Place (List Content) Stop)
-together_in (each passes) = []
-together_in (all passes) = passes
 
 first : {V : Type 0} → List (Pass V) → Pass V
 first [] = record { items = []; ending = unknown }
@@ -74,19 +69,19 @@ first (p ∷ passes) = p
 
 -- one subset of data that are not compressed
 unfoldable pub one : Tree → List ℕ → Pass ShownValue
-unfolding table seen apart_in first next_item bits_of
-one tree octets = first (map (seen shown) (apart_in (reading_of (next_item table tree) (data_in false 1 octets)).passes))
+unfolding table seen first next_item bits_of
+one tree octets = first (map (seen shown) (passes_apart (next_item table tree) 1 (bits_of octets)))
 
 -- all of so many compressed subsets
 unfoldable pub together : ℕ → Tree → List ℕ → Pass (List ShownValue)
-unfolding table seen together_in first next_item bits_of
-together n tree octets = first (map (seen (λ spec cs. map (shown spec) cs)) (together_in (reading_of (next_item table tree) (data_in true n octets)).passes))
+unfolding table seen first next_item bits_of
+together n tree octets = first (map (seen (λ spec cs. map (shown spec) cs)) (passes_together (next_item table tree) n (bits_of octets)))
 
 -- two subsets of data that are not compressed, each from the beginning of the template; nothing is
 -- read after a fault
 unfoldable pub two : Tree → List ℕ → List (Pass ShownValue)
-unfolding table seen apart_in next_item bits_of
-two tree octets = map (seen shown) (apart_in (reading_of (next_item table tree) (data_in false 2 octets)).passes)
+unfolding table seen next_item bits_of
+two tree octets = map (seen shown) (passes_apart (next_item table tree) 2 (bits_of octets))
 
 -- the expected pass
 unfoldable pub gives : {V : Type 0} → List (ℕ × V) → Ending → Pass V

@@ -17,3 +17,4 @@ pub mod PackedReading
 pub mod PackedShowing
 pub mod ShownLemmas
 pub mod CacheLemmas
+pub mod RowLemmas

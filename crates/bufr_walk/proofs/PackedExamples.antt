@@ -1,9 +1,11 @@
 -- Worked examples of compressed data, computed from the definitions.
-use Rattle.std.proofs.Common.{◌≡◌, ◌*◌, ◌+◌, true, false, [], ◌∷◌, Some, None, pos, negsuc, refl, nat_lt}
+use Rattle.std.proofs.Common.{◌≡◌, ◌*◌, ◌+◌, true, false, [], ◌∷◌, Some, None, pos, negsuc, refl, nat_lt, List}
 use Rattle.bufr_tables.specs.Prelude.{bare, element, operator, delayed}
 use Rattle.bufr_walk.specs.declared.spec.TurnRefusal.TheVariants as refusal
 use Rattle.bufr_walk.specs.declared.spec.Taken.TheVariants as taken
-use Rattle.bufr_walk.specs.Prelude.{next_item, shown_number, shown_text, shown_missing, shown_reference, data_end, increment, packed, max_values, walk_stop, too_many, field_stop, stop_at}
+use Rattle.bufr_walk.specs.Prelude.{Content, next_item, shown_number, shown_text, shown_missing, shown_reference, data_end, increment, packed, max_values, Passing, EndsPass, Place, Stop, reading, place_at, would_be_many}
+use Rattle.bufr_walk.specs.declared.walker.WalkStop.TheVariants as stops
+use Rattle.bufr_walk.specs.declared.fault.DataFault.TheVariants as wrong
 use Rattle.bufr_walk.proofs.ExampleTables.{fxy, table, done, walk_fault, field_fault, together, gives}
 
 -- A base of all ones is missing in all subsets, whatever the increments are, but the increments
@@ -154,16 +156,20 @@ reference_together :
 unfolding together gives fxy
 reference_together = (refl, refl, refl, refl)
 
+-- the reading of as many subsets as there may be
+abbrev full : Passing Place (List Content) Stop
+full = reading (packed 65535) (would_be_many 65535)
+
 -- More than 134217728 values are too many, counted before an item is read and after the faults of
 -- the walk. Fails where the data end first, where a refused width or a text in a definition comes
 -- later, or where the bound is another.
 -- rule: compressed-fault-order
 too_many_before_the_data_end :
-    (stop_at (packed 65535) (nat_lt max_values (2049 * 65535)) (next_item table (element (fxy 0 12 101) bare) []).next [] ≡ Some (too_many 3173))
-    × (stop_at (packed 2) (nat_lt max_values (2048 * 65535)) (next_item table (element (fxy 0 12 101) bare) []).next [] ≡ Some (field_stop 3173 data_end))
-    × (stop_at (packed 65535) true (next_item table (operator (fxy 2 1 121) (element (fxy 0 1 1) bare)) []).next [] ≡ Some (walk_stop (refusal.Width 257)))
-    × (stop_at (packed 65535) true (next_item table (operator (fxy 2 3 10) (element (fxy 0 1 15) bare)) []).next [] ≡ Some (walk_stop (refusal.Defining 271)))
-    × (stop_at (packed 65535) true (next_item table (element (fxy 0 12 101) bare) (taken.Plain ∷ [])).next [] ≡ None)
+    EndsPass full (next_item table (element (fxy 0 12 101) bare) []).next (place_at 2048 []) (Some (stops.Field (wrong.TooManyValues 3173)))
+    × EndsPass (reading (packed 2) (would_be_many 65535)) (next_item table (element (fxy 0 12 101) bare) []).next (place_at 2047 []) (Some (stops.Field (wrong.DataEnd 3173)))
+    × EndsPass full (next_item table (operator (fxy 2 1 121) (element (fxy 0 1 1) bare)) []).next (place_at 2048 []) (Some (stops.Width 257))
+    × EndsPass full (next_item table (operator (fxy 2 3 10) (element (fxy 0 1 15) bare)) []).next (place_at 2048 []) (Some (stops.Defining 271))
+    × EndsPass full (next_item table (element (fxy 0 12 101) bare) (taken.Plain ∷ [])).next (place_at 2048 []) None
 unfolding table next_item fxy
 too_many_before_the_data_end = (refl, refl, refl, refl, refl)
 

@@ -1,6 +1,6 @@
 -- A walk over compressed data reads them as the definition does, and keeps its items.
 use Rattle.std.proofs.lemmas.Grind.{common_steps}
-use Rattle.std.proofs.Common.{option_map, ◌≡◌, ℕ, ◌+◌, ◌*◌, ◌<◌, ◌≤◌, Bool, true, false, List, length, take, drop, Ok, Err, sym, ◌∙◌, ap, arith, suc, ◌&&◌, eqb, ◌++◌, ◌∷◌, [], get_or, refl, zero, ◌^◌, Result, subst, ◌⊎◌, inl, inr, ◌-◌, Some, append_assoc, ◌%◌, nat_lt, ◌||◌, ◌==◌}
+use Rattle.std.proofs.Common.{option_map, ◌≡◌, ℕ, ◌+◌, ◌*◌, ◌<◌, ◌≤◌, Bool, true, false, List, length, take, drop, Ok, Err, sym, ◌∙◌, ap, arith, suc, ◌&&◌, eqb, ◌++◌, ◌∷◌, [], get_or, refl, zero, ◌^◌, Result, subst, ◌⊎◌, inl, inr, ◌-◌, Some, append_assoc, ◌%◌, nat_lt, ◌||◌, ◌==◌, if◌then◌else◌}
 use Rattle.std.proofs.lemmas.Bool.{le-ltb, lt-ltb}
 use Rattle.std.proofs.lemmas.List.{length-drop, drop-drop, get_or_default, get_or_append_left, map-append, append-nil}
 use Rattle.std.proofs.lemmas.Bool.Decides.{Decides-eqb, Decides-int_eq}
@@ -8,7 +8,7 @@ use Rattle.bufr_bits.specs.Prelude.{number_of}
 use Rattle.bufr_tables.specs.Prelude.{is_character, Row, Tree}
 use Rattle.bufr_walk.specs.declared.compressed.ItemBits.{ItemBits}
 use Rattle.bufr_walk.specs.declared.fault.DataFault.{DataFault}
-use Rattle.bufr_walk.specs.Prelude.{FieldSpec, data_end, FieldFault, increment, unequal_factor, Content, FieldRead, increment_bits_of, contents_of, are_increments_valid, answer_first, equal_in, packed_field, IsSeen, IsUnseen, HasSpecAt, IsPut, no_field, item_at_location, indexed_items, IsStoredReading, PackedCursor, item_at, items_at, contents_found, fits_at, packed_view, IsPackedTaken, wrong_of, PackedTakes, remaining_bits, refuses_packed, new_packed_in, fault_at, IndexedItem, max_values, items_at_once, Item, packed, ReadsItems, ReadsPass, next_after, turns_after, after, Data, together, IsPackedReading, turns_together, spot, walk_fault_of, bits_before, IsReading, KeepsValues, Stop, walk_stop, too_many, field_stop, field_stop_of, stop_at, would_be_many, data_in, data_of, read_by, WalkStop, Course, Next, take_next, refused, next_item, TakenField, Takes, ticked, oks, answers_of, Walked, TurnRefusal, stop_by}
+use Rattle.bufr_walk.specs.Prelude.{FieldSpec, data_end, FieldFault, increment, unequal_factor, Content, FieldRead, increment_bits_of, contents_of, are_increments_valid, answer_first, equal_in, packed_field, IsSeen, IsUnseen, HasSpecAt, IsPut, no_field, item_at_location, indexed_items, IsStoredReading, PackedCursor, item_at, items_at, contents_found, fits_at, packed_view, IsPackedTaken, wrong_of, PackedTakes, remaining_bits, refuses_packed, new_packed_in, fault_at, IndexedItem, max_values, items_at_once, Item, packed, ReadsItems, ReadsPass, next_after, turns_after, after, Data, together, IsPackedReading, spot, fault_at, bits_before, IsReading, KeepsValues, Stop, would_be_many, data_in, data_of, read_by, WalkStop, Course, Next, take_next, refused, next_item, TakenField, Takes, ticked, oks, answers_of, Walked, TurnRefusal, stop_by}
 use Rattle.std.specs.Ordering.{int_eq}
 use Rattle.std.proofs.Math.Bool.{beq}
 use Rattle.std.specs.List.{All, list_all}
@@ -18,19 +18,18 @@ use Rattle.bufr_frame.specs.Prelude.{Sections}
 use Rattle.bufr_walk.proofs.PlainLemmas.{used_most}
 use Rattle.bufr_walk.proofs.PackedLemmas.{item_tested}
 use Rattle.bufr_walk.specs.declared.fault.DataFault.TheVariants as wrong
-use Rattle.bufr_walk.specs.declared.spec.TurnRefusal.TheVariants as refusal
 use Rattle.bufr_walk.specs.declared.spec.Role.TheVariants as role
 use Rattle.bufr_walk.specs.declared.walker.WalkStop.TheVariants as stops
 use Rattle.bufr_walk.specs.declared.fault.WalkFault.TheVariants as fault
 use Rattle.bufr_walk.specs.declared.reading.StoredItems.TheVariants as kept
 use Rattle.bufr_walk.proofs.WalkLemmas.{stop_cases}
-use Rattle.bufr_walk.specs.Pass.{DataPass, passes_together, stop_of, left_after, turns_in_all, reading_of, values_in, fault_of, RunsShort, ReadsData, AnswersReading}
+use Rattle.bufr_walk.specs.Pass.{DataPass, passes_together, stop_of, left_after, turns_in_all, reading_of, fault_of, RunsShort, ReadsData, AnswersReading, EndsPass, reading, place_at, read_field}
 use Rattle.bufr_walk.proofs.PassLemmas.{together_read, together_stops, together_begins}
 
 -- compressed data were read, and each item is kept
 abbrev pub IsReadAndKept : Course → Data → List IndexedItem → (used steps : ℕ) → Type 0
 IsReadAndKept course d entries used steps =
-    let values = values_in (reading_of course d).passes in
+    let values = (reading_of course d).values in
     IsReading course d values used × ReadsData course d (Ok used) steps × KeepsValues (kept.Together entries) d values
 
 -- with no subset nothing is read
@@ -264,10 +263,6 @@ reads_some : (n : ℕ) (course : Course) (items : List (Item (List Content))) (b
 reads_some zero course items bits suffix some h few = absurd (omega arith)
 reads_some (suc n) course items bits suffix some h few = (h, few)
 
-turns_are_those : (n : ℕ) (course : Course) (items : List (Item (List Content))) → 1 ≤ n → turns_together n course items ≡ turns_after (packed n) course items
-turns_are_those zero course items some = absurd (omega arith)
-turns_are_those (suc n) course items some = refl
-
 abbrev packed_data : ℕ → List Bool → Data
 packed_data n bits = record { compressed = true; subsets = n; bits = bits }
 
@@ -290,7 +285,7 @@ module _ (n : ℕ) (course : Course) (bits : List Bool) (s : PackedCursor) (firs
 
   -- an accepted walk
   pub walk_reads : (s' : PackedCursor) (c c' : ℕ) → c ≡ 0 → Walked PackedTakes course s c (Ok tt) s' c' → s'.at ≤ length s'.bits → length s'.items * s'.subsets ≤ max_values
-      → IsReading course (packed_data n bits) (together s'.items) s'.at × (c' ≡ ticked 0 (turns_together n course s'.items))
+      → IsReading course (packed_data n bits) (together s'.items) s'.at × (c' ≡ ticked 0 (turns_after (packed n) course s'.items))
   walk_reads s' c c' zero_first w within few =
       let p = passes n course s w.0 s' begins w.1 in
       let are = all_items w.0 s' p in
@@ -301,8 +296,8 @@ module _ (n : ℕ) (course : Course) (bits : List Bool) (s : PackedCursor) (firs
           subst (λ b. s'.at ≤ length b) (all_bits w.0 s' p) within,
           reads_some n course s'.items bits (drop s'.at bits) some (subst (λ xs. ReadsPass (packed n) course xs bits (drop s'.at bits)) (sym are) whole) bound,
         ),
-        w.3 ∙ ap (λ t. ticked c t) (sym p.turns_are) ∙ ap (λ xs. ticked c (turns_after (packed n) course xs)) (sym are) ∙ ap (λ t. ticked c t) (sym (turns_are_those n course s'.items some))
-            ∙ ap (λ b. ticked b (turns_together n course s'.items)) zero_first,
+        w.3 ∙ ap (λ t. ticked c t) (sym p.turns_are) ∙ ap (λ xs. ticked c (turns_after (packed n) course xs)) (sym are)
+            ∙ ap (λ b. ticked b (turns_after (packed n) course s'.items)) zero_first,
       )
 
   -- with the entries that were kept
@@ -314,10 +309,10 @@ module _ (n : ℕ) (course : Course) (bits : List Bool) (s : PackedCursor) (firs
       let d = packed_data n bits in
       let r = walk_reads s' c c' zero_first w (subst (λ x. x.at ≤ length x.bits) view within) (few_values s' held at m entries view few) in
       let f = together_read n course s'.items bits (drop s'.at bits) r.0.2 in
-      let items : together s'.items ≡ values_in (reading_of course (packed_data n bits)).passes = ap together (sym f.1) in
+      let items : together s'.items ≡ (reading_of course (packed_data n bits)).values = ap together (sym f.1) in
       let used : s'.at ≡ at = sym (ap (λ x. x.at) view) in (
-        subst (λ u. IsReading course d (values_in (reading_of course d).passes) u) used (subst (λ v. IsReading course d v s'.at) items r.0),
-        subst (λ u. ReadsData course d (Ok u) c') used (f.0, omega (arith, r.0.1, ap length f.2, length-drop s'.at bits), r.1 ∙ ap (ticked 0) (sym f.3)),
+        subst (λ u. IsReading course d (reading_of course d).values u) used (subst (λ v. IsReading course d v s'.at) items r.0),
+        subst (λ u. ReadsData course d (Ok u) c') used (f.0, omega (arith, r.0.1, ap length f.2, length-drop s'.at bits), r.1 ∙ ap (ticked 0) (sym (f.3 some))),
         subst (λ v. KeepsValues (kept.Together entries) d v) items (
           ap (λ b. items_at b n entries) (sym (all_bits w.0 s' p)) ∙ ap (λ k. items_at s'.bits k entries) (sym p.subsets) ∙ subst (λ x. items_at x.bits x.subsets entries ≡ x.items) view refl,
           ap (λ b. list_all (fits_at b n) entries) (sym (all_bits w.0 s' p)) ∙ ap (λ k. list_all (fits_at s'.bits k) entries) (sym p.subsets)
@@ -331,12 +326,12 @@ module _ (n : ℕ) (course : Course) (bits : List Bool) (s : PackedCursor) (firs
   -- it was refused there
   refused_so : (turns : List TakenField) (mid : PackedCursor) (p : Passed n course s turns mid) (next : Next) (stop : Stop) (at c' : ℕ) → (course (answers_of turns)).next ≡ next
       → mid.at ≤ length bits → length mid.items * n ≤ max_values → at ≡ mid.at → c' ≡ ticked 0 (course (answers_of turns)).turns
-      → stop_at (packed n) (would_be_many n (length p.read)) next (remaining_bits mid) ≡ Some stop
-      → (fault_of (packed_data n bits) (reading_of course (packed_data n bits)) ≡ Some (walk_fault_of stop 0 at)) × (c' ≡ ticked 0 (reading_of course (packed_data n bits)).turns)
+      → EndsPass (reading (packed n) (would_be_many n)) next (place_at (length p.read) (remaining_bits mid)) (Some stop)
+      → (fault_of (packed_data n bits) (reading_of course (packed_data n bits)) ≡ Some (fault_at stop 0 at)) × (c' ≡ ticked 0 (reading_of course (packed_data n bits)).turns)
   refused_so turns mid p next stop at c' e within few here ticks h =
       let is = together_stops n course p.read bits (remaining_bits mid) next stop some (from_first turns mid p) (few_read turns mid p few) (sym (p.next_is ∙ e)) h in (
-        ap (λ (ps : List (DataPass (List Content))). option_map (λ w. walk_fault_of w 0 (length bits - length (left_after bits ps))) (stop_of ps)) is
-            ∙ ap (λ b. Some (walk_fault_of stop 0 b)) (place_is at (length (remaining_bits mid)) (length bits) (omega (arith, here, within, ap length (rest_is turns mid p), length-drop mid.at bits))),
+        ap (λ (ps : List (DataPass (List Content))). option_map (λ w. fault_at w 0 (length bits - length (left_after bits ps))) (stop_of ps)) is
+            ∙ ap (λ b. Some (fault_at stop 0 b)) (place_is at (length (remaining_bits mid)) (length bits) (omega (arith, here, within, ap length (rest_is turns mid p), length-drop mid.at bits))),
         ticks ∙ ap (ticked 0) (sym (ap turns_in_all is ∙ none_more (turns_after (packed n) course p.read) ∙ p.turns_are)),
       )
     where
@@ -347,8 +342,8 @@ module _ (n : ℕ) (course : Course) (bits : List Bool) (s : PackedCursor) (firs
       none_more t = omega arith
 
   short_so : (turns : List TakenField) (mid : PackedCursor) (p : Passed n course s turns mid) (spec : FieldSpec) → (course (answers_of turns)).next ≡ take_next spec
-      → length mid.items * n ≤ max_values → (length mid.items % items_at_once ≡ 0) ⊎ (spec.role ≡ role.Reference)
-      → RunsShort (packed n) true course (passes_together course n bits) (course (answers_of turns)).turns
+      → length mid.items * n ≤ max_values → ((length mid.items % items_at_once == 0) ≡ true) ⊎ (spec.role ≡ role.Reference)
+      → RunsShort (packed n) (λ items. items % items_at_once == 0) course (passes_together course n bits) (course (answers_of turns)).turns
   short_so turns mid p spec e few why =
       let begins = together_begins n course p.read bits (remaining_bits mid) some (from_first turns mid p) (few_read turns mid p few) in
       record {
@@ -361,7 +356,7 @@ module _ (n : ℕ) (course : Course) (bits : List Bool) (s : PackedCursor) (firs
         are = begins.3;
         spec = spec;
         next = p.next_is ∙ e;
-        wants = subst (λ l. (l % items_at_once ≡ 0) ⊎ (spec.role ≡ role.Reference)) (ap length (all_items turns mid p)) why;
+        why = subst (λ l. ((l % items_at_once == 0) ≡ true) ⊎ (spec.role ≡ role.Reference)) (ap length (all_items turns mid p)) why;
         turns_are = sym p.turns_are ∙ zero_plus (turns_after (packed n) course p.read);
       }
     where
@@ -373,26 +368,20 @@ module _ (n : ℕ) (course : Course) (bits : List Bool) (s : PackedCursor) (firs
       → mid.at ≤ length bits → length mid.items * n ≤ max_values → at ≡ mid.at
       → (length mid.items + 1) * mid.subsets ≤ max_values → packed_field mid.subsets spec (remaining_bits mid) ≡ Err why → c' ≡ ticked 0 (course (answers_of turns)).turns
       → ReadsData course (packed_data n bits) (Err (fault_at (stops.Field (wrong_of spec.fxy why)) 0 at)) c'
-  field_so turns mid p spec at c' why e within few here room field ticks = by why field
+  field_so turns mid p spec at c' why e within few here room field ticks =
+      inl (refused_so turns mid p (take_next spec) (stops.Field (wrong_of spec.fxy why)) at c' e within few here ticks (
+      ap (λ b. if b then Err (stops.Field (wrong.TooManyValues spec.fxy)) else read_field (packed n) spec (length p.read) (packed_field n spec (remaining_bits mid))) many
+      ∙ ap (read_field (packed n) spec (length p.read)) (ap (λ m. packed_field m spec (remaining_bits mid)) (sym p.subsets) ∙ field)))
     where
       many : would_be_many n (length p.read) ≡ false
       many = le-ltb max_values ((length p.read + 1) * n) (subst (λ xs. (length xs + 1) * n ≤ max_values) (all_items turns mid p) (subst (λ m. (length mid.items + 1) * m ≤ max_values) p.subsets room))
-
-      ends : (why : FieldFault) → packed_field mid.subsets spec (remaining_bits mid) ≡ Err why
-          → stop_at (packed n) (would_be_many n (length p.read)) (take_next spec) (remaining_bits mid) ≡ Some (field_stop spec.fxy why)
-      ends why f = ap (λ b. stop_at (packed n) b (take_next spec) (remaining_bits mid)) many ∙ ap (field_stop_of spec.fxy) (ap (λ m. packed_field m spec (remaining_bits mid)) (sym p.subsets) ∙ f)
-
-      by : (why : FieldFault) → packed_field mid.subsets spec (remaining_bits mid) ≡ Err why → ReadsData course (packed_data n bits) (Err (fault_at (stops.Field (wrong_of spec.fxy why)) 0 at)) c'
-      by data_end f = refused_so turns mid p (take_next spec) (field_stop spec.fxy data_end) at c' e within few here ticks (ends data_end f)
-      by increment f = refused_so turns mid p (take_next spec) (field_stop spec.fxy increment) at c' e within few here ticks (ends increment f)
-      by unequal_factor f = refused_so turns mid p (take_next spec) (field_stop spec.fxy unequal_factor) at c' e within few here ticks (ends unequal_factor f)
 
   -- a refused walk
   pub walk_stops : (s' : PackedCursor) (c c' at : ℕ) (why : WalkStop DataFault) → c ≡ 0 → Walked PackedTakes course s c (Err why) s' c' → s'.at ≤ length s'.bits
       → length s'.items * s'.subsets ≤ max_values → at ≡ s'.at → ReadsData course (packed_data n bits) (Err (fault_at why 0 at)) c'
   walk_stops s' c c' at why zero_first w within few here =
       stop_cases PackedTakes (λ next y. (course (answers_of w.0)).next ≡ next → ReadsData course (packed_data n bits) (Err (fault_at y 0 at)) c') w.1 s' field
-      (λ spec r e q. ((course (answers_of w.0)).turns, short_so w.0 w.1 p spec q (room e) (inr r), ticks)) refuses (course (answers_of w.0)).next why w.3 refl
+      (λ spec r e q. inr (refl, (course (answers_of w.0)).turns, short_so w.0 w.1 p spec q (room e) (inr r), ticks)) refuses (course (answers_of w.0)).next why w.3 refl
     where
       p : Passed n course s w.0 w.1
       p = passes n course s w.0 w.1 begins w.2
@@ -424,16 +413,15 @@ module _ (n : ℕ) (course : Course) (bits : List Bool) (s : PackedCursor) (firs
           → ReadsData course (packed_data n bits) (Err (fault_at (stops.Field e) 0 at)) c'
       field spec (wrong.TooManyValues fxy) h q =
           subst (λ f. ReadsData course (packed_data n bits) (Err (fault.TooManyValues (spot 0 f at))) c') (sym h.0)
-          (refused_so w.0 w.1 p (take_next spec) (too_many spec.fxy) at c' q (inside h.2) (room h.2) (place h.2) ticks
-          (ap (λ b. stop_at (packed n) b (take_next spec) (remaining_bits w.1)) (many_so spec h.1)))
-      field spec wrong.Memory h q = ((course (answers_of w.0)).turns, short_so w.0 w.1 p spec q (room h.0) (inl h.1), ticks)
+          (inl (refused_so w.0 w.1 p (take_next spec) (stops.Field (wrong.TooManyValues spec.fxy)) at c' q (inside h.2) (room h.2) (place h.2) ticks
+          (ap (λ b. if b then Err (stops.Field (wrong.TooManyValues spec.fxy)) else read_field (packed n) spec (length p.read) (packed_field n spec (remaining_bits w.1))) (many_so spec h.1))))
+      field spec wrong.Memory h q = inr (refl, (course (answers_of w.0)).turns, short_so w.0 w.1 p spec q (room h.0) (inl (ap (λ k. k == 0) h.1)), ticks)
       field spec (wrong.DataEnd fxy) h q = wrong_so spec (wrong.DataEnd fxy) q h.0 h.1 h.2
       field spec (wrong.Increment fxy) h q = wrong_so spec (wrong.Increment fxy) q h.0 h.1 h.2
       field spec (wrong.UnequalFactor fxy) h q = wrong_so spec (wrong.UnequalFactor fxy) q h.0 h.1 h.2
 
       refuses : (x : TurnRefusal) → s' ≡ w.1 → (course (answers_of w.0)).next ≡ refused x → ReadsData course (packed_data n bits) (Err (fault_at (stop_by x) 0 at)) c'
-      refuses (refusal.Width f) e q = refused_so w.0 w.1 p (refused (refusal.Width f)) (walk_stop (refusal.Width f)) at c' q (inside e) (room e) (place e) ticks refl
-      refuses (refusal.Defining f) e q = refused_so w.0 w.1 p (refused (refusal.Defining f)) (walk_stop (refusal.Defining f)) at c' q (inside e) (room e) (place e) ticks refl
+      refuses x e q = inl (refused_so w.0 w.1 p (refused x) (stop_by x) at c' q (inside e) (room e) (place e) ticks refl)
 
 pub stopped_within : (course : Course) (bits : List Bool) (n : ℕ) (s s' : PackedCursor) (c c' : ℕ) (why : WalkStop DataFault) → s ≡ new_packed_in bits n
     → Walked PackedTakes course s c (Err why) s' c' → s'.at ≤ length s'.bits → s'.at ≤ length bits

@@ -4,7 +4,7 @@ use Rattle.std.proofs.Common.{◌≡◌, ℕ, ◌+◌, ◌-◌, ◌*◌, ◌<◌
 use Rattle.std.proofs.lemmas.List.{drop-drop, append-nil, take_more_set, replicate-append-replicate}
 use Rattle.bufr_bits.specs.Prelude.{bits_of, are_all_ones}
 use Rattle.bufr_tables.specs.Prelude.{is_character, Row}
-use Rattle.bufr_walk.specs.Prelude.{IndexedItem, octets_in, text, missing, shown_text, shown_missing, shown, Content, padded_text, FieldSpec, content_kept, call_kept, IsStoredReading, KeepsValues, held_of, fits_at, items_at, ShowFault, Sofar, Call, Timed, timed, compressed_item_calls, Shows, subset_call, compressed_subset_calls, calls_for, turns_for, Item, Values, apart, together, items_kept, Read}
+use Rattle.bufr_walk.specs.Prelude.{IndexedItem, octets_in, text, missing, shown_text, shown_missing, shown, Content, padded_text, FieldSpec, content_kept, call_kept, IsStoredReading, KeepsValues, held_of, fits_at, items_at, ShowFault, Sofar, Call, Timed, timed, Shows, subset_call, calls_for, turns_for, Item, Values, apart, together, items_kept, Read, item_calls, turns_after, turns_in, subset_calls, subsets_from, items_of_subset, without_turns, plain}
 use Rattle.bufr_walk.proofs.PackedLemmas.{kept_parts, text_content, text_within}
 use Rattle.bufr_walk.proofs.PlainLemmas.{bits_length, octets_prefix}
 use Rattle.std.specs.List.{list_all}
@@ -60,13 +60,25 @@ module _ {S E : Type 0} (sees : S → Call → Result (Unit {0}) E → S → Typ
   shows_before s s1 [] b e h = absurd h
   shows_before s s1 (t ∷ a) b e h = elim h as (λ _. Shows sees s (t ∷ a ++ b) 0 (Err e) s1 0) [ inl x ↦ inl x | inr y ↦ inr (y.0, y.1, shows_before y.0 s1 a b e y.2) ]
 
+-- the calls for the items of one subset
+abbrev pub calls_of_subset : List Row → ℕ → List (Item (List Content)) → List Timed
+calls_of_subset table j items = item_calls table 0 without_turns (items_of_subset j items)
+
+pub no_turns : (items : List (Item Content)) → turns_after plain without_turns items ≡ 0
+no_turns [] = refl
+no_turns (i ∷ items) = no_turns items
+
+pub no_turns_in : (subsets : List (List (Item Content))) → turns_in without_turns subsets ≡ 0
+no_turns_in [] = refl
+no_turns_in (items ∷ subsets) = omega (arith, no_turns items, no_turns_in subsets)
+
 -- the next of some items
 next_entry : (kept : List IndexedItem) (i : ℕ) (k : IndexedItem) → i < length kept → get_or kept i k ≡ k → drop i kept ≡ k ∷ drop (i + 1) kept
 next_entry kept i k h e = drop-cons kept i k h ∙ ap (λ x. x ∷ drop (suc i) kept) e ∙ ap (λ j. k ∷ drop j kept) (sym (add-one i))
 
 pub next_call : (table : List Row) (bits : List Bool) (n j : ℕ) (kept : List IndexedItem) (i : ℕ) (k : IndexedItem) → i < length kept → k ≡ get_or kept i k
-    → compressed_item_calls table j (items_at bits n (drop i kept)) ≡ timed 0 (call_kept table bits n k j) ∷ compressed_item_calls table j (items_at bits n (drop (i + 1) kept))
-next_call table bits n j kept i k h e = ap (λ ks. compressed_item_calls table j (items_at bits n ks)) (next_entry kept i k h (sym e))
+    → calls_of_subset table j (items_at bits n (drop i kept)) ≡ timed 0 (call_kept table bits n k j) ∷ calls_of_subset table j (items_at bits n (drop (i + 1) kept))
+next_call table bits n j kept i k h e = ap (λ ks. calls_of_subset table j (items_at bits n ks)) (next_entry kept i k h (sym e))
 
 pub fit_here : (bits : List Bool) (n : ℕ) (kept : List IndexedItem) (i : ℕ) (k : IndexedItem) → i < length kept → k ≡ get_or kept i k → list_all (fits_at bits n) (drop i kept) ≡ true
     → fits_at bits n k ≡ true
@@ -103,7 +115,7 @@ module _ {S E : Type 0} (sees : S → Call → Result (Unit {0}) E → S → Typ
 
   -- the calls from an entry on
   abbrev pub calls_from : ℕ → List Timed
-  calls_from i = compressed_item_calls table j (items_at bits n (drop i kept))
+  calls_from i = calls_of_subset table j (items_at bits n (drop i kept))
 
   -- one entry more
   pub items_go : (s s1 s2 : S) (i : ℕ) (k : IndexedItem) → i < length kept → k ≡ get_or kept i k → Sofar sees s (calls_from 0) s1 (calls_from i) → sees s1 (call_at k) (Ok tt) s2
@@ -122,37 +134,47 @@ module _ {S E : Type 0} (sees : S → Call → Result (Unit {0}) E → S → Typ
 module _ {S E : Type 0} (sees : S → Call → Result (Unit {0}) E → S → Type 0) (table : List Row) (n : ℕ) (items : List (Item (List Content))) where
   -- the calls of a subset
   abbrev pub subset_at : ℕ → List Timed
-  subset_at j = timed 0 (subset_call (j + 1)) ∷ compressed_item_calls table j items
+  subset_at j = timed 0 (subset_call (j + 1)) ∷ calls_of_subset table j items
+
+  -- the calls of so many subsets, from one on
+  abbrev calls_on : (left j number : ℕ) → List Timed
+  calls_on left j number = subset_calls table without_turns 0 number (subsets_from left j items)
 
   -- the calls from a subset on
-  abbrev pub subsets_from : ℕ → List Timed
-  subsets_from j = compressed_subset_calls table (n - j) j items
+  abbrev pub subsets_left : ℕ → List Timed
+  subsets_left j = calls_on (n - j) j (j + 1)
 
   -- all calls
   abbrev pub all_calls : List Timed
-  all_calls = compressed_subset_calls table n 0 items
+  all_calls = calls_on n 0 1
 
-  pub subsets_start : (s : S) → Sofar sees s all_calls s (subsets_from 0)
-  subsets_start s = let all : n ≡ n - 0 = omega arith in subst (λ x. Sofar sees s all_calls s x) (ap (λ left. compressed_subset_calls table left 0 items) all) (sofar_self sees s all_calls)
+  pub subsets_start : (s : S) → Sofar sees s all_calls s (subsets_left 0)
+  subsets_start s = let all : n ≡ n - 0 = omega arith in subst (λ x. Sofar sees s all_calls s x) (ap (λ left. calls_on left 0 1) all) (sofar_self sees s all_calls)
 
-  next_subset : (j : ℕ) → j < n → subsets_from j ≡ subset_at j ++ subsets_from (j + 1)
-  next_subset j h = let more : n - j ≡ suc (n - (j + 1)) = omega (arith, h) in ap (λ left. compressed_subset_calls table left j items) more
+  next_subset : (j : ℕ) → j < n → subsets_left j ≡ subset_at j ++ subsets_left (j + 1)
+  next_subset j h =
+      let more : n - j ≡ suc (n - (j + 1)) = omega (arith, h) in
+      let next : suc j ≡ j + 1 = omega arith in
+      let none : 0 + turns_after plain without_turns (items_of_subset j items) ≡ 0 = omega (arith, no_turns (items_of_subset j items)) in
+      ap (λ left. calls_on left j (j + 1)) more
+      ∙ ap (λ turns. subset_at j ++ subset_calls table without_turns turns (j + 1 + 1) (subsets_from (n - (j + 1)) (suc j) items)) none
+      ∙ ap (λ k. subset_at j ++ calls_on (n - (j + 1)) k (j + 1 + 1)) next
 
   -- one subset more
-  pub subsets_go : (s s1 s2 : S) (j : ℕ) → j < n → Sofar sees s all_calls s1 (subsets_from j) → Shows sees s1 (subset_at j) 0 (Ok tt) s2 0 → Sofar sees s all_calls s2 (subsets_from (j + 1))
+  pub subsets_go : (s s1 s2 : S) (j : ℕ) → j < n → Sofar sees s all_calls s1 (subsets_left j) → Shows sees s1 (subset_at j) 0 (Ok tt) s2 0 → Sofar sees s all_calls s2 (subsets_left (j + 1))
   subsets_go s s1 s2 j h so shows =
-      let so_far : Sofar sees s all_calls s1 (subset_at j ++ subsets_from (j + 1)) = subst (Sofar sees s all_calls s1) (next_subset j h) so in
-      sofar_then sees s s1 s2 _ _ _ so_far (sofar_all sees s1 s2 (subset_at j) (subsets_from (j + 1)) shows)
+      let so_far : Sofar sees s all_calls s1 (subset_at j ++ subsets_left (j + 1)) = subst (Sofar sees s all_calls s1) (next_subset j h) so in
+      sofar_then sees s s1 s2 _ _ _ so_far (sofar_all sees s1 s2 (subset_at j) (subsets_left (j + 1)) shows)
 
-  pub subsets_end : (s s1 s2 : S) (j : ℕ) (e : ShowFault E) → j < n → Sofar sees s all_calls s1 (subsets_from j) → Shows sees s1 (subset_at j) 0 (Err e) s2 0 → Shows sees s all_calls 0 (Err e) s2 0
+  pub subsets_end : (s s1 s2 : S) (j : ℕ) (e : ShowFault E) → j < n → Sofar sees s all_calls s1 (subsets_left j) → Shows sees s1 (subset_at j) 0 (Err e) s2 0 → Shows sees s all_calls 0 (Err e) s2 0
   subsets_end s s1 s2 j e h so shows =
-      let so_far : Sofar sees s all_calls s1 (subset_at j ++ subsets_from (j + 1)) = subst (Sofar sees s all_calls s1) (next_subset j h) so in
-      so_far.on 0 (Err e) s2 0 (shows_before sees s1 s2 (subset_at j) (subsets_from (j + 1)) e shows)
+      let so_far : Sofar sees s all_calls s1 (subset_at j ++ subsets_left (j + 1)) = subst (Sofar sees s all_calls s1) (next_subset j h) so in
+      so_far.on 0 (Err e) s2 0 (shows_before sees s1 s2 (subset_at j) (subsets_left (j + 1)) e shows)
 
-  pub subsets_done : (s s1 : S) (j : ℕ) → n ≤ j → Sofar sees s all_calls s1 (subsets_from j) → Shows sees s all_calls 0 (Ok tt) s1 0
+  pub subsets_done : (s s1 : S) (j : ℕ) → n ≤ j → Sofar sees s all_calls s1 (subsets_left j) → Shows sees s all_calls 0 (Ok tt) s1 0
   subsets_done s s1 j h so =
       let none : n - j ≡ 0 = omega (arith, h) in
-      let so_far : Sofar sees s all_calls s1 [] = subst (Sofar sees s all_calls s1) (ap (λ left. compressed_subset_calls table left j items) none) so in
+      let so_far : Sofar sees s all_calls s1 [] = subst (Sofar sees s all_calls s1) (ap (λ left. calls_on left j (j + 1)) none) so in
       so_far.on 0 (Ok tt) s1 0 (refl, refl)
 
 -- the entries that are kept are at their locations
@@ -165,13 +187,14 @@ entries_fit r entries h = by (values_read r) h.keeps
 
 pub packed_shown : {V E : Type 0} (sees : V → Call → Result (Unit {0}) E → V → Type 0) (r : Read) (entries : List IndexedItem) (items : List IndexedItem) (v v' : V)
     (result : Result (Unit {0}) (ShowFault E)) (steps : ℕ) → IsStoredReading r (kept.Together entries) → items ≡ entries → steps ≡ 0
-    → Shows sees v (compressed_subset_calls r.table r.source.subsets 0 (items_at r.source.bits r.source.subsets items)) 0 result v' 0
+    → Shows sees v (all_calls sees r.table r.source.subsets (items_at r.source.bits r.source.subsets items)) 0 result v' 0
     → Shows sees v (calls_of r) (turns_shown r) result v' steps
 packed_shown sees r entries items v v' result steps h are none shows = subst (λ n. Shows sees v (calls_of r) (turns_shown r) result v' n) (sym none) (by (values_read r) h.keeps)
   where
     by : (held : Values) → KeepsValues (kept.Together entries) r.source held → Shows sees v (calls_for r held) (turns_for r held) result v' 0
     by (apart all) k = absurd k
-    by (together held) k = subst (λ is. Shows sees v (compressed_subset_calls r.table r.source.subsets 0 is) 0 result v' 0) (ap (items_at r.source.bits r.source.subsets) are ∙ k.0) shows
+    by (together held) k = subst (λ turns. Shows sees v (calls_for r (together held)) turns result v' 0) (sym (no_turns_in (subsets_from r.source.subsets 0 held)))
+        (subst (λ is. Shows sees v (all_calls sees r.table r.source.subsets is) 0 result v' 0) (ap (items_at r.source.bits r.source.subsets) are ∙ k.0) shows)
 
 -- each item of compressed data is kept, and nothing of other data
 length-items_at : (bits : List Bool) (n : ℕ) (entries : List IndexedItem) → length entries ≡ length (items_at bits n entries)

@@ -4,14 +4,13 @@ use Rattle.bufr_bits.specs.Prelude.{number_of}
 use Rattle.bufr_walk.proofs.PackedLemmas.{item_ok, neither}
 use Rattle.std.proofs.Common.{◌≡◌, ℕ, zero, suc, ◌+◌, ◌-◌, ◌<◌, ◌≤◌, Bool, true, false, List, [], ◌∷◌, ◌++◌, length, Option, Some, None, Result, Ok, Err, ◌==◌, ◌||◌, ◌*◌, nat_lt, take, refl, sym, ◌∙◌, ap, subst, arith, drop, length-drop, if◌then◌else◌}
 use Rattle.bufr_tables.specs.Prelude.{Row, Tree, IsLegal, Record, AreRows}
-use Rattle.bufr_walk.specs.Prelude.{packed_field, increment_bits_of, are_increments_valid, equal_in, contents_of, FieldSpec, Content, FieldFault, FieldRead, found, Course, Next, take_next, at_end, astray, refused, next_item, Item, DataCoding, plain, packed, item_answer, after, ReadsItems, ReadsPass, next_after, turns_after, ReadsSubsets, IsPackedReading, turns_together, Data, Values, apart, together, IsReading, Stop, walk_stop, too_many, field_stop, field_stop_of, stop_at, would_be_many, max_values}
-use Rattle.bufr_walk.specs.Pass.{Step, Pass, last_turn, item_then, pass_field, pass_next, pass, Place, place_at, read_field, reading, read_pass, DataPass, unless_stopped, passes_apart, passes_together, first_stop, stop_of, left_after, turns_in_all, DataReading, reading_in, reading_of, items_by_pass, first_items, values_in, EndsPass, ReadsTo}
+use Rattle.bufr_walk.specs.Prelude.{packed_field, increment_bits_of, are_increments_valid, equal_in, contents_of, FieldSpec, Content, FieldFault, FieldRead, found, Course, Next, take_next, at_end, astray, refused, next_item, Item, DataCoding, plain, packed, item_answer, after, ReadsItems, ReadsPass, next_after, turns_after, ReadsSubsets, IsPackedReading, Data, Values, apart, together, IsReading, Stop, would_be_many, max_values, wrong_of, stop_by}
+use Rattle.bufr_walk.specs.declared.walker.WalkStop.TheVariants as stops
+use Rattle.bufr_walk.specs.declared.fault.DataFault.TheVariants as wrong
+use Rattle.bufr_walk.specs.Pass.{Step, Pass, last_turn, item_then, pass_field, pass_next, pass, Place, place_at, read_field, reading, read_pass, DataPass, unless_stopped, passes_apart, passes_together, first_stop, stop_of, left_after, turns_in_all, DataReading, reading_in, reading_of, items_by_pass, first_items, EndsPass, ReadsTo}
 use Rattle.std.proofs.lemmas.Grind.{common_steps}
 use Rattle.std.proofs.lemmas.List.{drop-drop}
 use Rattle.bufr_walk.proofs.CourseLemmas.{IsSane, Forth, plain_forth, packed_forth, rows_within, template_sane}
-
-same_stop : (a b : Stop) → ◌≡◌ {A = Option Stop} (Some a) (Some b) → a ≡ b
-same_stop a b e = cc
 
 no_stop : (s : Stop) → ◌≡◌ {A = Option Stop} None (Some s) → ⊥
 no_stop s e = cc
@@ -28,32 +27,13 @@ passed form course place items left o = record { items = items; turns = turns_af
 
 module _ {C : Type 0} (form : DataCoding C) (many : ℕ → Bool) where
   -- at what ends a pass, nothing more is passed
-  at_last : (turn : ℕ) (next : Next) (from : ℕ) (bits : List Bool) (o : Option Stop) (go : Step Place C → Pass Place C Stop) → EndsPass form (many from) next bits o
-      → pass_next (reading form many) turn next (place_at from bits) go ≡ last_turn turn (place_at from bits) o
-  at_last turn next from bits None go h = ap (λ n. pass_next (reading form many) turn n (place_at from bits) go) h
-  at_last turn (refused why) from bits (Some stop) go h = ap (last_turn turn (place_at from bits)) h
-  at_last turn at_end from bits (Some stop) go h = absurd (by (many from) h)
-    where
-      by : (b : Bool) → stop_at form b at_end bits ≡ Some stop → ⊥
-      by true e = no_stop stop e
-      by false e = no_stop stop e
-  at_last turn astray from bits (Some stop) go h = absurd (by (many from) h)
-    where
-      by : (b : Bool) → stop_at form b astray bits ≡ Some stop → ⊥
-      by true e = no_stop stop e
-      by false e = no_stop stop e
-  at_last turn (take_next spec) from bits (Some stop) go h = by (many from) refl (form.field spec bits) refl
-    where
-      by : (b : Bool) → many from ≡ b → (r : Result (FieldRead C) FieldFault) → form.field spec bits ≡ r
-          → pass_next (reading form many) turn (take_next spec) (place_at from bits) go ≡ last_turn turn (place_at from bits) (Some stop)
-      by true m r q =
-          ap (λ b. pass_field (reading form many) turn spec (place_at from bits) (if b then Err (too_many spec.fxy) else read_field form spec from (form.field spec bits)) go) m
-          ∙ ap (last_turn turn (place_at from bits)) (sym (ap (λ b. stop_at form b (take_next spec) bits) m) ∙ h)
-      by false m (Err why) q =
-          ap (λ b. pass_field (reading form many) turn spec (place_at from bits) (if b then Err (too_many spec.fxy) else read_field form spec from (form.field spec bits)) go) m
-          ∙ ap (λ r. pass_field (reading form many) turn spec (place_at from bits) (read_field form spec from r) go) q
-          ∙ ap (last_turn turn (place_at from bits)) (sym (ap (λ b. stop_at form b (take_next spec) bits) m ∙ ap (field_stop_of spec.fxy) q) ∙ h)
-      by false m (Ok f) q = absurd (no_stop stop (sym (ap (λ b. stop_at form b (take_next spec) bits) m ∙ ap (field_stop_of spec.fxy) q) ∙ h))
+  at_last : (turn : ℕ) (next : Next) (s : Place) (o : Option Stop) (go : Step Place C → Pass Place C Stop) → EndsPass (reading form many) next s o
+      → pass_next (reading form many) turn next s go ≡ last_turn turn s o
+  at_last turn (take_next spec) s None go h = absurd h
+  at_last turn (take_next spec) s (Some why) go h = ap (λ r. pass_field (reading form many) turn spec s r go) h
+  at_last turn at_end s o go h = ap (last_turn turn s) (sym h)
+  at_last turn (refused why) s o go h = ap (last_turn turn s) (sym h)
+  at_last turn astray s o go h = absurd h
 
   -- an item that is read is followed by the rest of the pass
   item_first : (most : ℕ) (course : Course) (from : ℕ) (bits : List Bool) (x : Item C) (xs : List (Item C)) (left : List Bool) → (h : ReadsItems form course (x ∷ xs) bits left) → many from ≡ false
@@ -61,27 +41,29 @@ module _ {C : Type 0} (form : DataCoding C) (many : ℕ → Bool) where
   item_first most course from bits x xs left h few =
       let go : Step Place C → Pass Place C Stop = λ f. pass (reading form many) most (λ answers. course (f.returned ∷ answers)) f.state in
       ap (λ n. pass_next (reading form many) (course []).turns n (place_at from bits) go) h.1
-      ∙ ap (λ b. pass_field (reading form many) (course []).turns x.spec (place_at from bits) (if b then Err (too_many x.spec.fxy) else read_field form x.spec from (form.field x.spec bits)) go) few
+      ∙ ap (λ b. pass_field (reading form many) (course []).turns x.spec (place_at from bits)
+      (if b then Err (stops.Field (wrong.TooManyValues x.spec.fxy)) else read_field form x.spec from (form.field x.spec bits)) go) few
       ∙ ap (λ r. pass_field (reading form many) (course []).turns x.spec (place_at from bits) (read_field form x.spec from r) go) h.2
 
   -- a pass with these items and this end is what the function gives
-  pub pass_is : (most : ℕ) (course : Course) (from : ℕ) (bits : List Bool) (items : List (Item C)) (left : List Bool) (o : Option Stop) → ReadsTo form many course from bits items left o
-      → length items < most
+  pub pass_is : (most : ℕ) (course : Course) (from : ℕ) (bits : List Bool) (items : List (Item C)) (left : List Bool) (o : Option Stop)
+      → ReadsTo form many course (place_at from bits) (passed form course (from + length items) items left o) → length items < most
       → pass (reading form many) most course (place_at from bits) ≡ passed form course (from + length items) items left o
   pass_is zero course from bits items left o h lt = absurd (omega (arith, lt))
   pass_is (suc more) course from bits [] left o h lt =
-      let ends : EndsPass form (many from) (course []).next bits o =
-      subst (λ b. EndsPass form (many from) (course []).next b o) (sym h.reads) (subst (λ k. EndsPass form (many k) (course []).next left o) (none_more from) h.ends) in
-      at_last (course []).turns (course []).next from bits o (λ f. pass (reading form many) more (λ answers. course (f.returned ∷ answers)) f.state) ends
-      ∙ ap (λ b. last_turn (course []).turns (place_at from b) o) h.reads
-      ∙ ap (λ k. last_turn (course []).turns (place_at k left) o) (sym (none_more from))
+      let here : place_at (from + 0) left ≡ place_at from bits = ap (λ k. place_at k left) (none_more from) ∙ ap (place_at from) (sym h.reads) in
+      at_last (course []).turns (course []).next (place_at from bits) o (λ f. pass (reading form many) more (λ answers. course (f.returned ∷ answers)) f.state)
+      (subst (λ s. EndsPass (reading form many) (course []).next s o) here h.ends)
+      ∙ ap (λ s. last_turn (course []).turns s o) (sym here)
   pass_is (suc more) course from bits (x ∷ xs) left o h lt =
       let few : many from ≡ false = subst (λ k. many k ≡ false) (none_more from) (h.few 0 (omega arith)) in
       let rest = pass_is more (after form course x) (from + 1) h.reads.0 xs left o
       (record {
         reads = h.reads.3;
         few = λ j l. ap many (one_more from j) ∙ h.few (suc j) (omega (arith, l));
-        ends = subst (λ k. EndsPass form (many k) (next_after form (after form course x) xs) left o) (sym (one_more from (length xs))) h.ends;
+        count = refl;
+        ends = subst (λ k. EndsPass (reading form many) (next_after form (after form course x) xs) (place_at k left) o) (sym (one_more from (length xs))) h.ends;
+        turns = refl;
       })
       (omega (arith, lt)) in
       item_first more course from bits x xs left h.reads few
@@ -110,18 +92,25 @@ suffix_then a bits mid left within e (used, few, is) = (a + used, omega (arith, 
 module _ {C : Type 0} (form : DataCoding C) (many : ℕ → Bool) where
   -- what holds of a pass over bits, with so many items before
   abbrev ReadsSo : Course → ℕ → List Bool → Pass Place C Stop → Type 0
-  ReadsSo course from bits p = ReadsTo form many course from bits p.items p.state.left p.stop × (p.turns ≡ turns_after form course p.items) × IsSuffix bits p.state.left
+  ReadsSo course from bits p = ReadsTo form many course (place_at from bits) p × IsSuffix bits p.state.left
 
   pub pass_so : ((spec : FieldSpec) (bits : List Bool) (c : C) (mid : List Bool) → 1 ≤ spec.width → form.field spec bits ≡ Ok (found c mid) → Forth form spec bits c mid)
       → (n : ℕ) (course : Course) (from : ℕ) (bits : List Bool) → IsSane n course → length bits < n → ReadsSo course from bits (pass (reading form many) n course (place_at from bits))
   pass_so forth zero course from bits sane lt = absurd (omega (arith, lt))
   pass_so forth (suc n) course from bits sane lt = by (course []).next refl (λ c bs h l. pass_so forth n c (from + 1) bs h l)
     where
-      at_once : (o : Option Stop) → EndsPass form (many (from + 0)) (course []).next bits o → ReadsSo course from bits (last_turn (course []).turns (place_at from bits) o)
-      at_once o e = (record { reads = refl; few = λ j l. absurd (omega (arith, l)); ends = e }, refl, (0, omega arith, refl))
-
-      here : (b : Bool) → many from ≡ b → many (from + 0) ≡ b
-      here b m = ap many (none_more from) ∙ m
+      at_once : (next : Next) → (course []).next ≡ next → (o : Option Stop) → EndsPass (reading form many) next (place_at from bits) o
+          → ReadsSo course from bits (last_turn (course []).turns (place_at from bits) o)
+      at_once next e o h = (
+        record {
+          reads = refl;
+          few = λ j l. absurd (omega (arith, l));
+          count = omega arith;
+          ends = subst (λ n. EndsPass (reading form many) n (place_at from bits) o) (sym e) h;
+          turns = refl;
+        },
+        (0, omega arith, refl),
+      )
 
       one_item : (x : Item C) (mid : List Bool) (p : Pass Place C Stop) → many from ≡ false → (course []).next ≡ take_next x.spec → form.field x.spec bits ≡ Ok (found x.content mid)
           → Forth form x.spec bits x.content mid → ReadsSo (after form course x) (from + 1) mid p
@@ -130,24 +119,28 @@ module _ {C : Type 0} (form : DataCoding C) (many : ℕ → Bool) where
         record {
           reads = (mid, e, q, r.0.reads);
           few = few;
-          ends = subst (λ k. EndsPass form (many k) (next_after form (after form course x) p.items) p.state.left p.stop)
-              (one_more from (length p.items)) r.0.ends;
+          count = r.0.count ∙ one_more from (length p.items);
+          ends = r.0.ends;
+          turns = r.0.turns;
         },
-        r.1,
-        suffix_then w.size bits mid p.state.left w.within w.left_is r.2,
+        suffix_then w.size bits mid p.state.left w.within w.left_is r.1,
       )
         where
           few : (j : ℕ) → j < suc (length p.items) → many (from + j) ≡ false
-          few zero l = here false m
+          few zero l = ap many (none_more from) ∙ m
           few (suc j) l = ap many (sym (one_more from j)) ∙ r.0.few j (omega (arith, l))
+
+      stepped : (spec : FieldSpec) (b : Bool) → many from ≡ b → (reading form many).step spec (place_at from bits)
+          ≡ (if b then Err (stops.Field (wrong.TooManyValues spec.fxy)) else read_field form spec from (form.field spec bits))
+      stepped spec b m = ap (λ b. if b then Err (stops.Field (wrong.TooManyValues spec.fxy)) else read_field form spec from (form.field spec bits)) m
 
       at_field : (spec : FieldSpec) → (course []).next ≡ take_next spec → (b : Bool) → many from ≡ b → (r : Result (FieldRead C) FieldFault) → form.field spec bits ≡ r
           → ((c : Course) (bs : List Bool) → IsSane n c → length bs < n → ReadsSo c (from + 1) bs (pass (reading form many) n c (place_at (from + 1) bs)))
-          → ReadsSo course from bits (pass_field (reading form many) (course []).turns spec (place_at from bits) (if b then Err (too_many spec.fxy) else read_field form spec from r)
+          → ReadsSo course from bits (pass_field (reading form many) (course []).turns spec (place_at from bits)
+          (if b then Err (stops.Field (wrong.TooManyValues spec.fxy)) else read_field form spec from r)
           (λ f. pass (reading form many) n (λ answers. course (f.returned ∷ answers)) f.state))
-      at_field spec e true m r q go = at_once (Some (too_many spec.fxy)) (ap (λ x. stop_at form (many (from + 0)) x bits) e ∙ ap (λ b. stop_at form b (take_next spec) bits) (here true m))
-      at_field spec e false m (Err why) q go =
-          at_once (Some (field_stop spec.fxy why)) (ap (λ x. stop_at form (many (from + 0)) x bits) e ∙ ap (λ b. stop_at form b (take_next spec) bits) (here false m) ∙ ap (field_stop_of spec.fxy) q)
+      at_field spec e true m r q go = at_once (take_next spec) e (Some (stops.Field (wrong.TooManyValues spec.fxy))) (stepped spec true m)
+      at_field spec e false m (Err why) q go = at_once (take_next spec) e (Some (stops.Field (wrong_of spec.fxy why))) (stepped spec false m ∙ ap (read_field form spec from) q)
       at_field spec e false m (Ok f) q go =
           let k = sane.1 spec e in
           let w = forth spec bits f.content f.suffix k.0 q in
@@ -159,10 +152,21 @@ module _ {C : Type 0} (form : DataCoding C) (many : ℕ → Bool) where
       by : (next : Next) → (course []).next ≡ next
           → ((c : Course) (bs : List Bool) → IsSane n c → length bs < n → ReadsSo c (from + 1) bs (pass (reading form many) n c (place_at (from + 1) bs)))
           → ReadsSo course from bits (pass_next (reading form many) (course []).turns next (place_at from bits) (λ f. pass (reading form many) n (λ answers. course (f.returned ∷ answers)) f.state))
-      by at_end e go = at_once None e
+      by at_end e go = at_once at_end e None refl
       by astray e go = absurd (sane.0 e)
-      by (refused why) e go = at_once (Some (walk_stop why)) (ap (λ x. stop_at form (many (from + 0)) x bits) e)
+      by (refused why) e go = at_once (refused why) e (Some (stop_by why)) refl
       by (take_next spec) e go = at_field spec e (many from) refl (form.field spec bits) refl go
+
+-- the end of the template ends a pass over data, and nothing else does so without a stop
+pub ended : {C : Type 0} (form : DataCoding C) (many : ℕ → Bool) (next : Next) (s : Place) → next ≡ at_end → EndsPass (reading form many) next s None
+ended form many next s e = subst (λ n. EndsPass (reading form many) n s None) (sym e) refl
+
+at_its_end : {C : Type 0} (form : DataCoding C) (many : ℕ → Bool) (next : Next) (s : Place) (o : Option Stop) → o ≡ None → EndsPass (reading form many) next s o → next ≡ at_end
+at_its_end form many at_end s o e h = refl
+at_its_end form many (take_next spec) s None e h = absurd h
+at_its_end form many (take_next spec) s (Some why) e h = absurd cc
+at_its_end form many (refused why) s o e h = absurd (no_stop (stop_by why) (sym e ∙ h))
+at_its_end form many astray s o e h = absurd h
 
 -- so few items that one more is not too many
 pub few_values : (n items j : ℕ) → items * n ≤ max_values → j < items → would_be_many n (0 + j) ≡ false
@@ -211,20 +215,24 @@ together_is : (n : ℕ) (course : Course) (xs : List (Item (List Content))) (bit
 together_is zero course xs bits left h = refl
 together_is (suc n) course xs bits left h =
     ap (λ (p : DataPass (List Content)). p ∷ []) (pass_is (packed (suc n)) (would_be_many (suc n)) (suc (length bits)) course 0 bits xs left None
-    (record { reads = h.0.0; few = λ j lt. few_values (suc n) (length xs) j h.1 lt; ends = h.0.1 }) (omega (arith, packed_fits (suc n) course xs bits left h.0.0)))
+    (record { reads = h.0.0; few = λ j lt. few_values (suc n) (length xs) j h.1 lt; count = refl; ends = ended (packed (suc n)) (would_be_many (suc n)) _ _ h.0.1; turns = refl })
+    (omega (arith, packed_fits (suc n) course xs bits left h.0.0)))
 
 -- the one pass, where it is stopped
 pub together_stops : (n : ℕ) (course : Course) (items : List (Item (List Content))) (bits left : List Bool) (next : Next) (stop : Stop) → 1 ≤ n → ReadsItems (packed n) course items bits left
     → length items * n ≤ max_values → next ≡ next_after (packed n) course items
-    → stop_at (packed n) (would_be_many n (length items)) next left ≡ Some stop → passes_together course n bits ≡ passed (packed n) course (0 + length items) items left (Some stop) ∷ []
+    → EndsPass (reading (packed n) (would_be_many n)) next (place_at (length items) left) (Some stop)
+    → passes_together course n bits ≡ passed (packed n) course (0 + length items) items left (Some stop) ∷ []
 together_stops zero course items bits left next stop some h few is e = absurd (omega (arith, some))
 together_stops (suc n) course items bits left next stop some h few is e =
     ap (λ (p : DataPass (List Content)). p ∷ []) (pass_is (packed (suc n)) (would_be_many (suc n)) (suc (length bits)) course 0 bits items left (Some stop)
     (record {
       reads = h;
       few = λ j lt. few_values (suc n) (length items) j few lt;
-      ends = subst (λ x. stop_at (packed (suc n)) (would_be_many (suc n) (0 + length items)) x left ≡ Some stop) is
-          (subst (λ k. stop_at (packed (suc n)) (would_be_many (suc n) k) next left ≡ Some stop) (zero_plus (length items)) e);
+      count = refl;
+      ends = subst (λ x. EndsPass (reading (packed (suc n)) (would_be_many (suc n))) x (place_at (0 + length items) left) (Some stop)) is
+          (subst (λ k. EndsPass (reading (packed (suc n)) (would_be_many (suc n))) next (place_at k left) (Some stop)) (zero_plus (length items)) e);
+      turns = refl;
     }) (omega (arith, packed_fits (suc n) course items bits left h)))
   where
     zero_plus : (k : ℕ) → k ≡ 0 + k
@@ -241,11 +249,11 @@ together_begins (suc n) course items bits left some h few =
 
 pub together_read : (n : ℕ) (course : Course) (xs : List (Item (List Content))) (bits left : List Bool) → IsPackedReading n course xs bits left
     → (stop_of (passes_together course n bits) ≡ None) × (first_items (items_by_pass (passes_together course n bits)) ≡ xs) × (left_after bits (passes_together course n bits) ≡ left)
-    × (turns_in_all (passes_together course n bits) ≡ turns_together n course xs)
-together_read zero course xs bits left h = (refl, sym h.0, h.1, refl)
+    × (1 ≤ n → turns_in_all (passes_together course n bits) ≡ turns_after (packed n) course xs)
+together_read zero course xs bits left h = (refl, sym h.0, h.1, λ some. absurd (omega (arith, some)))
 together_read (suc n) course xs bits left h =
     let e = together_is (suc n) course xs bits left h in
-    (ap stop_of e, ap (λ ps. first_items (items_by_pass ps)) e, ap (left_after bits) e, ap turns_in_all e ∙ none_more (turns_after (packed (suc n)) course xs))
+    (ap stop_of e, ap (λ ps. first_items (items_by_pass ps)) e, ap (left_after bits) e, λ some. ap turns_in_all e ∙ none_more (turns_after (packed (suc n)) course xs))
 
 -- ---- The reading of a legal template's data, both ways.
 
@@ -262,13 +270,13 @@ module _ (course : Course) (sane : (m : ℕ) → IsSane m course) where
 
   subset_ends : (x : List (Item Content)) (bits left : List Bool) → ReadsPass plain course x bits left → read_pass plain (λ items. false) course bits ≡ passed plain course (0 + length x) x left None
   subset_ends x bits left h =
-      pass_is plain (λ items. false) (suc (length bits)) course 0 bits x left None (record { reads = h.0; few = λ j lt. refl; ends = h.1 })
+      pass_is plain (λ items. false) (suc (length bits)) course 0 bits x left None (record { reads = h.0; few = λ j lt. refl; count = refl; ends = ended plain (λ items. false) _ _ h.1; turns = refl })
       (omega (arith, fits plain plain_forth (length x) course x bits left (sane (length x)) (omega arith) h.0))
 
   -- the items that a reading has
   pub record IsRead (d : Data) (r : DataReading) (v : Values) (used : ℕ) : Type 0 where
     pub none : r.stop ≡ None
-    pub items : values_in r.passes ≡ v
+    pub items : r.values ≡ v
     pub left : r.left ≡ drop used d.bits
 
   subsets_are : (xs : List (List (Item Content))) (n : ℕ) (bits left : List Bool) → ReadsSubsets course xs bits left → length xs ≡ n
@@ -315,8 +323,8 @@ module _ (course : Course) (sane : (m : ℕ) → IsSane m course) where
       by None e h so more =
           let p = read_pass plain (λ items. false) course bits in
           let r = more h in
-          let ends : next_after plain course p.items ≡ at_end = subst (λ o. EndsPass plain false (next_after plain course p.items) p.state.left o) e so.0.ends in
-          ((p.state.left, (so.0.reads, ends), r.0), ap suc r.1, suffix_then so.2.0 bits p.state.left _ so.2.1 so.2.2 r.2)
+          let ends = at_its_end plain (λ items. false) (next_after plain course p.items) p.state p.stop e so.0.ends in
+          ((p.state.left, (so.0.reads, ends), r.0), ap suc r.1, suffix_then so.1.0 bits p.state.left _ so.1.1 so.1.2 r.2)
       by (Some why) e h so more = absurd cc
 
   together_so : (n : ℕ) (bits : List Bool) → stop_of (passes_together course n bits) ≡ None
@@ -326,20 +334,19 @@ module _ (course : Course) (sane : (m : ℕ) → IsSane m course) where
   together_so (suc n) bits h =
       let p = read_pass (packed (suc n)) (would_be_many (suc n)) course bits in
       let so = pass_so (packed (suc n)) (would_be_many (suc n)) (packed_forth n) (suc (length bits)) course 0 bits (sane (suc (length bits))) (omega arith) in
-      let ends : next_after (packed (suc n)) course p.items ≡ at_end =
-      subst (λ o. EndsPass (packed (suc n)) (would_be_many (suc n) (0 + length p.items)) (next_after (packed (suc n)) course p.items) p.state.left o) (only p.stop h) so.0.ends in
-      (((so.0.reads, ends), few_all (suc n) (length p.items) so.0.few), so.2)
+      let ends = at_its_end (packed (suc n)) (would_be_many (suc n)) (next_after (packed (suc n)) course p.items) p.state p.stop (only p.stop h) so.0.ends in
+      (((so.0.reads, ends), few_all (suc n) (length p.items) so.0.few), so.1)
     where
       only : (o : Option Stop) → first_stop o None ≡ None → o ≡ None
       only None e = refl
       only (Some why) e = absurd cc
 
   -- a reading that is not stopped is a reading by the items
-  pub reads_so : (d : Data) → (reading_of course d).stop ≡ None → (used : ℕ) × IsReading course d (values_in (reading_of course d).passes) used × ((reading_of course d).left ≡ drop used d.bits)
+  pub reads_so : (d : Data) → (reading_of course d).stop ≡ None → (used : ℕ) × IsReading course d (reading_of course d).values used × ((reading_of course d).left ≡ drop used d.bits)
   reads_so d none = by d.compressed refl none
     where
       by : (b : Bool) → d.compressed ≡ b → (reading_in course b d.subsets d.bits).stop ≡ None
-          → (used : ℕ) × IsReading course d (values_in (reading_in course b d.subsets d.bits).passes) used × ((reading_in course b d.subsets d.bits).left ≡ drop used d.bits)
+          → (used : ℕ) × IsReading course d (reading_in course b d.subsets d.bits).values used × ((reading_in course b d.subsets d.bits).left ≡ drop used d.bits)
       by false e h =
           let s = subsets_so d.subsets d.bits h in
           (s.2.0, (e, s.2.1, (subst (λ l. ReadsSubsets course (items_by_pass (passes_apart course d.subsets d.bits)) d.bits l) s.2.2 s.0, s.1)), s.2.2)

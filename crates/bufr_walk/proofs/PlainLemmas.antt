@@ -6,8 +6,8 @@ use Rattle.std.proofs.lemmas.List.{length-drop, drop-drop, drop-take, take-take,
 use Rattle.std.proofs.Math.Nat.{pow-le-pow_right}
 use Rattle.bufr_bits.specs.Prelude.{bits_of, bits_at, number_of, are_all_ones}
 use Rattle.bufr_bits.proofs.BitLemmas.{length-bits_of, length-bits_at, are_all_ones-number, drop-bits_of, take-bits_of, number_of_middle, number-bits_of_octet}
-use Rattle.bufr_walk.specs.Prelude.{turns_in, items_in, Stop, stop_at, walk_fault_of, plain, WalkFault, Kind, Taken, Role, is_reference, FieldSpec, IsSpec, HasRole, HasWidth, answer_of, answer_by_role, content_in, content_by, signed_by, plain_field, found, data_end, octets_in, Content, Cursor, rest_of, past, IsTaken, fault_at, PlainTakes, WalkStop, Course, Next, take_next, at_end, refused, next_item, TakenField, Takes, ticked, oks, answers_of, Walked, spot, walk_stop, field_stop, field_stop_of, data_in, data_of, read_by, Read, course_of, Item, ReadsItems, next_after, turns_after, after, apart, together, Values, IsReading, KeepsValues, ReadsSubsets, max_values, IsStoredReading, IsReadAndPaid, TurnRefusal, stop_by}
-use Rattle.bufr_walk.specs.Pass.{DataPass, passes_apart, stop_of, left_after, turns_in_all, items_by_pass, values_read, ReadsData, AnswersReading}
+use Rattle.bufr_walk.specs.Prelude.{turns_in, items_in, Stop, plain, WalkFault, Kind, Taken, Role, is_reference, FieldSpec, IsSpec, HasRole, HasWidth, answer_of, answer_by_role, content_in, content_by, signed_by, plain_field, found, data_end, octets_in, Content, Cursor, rest_of, past, IsTaken, fault_at, PlainTakes, WalkStop, Course, Next, take_next, at_end, refused, next_item, TakenField, Takes, ticked, oks, answers_of, Walked, data_in, data_of, read_by, Read, course_of, Item, ReadsItems, next_after, turns_after, after, apart, together, Values, IsReading, KeepsValues, ReadsSubsets, max_values, IsStoredReading, IsReadAndPaid, TurnRefusal, stop_by}
+use Rattle.bufr_walk.specs.Pass.{DataPass, passes_apart, stop_of, left_after, turns_in_all, items_by_pass, values_read, ReadsData, AnswersReading, EndsPass, read_field, reading, place_at}
 use Rattle.bufr_walk.specs.declared.fault.DataFault.{DataFault}
 use Rattle.bufr_walk.specs.declared.fault.DataFault.TheVariants as wrong
 use Rattle.bufr_frame.specs.Prelude.{Sections}
@@ -15,7 +15,6 @@ use Rattle.bufr_tables.specs.Prelude.{Row, Tree}
 use Rattle.bufr_tables.specs.declared.table_b.Kind.TheVariants as kind
 use Rattle.bufr_walk.specs.declared.spec.Role.TheVariants as role
 use Rattle.bufr_walk.specs.declared.spec.Taken.TheVariants as taken
-use Rattle.bufr_walk.specs.declared.spec.TurnRefusal.TheVariants as refusal
 use Rattle.bufr_walk.specs.declared.walker.WalkStop.TheVariants as stops
 use Rattle.bufr_walk.specs.declared.fault.WalkFault.TheVariants as fault
 use Rattle.bufr_walk.specs.declared.reading.StoredItems.TheVariants as kept
@@ -53,7 +52,7 @@ abbrev pub PassStops : Course → Cursor → (steps subset : ℕ) → WalkFault 
 PassStops course s steps subset why s' steps' =
     ((spec : FieldSpec) × PassComes course s steps (take_next spec) s' steps' × (spec.role ≡ role.Reference) × (why ≡ fault.Memory))
     ⊎ ((next : Next) × (stop : Stop) × PassComes course s steps next s' steps'
-    × (stop_at plain false next (rest_of s') ≡ Some stop) × (why ≡ walk_fault_of stop subset s'.at))
+    × ((items : ℕ) → EndsPass (reading plain (λ items. false)) next (place_at items (rest_of s')) (Some stop)) × (why ≡ fault_at stop subset s'.at))
 
 pub numeric_width : (k : Kind) (w : ℕ) → k ≡ kind.Numeric → HasWidth k w → w ≤ 63
 numeric_width kind.Character w e h = absurd cc
@@ -288,28 +287,17 @@ pass_stops course s s' c c' subset at why here w =
     moved next mid e p = subst (λ x. PassComes course s c next x c') (sym e) p
 
     field : (spec : FieldSpec) (e : DataFault) → PlainTakes w.1 spec (Err e) s' → PassComes course s c (take_next spec) w.1 c' → PassStops course s c subset (fault_at (stops.Field e) subset at) s' c'
-    field spec (wrong.DataEnd f) h p =
+    field spec e h p =
         inr (
           take_next spec,
-          field_stop spec.fxy data_end,
+          stops.Field (wrong.DataEnd spec.fxy),
           moved (take_next spec) w.1 h.2 p,
-          ap (field_stop_of spec.fxy) (ap (λ x. plain_field spec (rest_of x)) h.2 ∙ h.0),
-          ap (λ e. fault_at (stops.Field e) subset at) h.1 ∙ ap (λ b. fault.DataEnd (spot subset spec.fxy b)) here,
+          λ items. ap (read_field plain spec items) (ap (λ x. plain_field spec (rest_of x)) h.2 ∙ h.0),
+          ap (λ e. fault_at (stops.Field e) subset at) h.1 ∙ ap (fault_at (stops.Field (wrong.DataEnd spec.fxy)) subset) here,
         )
-    field spec (wrong.Increment f) h p = absurd cc h.1
-    field spec (wrong.UnequalFactor f) h p = absurd cc h.1
-    field spec (wrong.TooManyValues f) h p = absurd cc h.1
-    field spec wrong.Memory h p = absurd cc h.1
 
     refuses : (x : TurnRefusal) → s' ≡ w.1 → PassComes course s c (refused x) w.1 c' → PassStops course s c subset (fault_at (stop_by x) subset at) s' c'
-    refuses (refusal.Width f) e p = inr (refused (refusal.Width f), walk_stop (refusal.Width f), moved (refused (refusal.Width f)) w.1 e p, refl, ap (λ b. fault.Width (spot subset f b)) here)
-    refuses (refusal.Defining f) e p = inr (
-      refused (refusal.Defining f),
-      walk_stop (refusal.Defining f),
-      moved (refused (refusal.Defining f)) w.1 e p,
-      refl,
-      ap (λ b. fault.Defining (spot subset f b)) here,
-    )
+    refuses x e p = inr (refused x, stop_by x, moved (refused x) w.1 e p, λ items. refl, ap (fault_at (stop_by x) subset) here)
 
 -- a walk does not move back
 takes_forth : (course : Course) (s : Cursor) (items : List TakenField) (s' : Cursor) → Takes (oks PlainTakes) course s items s' → s.at ≤ s'.at

@@ -3,7 +3,7 @@ use Rattle.std.proofs.lemmas.Grind.{common_steps}
 use Rattle.std.proofs.Common.{suc, None, Option, option_map, append_assoc, ◌≡◌, ℕ, ◌+◌, ◌-◌, ◌*◌, ◌^◌, ◌<◌, ◌≤◌, false, Bool, List, [], ◌∷◌, ◌++◌, length, drop, Some, refl, sym, ◌∙◌, ap, subst, arith, length-append, length-drop, ◌/◌, ◌&&◌, true, ◌⊎◌, inl, inr, take, Result, Ok, Err, ℤ, pos, ◌+ℤ◌, ◌==◌, ◌||◌, nat_lt, if◌then◌else◌, nat_le, not, unsigned_abs}
 use Rattle.std.proofs.lemmas.Bool.{eqb-true, ltb-true, ne_eqb}
 use Rattle.bufr_bits.specs.Prelude.{bits_of, number_of, are_all_ones, bits_at}
-use Rattle.bufr_walk.specs.Prelude.{number_from, Kind, WalkFault, Content, data_end, increment, unequal_factor, answer_of, number, text, missing, content_in, content_by, said_by, octets_in, signed_by, shown_number, shown_text, shown_missing, shown_reference, shown, FieldFault, FieldRead, found, plain_field, FieldSpec, IsSpec, HasRole, is_reference, IsFor, IsForRole, is_plain_number, is_plain, IsPlainNumber, ones, Course, Next, take_next, at_end, refused, ticked, TakenField, Takes, oks, answers_of, Walked, walk_fault_of, bits_before, data_in, stop_at, Stop, walk_stop, too_many, field_stop, Item, plain, ReadsPass, ReadsSubsets, turns_after, turns_in, after, items_in, IsReading, apart, together, Values, Read, course_of, IsReadAndPaid, PaysBits, IsStoredReading, KeepsValues, calls_for, turns_for, content_kept, is_missing, stays_within, fits_at, Cursor, rest_of, past, IsTaken, Stage, stage, IsShown, IsUnshown, ShowingTakes, Sofar, ItemsShown, ItemsEnded, ItemsGo, ShowFault, TurnRefusal, Role, Taken, WalkStop, Call, item_call, view_of, Timed, timed, item_calls, Shows, EndsAt, IsReferenceValue, subset_call, subset_calls, IndexedItem, stop_by}
+use Rattle.bufr_walk.specs.Prelude.{number_from, Kind, WalkFault, Content, data_end, answer_of, number, text, missing, content_in, content_by, said_by, octets_in, signed_by, shown_number, shown_text, shown_missing, shown_reference, shown, FieldFault, FieldRead, found, plain_field, FieldSpec, IsSpec, HasRole, is_reference, IsFor, IsForRole, is_plain_number, is_plain, IsPlainNumber, ones, Course, Next, take_next, at_end, refused, ticked, TakenField, Takes, oks, answers_of, Walked, fault_at, bits_before, data_in, Stop, Item, plain, ReadsPass, ReadsSubsets, turns_after, turns_in, after, items_in, IsReading, apart, together, Values, Read, course_of, IsReadAndPaid, PaysBits, IsStoredReading, KeepsValues, calls_for, turns_for, content_kept, is_missing, stays_within, fits_at, Cursor, rest_of, past, IsTaken, Stage, stage, IsShown, IsUnshown, ShowingTakes, Sofar, ItemsShown, ItemsEnded, ItemsGo, ShowFault, TurnRefusal, Role, Taken, WalkStop, Call, item_call, view_of, Timed, timed, item_calls, Shows, EndsAt, IsReferenceValue, subset_call, subset_calls, IndexedItem, stop_by}
 use Rattle.bufr_tables.specs.Prelude.{Row, is_character}
 use Rattle.bufr_walk.specs.declared.plain.ShowStop.{ShowStop}
 use Rattle.std.proofs.lemmas.Bool.Decides.{nat_tests}
@@ -16,11 +16,12 @@ use Rattle.bufr_walk.specs.declared.fault.ShowFault.TheVariants as show_fault
 use Rattle.bufr_walk.specs.declared.plain.ShowStop.TheVariants as stop
 use Rattle.bufr_walk.specs.declared.spec.Role.TheVariants as role
 use Rattle.bufr_walk.specs.declared.walker.WalkStop.TheVariants as stops
+use Rattle.bufr_walk.specs.declared.fault.DataFault.TheVariants as wrong
 use Rattle.bufr_walk.specs.declared.spec.Taken.TheVariants as taken
 use Rattle.bufr_walk.proofs.WalkLemmas.{stop_cases}
 use Rattle.std.proofs.lemmas.List.{map-append, append-nil, length-map}
-use Rattle.bufr_walk.specs.Pass.{DataPass, read_pass, passes_apart, unless_stopped, stop_of, first_stop, left_after, turns_in_all, items_by_pass, values_read, calls_of, turns_shown, reading_of, fault_of, ReadsData, ReadsTo}
-use Rattle.bufr_walk.proofs.PassLemmas.{passed, pass_is, pass_prefix}
+use Rattle.bufr_walk.specs.Pass.{DataPass, read_pass, passes_apart, unless_stopped, stop_of, first_stop, left_after, turns_in_all, items_by_pass, values_read, calls_of, turns_shown, ReadsData, ReadsTo, place_at, EndsPass, reading}
+use Rattle.bufr_walk.proofs.PassLemmas.{passed, pass_is, pass_prefix, ended}
 use Rattle.bufr_walk.specs.declared.reading.StoredItems.TheVariants as kept
 
 -- ---- Subsets that are read one after another.
@@ -63,7 +64,7 @@ fuel : (course : Course) (s s' : Cursor) (c c' : ℕ) (next : Next) (p : PassCom
 fuel course s s' c c' next p within = omega (arith, p.pays, within, ap length p.same, length-drop s.at s.bits)
 
 came : (course : Course) (s s' : Cursor) (c c' : ℕ) (next : Next) (o : Option Stop) (p : PassComes course s c next s' c') → s'.at ≤ length s'.bits
-    → ReadsTo plain (λ n. false) course 0 (rest_of s) p.items (rest_of s') o
+    → ReadsTo plain (λ n. false) course (place_at 0 (rest_of s)) (passed plain course (0 + length p.items) p.items (rest_of s') o)
     → read_pass plain (λ items. false) course (rest_of s) ≡ passed plain course (0 + length p.items) p.items (rest_of s') o
 came course s s' c c' next o p within h = pass_is plain (λ n. false) (suc (length (rest_of s))) course 0 (rest_of s) p.items (rest_of s') o h (fuel course s s' c c' next p within)
 
@@ -123,7 +124,7 @@ one_more n course bits i s s' c c' h p few within forth =
     pass = passed plain course (0 + length p.items) p.items (rest_of s') None
 
     is : read_pass plain (λ items. false) course (rest_of s) ≡ passed plain course (0 + length p.items) p.items (rest_of s') None
-    is = came course s s' c c' at_end None p within (record { reads = p.reads; few = λ j lt. refl; ends = sym p.next_is })
+    is = came course s s' c c' at_end None p within (record { reads = p.reads; few = λ j lt. refl; count = refl; ends = ended plain (λ n. false) _ _ (sym p.next_is); turns = refl })
 
     counted : (i more : ℕ) → i + 1 + more ≡ i + suc more
     counted i more = omega arith
@@ -182,16 +183,6 @@ stopped_there n course octets total i s s' c c' why h more p within = by p
         others : (total i : ℕ) → i < total → total ≡ i + suc (total - (i + 1))
         others total i h = omega (arith, h)
 
-    fault_so : (stop : Stop) → ((fault_of (data_in false total octets) (reading_of course (data_in false total octets)) ≡ Some (walk_fault_of stop (i + 1) s'.at))
-        × (c' ≡ ticked 0 (reading_of course (data_in false total octets)).turns))
-        → ReadsData course (data_in false total octets) (Err (walk_fault_of stop (i + 1) s'.at)) c'
-    fault_so (walk_stop (refusal.Width f)) r = r
-    fault_so (walk_stop (refusal.Defining f)) r = r
-    fault_so (too_many f) r = r
-    fault_so (field_stop f data_end) r = r
-    fault_so (field_stop f increment) r = r
-    fault_so (field_stop f unequal_factor) r = r
-
     place_is : (a b c : ℕ) → a + b ≡ c → c - b ≡ a
     place_is a b c e = omega (arith, e)
 
@@ -202,7 +193,8 @@ stopped_there n course octets total i s s' c c' why h more p within = by p
     by (inl q) =
         let m = q.1 in
         let begins = pass_prefix plain (λ n. false) (suc (length (rest_of s))) course 0 (rest_of s) m.items (rest_of s') m.reads (λ j lt. refl) (fuel course s s' c c' (take_next q.0) m within) in
-        rw q.3 (
+        inr (
+          q.3,
           turns_in_all h.passes + turns_after plain course m.items,
           record {
             done = h.passes;
@@ -214,7 +206,7 @@ stopped_there n course octets total i s s' c c' why h more p within = by p
             are = begins.1;
             spec = q.0;
             next = sym m.next_is;
-            wants = q.2;
+            why = inr q.2;
             turns_are = refl;
           },
           ticks_of n course (bits_of octets) i s s' c c' (take_next q.0) h m,
@@ -222,19 +214,26 @@ stopped_there n course octets total i s s' c c' why h more p within = by p
     by (inr q) =
         let m = q.2 in
         let pass : DataPass Content = passed plain course (0 + length m.items) m.items (rest_of s') (Some q.1) in
-        let is = came course s s' c c' q.0 (Some q.1) m within (record { reads = m.reads; few = λ j lt. refl; ends = subst (λ x. stop_at plain false x (rest_of s') ≡ Some q.1) m.next_is q.3 }) in
+        let is = came course s s' c c' q.0 (Some q.1) m within
+        (record {
+          reads = m.reads;
+          few = λ j lt. refl;
+          count = refl;
+          ends = subst (λ x. EndsPass (reading plain (λ n. false)) x (place_at (0 + length m.items) (rest_of s')) (Some q.1)) m.next_is (q.3 (0 + length m.items));
+          turns = refl;
+        }) in
         let all : passes_apart course total (bits_of octets) ≡ h.passes ++ pass ∷ [] =
         goes ∙ ap (λ (z : DataPass Content). h.passes ++ (z ∷ unless_stopped z.stop (passes_apart course (total - (i + 1)) z.state.left))) is in
         let at : s'.at + length (rest_of s') ≡ length (bits_of octets) = here s' (bits_of octets) (m.same ∙ h.same) (omega (arith, within, ap length (m.same ∙ h.same))) in
         let count : length (h.passes ++ pass ∷ []) ≡ i + 1 = omega
         (arith, length-append h.passes (pass ∷ []), h.count_is, ap length h.items, length-map h.passes (λ (z : DataPass Content). z.items)) in
-        subst (λ x. ReadsData course (data_in false total octets) (Err x) c') (sym q.4) (fault_so q.1 (
-          ap (λ (ps : List (DataPass Content)). option_map (λ w. walk_fault_of w (length ps) (length (bits_of octets) - length (left_after (bits_of octets) ps))) (stop_of ps)) all
-              ∙ ap (λ o. option_map (λ w. walk_fault_of w (length (h.passes ++ pass ∷ [])) (length (bits_of octets) - length (left_after (bits_of octets) (h.passes ++ pass ∷ [])))) o)
+        subst (λ x. ReadsData course (data_in false total octets) (Err x) c') (sym q.4) (inl (
+          ap (λ (ps : List (DataPass Content)). option_map (λ w. fault_at w (length ps) (length (bits_of octets) - length (left_after (bits_of octets) ps))) (stop_of ps)) all
+              ∙ ap (λ o. option_map (λ w. fault_at w (length (h.passes ++ pass ∷ [])) (length (bits_of octets) - length (left_after (bits_of octets) (h.passes ++ pass ∷ [])))) o)
               (stop_append h.passes (pass ∷ []) h.none)
-              ∙ ap (λ k. Some (walk_fault_of q.1 k (length (bits_of octets) - length (left_after (bits_of octets) (h.passes ++ pass ∷ []))))) count
-              ∙ ap (λ l. Some (walk_fault_of q.1 (i + 1) (length (bits_of octets) - length l))) (left_append (bits_of octets) h.passes (pass ∷ []))
-              ∙ ap (λ b. Some (walk_fault_of q.1 (i + 1) b)) (place_is s'.at (length (rest_of s')) (length (bits_of octets)) at),
+              ∙ ap (λ k. Some (fault_at q.1 k (length (bits_of octets) - length (left_after (bits_of octets) (h.passes ++ pass ∷ []))))) count
+              ∙ ap (λ l. Some (fault_at q.1 (i + 1) (length (bits_of octets) - length l))) (left_append (bits_of octets) h.passes (pass ∷ []))
+              ∙ ap (λ b. Some (fault_at q.1 (i + 1) b)) (place_is s'.at (length (rest_of s')) (length (bits_of octets)) at),
           ticks_of n course (bits_of octets) i s s' c c' q.0 h m ∙ ap (ticked 0)
               (sym (ap turns_in_all all ∙ turns_append h.passes (pass ∷ []) ∙ sums_to (turns_in_all h.passes) (turns_after plain course m.items))),
         ))
@@ -256,17 +255,19 @@ few_stopped n course bits i s s' c c' subset why h p few within forth = most (bi
     most : (k : ℕ) → s'.at ≤ k → c' ≤ n * (k + 1)
     most k w = sums n s.at s'.at c c' k h.few few forth w
 
-    at_spot : (stop : Stop) → (bits_before (walk_fault_of stop subset s'.at) (length bits)) ≡ s'.at
-    at_spot (walk_stop (refusal.Width f)) = refl
-    at_spot (walk_stop (refusal.Defining f)) = refl
-    at_spot (too_many f) = refl
-    at_spot (field_stop f data_end) = refl
-    at_spot (field_stop f increment) = refl
-    at_spot (field_stop f unequal_factor) = refl
+    at_spot : (stop : Stop) → s'.at ≤ length bits → s'.at ≤ bits_before (fault_at stop subset s'.at) (length bits)
+    at_spot (stops.Width f) h = omega arith
+    at_spot (stops.Defining f) h = omega arith
+    at_spot (stops.Field (wrong.DataEnd f)) h = omega arith
+    at_spot (stops.Field (wrong.Increment f)) h = omega arith
+    at_spot (stops.Field (wrong.UnequalFactor f)) h = omega arith
+    at_spot (stops.Field (wrong.TooManyValues f)) h = omega arith
+    at_spot (stops.Field wrong.Memory) h = h
+    at_spot stops.Memory h = h
 
     by : PassStops course s c subset why s' c' → s'.at ≤ bits_before why (length bits)
     by (inl p) = omega (arith, within, ap length (p.1.same ∙ h.same), ap (λ w. bits_before w (length bits)) p.3)
-    by (inr p) = omega (arith, ap (λ w. bits_before w (length bits)) p.4, at_spot p.1)
+    by (inr p) = omega (arith, ap (λ w. bits_before w (length bits)) p.4, at_spot p.1 (omega (arith, within, ap length (p.2.same ∙ h.same))))
 
 same_found : (a b : FieldRead Content) → ◌≡◌ {A = Result (FieldRead Content) FieldFault} (Ok a) (Ok b) → a ≡ b
 same_found a b e = cc

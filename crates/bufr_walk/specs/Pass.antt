@@ -2,12 +2,14 @@
 -- and the reading of data, which is made of passes. (WMO-No. 306, Volume I.2, FM 94: sections 3 and
 -- 4; the order of the faults at one item is a choice of this project)
 -- Cited by public contracts.
-use Rattle.std.specs.Prelude.{ℕ, zero, suc, ◌+◌, ◌-◌, Bool, true, false, List, [], ◌∷◌, length, Result, Ok, Err, Option, Some, None, option_map, map, if◌then◌else◌, ◌≡◌, ◌<◌, ◌++◌, ◌%◌, ◌⊎◌}
+use Rattle.std.specs.Prelude.{ℕ, zero, suc, ◌+◌, ◌-◌, Bool, true, false, List, [], ◌∷◌, length, Result, Ok, Err, Option, Some, None, option_map, map, if◌then◌else◌, ◌≡◌, ◌<◌, ◌++◌, ◌%◌, ◌⊎◌, ◌==◌}
 use Rattle.bufr_walk.specs.Content.{Taken, FieldSpec, Content, FieldFault, FieldRead}
 use Rattle.bufr_walk.specs.Rules.{TurnRefusal}
-use Rattle.bufr_walk.specs.Course.{Course, Next, take_next, at_end, astray, refused, ticked, next_item}
+use Rattle.bufr_walk.specs.Course.{stop_by, Course, Next, take_next, at_end, astray, refused, ticked, next_item}
 use Rattle.bufr_walk.specs.declared.fault.WalkFault.TheVariants as fault
-use Rattle.bufr_walk.specs.Reading.{DataCoding, plain, packed, would_be_many, Data, Stop, walk_stop, too_many, field_stop, WalkFault, walk_fault_of, Item, Values, apart, together, Read, course_of, Timed, calls_for, turns_for, next_after, turns_after, items_at_once, stop_at, ReadsItems}
+use Rattle.bufr_walk.specs.declared.fault.DataFault.TheVariants as wrong
+use Rattle.bufr_walk.specs.declared.walker.WalkStop.TheVariants as stops
+use Rattle.bufr_walk.specs.Reading.{DataCoding, plain, packed, would_be_many, Data, Stop, wrong_of, WalkFault, fault_at, Item, Values, apart, together, Read, course_of, Timed, calls_for, turns_for, next_after, turns_after, items_at_once, ReadsItems}
 use Rattle.bufr_walk.specs.declared.spec.Role.TheVariants as role
 use Rattle.bufr_tables.specs.Prelude.{Row, Tree}
 
@@ -63,6 +65,14 @@ module _ {S C E : Type 0} (how : Passing S C E) where
   -- never, since each factor returns its count
   pass_next turn astray s rest = last_turn turn s how.lost
 
+  -- what comes next stops the pass, or ends it
+  abbrev pub EndsPass : Next → S → Option E → Type 0
+  EndsPass (take_next spec) s None = ⊥
+  EndsPass (take_next spec) s (Some why) = how.step spec s ≡ Err why
+  EndsPass at_end s stop = stop ≡ how.ends s
+  EndsPass (refused why) s stop = stop ≡ Some (how.refuses why s)
+  EndsPass astray s stop = ⊥
+
   -- A pass: each item by what comes next after those before it. No pass over data reaches `most`,
   -- which is more than they have bits.
   abbrev pub pass : (most : ℕ) → Course → S → Pass S C E
@@ -84,20 +94,22 @@ place_at items left = record { items = items; left = left }
 -- an item that was read, or the fault of its field
 abbrev pub read_field : {C : Type 0} → DataCoding C → FieldSpec → (items : ℕ)
     → Result (FieldRead C) FieldFault → Result (Step Place C) Stop
-read_field form spec items (Err why) = Err (field_stop spec.fxy why)
+read_field form spec items (Err why) = Err (stops.Field (wrong_of spec.fxy why))
 read_field form spec items (Ok f) = Ok (record {
   content = f.content;
   returned = form.gives spec f.content;
   state = place_at (items + 1) f.suffix;
 })
 
--- How data are read: at each field its item, unless there are too many values.
+-- How data are read: at each field its item, unless there are too many values. So the faults at an
+-- item come in this order: the walk refuses it (32, 31), too many values (35), the field's own (30,
+-- 34, 33).
 -- rule: compressed-fault-order
 abbrev pub reading : {C : Type 0} → DataCoding C → (many : ℕ → Bool) → Passing Place C Stop
 reading form many = record {
-  step = λ spec p. if many p.items then Err (too_many spec.fxy)
+  step = λ spec p. if many p.items then Err (stops.Field (wrong.TooManyValues spec.fxy))
       else read_field form spec p.items (form.field spec p.left);
-  refuses = λ why p. walk_stop why;
+  refuses = λ why p. stop_by why;
   ends = λ p. None;
   lost = None;
 }
@@ -153,47 +165,14 @@ abbrev pub turns_in_all : {C : Type 0} → List (DataPass C) → ℕ
 turns_in_all [] = 0
 turns_in_all (p ∷ passes) = p.turns + turns_in_all passes
 
--- the passes of a reading, one for each subset or one for all
-pub data Passes : Type 0 where
-  each : (passes : List (DataPass Content)) → Passes
-  all : (passes : List (DataPass (List Content))) → Passes
-
--- A reading: its passes, what stopped the last, if anything, and in which subset, from 1 (0 where
--- all are read together), the bits after its items, and its turns.
+-- A reading: its items, what stopped it, if anything, and in which subset, from 1 (0 where all are
+-- read together), the bits after its items, and its turns.
 pub record DataReading : Type 0 where
-  pub passes : Passes
+  pub values : Values
   pub stop : Option Stop
   pub subset : ℕ
   pub left : List Bool
   pub turns : ℕ
-
--- the reading that has these passes over bits
-abbrev pub reading_by : {C : Type 0} → (List (DataPass C) → Passes) → (subset : ℕ) → List Bool
-    → List (DataPass C) → DataReading
-reading_by form subset bits passes = record {
-  passes = form passes;
-  stop = stop_of passes;
-  subset = subset;
-  left = left_after bits passes;
-  turns = turns_in_all passes;
-}
-
--- the reading of data
-abbrev pub reading_in : Course → (compressed : Bool) → (subsets : ℕ) → List Bool → DataReading
-reading_in course false n bits =
-    let passes = passes_apart course n bits in reading_by each (length passes) bits passes
-reading_in course true n bits = reading_by all 0 bits (passes_together course n bits)
-
-abbrev pub reading_of : Course → Data → DataReading
-reading_of course d = reading_in course d.compressed d.subsets d.bits
-
--- the fault of a reading, where it was stopped
--- rule: stream-fault-place
-abbrev pub fault_of : Data → DataReading → Option WalkFault
-fault_of d r =
-    option_map (λ why. walk_fault_of why r.subset (length d.bits - length r.left)) r.stop
-
--- ---- What was read.
 
 -- the items of each pass
 abbrev pub items_by_pass : {C : Type 0} → List (DataPass C) → List (List (Item C))
@@ -204,14 +183,38 @@ abbrev pub first_items : {C : Type 0} → List (List (Item C)) → List (Item C)
 first_items [] = []
 first_items (items ∷ more) = items
 
--- the items of a reading
-abbrev pub values_in : Passes → Values
-values_in (each passes) = apart (items_by_pass passes)
-values_in (all passes) = together (first_items (items_by_pass passes))
+-- the reading that has these passes over bits
+abbrev pub reading_by : {C : Type 0} → (List (List (Item C)) → Values) → (subset : ℕ) → List Bool
+    → List (DataPass C) → DataReading
+reading_by form subset bits passes = record {
+  values = form (items_by_pass passes);
+  stop = stop_of passes;
+  subset = subset;
+  left = left_after bits passes;
+  turns = turns_in_all passes;
+}
+
+-- the reading of data
+abbrev pub reading_in : Course → (compressed : Bool) → (subsets : ℕ) → List Bool → DataReading
+reading_in course false n bits =
+    let passes = passes_apart course n bits in reading_by apart (length passes) bits passes
+reading_in course true n bits =
+    reading_by (λ items. together (first_items items)) 0 bits (passes_together course n bits)
+
+abbrev pub reading_of : Course → Data → DataReading
+reading_of course d = reading_in course d.compressed d.subsets d.bits
+
+-- the fault of a reading, where it was stopped
+-- rule: stream-fault-place
+abbrev pub fault_of : Data → DataReading → Option WalkFault
+fault_of d r =
+    option_map (λ why. fault_at why r.subset (length d.bits - length r.left)) r.stop
+
+-- ---- What was read.
 
 -- the items that were read
 abbrev pub values_read : Read → Values
-values_read r = values_in (reading_of (course_of r) r.source).passes
+values_read r = (reading_of (course_of r) r.source).values
 
 -- the calls that show a reading, and the turns of the showing
 abbrev pub calls_of : Read → List Timed
@@ -222,29 +225,20 @@ turns_shown r = turns_for r (values_read r)
 
 -- ---- The same item by item: each is what comes next, read where the one before ended.
 
--- what comes next ends a pass, or stops it
-abbrev pub EndsPass : {C : Type 0} → DataCoding C → (many : Bool) → Next → List Bool → Option Stop
-    → Type 0
-EndsPass form many next bits None = next ≡ at_end
-EndsPass form many next bits (Some stop) = stop_at form many next bits ≡ Some stop
-
--- items are read from bits, with so many items before them, and then the pass ends
+-- a pass reads its items from a place, and then it ends
 pub record ReadsTo {C : Type 0} (form : DataCoding C) (many : ℕ → Bool) (course : Course)
-    (before : ℕ) (bits : List Bool) (items : List (Item C)) (left : List Bool)
-    (stop : Option Stop) : Type 0 where
-  pub reads : ReadsItems form course items bits left
-  pub few : (j : ℕ) → j < length items → many (before + j) ≡ false
-  pub ends : EndsPass form (many (before + length items)) (next_after form course items) left stop
+    (from : Place) (p : DataPass C) : Type 0 where
+  pub reads : ReadsItems form course p.items from.left p.state.left
+  pub few : (j : ℕ) → j < length p.items → many (from.items + j) ≡ false
+  pub count : p.state.items ≡ from.items + length p.items
+  pub ends : EndsPass (reading form many) (next_after form course p.items) p.state p.stop
+  pub turns : p.turns ≡ turns_after form course p.items
 
 -- ---- Where memory may run out.
 
--- memory is wanted before a reference that must be kept, and in compressed data for each 64th item
-abbrev pub WantsMemory : (compressed : Bool) → (items : ℕ) → FieldSpec → Type 0
-WantsMemory false items spec = spec.role ≡ role.Reference
-WantsMemory true items spec = (items % items_at_once ≡ 0) ⊎ (spec.role ≡ role.Reference)
-
--- it may run out in one of some passes, before the field that comes next after some of its items
-pub record RunsShort {C : Type 0} (form : DataCoding C) (compressed : Bool) (course : Course)
+-- It may run out in one of some passes, before the field that comes next after some of its items:
+-- a reference, which must be kept, or where that many items want memory.
+pub record RunsShort {C : Type 0} (form : DataCoding C) (wants : ℕ → Bool) (course : Course)
     (passes : List (DataPass C)) (turns : ℕ) : Type 0 where
   pub done : List (DataPass C)
   pub here : DataPass C
@@ -255,13 +249,17 @@ pub record RunsShort {C : Type 0} (form : DataCoding C) (compressed : Bool) (cou
   pub are : here.items ≡ items ++ more
   pub spec : FieldSpec
   pub next : next_after form course items ≡ take_next spec
-  pub wants : WantsMemory compressed (length items) spec
+  pub why : (wants (length items) ≡ true) ⊎ (spec.role ≡ role.Reference)
   pub turns_are : turns ≡ turns_in_all done + turns_after form course items
 
--- in one of the passes of a reading
-abbrev pub MayRunShort : Course → (subsets : ℕ) → Passes → (turns : ℕ) → Type 0
-MayRunShort course n (each passes) turns = RunsShort plain false course passes turns
-MayRunShort course n (all passes) turns = RunsShort (packed n) true course passes turns
+-- in one of the passes of a reading; compressed data want memory for each 64th item
+abbrev pub MayRunShort : Course → (compressed : Bool) → (subsets : ℕ) → List Bool → (turns : ℕ)
+    → Type 0
+MayRunShort course false n bits turns =
+    RunsShort plain (λ items. false) course (passes_apart course n bits) turns
+MayRunShort course true n bits turns =
+    RunsShort (packed n) (λ items. items % items_at_once == 0) course
+    (passes_together course n bits) turns
 
 -- ---- What a call that reads answers.
 
@@ -272,11 +270,11 @@ abbrev pub ReadsData : Course → Data → Result ℕ WalkFault → (steps : ℕ
 ReadsData course d (Ok used) steps =
     let r = reading_of course d in
     (r.stop ≡ None) × (used + length r.left ≡ length d.bits) × (steps ≡ ticked 0 r.turns)
-ReadsData course d (Err fault.Memory) steps =
-    (turns : ℕ) × MayRunShort course d.subsets (reading_of course d).passes turns
-    × (steps ≡ ticked 0 turns)
 ReadsData course d (Err why) steps =
-    let r = reading_of course d in (fault_of d r ≡ Some why) × (steps ≡ ticked 0 r.turns)
+    let r = reading_of course d in
+    ((fault_of d r ≡ Some why) × (steps ≡ ticked 0 r.turns))
+    ⊎ ((why ≡ fault.Memory) × (turns : ℕ)
+    × MayRunShort course d.compressed d.subsets d.bits turns × (steps ≡ ticked 0 turns))
 
 -- a reading by this table, this template and these data, or a fault
 abbrev pub AnswersReading : List Row → Tree → Data → Result Read WalkFault → (steps : ℕ) → Type 0

@@ -2,12 +2,10 @@
 -- code reads it, and what a reading keeps.
 -- Cited by public contracts.
 use Rattle.std.specs.Prelude.{ℕ, ◌≡◌, ◌≤◌, ◌+◌, Bool, List, drop, Result, Ok, Err, ◌++◌, ◌<◌, ◌*◌, ◌%◌, ◌==◌, ◌&&◌, ◌||◌, true, false, [], ◌∷◌, length, take, ◌/◌, ◌-◌, map, get_or}
-use Rattle.bufr_walk.specs.Content.{Taken, FieldSpec, Content, answer_of, plain_field, found, data_end, FieldFault, increment, unequal_factor, FieldRead, packed_field, answer_first}
-use Rattle.bufr_walk.specs.Reading.{WalkFault, spot, Item, plain, turns_after, ReadsPass, Read, course_of, max_values, items_at_once, Data, Values, apart, together, IsReading, ShowFault, Call, item_call, view_of, Timed, item_calls, Shows, content_at}
-use Rattle.bufr_walk.specs.Pass.{reading_of, values_in, values_read}
-use Rattle.bufr_walk.specs.Course.{WalkStop, Course, ticked}
-use Rattle.bufr_walk.specs.declared.walker.WalkStop.TheVariants as stops
-use Rattle.bufr_walk.specs.declared.fault.WalkFault.TheVariants as fault
+use Rattle.bufr_walk.specs.Content.{Taken, FieldSpec, Content, answer_of, plain_field, found, data_end, FieldFault, FieldRead, packed_field, answer_first}
+use Rattle.bufr_walk.specs.Reading.{wrong_of, Item, plain, turns_after, ReadsPass, Read, course_of, max_values, items_at_once, Data, Values, apart, together, IsReading, ShowFault, Call, item_call, view_of, Timed, item_calls, Shows, content_at}
+use Rattle.bufr_walk.specs.Pass.{reading_of, values_read}
+use Rattle.bufr_walk.specs.Course.{Course, ticked}
 use Rattle.std.proofs.Common.{ap}
 use Rattle.bufr_tables.specs.Prelude.{Row, is_character}
 use Rattle.bufr_walk.specs.declared.plain.ShowStop.{ShowStop}
@@ -189,12 +187,6 @@ pub record IsPackedIn (bits : List Bool) (at subsets : ℕ) (kept : List Indexed
   pub held : 7 * length kept ≤ at
   pub fit : list_all (fits_at bits subsets) kept ≡ true
 
--- the fault of a field with this descriptor
-abbrev pub wrong_of : (fxy : ℕ) → FieldFault → DataFault
-wrong_of fxy data_end = wrong.DataEnd fxy
-wrong_of fxy increment = wrong.Increment fxy
-wrong_of fxy unequal_factor = wrong.UnequalFactor fxy
-
 -- the rest begins with an item, and this is its answer
 pub record IsPackedTaken (s : PackedCursor) (spec : FieldSpec) (t : Taken)
     (s' : PackedCursor) : Type 0 where
@@ -234,17 +226,6 @@ refuses_packed s spec wrong.Memory s' h = h.0
 refuses_packed s spec (wrong.DataEnd fxy) s' h = h.1
 refuses_packed s spec (wrong.Increment fxy) s' h = h.1
 refuses_packed s spec (wrong.UnequalFactor fxy) s' h = h.1
-
--- the fault of the stop of a walk, in a subset, after `bit` bits
-abbrev pub fault_at : WalkStop DataFault → (subset bit : ℕ) → WalkFault
-fault_at (stops.Width fxy) subset bit = fault.Width (spot subset fxy bit)
-fault_at (stops.Defining fxy) subset bit = fault.Defining (spot subset fxy bit)
-fault_at (stops.Field (wrong.DataEnd fxy)) subset bit = fault.DataEnd (spot subset fxy bit)
-fault_at (stops.Field (wrong.Increment fxy)) subset bit = fault.Increment (spot subset fxy bit)
-fault_at (stops.Field (wrong.UnequalFactor f)) subset bit = fault.UnequalFactor (spot subset f bit)
-fault_at (stops.Field (wrong.TooManyValues f)) subset bit = fault.TooManyValues (spot subset f bit)
-fault_at (stops.Field wrong.Memory) subset bit = fault.Memory
-fault_at stops.Memory subset bit = fault.Memory
 
 -- an item at a bit: its contents, its answer, its k, the number of its base, and the bit after it
 pub record IsSeen (bits : List Bool) (at n : ℕ) (spec : FieldSpec) (s : ItemBits) : Type 0 where
@@ -296,7 +277,7 @@ PaysBits (together items) used = Unit {0}
 -- data were read, and each item of one subset took at least a bit
 abbrev pub IsReadAndPaid : Course → Data → (used : ℕ) → Type 0
 IsReadAndPaid course d used =
-    let values = values_in (reading_of course d).passes in
+    let values = (reading_of course d).values in
     IsReading course d values used × PaysBits values used
 
 -- a reading, and what is kept of it: each item that is kept took at least 7 bits

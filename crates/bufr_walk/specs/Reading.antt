@@ -2,16 +2,18 @@
 -- read; and the calls of a visitor that show a reading. (WMO-No. 306, Volume I.2, FM 94: sections 3
 -- and 4; the order of the faults at one item is a choice of this project)
 -- Cited by public contracts.
-use Rattle.std.specs.Prelude.{ℕ, zero, suc, ◌≡◌, ◌+◌, ◌*◌, ◌≤◌, Bool, true, false, List, [], ◌∷◌, length, drop, Result, Ok, ◌⊎◌, nat_lt, Option, Some, None, Err, codes, decimal, if◌then◌else◌, ◌++◌, option_map}
+use Rattle.std.specs.Prelude.{ℕ, zero, suc, ◌≡◌, ◌+◌, ◌*◌, ◌≤◌, Bool, true, false, List, [], ◌∷◌, length, drop, Result, Ok, ◌⊎◌, nat_lt, Option, None, Err, codes, decimal, if◌then◌else◌, ◌++◌, option_map}
 use Rattle.bufr_walk.specs.Content.{Taken, FieldSpec, Content, answer_of, FieldFault, FieldRead, found, plain_field, data_end, increment, unequal_factor, packed_field, answer_first, ShownValue, shown, missing, shown_number, shown_text, shown_missing, shown_reference}
-use Rattle.bufr_walk.specs.Course.{Course, Next, take_next, at_end, refused, next_item, ticked}
-use Rattle.bufr_walk.specs.declared.spec.TurnRefusal.{TurnRefusal}
+use Rattle.bufr_walk.specs.Course.{Course, Next, take_next, at_end, next_item, ticked}
+use Rattle.bufr_walk.specs.declared.fault.DataFault.{DataFault}
+use Rattle.bufr_walk.specs.declared.fault.DataFault.TheVariants as wrong
+use Rattle.bufr_walk.specs.declared.walker.WalkStop.{WalkStop}
+use Rattle.bufr_walk.specs.declared.walker.WalkStop.TheVariants as stops
 use Rattle.bufr_walk.specs.declared.fault.Spot.{Spot}
 pub use Rattle.bufr_walk.specs.declared.fault.WalkFault.{WalkFault}
 use Rattle.bufr_bits.specs.Prelude.{bits_of}
 use Rattle.bufr_frame.specs.Prelude.{Sections}
 use Rattle.bufr_tables.specs.Prelude.{Row, Tree, fxy_text, entry_of, row_of_entry}
-use Rattle.bufr_walk.specs.declared.spec.TurnRefusal.TheVariants as refusal
 use Rattle.bufr_walk.specs.declared.fault.WalkFault.TheVariants as fault
 pub use Rattle.bufr_walk.specs.declared.fault.ShowFault.{ShowFault}
 use Rattle.bufr_walk.specs.declared.visitor.Value.{Value}
@@ -117,6 +119,29 @@ pub data Values : Type 0 where
   apart : (subsets : List (List (Item Content))) → Values
   together : (items : List (Item (List Content))) → Values
 
+-- the content of one subset, counted from 0
+abbrev pub content_at : (subset : ℕ) → List Content → Content
+content_at j [] = missing
+content_at zero (c ∷ cs) = c
+content_at (suc j) (c ∷ cs) = content_at j cs
+
+-- the items of one subset of compressed data
+abbrev pub items_of_subset : (subset : ℕ) → List (Item (List Content)) → List (Item Content)
+items_of_subset j [] = []
+items_of_subset j (i ∷ items) =
+    record { spec = i.spec; content = content_at j i.content } ∷ items_of_subset j items
+
+-- the items of `left` subsets of compressed data, each by itself, from one on, counted from 0
+abbrev pub subsets_from : (left subset : ℕ) → List (Item (List Content))
+    → List (List (Item Content))
+subsets_from zero j items = []
+subsets_from (suc left) j items = items_of_subset j items ∷ subsets_from left (suc j) items
+
+-- the items of each subset, whatever the form in which they were read
+abbrev pub each_subset : (subsets : ℕ) → Values → List (List (Item Content))
+each_subset n (apart subsets) = subsets
+each_subset n (together items) = subsets_from n 0 items
+
 -- how many items a reading keeps: of compressed data each one, of other data none
 abbrev pub items_kept : Values → ℕ
 items_kept (apart subsets) = 0
@@ -132,30 +157,15 @@ IsReading course d (together items) used =
     (d.compressed ≡ true) × (used ≤ length d.bits)
     × IsPackedReading d.subsets course items d.bits (drop used d.bits)
 
--- the turns of one pass for all subsets; with no subset there is no pass
-abbrev pub turns_together : (subsets : ℕ) → Course → List (Item (List Content)) → ℕ
-turns_together zero course items = 0
-turns_together (suc n) course items = turns_after (packed (suc n)) course items
+-- why a reading stops: the walk is refused, or a field is at fault
+abbrev pub Stop : Type 0
+Stop = WalkStop DataFault
 
--- why a reading stops: the walk is refused, too many values, or a field that cannot be read
-pub data Stop : Type 0 where
-  walk_stop : (why : TurnRefusal) → Stop
-  too_many : (fxy : ℕ) → Stop
-  field_stop : (fxy : ℕ) → (why : FieldFault) → Stop
-
--- the stop of a field, where it is at fault
-abbrev pub field_stop_of : {C : Type 0} → ℕ → Result (FieldRead C) FieldFault → Option Stop
-field_stop_of fxy (Ok f) = None
-field_stop_of fxy (Err why) = Some (field_stop fxy why)
-
--- The stop at what comes next, if there is one. Faults at an item come in this order: the walk
--- refuses it (32, 31), too many values (35), the field's own fault (30, 34, 33).
--- rule: compressed-fault-order
-abbrev pub stop_at : {C : Type 0} → DataCoding C → (many : Bool) → Next → List Bool → Option Stop
-stop_at form many (refused why) bits = Some (walk_stop why)
-stop_at form true (take_next spec) bits = Some (too_many spec.fxy)
-stop_at form false (take_next spec) bits = field_stop_of spec.fxy (form.field spec bits)
-stop_at form many _ bits = None
+-- the fault of a field with this descriptor
+abbrev pub wrong_of : (fxy : ℕ) → FieldFault → DataFault
+wrong_of fxy data_end = wrong.DataEnd fxy
+wrong_of fxy increment = wrong.Increment fxy
+wrong_of fxy unequal_factor = wrong.UnequalFactor fxy
 
 -- whether the values would be too many with one item more
 -- rule: too-many-values
@@ -170,13 +180,15 @@ spot subset fxy bit = record { subset = subset; fxy = fxy; bit = bit }
 
 -- the fault of a stop, in a subset, after `bit` bits
 -- rule: stream-fault-place
-abbrev pub walk_fault_of : Stop → (subset bit : ℕ) → WalkFault
-walk_fault_of (walk_stop (refusal.Width fxy)) subset bit = fault.Width (spot subset fxy bit)
-walk_fault_of (walk_stop (refusal.Defining fxy)) subset bit = fault.Defining (spot subset fxy bit)
-walk_fault_of (too_many fxy) subset bit = fault.TooManyValues (spot subset fxy bit)
-walk_fault_of (field_stop fxy data_end) subset bit = fault.DataEnd (spot subset fxy bit)
-walk_fault_of (field_stop fxy increment) subset bit = fault.Increment (spot subset fxy bit)
-walk_fault_of (field_stop fxy unequal_factor) subset bit = fault.UnequalFactor (spot subset fxy bit)
+abbrev pub fault_at : WalkStop DataFault → (subset bit : ℕ) → WalkFault
+fault_at (stops.Width fxy) subset bit = fault.Width (spot subset fxy bit)
+fault_at (stops.Defining fxy) subset bit = fault.Defining (spot subset fxy bit)
+fault_at (stops.Field (wrong.DataEnd fxy)) subset bit = fault.DataEnd (spot subset fxy bit)
+fault_at (stops.Field (wrong.Increment fxy)) subset bit = fault.Increment (spot subset fxy bit)
+fault_at (stops.Field (wrong.UnequalFactor f)) subset bit = fault.UnequalFactor (spot subset f bit)
+fault_at (stops.Field (wrong.TooManyValues f)) subset bit = fault.TooManyValues (spot subset f bit)
+fault_at (stops.Field wrong.Memory) subset bit = fault.Memory
+fault_at stops.Memory subset bit = fault.Memory
 
 -- the bits before the item at fault; where memory ran out there is none, and all may precede
 abbrev pub bits_before : WalkFault → (all : ℕ) → ℕ
@@ -280,31 +292,23 @@ subset_calls table course before number (items ∷ subsets) =
     timed before (subset_call number) ∷ item_calls table before course items
     ++ subset_calls table course (before + turns_after plain course items) (number + 1) subsets
 
--- the content of one subset, counted from 0
-abbrev pub content_at : (subset : ℕ) → List Content → Content
-content_at j [] = missing
-content_at zero (c ∷ cs) = c
-content_at (suc j) (c ∷ cs) = content_at j cs
+-- compressed data are shown without a walk, so in no turns
+abbrev pub without_turns : Course
+without_turns answers = record { turns = 0; next = at_end }
 
--- the calls for the items of one subset of compressed data, which take no turns
-abbrev pub compressed_item_calls : List Row → (subset : ℕ) → List (Item (List Content)) → List Timed
-compressed_item_calls table j [] = []
-compressed_item_calls table j (i ∷ items) =
-    timed 0 (item_call (view_of table i.spec (content_at j i.content)))
-    ∷ compressed_item_calls table j items
-
--- the calls for the last `left` subsets of compressed data; `subset` is the first of them, from 0
-abbrev pub compressed_subset_calls : List Row → (left subset : ℕ) → List (Item (List Content))
-    → List Timed
-compressed_subset_calls table zero j items = []
-compressed_subset_calls table (suc n) j items =
-    timed 0 (subset_call (j + 1)) ∷ compressed_item_calls table j items
-    ++ compressed_subset_calls table n (j + 1) items
+-- the walk of a showing
+abbrev pub walk_shown : Read → Values → Course
+walk_shown r (apart subsets) = course_of r
+walk_shown r (together items) = without_turns
 
 -- the calls that show a reading
 abbrev pub calls_for : Read → Values → List Timed
-calls_for r (apart subsets) = subset_calls r.table (course_of r) 0 1 subsets
-calls_for r (together items) = compressed_subset_calls r.table r.source.subsets 0 items
+calls_for r values =
+    subset_calls r.table (walk_shown r values) 0 1 (each_subset r.source.subsets values)
+
+-- the turns of a showing
+abbrev pub turns_for : Read → Values → ℕ
+turns_for r values = turns_in (walk_shown r values) (each_subset r.source.subsets values)
 
 -- 1 for a call of an item, 0 for one of a subset
 abbrev pub item_or_not : Call → ℕ
@@ -315,11 +319,6 @@ item_or_not (item_call item) = 1
 abbrev pub items_called : List Timed → ℕ
 items_called [] = 0
 items_called (t ∷ calls) = item_or_not t.call + items_called calls
-
--- the turns of a showing; one of compressed data takes none
-abbrev pub turns_for : Read → Values → ℕ
-turns_for r (apart subsets) = turns_in (course_of r) subsets
-turns_for r (together items) = 0
 
 -- ---- Calls of a visitor, one after another, up to the first fault, with the turns made for them.
 

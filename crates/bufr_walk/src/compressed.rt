@@ -2,13 +2,15 @@
 ghost use Rattle.std.specs.Prelude.{unwrap_or, option_map, ◌≡◌, ◌≤◌, ◌<◌, ◌+◌, ◌*◌, ◌^◌, false, true, length, IfSome, ◌-◌, ◌/◌, ◌++◌, drop, MatchResult, IfOk, ◌==◌, ◌&&◌, take, get_or, replicate};
 ghost use Rattle.bufr_bits.specs.Prelude.{bits_at, number_of, bits_of, octets_of};
 ghost use Rattle.bufr_tables.specs.Prelude.{is_character};
-ghost use Rattle.bufr_walk.specs.Prelude.{stays_within, all_equal, are_number_increments_valid, IsSeen, IsUnseen, call_kept, content_kept, items_at, fits_at, IsFor, is_reference, increment_bits_of, missing, number, shown, compressed_item_calls, compressed_subset_calls, seen_value, Shows, IndexedItem, new_packed_in, PackedTakes, refuses_packed};
+ghost use Rattle.bufr_walk.specs.Prelude.{stays_within, all_equal, are_number_increments_valid, IsSeen, IsUnseen, call_kept, content_kept, items_at, fits_at, IsFor, is_reference, increment_bits_of, missing, number, shown, seen_value, Shows, IndexedItem, new_packed_in, PackedTakes, refuses_packed, item_calls, subset_calls, items_of_subset, subsets_from, without_turns};
 ghost use Rattle.std.specs.List.{list_all};
 ghost use Rattle.std.proofs.Common.{arith, ap};
 
 use crate::fault::{DataFault, ShowFault};
 use crate::item_index::{IndexedItem, ItemIndex};
-use crate::plain::{answer_at, copy_octets, number_at, ones_at, raw_at, show_value, value_at};
+use crate::plain::{
+    answer_at, copy_octets, number_at, ones_at, raw_at, show_missing, show_value, value_at,
+};
 use crate::spec::{Role, Spec, Taken};
 use crate::visitor::{ItemView, Value, Visitor, plain_number};
 use crate::walker::Fields;
@@ -399,12 +401,14 @@ fn show_item<V: Visitor>(
     if item.spec.is_plain()
         && let Some(entry) = pack.table.get(fxy)
     {
-        let value = match number_of(pack, &item, subset) {
-            Some(raw) => plain_number(&item.spec, raw),
-            None => Value::Missing,
+        let Some(raw) = number_of(pack, &item, subset) else {
+            return show_missing(fxy, entry, visitor);
         };
-        let entry = Some(entry);
-        return visitor.item(&ItemView { fxy, entry, value });
+        return visitor.item(&ItemView {
+            fxy,
+            entry: Some(entry),
+            value: plain_number(&item.spec, raw),
+        });
     }
     show_other(pack, kept, place, subset, visitor)
 }
@@ -419,9 +423,9 @@ fn show_items<V: Visitor>(
     requires fit { list_all (fits_at (bits_of (octets_of pack.now.bits)) pack.now.subsets) kept.now
         ≡ true }
     requires subset { subset < pack.now.subsets }
-    ensures { Shows V.sees visitor.old (compressed_item_calls pack.now.table.now subset
-        (items_at (bits_of (octets_of pack.now.bits)) pack.now.subsets kept.now)) 0 result
-        visitor.new 0 }
+    ensures { Shows V.sees visitor.old (item_calls pack.now.table.now 0 without_turns
+        (items_of_subset subset (items_at (bits_of (octets_of pack.now.bits)) pack.now.subsets
+        kept.now))) 0 result visitor.new 0 }
 {
     'items: for place in 0..kept.len() {
         match show_item(pack, kept, place, subset, visitor) {
@@ -441,9 +445,9 @@ pub(crate) fn show_packed<V: Visitor>(
 ) -> Result<(), ShowFault<V::Fault>>
     requires { list_all (fits_at (bits_of (octets_of pack.now.bits)) pack.now.subsets) kept.now
         ≡ true }
-    ensures { Shows V.sees visitor.old (compressed_subset_calls pack.now.table.now pack.now.subsets
-        0 (items_at (bits_of (octets_of pack.now.bits)) pack.now.subsets kept.now)) 0 result
-        visitor.new 0 }
+    ensures { Shows V.sees visitor.old (subset_calls pack.now.table.now without_turns 0 1
+        (subsets_from pack.now.subsets 0 (items_at (bits_of (octets_of pack.now.bits))
+        pack.now.subsets kept.now))) 0 result visitor.new 0 }
 {
     'subsets: for subset in 0..pack.subsets {
         match visitor.subset(subset + 1) {

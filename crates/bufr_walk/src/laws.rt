@@ -1,8 +1,12 @@
 //! Laws on the reading of data: each item is what comes next, and is read where the one before it
 //! ended.
-ghost use Rattle.std.specs.Prelude.{◌≡◌, ◌≤◌, ℕ, List, Bool, None, false, drop};
-ghost use Rattle.bufr_tables.specs.Prelude.{IsLegal, Record, Row, AreRows, Tree};
-ghost use Rattle.bufr_walk.specs.Prelude.{next_item, Data, Values, IsReading, Taken, FieldSpec, AreWithin, IsField, take_next, reading_of, values_in, read_pass, ReadsTo, plain, packed, would_be_many, turns_after};
+ghost use Rattle.std.specs.Prelude.{◌≡◌, ◌≤◌, ℕ, List, Bool, None, false, drop, is_some};
+ghost use Rattle.bufr_tables.specs.Prelude.{IsLegal, Record, Row, AreRows, Tree, entry_of};
+ghost use Rattle.bufr_tables.specs.Expansion.{IsKnown};
+ghost use Rattle.bufr_walk.specs.KnownRows.{HasRows};
+ghost use Rattle.bufr_walk.specs.Course.{turns_of, counts_of};
+ghost use Rattle.bufr_walk.specs.Rules.{begin};
+ghost use Rattle.bufr_walk.specs.Prelude.{next_item, Data, Values, IsReading, Taken, FieldSpec, AreWithin, IsField, take_next, reading_of, read_pass, place_at, ReadsTo, plain, packed, would_be_many};
 
 /// Law: by each template of legal nodes and each Table B, a pass over any bits reads item by item.
 /// Each item is what comes next, and is read where the one before it ended. Then the template ends,
@@ -12,23 +16,21 @@ ghost use Rattle.bufr_walk.specs.Prelude.{next_item, Data, Values, IsReading, Ta
 pub fn data_are_read_item_by_item()
     ensures plain { (records : List Record) (table : List Row) (template : Tree) (bits : List Bool)
         → AreRows records table → IsLegal template
-        → let p = read_pass plain (λ items. false) (next_item table template) bits in
-        ReadsTo plain (λ items. false) (next_item table template) 0 bits p.items p.state.left p.stop
-        × (p.turns ≡ turns_after plain (next_item table template) p.items) }
+        → ReadsTo plain (λ items. false) (next_item table template) (place_at 0 bits)
+        (read_pass plain (λ items. false) (next_item table template) bits) }
     ensures packed { (records : List Record) (table : List Row) (template : Tree) (n : ℕ)
         (bits : List Bool) → AreRows records table → IsLegal template → 1 ≤ n
-        → let p = read_pass (packed n) (would_be_many n) (next_item table template) bits in
-        ReadsTo (packed n) (would_be_many n) (next_item table template) 0 bits p.items p.state.left
-        p.stop × (p.turns ≡ turns_after (packed n) (next_item table template) p.items) }
+        → ReadsTo (packed n) (would_be_many n) (next_item table template) (place_at 0 bits)
+        (read_pass (packed n) (would_be_many n) (next_item table template) bits) }
     ensures read { (records : List Record) (table : List Row) (template : Tree) (d : Data)
         → AreRows records table → IsLegal template
         → (v : Values) (used : ℕ) → IsReading (next_item table template) d v used
         → let r = reading_of (next_item table template) d in
-        (r.stop ≡ None) × (values_in r.passes ≡ v) × (r.left ≡ drop used d.bits) }
+        (r.stop ≡ None) × (r.values ≡ v) × (r.left ≡ drop used d.bits) }
     ensures only_read { (records : List Record) (table : List Row) (template : Tree) (d : Data)
         → AreRows records table → IsLegal template
         → let r = reading_of (next_item table template) d in r.stop ≡ None
-        → (used : ℕ) × IsReading (next_item table template) d (values_in r.passes) used
+        → (used : ℕ) × IsReading (next_item table template) d (r.values) used
         × (r.left ≡ drop used d.bits) }
 {}
 
@@ -38,4 +40,14 @@ pub fn next_fields_are_fields()
     ensures { (records : List Record) (table : List Row) (template : Tree) (answers : List Taken)
         (spec : FieldSpec) → AreRows records table → IsLegal template → AreWithin answers
         → (next_item table template answers).next ≡ take_next spec → IsField spec }
+{}
+
+/// Law: a walk over a template that [`Template::build`](bufr_tables::Template::build) gave meets no
+/// element and no factor that the table lacks, but the descriptor after 2 06 Y, which has its width
+/// from there. So a field's width may be refused, but never since its row is missing. (WMO-No. 306,
+/// Volume I.2, FM 94: section 3)
+pub fn elements_have_their_rows()
+    ensures { (table : List Row) (template : Tree) (answers : List Taken) → IsLegal template
+        → IsKnown (λ fxy. is_some (entry_of table fxy)) template
+        → HasRows table (turns_of template (counts_of answers)) begin answers }
 {}

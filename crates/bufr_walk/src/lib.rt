@@ -16,14 +16,16 @@ mod operators;
 mod plain;
 mod reading;
 mod spec;
+mod spec_cache;
 mod visitor;
 mod walker;
 
 pub use compressed::{MAX_VALUES, PackedIn};
 pub use fault::{DEFINING, DataFault, ShowFault, Spot, TOO_MANY_VALUES, WIDTH, WalkFault};
-pub use lists::{SpecCache, TemplateCache};
+pub use lists::TemplateCache;
 pub use plain::PlainIn;
 pub use reading::{Reading, read_by, read_message};
 pub use spec::{Role, Spec, Taken, TurnRefusal};
+pub use spec_cache::SpecCache;
 pub use visitor::{ItemView, Value, Visitor};
 pub use walker::{Fields, Steps, WalkStop, walk, walk_by};

@@ -1,147 +1,18 @@
 //! The last lists of descriptors, each with its template and the specs that its cells were read by.
-ghost use Rattle.std.specs.Prelude.{◌≡◌, ◌<◌, ◌^◌, Ok, IfSome, ◌≢◌, ◌≤◌, [], length, true, false, IfErr, OnOk, List, Err};
+ghost use Rattle.std.specs.Prelude.{◌≡◌, ◌<◌, Ok, IfSome, ◌≢◌, ◌≤◌, [], length, true, false, IfErr, OnOk, List, Err, Contains, IfNone, get_or};
 ghost use Rattle.bufr_tables.specs.Prelude.{Row, Sequence, tree_of, tables_of};
 ghost use Rattle.std.specs.List.{All};
-ghost use Rattle.bufr_walk.specs.Prelude.{IsSpecBy, MayStay, IsSlotBy, IsOther};
+ghost use Rattle.bufr_walk.specs.Prelude.{MayStay, IsSlotBy, IsOther, IsKept};
+ghost use Rattle.bufr_walk.specs.declared.lists.Slot.{Slot};
 
-use crate::spec::{Role, Spec};
+use crate::spec_cache::SpecCache;
 use bufr_tables::{Fxy, SelectedTemplate, TableB, TableD, Template, TemplateFault};
 use std::alloc::{AllocError, Global};
 use std::marker::Model;
 use std::mem;
 
-/// The most cells of a template whose specs are cached.
-const MAX_CELLS: usize = 1024;
-
-/// The least number that is no key: nothing is cached under it.
-pub(crate) const NO_KEY: u64 = 0x4000_0000_0000_0000;
-
-/// The key of an entry that has no spec.
-const EMPTY: u64 = u64::MAX;
-
-/// A cached spec: its key, and the index of its field in what the last reading kept.
-#[derive(Clone, Copy)]
-pub(crate) struct CachedSpec {
-    key: u64,
-    pub(crate) kept: u32,
-    pub(crate) spec: Spec,
-}
-
-/// The specs of a template's first 1,024 cells, by Table B: for each cell the one that was found
-/// there last. A clause sees the table alone: a spec is looked up under the operators and the
-/// descriptor that it was found for.
-///
-/// ```
-/// let mut cache = SpecCache::new(alloc, &table_b);
-/// cache.reset(template.cells().len())?;
-/// walk_by(&template, &mut cache, &mut fields, &mut steps)?;
-/// ```
-#[derive(Drop)]
-pub struct SpecCache<'a> {
-    pub(crate) alloc: Global,
-    /// The table that the specs are found by.
-    pub(crate) table: &'a TableB,
-    entries: Vec<CachedSpec>,
-}
-
-impl<'a> Model for SpecCache<'a> {
-    ghost use Rattle.std.specs.Prelude.{List};
-    ghost use Rattle.bufr_tables.specs.Prelude.{Row};
-
-    ghost Value = { List Row };
-
-    ghost use Rattle.bufr_walk.specs.TemplateCache.{AreCached};
-
-    ghost view = { λ c. c.table.now };
-
-    ghost invariant = { λ c. AreCached c.table.now c.entries.items };
-}
-
-impl<'a> SpecCache<'a> {
-    /// No spec, and no room for one. Takes no memory.
-    pub fn new(alloc: Global, table: &'a TableB) -> SpecCache<'a>
-        ensures { result ≡ table.now }
-    {
-        SpecCache {
-            alloc,
-            table,
-            entries: Vec::new(alloc),
-        }
-    }
-
-    /// Where the cache takes memory.
-    #[inline(always)]
-    pub fn allocator(&self) -> Global {
-        self.alloc
-    }
-
-    /// Drops all specs, and makes room for those of a template of this number of cells: for at most
-    /// 1,024.
-    ///
-    /// # Errors
-    ///
-    /// [`AllocError`] where memory runs out.
-    pub fn reset(&mut self, cells: usize) -> Result<(), AllocError>
-        ensures { self.new ≡ self.old }
-    {
-        self.entries.clear();
-        let spec = Spec::text(Role::Element, Fxy::from_word(0), 8, false);
-        self.entries.resize(
-            cells.min(MAX_CELLS),
-            CachedSpec {
-                key: EMPTY,
-                kept: 0,
-                spec,
-            },
-        )
-    }
-
-    /// The spec that was found last for a cell, if it was found under this key.
-    #[inline(always)]
-    pub(crate) fn get(&self, place: u32, key: u64) -> Option<&CachedSpec>
-        requires { key < 2 ^ 63 }
-        ensures { IfSome result (λ cached. IsSpecBy self.now key cached.now.spec) }
-    {
-        let place = place as usize;
-        if place < self.entries.len() {
-            let cached = &self.entries[place];
-            if cached.key == key {
-                return Some(cached);
-            }
-        }
-        None
-    }
-
-    /// Caches a spec that was found for a cell under this key, if that is a key.
-    pub(crate) fn insert(&mut self, place: u32, key: u64, spec: &Spec)
-        requires { key < 2 ^ 62 → IsSpecBy self.old key spec.now }
-        ensures { self.new ≡ self.old }
-    {
-        let place = place as usize;
-        if key < NO_KEY && place < self.entries.len() {
-            let kept = self.entries[place].kept;
-            self.entries[place] = CachedSpec {
-                key,
-                kept,
-                spec: *spec,
-            };
-        }
-    }
-
-    /// Notes the index of the field of a cell among those that are kept.
-    #[inline(always)]
-    pub(crate) fn set_kept(&mut self, place: u32, kept: u32)
-        ensures { self.new ≡ self.old }
-    {
-        let place = place as usize;
-        if place < self.entries.len() {
-            self.entries[place].kept = kept;
-        }
-    }
-}
-
 /// The most lists that are kept beside the last one.
-const MAX_OTHERS: usize = 15;
+const MAX_OTHERS: usize = 127;
 
 /// The most descriptors of a list beside the last one, and the most cells of its template.
 const MAX_KEPT: usize = 1024;
@@ -181,8 +52,10 @@ impl<'a> Slot<'a> {
 
     /// Whether it may stay beside the last one.
     fn may_stay(&self) -> bool
-        ensures { result ≡ true → MayStay self.now.templates.table_b self.now.templates.table_d
-            self.now.templates.list }
+        ensures stays { result ≡ true → MayStay self.now.templates.table_b
+            self.now.templates.table_d self.now.templates.list }
+        ensures goes { result ≡ false → ¬ MayStay self.now.templates.table_b
+            self.now.templates.table_d self.now.templates.list }
     {
         if self.templates.len() > MAX_KEPT {
             return false;
@@ -194,10 +67,22 @@ impl<'a> Slot<'a> {
     }
 }
 
+/// The place of the first of the slots that has this list of descriptors.
+fn place_of(slots: &[Slot<'_>], descriptors: &[Fxy]) -> Option<usize>
+    ensures inside { IfSome result (λ place. place < length slots.now) }
+    ensures there { IfSome result (λ place. (slot : Slot) → slot ≡ get_or slots.now place slot
+        → slot.templates.list ≡ descriptors.now) }
+    ensures none { IfNone result (All (λ slot. slot.templates.list ≢ descriptors.now) slots.now) }
+{
+    slots
+        .iter()
+        .position(|slot| slot.templates.is_selected(descriptors))
+}
+
 /// Drops the first of the slots where there is no room for one more.
 fn drop_first(slots: &mut Vec<Slot<'_>>)
-    requires { length slots.old.items ≤ 15 }
-    ensures few { length slots.new.items ≤ 14 }
+    requires { length slots.old.items ≤ 127 }
+    ensures few { length slots.new.items ≤ 126 }
     ensures others { (b : List Row) (d : List Sequence) → All (IsOther b d) slots.old.items
         → All (IsOther b d) slots.new.items }
 {
@@ -265,7 +150,7 @@ impl<'a> TemplateCache<'a> {
 
     /// Makes this list of descriptors the last one, and expands it if it is not kept. The list
     /// before it is kept where it has at most 1,024 descriptors, and its template as many cells. At
-    /// most 15 others are kept.
+    /// most 127 others are kept, in at most 8 MB. A list that is kept is found without memory.
     ///
     /// # Errors
     ///
@@ -274,12 +159,14 @@ impl<'a> TemplateCache<'a> {
         ensures table_b { self.new.table_b ≡ self.old.table_b }
         ensures table_d { self.new.table_d ≡ self.old.table_d }
         ensures list { OnOk result (self.new.list ≡ descriptors.now) }
+        ensures found { IsKept self.old descriptors.now → result ≡ Ok tt }
+        ensures before { OnOk result (MayStay self.old.table_b self.old.table_d self.old.list
+            → IsKept self.new self.old.list) }
     {
         if self.last.templates.is_selected(descriptors) {
             return Ok(());
         }
-        let kept = |slot: &Slot<'_>| slot.templates.is_selected(descriptors);
-        if let Some(index) = self.others.iter().position(kept) {
+        if let Some(index) = place_of(&self.others, descriptors) {
             if self.last.may_stay() {
                 mem::swap(&mut self.last, &mut self.others[index]);
             } else {
@@ -298,6 +185,7 @@ impl<'a> TemplateCache<'a> {
         requires { MayStay self.old.table_b self.old.table_d self.old.list }
         ensures table_b { self.new.table_b ≡ self.old.table_b }
         ensures table_d { self.new.table_d ≡ self.old.table_d }
+        ensures before { OnOk result (Contains self.new.others self.old.list) }
     {
         drop_first(&mut self.others);
         let fresh = Slot::new(self.alloc, self.table_b, self.table_d);
@@ -346,7 +234,7 @@ impl<'a> TemplateCache<'a> {
     /// The lists that are kept beside the last one are few, and each may stay.
     pub fn others(&self) -> usize
         ensures value { result ≡ length self.now.others }
-        ensures few { length self.now.others ≤ 15 }
+        ensures few { length self.now.others ≤ 127 }
         ensures stay { All (MayStay self.now.table_b self.now.table_d) self.now.others }
     {
         self.others.len()

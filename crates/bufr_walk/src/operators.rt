@@ -6,8 +6,8 @@ ghost use Rattle.bufr_walk.specs.Prelude.{if_valid_width, spec_by_kind, unsigned
 ghost use Rattle.bufr_tables.specs.declared.table_b.Kind.TheVariants as kinds;
 ghost use Rattle.bufr_walk.specs.declared.operators.OperatorOperands.{OperatorOperands};
 
-use crate::lists::NO_KEY;
 use crate::spec::{NumberParts, Role, Spec, Taken, TurnRefusal};
+use crate::spec_cache::NO_KEY;
 use crate::walker::{Fields, WalkStop};
 use bufr_tables::{Entry, Fxy, Kind, TableB};
 use std::alloc::Global;

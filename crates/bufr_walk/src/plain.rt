@@ -1,18 +1,19 @@
 //! Data that are not compressed: fields, reading, and showing.
 ghost use Rattle.std.specs.Prelude.{◌≡◌, ◌≤◌, ◌<◌, ◌+◌, ◌-◌, ◌*◌, ◌^◌, length, take, drop, if◌then◌else◌, ◌==◌, pos, neg_ℤ, false, List, IfOk, IfErr, ◌/◌, Bool, Result, Some, Ok, Err, MatchResult};
 ghost use Rattle.bufr_bits.specs.Prelude.{number_of, bits_at, bits_of, are_all_ones, octets_of};
-ghost use Rattle.bufr_walk.specs.Prelude.{IsFor, answer_of, content_in, signed_by, octets_in, Content, shown, next_item, bits_before, data_in, ReadsData, Item, plain, ReadsPass, ReadsSubsets, turns_in, IsReadAndPaid, rest_of, ItemsGo, item_call, view_of, subset_calls, seen_value, Shows, PlainTakes, past};
-ghost use Rattle.bufr_tables.specs.Prelude.{places};
+ghost use Rattle.bufr_walk.specs.Prelude.{IsFor, answer_of, content_in, signed_by, octets_in, Content, shown, next_item, bits_before, data_in, ReadsData, Item, plain, ReadsPass, ReadsSubsets, turns_in, IsReadAndPaid, rest_of, ItemsGo, item_call, view_of, subset_calls, seen_value, Shows, PlainTakes, past, shown_missing};
+ghost use Rattle.bufr_walk.specs.Reading.{view};
+ghost use Rattle.bufr_tables.specs.Prelude.{places, row_of_entry};
 ghost use Rattle.std.proofs.Common.{arith, ap};
 ghost use Rattle.bufr_walk.specs.Readers.{ShowingTakes, refusal_keeps, stage};
 
 use crate::fault::{DataFault, ShowFault, WalkFault, fault_at};
-use crate::lists::SpecCache;
 use crate::spec::{Role, Spec, Taken};
+use crate::spec_cache::SpecCache;
 use crate::visitor::{ItemView, Value, Visitor, plain_number};
 use crate::walker::{Fields, Steps, WalkStop, walk_by};
 use bufr_bits::BitSlice;
-use bufr_tables::{TableB, Template};
+use bufr_tables::{Entry, Fxy, TableB, Template};
 use std::marker::Model;
 
 /// The number that bits inside the data write.
@@ -285,6 +286,24 @@ pub(crate) fn show_value<V: Visitor>(
     visitor.item(&ItemView { fxy, entry, value })
 }
 
+/// Shows a missing value that was read by an entry. Out of line, so that the showing of a number
+/// stays small.
+#[inline(never)]
+pub(crate) fn show_missing<V: Visitor>(
+    fxy: Fxy,
+    entry: Entry<'_>,
+    visitor: &mut V,
+) -> Result<(), V::Fault>
+    ensures { V.sees visitor.old (item_call (view fxy (Some (row_of_entry entry.entry))
+        shown_missing)) result visitor.new }
+{
+    visitor.item(&ItemView {
+        fxy,
+        entry: Some(entry),
+        value: Value::Missing,
+    })
+}
+
 /// Shows any field.
 #[inline(never)]
 fn show_other<V: Visitor>(
@@ -321,15 +340,13 @@ fn show_field<V: Visitor>(
         && let Some(entry) = table.get(fxy)
     {
         let raw = raw_at(&input.bits, input.at, spec.width());
-        let value = if raw.all_ones && spec.may_be_missing {
-            Value::Missing
-        } else {
-            plain_number(spec, raw.number)
-        };
+        if raw.all_ones && spec.may_be_missing {
+            return show_missing(fxy, entry, visitor);
+        }
         return visitor.item(&ItemView {
             fxy,
             entry: Some(entry),
-            value,
+            value: plain_number(spec, raw.number),
         });
     }
     show_other(input, table, spec, text, visitor)

@@ -6,8 +6,8 @@ ghost use Rattle.bufr_walk.specs.Prelude.{next_item, bits_before, data_of, Answe
 use crate::compressed::{PackedData, PackedIn, show_packed};
 use crate::fault::{ShowFault, WalkFault, fault_at};
 use crate::item_index::ItemIndex;
-use crate::lists::SpecCache;
 use crate::plain::{PlainData, read_plain, show_plain};
+use crate::spec_cache::SpecCache;
 use crate::visitor::Visitor;
 use crate::walker::{Steps, walk_by};
 use bufr_bits::BitSlice;

@@ -5,9 +5,9 @@ ghost use Rattle.arrayvec.specs.ArrayVec.{array_vec_len};
 ghost use Rattle.bufr_tables.specs.Prelude.{places};
 ghost use Rattle.bufr_walk.specs.declared.walker.Frame.{Frame};
 
-use crate::lists::SpecCache;
 use crate::operators::{OperatorState, TableField};
 use crate::spec::{Spec, Taken, TurnRefusal};
+use crate::spec_cache::SpecCache;
 use arrayvec::ArrayVec;
 use bufr_tables::{Cell, Fxy, TableB, Template};
 use std::alloc::Global;

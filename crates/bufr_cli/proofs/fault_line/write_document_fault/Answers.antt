@@ -1,11 +1,8 @@
 use Rattle.std.proofs.Common.{rules}
-use Rattle.bufr_text.specs.Prelude.{reported_refusal}
 use Rattle.bufr_text.proofs.PushLemmas.{all_written}
-use Rattle.bufr_cli.proofs.FaultLineLemmas.{where_refused}
 use Rattle.bufr_cli.proofs.fault_line.write_document_fault.Goals as goal
 
 pub returns-clause-writes : goal.returns-clause-writes
 returns-clause-writes g c =
     let before = c.new-line.ensures in
-    where_refused _ _ _ (reported_refusal c.args.fault)
-    (all_written tt c.push_document_fault.ensures c.hand_on.ensures.pushes before.status before.held c.hand_on.ensures.none before.taken (search rules) c.status-outcome.ensures)
+    all_written tt c.push_document_fault.ensures c.hand_on.ensures.pushes before.status before.held c.hand_on.ensures.none before.taken (search rules) c.status-outcome.ensures

@@ -1,10 +1,10 @@
-use Rattle.std.proofs.Common.{rules, codes, List, Option, ◌∙◌, ◌≡◌, inr, map, true, Some, refl, subst}
+use Rattle.std.proofs.Common.{rules, codes, List, Option, ◌∙◌, ◌≡◌, inr, map, string_bytes, true, Some, refl, subst}
 use Rattle.clap.specs.Values.{kind_of}
 use Rattle.bufr_cli.specs.declared.job.LineFault.TheVariants.{Help, Usage}
 use Rattle.clap.proofs.WalkLemmas.{first_value-rows}
 use Rattle.clap.specs.Words.{App, Row, Text, HasKind, fault_of, found_of, is_simple_and_free, rows_of, subcommand_of}
-use Rattle.bufr_cli.specs.Prelude.{IsJobOf, bufr_app}
-use Rattle.bufr_cli.proofs.LineLemmas.{HasNoJob, ReportsKind, reported-why, why-no-job}
+use Rattle.bufr_cli.specs.Prelude.{GivesNoJob, IsJobOf, bufr_app}
+use Rattle.bufr_cli.proofs.LineLemmas.{ReportsKind, reported-why}
 use Rattle.bufr_cli.proofs.job.parse_line.Goals as goal
 
 pub returns-then-use_stderr-clause-fault : goal.returns-then-use_stderr-clause-fault
@@ -24,7 +24,8 @@ returns-in-Err-clause-fault g c =
 pub returns-in-Some-clause-fault : goal.returns-in-Some-clause-fault
 returns-in-Some-clause-fault g c =
     let met : Some (c.in-Some.name.now, rows_of (found_of c.in-Some.found.now)) ≡ subcommand_of bufr_app (map g.S.AsStr.text c.args.words.now) = search rules in
-    inr (subst HasNoJob met (why-no-job c.in-Some.name.now (rows_of (found_of c.in-Some.found.now)) _ c.in-Err-command_of.ensures.lacks))
+    let G : Option (Text × List Row) → Type 0 = λ subcommand. GivesNoJob subcommand (string_bytes c.in_ok-from_str-in-Err-command_of.field-0) in
+    inr (subst G met (c.in-Err-command_of.why, c.in-Err-command_of.ensures.lacks, search rules))
 
 pub returns-in-Ok-command_of-clause-job : goal.returns-in-Ok-command_of-clause-job
 returns-in-Ok-command_of-clause-job g c =

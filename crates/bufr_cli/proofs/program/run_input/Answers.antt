@@ -1,20 +1,14 @@
-use Rattle.std.proofs.Common.{◌∙◌, List, ℕ, Option, refl, sym, ap, subst}
-use Rattle.bufr_cli.specs.Prelude.{writers_of, EndsRun, IsNotOpened, Runs, input_octets, known, command_pieces}
+use Rattle.bufr_cli.specs.Prelude.{Runs}
+use Rattle.bufr_cli.proofs.RunLemmas.{not-opened, runs-file, runs-standard}
 use Rattle.bufr_cli.proofs.program.run_input.Goals as goal
 
-pub returns-in-None : goal.returns-in-None
-returns-in-None g c =
-    let same = ap (input_octets (known (g.I.Inputs.standard_octets c.args.call.now.inputs.now) (g.I.Inputs.file_octets c.args.call.now.inputs.now))) c.in-None.is ∙ sym c.standard.ensures in
-    let P : Option (List ℕ) → Type 0 = λ octets. EndsRun (command_pieces c.args.command) octets (writers_of g.W.Sink c.args.w.now g.E.Sink c.args.e.now)
-    (writers_of g.W.Sink c.run_reader.new.w g.E.Sink c.run_reader.new.e) c.run_reader.result in
-    Runs c.run_reader.result c.outcome_of.ensures (subst P (sym same) c.run_reader.ensures)
-
 pub returns-in-Ok : goal.returns-in-Ok
-returns-in-Ok g c =
-    let same = ap (input_octets (known (g.I.Inputs.standard_octets c.args.call.now.inputs.now) (g.I.Inputs.file_octets c.args.call.now.inputs.now))) c.in-Some.is ∙ sym c.in-Ok.ensures.file in
-    let P : Option (List ℕ) → Type 0 = λ octets. EndsRun (command_pieces c.args.command) octets (writers_of g.W.Sink c.args.w.now g.E.Sink c.args.e.now)
-    (writers_of g.W.Sink c.run_reader-in-Ok.new.w g.E.Sink c.run_reader-in-Ok.new.e) c.run_reader-in-Ok.result in
-    Runs c.run_reader-in-Ok.result c.outcome_of-in-Ok.ensures (subst P (sym same) c.run_reader-in-Ok.ensures)
+returns-in-Ok g c = Runs c.run_source.result c.outcome_of.ensures (runs-standard _ _ _ c.in-None.is (_, _, c.in-Ok.ensures, c.run_source.ensures))
 
-pub returns-in-Err : goal.returns-in-Err
-returns-in-Err g c = IsNotOpened c.in-Some.name c.in-Some.is c.in-Err.ensures.closed refl
+pub returns-in-Ok-open_file : goal.returns-in-Ok-open_file
+returns-in-Ok-open_file g c =
+    Runs c.run_source-in-Ok-open_file.result c.outcome_of-in-Ok-open_file.ensures
+    (runs-file _ _ c.in-Some.name _ c.in-Some.is (_, _, c.in-Ok-open_file.ensures.file, c.run_source-in-Ok-open_file.ensures))
+
+pub returns-in-Err-open_file : goal.returns-in-Err-open_file
+returns-in-Err-open_file g c = not-opened _ _ _ c.in-Some.name _ _ c.in-Some.is c.in-Err-open_file.ensures.closed

@@ -6,7 +6,8 @@ use Rattle.bufr_cli.specs.declared.outcome.Outcome.{Outcome}
 use Rattle.bufr_cli.proofs.program.run_job.Goals as goal
 
 -- what comes of the command that a job has
-job-runs : (inputs : Known) (job : Job) (command : Subcommand) (before after : Writers) (outcome : Outcome) → job.command ≡ command → CommandOutcome inputs command job.file before after outcome
+job-runs : {Standard File : Type 0} (inputs : Known Standard File) (job : Job) (command : Subcommand) (before after : Writers) (outcome : Outcome) → job.command ≡ command
+    → CommandOutcome inputs command job.file before after outcome
     → CommandOutcome inputs job.command job.file before after outcome
 job-runs inputs job command before after outcome is comes = subst (λ command. CommandOutcome inputs command job.file before after outcome) (sym is) comes
 

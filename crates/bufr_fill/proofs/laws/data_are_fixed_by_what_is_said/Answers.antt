@@ -6,5 +6,5 @@ returns-clause-plain c = λ records table template rows legal subsets drafts oth
     read said also
 
 pub returns-clause-packed : goal.returns-clause-packed
-returns-clause-packed c = λ records table template rows legal n items drafts others bits suffix read count said more also. packed_said_alike n records table template items drafts others bits suffix
-    rows legal read count said more also
+returns-clause-packed c = λ records table template rows legal n items drafts others bits suffix read said also. packed_said_alike n records table template items drafts others bits suffix
+    rows legal read said also

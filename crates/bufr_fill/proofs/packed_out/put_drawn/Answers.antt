@@ -3,7 +3,8 @@ use Rattle.std.proofs.lemmas.List.{append-nil}
 use Rattle.bufr_bits.specs.Prelude.{bits_in}
 use Rattle.bufr_walk.specs.Prelude.{bits_for, max_values}
 use Rattle.bufr_fill.specs.declared.field_value.FieldContent.TheVariants as drawn
-use Rattle.bufr_fill.specs.Prelude.{item_row, packed_bits, packed_by, packed_unlike, subsets_of, at_line, unequal_factors, uneven_increment, content_drawn, contents_drawn, IsPutWithin}
+use Rattle.bufr_fill.specs.Prelude.{item_row, packed_bits, packed_by, packed_unlike, subsets_of, at_line, content_drawn, contents_drawn, IsPutWithin}
+use Rattle.bufr_fill.specs.declared.fault.ItemFault.TheVariants as wrong
 use Rattle.bufr_fill.proofs.LeastLemmas.{parts_put, parts_length, texts_apart}
 use Rattle.bufr_fill.proofs.RowLemmas.{most_some, apart_by, packed_alike, packed_apart, put_packed, put_unequal, put_uneven, put_within}
 use Rattle.bufr_fill.proofs.EntryLemmas.{count_cells}
@@ -33,7 +34,7 @@ returns-in-Factor-clause-put c =
     let cs = contents_drawn (spec.width / 8) c.args.drawn.now in
     let apart = packed_apart spec (spec.width / 8) c.args.drawn.now (drawn.Number 0) (omega (arith, c.requires.many, c.args.row.some)) (sym c.are_alike.ensures ∙ c.if-are_alike.false) in (
       put_unequal spec row.place (subsets_of row.entries.now) values cs c.requires.given (apart ∙ ap (λ r. packed_unlike r spec cs) (sym c.role.ensures ∙ c.in-Factor.is))
-          ∙ ap (λ n. Err (at_line n unequal_factors)) (sym c.unlike_line.ensures),
+          ∙ ap (λ n. Err (at_line n wrong.UnequalFactor)) (sym c.unlike_line-line.ensures),
       refl,
     )
 
@@ -45,7 +46,7 @@ returns-in-Reference-clause-put c =
     let cs = contents_drawn (spec.width / 8) c.args.drawn.now in
     let apart = packed_apart spec (spec.width / 8) c.args.drawn.now (drawn.Number 0) (omega (arith, c.requires.many, c.args.row.some)) (sym c.are_alike.ensures ∙ c.if-are_alike.false) in (
       put_uneven spec row.place (subsets_of row.entries.now) values cs c.requires.given (apart ∙ ap (λ r. packed_unlike r spec cs) (sym c.role.ensures ∙ c.in-Reference.is))
-          ∙ ap (λ n. Err (at_line n uneven_increment)) (sym c.first_line.ensures),
+          ∙ ap (λ n. Err (at_line n wrong.Increment)) (sym c.first_line.ensures),
       refl,
     )
 
@@ -60,7 +61,7 @@ returns-then-k-gt63-clause-put c =
       put_uneven spec row.place (subsets_of row.entries.now) values cs c.requires.given
           (apart ∙ by ∙ texts_apart spec c.args.drawn.now c.octets_needed-k.result (sym c.is_text.ensures ∙ c.if-is_text.true) (most_some c.args.drawn.now) c.requires.all c.octets_needed-k.ensures
           c.if-k-gt63.true)
-          ∙ ap (λ n. Err (at_line n uneven_increment)) (sym c.first_line-then-k-gt63.ensures),
+          ∙ ap (λ n. Err (at_line n wrong.Increment)) (sym c.first_line-then-k-gt63.ensures),
       refl,
     )
 

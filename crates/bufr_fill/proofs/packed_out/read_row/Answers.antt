@@ -1,6 +1,6 @@
 use Rattle.std.proofs.Common.{◌+◌, ◌/◌, Err, sym, ap, ◌∙◌, subst, arith}
 use Rattle.std.proofs.lemmas.Result.{err_from_is_err_and}
-use Rattle.bufr_fill.specs.Prelude.{cells_at, subsets_of, draft_fault, entry_with, IsRangeOf}
+use Rattle.bufr_fill.specs.Prelude.{cells_at, subsets_of, entry_with, IsRangeOf}
 use Rattle.bufr_fill.proofs.RowLemmas.{IsGathering, gather_fault, gather_more, gathered}
 use Rattle.bufr_fill.proofs.EntryLemmas.{count_cells}
 use Rattle.bufr_fill.proofs.packed_out.read_row.Goals as goal
@@ -14,7 +14,7 @@ returns-in_err-content c =
     rw (passed.1 ∙ ap Err passed.2)
     (gather_fault (c.args.spec.now.width / 8) c.args.spec.now cells c.loop-subset.subset c.loop-subset.drawn.items (entry_with c.find-entry.result.0 c.find-entry.result.1.now)
     c.loop-subset.invariant.gathered (omega (arith, c.loop-subset-test.true, many)) c.find-entry.ensures
-    (draft_fault c.in_err-content.field-0.0) c.in_err-content.ensures.is)
+    c.in_err-content.field-0.0 c.in_err-content.ensures.is)
 
 pub loop-subset-preserved : goal.loop-subset-preserved
 loop-subset-preserved c =

@@ -1,4 +1,5 @@
-use Rattle.std.proofs.Common.{◌≡◌, ◌-◌}
+use Rattle.std.proofs.Common.{◌≡◌, ◌-◌, ◌*◌}
+use Rattle.bufr_bits.specs.Prelude.{counted}
 use Rattle.bufr_frame.specs.Prelude.{AddsReads, max_reads}
 use Rattle.bufr_frame.proofs.FinderLemmas.{ReadSoFar}
 use Rattle.bufr_frame.proofs.input.read_to_end.Given as goal
@@ -9,6 +10,7 @@ invariant-loop-reads g l = record {
   so_far : ReadSoFar (g.R.Source.left l.fn.r) (g.R.Source.left l.r) l.fn.octets.items l.octets.items;
   failed : g.R.Source.failures l.r ≡ g.R.Source.failures l.fn.r;
   counts : AddsReads (g.R.Source.reads l.fn.r) (g.R.Source.reads l.r) l.fn.reads l.reads;
+  asked : g.R.Source.asked l.r ≡ counted (g.R.Source.asked l.fn.r) (65536 * (l.reads - l.fn.reads));
 }
 
 abbrev pub decreases-loop-reads : goal.decreases-loop-reads

@@ -1,7 +1,6 @@
 use Rattle.std.proofs.Common.{◌≡◌, refl}
 use Rattle.std.proofs.lemmas.Result.{err_from_is_err_and}
 use Rattle.bufr_tables.specs.Prelude.{places}
-use Rattle.bufr_text.specs.Prelude.{reported_refusal}
 use Rattle.bufr_text.proofs.RoundTripLemmas.{if_ok_so, if_err_so, whole, not_whole, refused_form, written_form}
 use Rattle.bufr_text.proofs.encode.encode_by.Goals as goal
 
@@ -30,4 +29,4 @@ returns-clause-fault c =
     let h = written_form c.args.form by.table_b by.table_d d _ c.in_ok-payload.field-0 _ refl written in
     let same : c.deref-2.result.now ≡ c.in_ok-payload.field-0.items = c.deref-2.ensures.value in
     if_err_so c.write_whole.result c.write_whole.ensures.fault (λ why m. not_whole c.args.form by.table_b by.table_d d (places h.template) h.template c.deref-2.result.now
-    c.write_data-payload.new.steps (reported_refusal why) h.is (rw same h.written) c.write_whole.ensures.payload m)
+    c.write_data-payload.new.steps why h.is (rw same h.written) c.write_whole.ensures.payload m)

@@ -7,6 +7,6 @@ pub number_of-requires-clause-fits : goal.number_of-requires-clause-fits
 number_of-requires-clause-fits g c =
     fit_here (bits_of (octets_of c.args.pack.now.bits)) c.args.pack.now.subsets c.args.kept.now c.args.place c.item-item.result c.requires.place c.item-item.ensures c.requires.fit
 
-pub plain_number-value-requires-clause-below : goal.plain_number-value-requires-clause-below
-plain_number-value-requires-clause-below g c =
+pub plain_number-requires-clause-below : goal.plain_number-requires-clause-below
+plain_number-requires-clause-below g c =
     small_power c.item-item.result.spec.width c.in-Some-number_of.raw (c.is_plain.ensures c.if-is_plain.true).width c.in-Some-number_of.ensures.below

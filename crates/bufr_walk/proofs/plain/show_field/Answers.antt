@@ -10,6 +10,6 @@ raw_at-raw-requires-clause-within g c =
     subst (λ (s : Cursor). s.at + c.args.spec.now.width ≤ length s.bits) (sym c.input.view_is) c.requires in
     omega (arith, fit, bits_length (octets_of c.input.inside.bits), c.width.ensures.value)
 
-pub plain_number-value-requires-clause-below : goal.plain_number-value-requires-clause-below
-plain_number-value-requires-clause-below g c =
+pub plain_number-requires-clause-below : goal.plain_number-requires-clause-below
+plain_number-requires-clause-below g c =
     small_power c.width.result c.raw_at-raw.result.number (omega (arith, c.width.ensures.value, (c.is_plain.ensures c.if-is_plain.true).width)) c.raw_at-raw.ensures.below

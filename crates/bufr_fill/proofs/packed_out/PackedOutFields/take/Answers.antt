@@ -1,7 +1,7 @@
 use Rattle.std.proofs.Common.{◌≡◌, ℕ, ◌≤◌, ◌<◌, ◌+◌, ◌*◌, ◌∙◌, Bool, List, Err, ◌++◌, length, ap, sym, subst, refl, arith, length-append}
 use Rattle.std.proofs.lemmas.Result.{err_from_is_err_and}
 use Rattle.bufr_walk.specs.Prelude.{max_values}
-use Rattle.bufr_fill.specs.Prelude.{Subset, PackedOutModel, subsets_of, cells_at, at_line, too_many_values, draft_fault, IfDraftFault, pack_across, item_row}
+use Rattle.bufr_fill.specs.Prelude.{Subset, PackedOutModel, subsets_of, cells_at, at_line, too_many_values, IfDraftFault, pack_across, item_row}
 use Rattle.bufr_fill.proofs.EntryLemmas.{ends_few, count_cells}
 use Rattle.bufr_fill.proofs.RowLemmas.{many_fault, put_fault}
 use Rattle.bufr_fill.proofs.packed_out.PackedOutFields.take.Goals as goal
@@ -42,7 +42,7 @@ returns-in_err-range-clause-step c =
     let many : length c.deref.result.now ≡ length (cells_at d.place (subsets_of d.entries.now)) =
     ap length c.deref.ensures.value ∙ sym (count_cells d.place d.entries.now d.ends.items c.self.invariant.ends_are) in
     let few = subst (λ n. (d.place + 1) * n ≤ max_values) many c.if-row-gt-MAX_VALUES.false in
-    let why = draft_fault c.in_err-range.field-0.0 in
+    let why = c.in_err-range.field-0.0 in
     rw (passed.1 ∙ ap Err passed.2) (
       subst (λ (s : PackedOutModel). IfDraftFault why (λ f. pack_across c.args.spec.now (item_row s.place s.subsets) ≡ Err f)) c.self.view_is
           (put_fault c.args.spec.now d.place (subsets_of d.entries.now) few why c.in_err-range.ensures),

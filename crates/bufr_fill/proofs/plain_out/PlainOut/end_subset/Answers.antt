@@ -22,6 +22,6 @@ returns c =
           (sym (w.is_end.ensures w.in-Some.field-0-1.now) ∙ w.if-is_end.false)
       | in_default w ↦ none_next d.entries.now d.place d.out.bits s c.self.view_is w.in_default.ensures
     ] in (
-      (at_line c.line-line.result item_too_many, refl, next ∙ ap (λ line. Err (at_line line item_too_many)) (sym c.line-line.ensures)),
+      next ∙ ap (λ line. Err (at_line line item_too_many)) (sym c.line-line.ensures),
       refl,
     )

@@ -1,7 +1,7 @@
 use Rattle.std.proofs.Common.{ap, ◌+◌, ◌∙◌, drop, sym, arith, refl, Err}
 use Rattle.std.proofs.lemmas.Option.{slice_get_within}
 use Rattle.std.proofs.lemmas.Result.{err_from_is_err_and}
-use Rattle.bufr_fill.specs.Prelude.{entry_with, draft_fault}
+use Rattle.bufr_fill.specs.Prelude.{entry_with}
 use Rattle.bufr_fill.proofs.EntryLemmas.{filled_here, left_there, left_none, item_fault}
 use Rattle.bufr_fill.proofs.plain_out.PlainOutFields.take.Goals as goal
 
@@ -27,4 +27,4 @@ returns-in_err-drawn-clause-step c =
     let e = entry_with c.in-Some.found.0 c.in-Some.found.1.now in
     let passed = err_from_is_err_and c.from_residual.result c.from_residual.ensures.1 in
     let left = left_there d.entries.now d.place d.out.bits c.args.self.now e c.self.view_is c.in-Some.ensures in
-    rw (passed.1 ∙ ap Err passed.2) (rw left (item_fault c.args.spec.now (drop (d.place + 1) d.entries.now) (draft_fault c.in_err-drawn.field-0.0) e c.in_err-drawn.ensures.is), refl)
+    rw (passed.1 ∙ ap Err passed.2) (rw left (item_fault c.args.spec.now (drop (d.place + 1) d.entries.now) c.in_err-drawn.field-0.0 e c.in_err-drawn.ensures.is), refl)

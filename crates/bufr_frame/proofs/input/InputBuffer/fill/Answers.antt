@@ -1,9 +1,10 @@
-use Rattle.std.proofs.Common.{◌≡◌, ◌∙◌, ◌+◌, ◌-◌, ◌<◌, ℕ, [], ◌++◌, length, true, Err, ap, sym, refl, subst, arith, append-nil, slice_range, nat_eq}
+use Rattle.std.proofs.Common.{◌≡◌, ◌≤◌, ◌∙◌, ◌+◌, ◌-◌, ◌<◌, vec_len, ℕ, [], ◌++◌, length, true, Err, ap, sym, refl, subst, arith, append-nil, slice_range, nat_eq}
 use Rattle.std.proofs.KnownBytes.{Consumes-nil}
 use Rattle.std.proofs.lemmas.Result.{err_from_is_err_and}
 use Rattle.std.proofs.lemmas.Bool.{true≢false, eqb-true}
+use Rattle.bufr_bits.specs.Prelude.{counted}
 use Rattle.bufr_frame.specs.Prelude.{max_reads}
-use Rattle.bufr_frame.proofs.FinderLemmas.{part-append, empty-of}
+use Rattle.bufr_frame.proofs.FinderLemmas.{part-append, part-length, empty-of, asks-once, asks-none}
 use Rattle.bufr_frame.proofs.input.InputBuffer.fill.Goals as goal
 
 pub returns-in_err-slid-clause-fills : goal.returns-in_err-slid-clause-fills
@@ -71,3 +72,39 @@ returns-clause-fills g c =
       },
       omega (arith, out.0, c.in_ok-n.ensures.fits, c.min-to.ensures),
     )
+
+pub returns-then-self-eq-MAX_READS-clause-asked : goal.returns-then-self-eq-MAX_READS-clause-asked
+returns-then-self-eq-MAX_READS-clause-asked g c = asks-none _ c.args.self.now.reads _ _ refl
+
+pub returns-in_err-slid-clause-asked : goal.returns-in_err-slid-clause-asked
+returns-in_err-slid-clause-asked g c = asks-none _ c.args.self.now.reads _ _ (ap (λ s. s.reads) c.self.view_is)
+
+pub returns-in_err-n-clause-asked : goal.returns-in_err-n-clause-asked
+returns-in_err-n-clause-asked g c =
+    let v = c.self.inside in
+    let start = v.start - c.in_ok-slid.slid in
+    let filled = v.filled - c.in_ok-slid.slid in
+    let free = c.in_ok-slid.ensures.free in
+    let len = c.read_after.ensures.len in
+    let long : length c.args.self.now.held ≡ v.filled - v.start = sym (ap (λ s. length s.held) c.self.view_is)
+    ∙ part-length v.octets.items v.start v.filled (omega (arith, c.self.invariant, v.octets.ok.0)) in
+    let held = part-length c.read_after.new.buffer.items start filled (omega (arith, free.1, len, c.read_after.new.buffer.ok.0)) in
+    c.read_after.ensures.asked
+    ∙ ap (counted (g.R.Source.asked c.args.r.now)) (asks-once c.args.most _ _ _ _ _ filled c.len.result 0 _ (ap (λ s. s.reads) c.self.view_is)
+    (held ∙ omega (arith, long, free.0, c.self.invariant)) (omega (arith, free.1, len)) c.min-to.ensures)
+
+pub returns-clause-asked : goal.returns-clause-asked
+returns-clause-asked g c =
+    let v = c.self.inside in
+    let start = v.start - c.in_ok-slid.slid in
+    let filled = v.filled - c.in_ok-slid.slid in
+    let free = c.in_ok-slid.ensures.free in
+    let n = c.in_ok-n.n in
+    let len = c.read_after.ensures.len in
+    let fits : filled + n ≤ vec_len c.read_after.new.buffer = omega (arith, c.in_ok-n.ensures.fits, c.min-to.ensures, len) in
+    let long : length c.args.self.now.held ≡ v.filled - v.start = sym (ap (λ s. length s.held) c.self.view_is)
+    ∙ part-length v.octets.items v.start v.filled (omega (arith, c.self.invariant, v.octets.ok.0)) in
+    let held = part-length c.read_after.new.buffer.items start (filled + n) (omega (arith, fits, c.read_after.new.buffer.ok.0)) in
+    c.read_after.ensures.asked
+    ∙ ap (counted (g.R.Source.asked c.args.r.now)) (asks-once c.args.most _ _ _ _ _ filled c.len.result n _ (ap (λ s. s.reads) c.self.view_is)
+    (held ∙ omega (arith, long, free.0, free.1, c.self.invariant)) (omega (arith, fits, len)) c.min-to.ensures)

@@ -1,5 +1,5 @@
-use Rattle.std.proofs.Common.{◌≡◌, ◌⊎◌, ◌-◌, [], List, ℕ, None}
-use Rattle.bufr_frame.specs.Prelude.{max_reads, AddsReads}
+use Rattle.std.proofs.Common.{◌≡◌, ◌⊎◌, ◌-◌, ◌*◌, [], List, ℕ, None}
+use Rattle.bufr_frame.specs.Prelude.{max_reads, AddsReads, AsksAtMost}
 use Rattle.bufr_text.specs.Prelude.{ReadsLines, ReadsOnlyIfNoLine}
 use Rattle.bufr_text.proofs.dump_reader.DumpReader.next_document.Given as goal
 
@@ -11,6 +11,7 @@ invariant-loop-next g l = record {
   call : ReadsLines (g.R.Source.left l.fn.r) (g.R.Source.left l.r) l.fn.self l.self [] octets;
   waits : (l.self.reads ≡ l.fn.self.reads) ⊎ ReadsOnlyIfNoLine (g.R.Source.left l.fn.r) l.fn.self l.self.reads octets;
   counts : AddsReads (g.R.Source.reads l.fn.r) (g.R.Source.reads l.r) l.fn.self.reads l.self.reads;
+  asked : AsksAtMost (g.R.Source.asked l.fn.r) (g.R.Source.asked l.r) (4096 * (l.self.reads - l.fn.self.reads));
   failed : g.R.Source.failures l.r ≡ g.R.Source.failures l.fn.r;
   sound : l.self.fault ≡ None;
 }

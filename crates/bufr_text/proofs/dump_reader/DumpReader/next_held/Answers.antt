@@ -1,10 +1,10 @@
 use Rattle.std.proofs.Common.{◌≡◌, ◌∙◌, ◌<◌, [], ◌∷◌, length, refl, ap, sym, subst, arith, Ok, Err, None}
 use Rattle.bufr_frame.proofs.FinderLemmas.{none-unless}
-use Rattle.bufr_text.specs.Prelude.{ParserState, ReadFault, reported_at_end, Refused, NotAllowed, ReaderModel, TakesHeldLines, has_no_feed, place_now, place_with, stopped}
+use Rattle.bufr_text.specs.Prelude.{ReadFault, reported_at_end, Refused, NotAllowed, ReaderModel, TakesHeldLines, has_no_feed, parsing_of, stopped}
 use Rattle.bufr_text.specs.declared.fault.ReadFault.TheVariants as fault
 use Rattle.bufr_text.proofs.CallLemmas.{waits-same, call-takes, went-document, went-fault, end-next}
 use Rattle.bufr_text.proofs.dump_reader.DumpReader.next_held.Goals as goal
-use Rattle.bufr_text.proofs.ReaderLemmas.{Reads, ends-none, done-between, long-reports, reads-place, reported-inside, end-inside, place-sound, state, HandlesEnd}
+use Rattle.bufr_text.proofs.ReaderLemmas.{Reads, ends-none, done-between, long-reports, parsing-reads, reported-inside, end-inside, reader, HandlesEnd}
 
 pub returns-in-Err-clause-gives : goal.returns-in-Err-clause-gives
 returns-in-Err-clause-gives c = λ sound left mid first bs call waits.
@@ -29,8 +29,7 @@ returns-in-Between-clause-gives c = λ sound left mid first bs before waited.
     let end = subst R is (
       refl,
       held,
-      done-between (state v.progress.at (place_now v.fault v.progress) v.input.held v.input.ended v.fault v.input.reads)
-          (place-sound v.fault v.progress (ap (λ x. x.fault) is ∙ went.1) ∙ ap (λ p. place_with p v.progress.parts) c.in-Between.is) held,
+      done-between (reader v.progress.at (parsing_of v.progress) v.input.held v.input.ended v.fault v.input.reads) c.in-Between.is held,
     ) in
     end-next left mid first s s bs call waits went.1 (sym (ap (λ x. x.ended) is) ∙ ended) (Ok None) end
 
@@ -43,8 +42,9 @@ returns-then-ended c =
     let ended = sym c.ended.ensures ∙ c.if-ended.true in
     let held = ends-none v.input.held (c.self-2.invariant.2 ended) (ap (λ x. has_no_feed x.held) is ∙ went.2) in
     let none = sym (ap (λ s. s.fault) c.self.view_is) ∙ none-unless c.self.inside.fault c.in_default.not-Some in
-    let R : ReaderModel → Type 0 = λ x. reported_at_end x.at x.place ≡ Refused x.at NotAllowed ∷ [] in
-    let reports = subst R is (rw (place-sound v.fault v.progress (ap (λ x. x.fault) is ∙ went.1)) (reported-inside v.progress.place v.progress.parts v.progress.at c.in_default-place.not-Between)) in
+    let progress = c.self-2.invariant.3 (ap (λ x. x.fault) is ∙ went.1) in
+    let R : ReaderModel → Type 0 = λ x. reported_at_end x.at x.place.0 ≡ Refused x.at NotAllowed ∷ [] in
+    let reports = subst R is (reported-inside v.progress.state v.progress.at (parsing-reads v.progress.at (parsing_of v.progress) progress.holds) c.in_default-state.not-Between) in
     let end = end-inside s c.stop.new.self v.progress.at c.stop.result (sym (ap (λ x. x.ended) is) ∙ ended) (sym (ap (λ x. x.held) is) ∙ held) reports (ap (λ x. x.at) is) c.stop.ensures.new
     c.stop.ensures.value in
     record {
@@ -55,6 +55,7 @@ returns-then-ended c =
       proper = tt;
       reads = ap (λ x. x.reads) c.stop.ensures.new ∙ c.take_held.ensures.reads;
       unread = λ sound is. let line = c.stop.ensures.value in cc;
+      short = λ sound is. let line = c.stop.ensures.value in cc;
       held = c.stop.ensures.bound;
       again = rw none tt;
       same_self = rw none tt;
@@ -68,14 +69,14 @@ returns-then-held-gt-MAX_LINE-clause-gives c = λ sound left mid first bs before
     let went = rw (c.in-Ok-None.is, c.in-Ok-None.field-0-is) at c.take_held.ensures.went in
     let call = call-takes left mid first c.args.self.now s bs [] before went.0 c.take_held.ensures.ended c.take_held.ensures.reads in
     let waits = waits-same left first c.args.self.now s bs bs waited c.take_held.ensures.reads refl in
-    let place = ap (λ s. s.place) (sym is) ∙ place-sound v.fault v.progress (ap (λ x. x.fault) is ∙ went.1) in
-    let R : ParserState → Type 0 = λ p. Reads p in
+    let progress = c.self-2.invariant.3 (ap (λ x. x.fault) is ∙ went.1) in
+    let R : ReaderModel → Type 0 = λ x. Reads x.place.0 in
     let long : 4096 < length s.held = omega (arith, c.if-held-gt-MAX_LINE.true, ap length c.held.ensures, ap (λ s. length s.held) is) in
-    let reports = long-reports s (subst R (sym place) (reads-place v.progress.place v.progress.parts)) went.2 long in
+    let reports = long-reports s (subst R is (parsing-reads v.progress.at (parsing_of v.progress) progress.holds)) went.2 long in
     let stop = c.stop-then-held-gt-MAX_LINE in
     let F : ReadFault → Type 0 = λ f. TakesHeldLines s stop.new.self (Err f) in
-    let same = stop.ensures.new ∙ ap (λ n. stopped s (fault.Line n)) (ap (λ s. s.at) is) in
-    let line = stop.ensures.value ∙ ap (λ n. fault.Line n) (ap (λ s. s.at) is) in
-    let N : ReaderModel → Type 0 = λ n. TakesHeldLines s n (Err (fault.Line s.at)) in
+    let same = stop.ensures.new ∙ ap (λ n. stopped s (fault.Line n NotAllowed)) (ap (λ s. s.at) is) in
+    let line = stop.ensures.value ∙ ap (λ n. fault.Line n NotAllowed) (ap (λ s. s.at) is) in
+    let N : ReaderModel → Type 0 = λ n. TakesHeldLines s n (Err (fault.Line s.at NotAllowed)) in
     let took = subst F (sym line) (subst N (sym same) (reports, refl)) in
     went-fault left mid first s stop.new.self bs call waits (ap (λ x. x.ended) same) (ap (λ x. x.reads) same) stop.result took

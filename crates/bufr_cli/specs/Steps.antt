@@ -1,0 +1,172 @@
+-- What one step of a run does: a piece is written, or octets are read. (a choice of this project)
+-- Cited by contracts.
+use Rattle.std.specs.Prelude.{ℕ, Bool, true, false, ◌≡◌, ◌≢◌, ◌+◌, ◌<◌, ◌≤◌, ◌^◌, max, List, [], ◌∷◌, ◌++◌, length, map, count_by, option_to_list, Option, None, Result, Ok, Err}
+use Rattle.std.specs.Io.KnownBytes.{Consumes, IsAtEnd}
+use Rattle.bufr_frame.specs.declared.fault.RunFault.{RunFault}
+use Rattle.bufr_frame.specs.declared.fault.RunFault.TheVariants.{Read, Write, InputTooLong, Memory}
+use Rattle.bufr_frame.specs.Prelude.{max_reads, MakesReads, StreamEvent, FinderModel, ReadsAndPasses, new_finder, NoEventCertain}
+use Rattle.bufr_tables.specs.Prelude.{Row, Sequence}
+use Rattle.bufr_text.specs.Prelude.{ParseResult, ReaderModel, ReadsLines, new_reader, has_no_feed}
+use Rattle.bufr_text.specs.declared.encode.Form.{Form}
+use Rattle.bufr_cli.specs.Pieces.{Piece, is_accepted, is_refused, result_piece}
+use Rattle.bufr_cli.specs.Running.{Writers, WritesPieces, WritesPrefixes, RunPieces, read_pieces, document_pieces, IsUnrefused, ReadsAtMost}
+use Rattle.bufr_cli.specs.declared.outcome.Tally.{Tally}
+use Rattle.bufr_cli.specs.declared.outcome.Verdict.{Verdict}
+use Rattle.bufr_cli.specs.declared.outcome.Verdict.TheVariants.{Accepted, Refused}
+use Rattle.bufr_cli.specs.declared.run_pieces.RunStep.{RunStep}
+use Rattle.bufr_cli.specs.declared.run_pieces.RunStep.TheVariants as step
+
+-- how many pieces a verdict counts on the output, and on the errors
+abbrev pub counted_accepted : Verdict → ℕ
+counted_accepted Accepted = 1
+counted_accepted Refused = 0
+
+abbrev pub counted_refused : Verdict → ℕ
+counted_refused Accepted = 0
+counted_refused Refused = 1
+
+-- one more piece in a tally
+abbrev pub tally_after : Tally → Verdict → Tally
+tally_after tally verdict =
+    record {
+      accepted = tally.accepted + counted_accepted verdict;
+      refused = tally.refused + counted_refused verdict;
+    }
+
+-- the text of a piece was written and counted, or a prefix of it
+abbrev pub LeavesPiece : (before after : Writers) → Piece → Result Verdict RunFault → Type 0
+LeavesPiece before after piece (Ok verdict) =
+    WritesPieces before after (piece ∷ [])
+    × (counted_accepted verdict ≡ count_by is_accepted (piece ∷ []))
+    × (counted_refused verdict ≡ count_by is_refused (piece ∷ []))
+LeavesPiece before after piece (Err fault) = WritesPrefixes before after (piece ∷ [])
+
+-- a piece is stopped by a writer, or by want of memory where its text takes memory
+abbrev pub StopsPiece : {X : Type 0} → (takes_memory : Bool) → Result X RunFault → Type 0
+StopsPiece takes_memory (Err Read) = ⊥
+StopsPiece takes_memory (Err InputTooLong) = ⊥
+StopsPiece takes_memory (Err Memory) = takes_memory ≡ true
+StopsPiece takes_memory result = Unit {0}
+
+-- the reads of a run; where its texts take no memory, it is wanted only before all of the reads
+-- were made
+abbrev pub RunReads : {X : Type 0} → (takes_memory : Bool) → (reads reads' : ℕ)
+    → Result X RunFault → Type 0
+RunReads false reads reads' result = MakesReads reads reads' result
+RunReads true reads reads' result = ReadsAtMost reads reads' result
+
+-- What a run has read of its input so far, and which pieces it has written.
+pub record Progress : Type 0 where
+  pub from : Option (List ℕ)
+  pub left : Option (List ℕ)
+  pub octets : List ℕ
+  pub pieces : List Piece
+
+-- nothing was read of an input, and nothing written
+abbrev pub no_progress : Option (List ℕ) → Progress
+no_progress left = record { from = left; left = left; octets = []; pieces = [] }
+
+-- one more piece was written
+abbrev pub with_piece : Progress → Piece → Progress
+with_piece p piece =
+    record { from = p.from; left = p.left; octets = p.octets; pieces = p.pieces ++ piece ∷ [] }
+
+-- more octets were read, and this is left
+abbrev pub with_octets : Progress → List ℕ → (left : Option (List ℕ)) → Progress
+with_octets p bs left =
+    record { from = p.from; left = left; octets = p.octets ++ bs; pieces = p.pieces }
+
+-- All that is certain of what was read is written.
+pub record IsOpen (pieces : RunPieces) (p : Progress) : Type 0 where
+  pub read : Consumes p.from p.left p.octets
+  pub certain : pieces.certain p.octets ≡ p.pieces
+  pub accepted : IsUnrefused pieces p.pieces
+
+-- Nothing comes any more: the end was reached, or a refusal ends the run.
+pub record IsDone (pieces : RunPieces) (p : Progress) : Type 0 where
+  pub ended : Bool
+  pub read : Consumes p.from p.left p.octets
+  pub at_end : ended ≡ true → IsAtEnd p.left
+  pub all : pieces.stops ≡ false → ended ≡ true
+  pub certain : read_pieces pieces ended p.octets ≡ p.pieces
+  pub whole : (t : List ℕ) → (ended ≡ true → t ≡ []) → pieces.whole (p.octets ++ t) ≡ p.pieces
+
+-- The next piece of what was read was cut, or memory was wanted to read it.
+pub record IsCut (pieces : RunPieces) (p : Progress) (before after : Writers) : Type 0 where
+  pub ended : Bool
+  pub read : Consumes p.from p.left p.octets
+  pub at_end : ended ≡ true → IsAtEnd p.left
+  pub next : Option Piece
+  pub rest : List Piece
+  pub parts : read_pieces pieces ended p.octets ≡ p.pieces ++ (option_to_list next ++ rest)
+  pub prefix : WritesPrefixes before after (option_to_list next)
+  pub accepted : IsUnrefused pieces p.pieces
+  pub some : pieces.stops ≡ false → next ≢ None
+
+-- the next piece was written; or a read is needed first; or nothing comes any more; or it was cut
+abbrev pub TakesStep : RunPieces → (reaches : Progress → Type 0) → Progress
+    → (before after : Writers) → Result RunStep RunFault → Type 0
+TakesStep pieces reaches p before after (Ok (step.Piece verdict)) =
+    (piece : Piece) × reaches (with_piece p piece) × LeavesPiece before after piece (Ok verdict)
+    × (length p.pieces + 1 < 2 ^ 63)
+TakesStep pieces reaches p before after (Ok step.Read) =
+    (after ≡ before) × reaches p × IsOpen pieces p
+TakesStep pieces reaches p before after (Ok step.End) = (after ≡ before) × IsDone pieces p
+TakesStep pieces reaches p before after (Err fault) = IsCut pieces p before after
+
+-- octets came; or none did, by a fault
+abbrev pub ReadsOctets : (reaches : Progress → Type 0) → Progress → (left : Option (List ℕ))
+    → Result (Unit {0}) RunFault → Type 0
+ReadsOctets reaches p left (Ok u) = (bs : List ℕ) × reaches (with_octets p bs left)
+ReadsOctets reaches p left (Err fault) = Consumes p.left left []
+
+-- one more read was made; or it failed, or all were made, or memory was wanted before
+abbrev pub CountsRead : (before after : ℕ) → Result (Unit {0}) RunFault → Type 0
+CountsRead before after (Ok u) = after ≡ before + 1
+CountsRead before after (Err Read) = Unit {0}
+CountsRead before after (Err Write) = ⊥
+CountsRead before after (Err InputTooLong) = after ≡ max_reads
+CountsRead before after (Err Memory) = after < max_reads
+
+-- ---- How far a finder and a reader of documents have come.
+
+-- The pieces of the events that a finder passed were written.
+pub record WritesEvents (piece : StreamEvent → Piece) (s : FinderModel) (so : Progress) : Type 0
+  where
+    pub events : List StreamEvent
+    pub passes : ReadsAndPasses so.from so.left new_finder s so.octets events
+    pub pieces : so.pieces ≡ map piece events
+    pub sound : s.fault ≡ None
+    pub few : length so.pieces ≤ s.at
+    pub near : s.at < 2 ^ 63
+
+-- Nothing that a finder holds is certain.
+pub record NeedsOctets (s : FinderModel) : Type 0 where
+  pub sound : s.fault ≡ None
+  pub going : s.ended ≡ false
+  pub few : length s.rest < max 4096 s.longest
+  pub none : (at : ℕ) → NoEventCertain at s.rest
+
+-- The pieces of the documents that a reader gave were written, and none was refused.
+pub record WritesDocuments (piece : ParseResult → Piece) (s : ReaderModel) (so : Progress) : Type 0
+  where
+    pub results : List ParseResult
+    pub reads : ReadsLines so.from so.left new_reader s results so.octets
+    pub pieces : so.pieces ≡ map piece results
+    pub accepted : count_by is_refused so.pieces ≡ 0
+    pub sound : s.fault ≡ None
+    pub most : s.reads ≤ max_reads
+
+-- the documents were written so far; or the last one was refused, and the run is done
+abbrev pub EncodesDocuments : Form → List Row → List Sequence → (last : Verdict) → ReaderModel
+    → Progress → Type 0
+EncodesDocuments form b d Accepted s so = WritesDocuments (result_piece form b d) s so
+EncodesDocuments form b d Refused s so = IsDone (document_pieces form b d) so
+
+-- No document was refused, and no whole line is held.
+pub record NeedsText (last : Verdict) (s : ReaderModel) : Type 0 where
+  pub accepted : last ≡ Accepted
+  pub sound : s.fault ≡ None
+  pub going : s.ended ≡ false
+  pub short : length s.held ≤ 4096
+  pub none : has_no_feed s.held ≡ true

@@ -1,0 +1,147 @@
+//! A run over an input: what comes next is written, piece by piece.
+ghost use Rattle.std.specs.Prelude.{◌≡◌, ◌≢◌, ℕ, Bool, true, false, Ok, Err, OnOk, IfErr};
+ghost use Rattle.std.specs.Io.KnownBytes.{Keeps};
+ghost use Rattle.bufr_frame.specs.Prelude.{AddsReads, read_failures_after};
+ghost use Rattle.bufr_cli.specs.Prelude.{BlamesWriter, CountsCalls, CountsRead, HandsOnBoth, LeavesDevices, Progress, ReadsOctets, RunPieces, RunReads, StopsPiece, TakesStep, input_of, no_progress, writer_of, writers_of};
+
+use crate::outcome::{Tally, Verdict};
+use bufr_bits::{Sink, Source};
+use bufr_frame::RunFault;
+
+/// What came of the next step of a run.
+#[derive(Clone, Copy)]
+pub enum RunStep {
+    /// A piece was written.
+    Piece(Verdict),
+    /// A read is needed first.
+    Read,
+    /// Nothing comes any more.
+    End,
+}
+
+/// What comes next of an input, and what is written for it.
+pub trait PieceWriter {
+    /// What is to be written for an input.
+    ghost pieces: { Self → RunPieces };
+
+    /// Whether writing takes memory.
+    ghost takes_memory: { Self → Bool };
+
+    /// How many reads it made.
+    ghost reads: { Self → ℕ };
+
+    /// Whether a run has come so far.
+    ghost reaches: { Self → Progress → Type 0 };
+
+    /// Whether a read is needed.
+    ghost needs_read: { Self → Type 0 };
+
+    /// Writes the next piece, if what was read makes it certain.
+    ///
+    /// # Errors
+    ///
+    /// [`RunFault::Write`] and [`RunFault::Memory`]; of the piece a prefix was written.
+    fn write_next<W: Sink, E: Sink>(&mut self, w: &mut W, e: &mut E) -> Result<RunStep, RunFault>
+        requires begun { (so : Progress) × reaches self.old so }
+        ensures next { (so : Progress) → reaches self.old so
+            → TakesStep (pieces self.old) (reaches self.new) so
+            (writers_of W.Sink w.old E.Sink e.old) (writers_of W.Sink w.new E.Sink e.new) result }
+        ensures needs { result ≡ Ok RunStep.Read → needs_read self.new }
+        ensures stops { StopsPiece (takes_memory self.old) result }
+        ensures unread { reads self.new ≡ reads self.old }
+        ensures same { pieces self.new ≡ pieces self.old }
+        ensures memory { takes_memory self.new ≡ takes_memory self.old }
+        ensures counts { BlamesWriter (writers_of W.Sink w.old E.Sink e.old)
+            (writers_of W.Sink w.new E.Sink e.new) result }
+        ensures output_flushes { W.failed_flushes w.new ≡ W.failed_flushes w.old }
+        ensures errors_flushes { E.failed_flushes e.new ≡ E.failed_flushes e.old };
+
+    /// Reads once, where a read is needed. The input must be the same at each call.
+    ///
+    /// # Errors
+    ///
+    /// [`RunFault::Read`], [`RunFault::InputTooLong`] and [`RunFault::Memory`]; no octets came.
+    fn read_more<R: Source>(&mut self, r: &mut R) -> Result<(), RunFault>
+        requires { needs_read self.old }
+        ensures reads_on { (so : Progress) → so.left ≡ R.left r.old → reaches self.old so
+            → ReadsOctets (reaches self.new) so (R.left r.new) result }
+        ensures counts { AddsReads (R.reads r.old) (R.reads r.new) (reads self.old)
+            (reads self.new) }
+        ensures made { CountsRead (reads self.old) (reads self.new) result }
+        ensures failed { R.failures r.new ≡ read_failures_after (R.failures r.old) result }
+        ensures sure { R.waits r.old ≡ false → result ≢ Err RunFault.Read }
+        ensures same { pieces self.new ≡ pieces self.old }
+        ensures memory { takes_memory self.new ≡ takes_memory self.old };
+}
+
+/// Hands on what was written.
+pub(crate) fn flush<W: Sink>(w: &mut W) -> Result<(), RunFault>
+    ensures keeps { Keeps (W.taken w.old) (W.taken w.new) }
+    ensures failed_flushes { OnOk result (W.failed_flushes w.new ≡ W.failed_flushes w.old) }
+    ensures all_flushed { OnOk result (W.all_flushed w.new ≡ true) }
+    ensures err { IfErr result (λ fault. fault ≡ RunFault.Write) }
+    ensures counts { CountsCalls (writer_of W.Sink w.old) (writer_of W.Sink w.new) result }
+{
+    match w.flush() {
+        Ok(()) => Ok(()),
+        Err(_) => Err(RunFault::Write),
+    }
+}
+
+/// Hands on what was written: the output, then the errors.
+fn hand_on<W: Sink, E: Sink>(w: &mut W, e: &mut E) -> Result<(), RunFault>
+    ensures handed { HandsOnBoth (writers_of W.Sink w.old E.Sink e.old)
+        (writers_of W.Sink w.new E.Sink e.new) (Unit {0}) result }
+{
+    flush(w)?;
+    flush(e)
+}
+
+/// Hands on what was written, where the next read of `r` may wait.
+fn hand_on_before_read<R: Source, W: Sink, E: Sink>(
+    r: &R,
+    w: &mut W,
+    e: &mut E,
+) -> Result<(), RunFault>
+    ensures handed { HandsOnBoth (writers_of W.Sink w.old E.Sink e.old)
+        (writers_of W.Sink w.new E.Sink e.new) (R.waits r.now ≡ true) result }
+{
+    if r.may_wait() {
+        return hand_on(w, e);
+    }
+    Ok(())
+}
+
+/// Writes the pieces of `r`, each as soon as it is certain. Before a read that may wait, and at the
+/// end, all that was written is handed on.
+// rule: output-in-order, fault-line-not-written, input-not-read, reader-gone
+pub(crate) fn run_pieces<P: PieceWriter, R: Source, W: Sink, E: Sink>(
+    next: &mut P,
+    r: &mut R,
+    w: &mut W,
+    e: &mut E,
+) -> Result<Tally, RunFault>
+    requires fresh { P.reaches next.old (no_progress (R.left r.old)) }
+    requires unread { P.reads next.old ≡ 0 }
+    ensures leaves { LeavesDevices (P.pieces next.old) (input_of R.Source r.old)
+        (input_of R.Source r.new) (writers_of W.Sink w.old E.Sink e.old)
+        (writers_of W.Sink w.new E.Sink e.new) result }
+    ensures reads { RunReads (P.takes_memory next.old) (R.reads r.old) (R.reads r.new) result }
+{
+    let mut tally = Tally {
+        accepted: 0,
+        refused: 0,
+    };
+    loop {
+        match next.write_next(w, e)? {
+            RunStep::Piece(verdict) => tally.count(verdict),
+            RunStep::Read => {
+                hand_on_before_read(r, w, e)?;
+                next.read_more(r)?;
+            }
+            RunStep::End => break,
+        }
+    }
+    hand_on(w, e)?;
+    Ok(tally)
+}
