@@ -7,7 +7,7 @@ use crate::runs::{assert_run, refused};
 use crate::support::{Runtime, assert_same, assert_that, joined, ok, repeated, some, words_of};
 use bufr_bits::{Device, ScriptIn, Source};
 use bufr_frame::{Message, RunFault};
-use bufr_text::{Document, DumpReader, TextLineFault, ReadFault, laws};
+use bufr_text::{Document, DumpReader, ReadFault, TextLineFault, laws};
 
 /// How many octets a read gives.
 const STEPS: [usize; 3] = [1, 3, 4096];
@@ -21,8 +21,8 @@ enum Next {
     Done,
 }
 
-use TextLineFault::{HeaderRange, NotAllowed, SubsetCount};
 use Next::{Done, Failed, Read, Refused};
+use TextLineFault::{HeaderRange, NotAllowed, SubsetCount};
 
 /// The document of one block number, with this text in place of a line, from 1.
 fn with_line(rt: &impl Runtime, number: usize, text: &[u8]) -> Vec<u8> {
