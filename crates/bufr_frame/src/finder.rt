@@ -9,7 +9,7 @@ ghost use Rattle.std.specs.Io.BufRead.{Rests};
 
 use crate::fault::{Cause, RunFault};
 use crate::input::InputBuffer;
-use crate::message::u24_from;
+use crate::octets::u24_at;
 use crate::section1::{SECTION_0, SECTION_5};
 use bufr_bits::Source;
 use memchr::memmem;
@@ -320,7 +320,7 @@ pub(crate) fn classify(m: &[u8]) -> Candidate
     if m.len() < SECTION_0 {
         return Candidate::Stray(Cause::Cut);
     }
-    let len = u24_from(m, LENGTH);
+    let len = u24_at(m, LENGTH);
     if m.len() < len {
         return Candidate::Stray(Cause::Cut);
     }
@@ -369,7 +369,7 @@ pub(crate) fn find_event(word: &memmem::Finder<'_>, rest: &[u8], ended: bool) ->
     let stated_length = if m.len() < SECTION_0 {
         0
     } else {
-        u24_from(m, LENGTH)
+        u24_at(m, LENGTH)
     };
     if !ended && m.len() < stated_length.max(SECTION_0) {
         return SearchResult::NeedsMore {

@@ -7,6 +7,7 @@ mod finder;
 mod input;
 pub mod laws;
 mod message;
+mod octets;
 mod section1;
 mod write;
 

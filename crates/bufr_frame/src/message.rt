@@ -1,13 +1,14 @@
 //! A message divided into its sections. (WMO-No. 306, Volume I.2, FM 94)
-ghost use Rattle.std.specs.Prelude.{◌≡◌, ◌≤◌, ◌+◌, length, IsTrue, Some, None, slice_range, if◌then◌else◌, ◌<◌, ◌*◌, ◌/◌, ◌%◌, ◌^◌, ◌-◌, Ok, IfOk, slice_get, ◌↔◌, []};
+ghost use Rattle.std.specs.Prelude.{◌≡◌, ◌≤◌, ◌+◌, length, IsTrue, Some, None, slice_range, if◌then◌else◌, ◌<◌, ◌*◌, ◌^◌, ◌-◌, Ok, IfOk, slice_get, ◌↔◌, []};
 ghost use Rattle.std.specs.Option.{option_map};
 ghost use Rattle.bufr_frame.specs.Section1.{edition_of, first_least, head_of};
 ghost use Rattle.bufr_frame.specs.Sections.{has_section2, section_end, sections_of, Sections};
-ghost use Rattle.bufr_frame.specs.Octets.{u16_at, u24_at, words_left, words};
+ghost use Rattle.bufr_frame.specs.Octets.{words_left, words};
 ghost use Rattle.bufr_bits.specs.Prelude.{octets_of};
 ghost use Rattle.std.specs.Iterator.{YieldsFirst, item_count};
 
 use crate::fault::SectionFault;
+use crate::octets::{u16_at, u24_at};
 use crate::section1::{
     Head, SECTION_0, SECTION_2, SECTION_3, SECTION_4, SECTION_5, is_padded, section_1,
 };
@@ -91,15 +92,15 @@ fn head_at(m: &[u8]) -> Head
     Head {
         edition: m[7],
         master: m[11],
-        centre: two_at(m, 12),
-        subcentre: two_at(m, 14),
+        centre: u16_at(m, 12),
+        subcentre: u16_at(m, 14),
         update: m[16],
         category: m[18],
         subcategory: m[19],
         local_subcategory: m[20],
         master_version: m[21],
         local_version: m[22],
-        year: two_at(m, 23),
+        year: u16_at(m, 23),
         month: m[25],
         day: m[26],
         hour: m[27],
@@ -166,7 +167,7 @@ impl<'a> Message<'a> {
             local1: &octets[SECTION_0 + section_1(edition)..first],
             section2: section2_of(octets, first, second),
             descriptors: &octets[second + SECTION_3..third],
-            subsets: two_at(octets, second + 4),
+            subsets: u16_at(octets, second + 4),
             observed: flags >= 128,
             compressed: flags % 128 >= 64,
             payload: &octets[third + SECTION_4..fourth],
@@ -202,7 +203,7 @@ impl<'a> Message<'a> {
         if i >= self.descriptors.len() / 2 {
             return None;
         }
-        Some(two_at(self.descriptors, 2 * i))
+        Some(u16_at(self.descriptors, 2 * i))
     }
 
     /// The words of the descriptors of section 3, in order, of two octets each.
@@ -249,33 +250,6 @@ impl<'a> Message<'a> {
     {
         self.octets.len() as u64
     }
-}
-
-pub(crate) fn two_at(m: &[u8], p: usize) -> u16
-    requires { p + 2 ≤ length m.now }
-    ensures { result ≡ u16_at m.now p }
-{
-    256 * u16::from(m[p]) + u16::from(m[p + 1])
-}
-
-pub(crate) fn u24_from(m: &[u8], p: usize) -> usize
-    requires { p + 3 ≤ length m.now }
-    ensures value { result ≡ u24_at m.now p }
-    ensures most { result < 2 ^ 24 }
-{
-    65536 * (m[p] as usize) + 256 * (m[p + 1] as usize) + m[p + 2] as usize
-}
-
-pub(crate) fn high(word: u16) -> u8
-    ensures { result ≡ word / 256 }
-{
-    (word / 256) as u8
-}
-
-pub(crate) fn low(word: u16) -> u8
-    ensures { result ≡ word % 256 }
-{
-    (word % 256) as u8
 }
 
 /// An iterator over the words of two octets each, most significant octet first. An octet left over
@@ -336,7 +310,7 @@ fn section_end_at(m: &[u8], k: u8, least: usize, p: usize) -> Result<usize, Sect
     if end < p + 3 {
         return Err(SectionFault::SectionPast(k));
     }
-    let len = u24_from(m, p);
+    let len = u24_at(m, p);
     if len < least {
         return Err(SectionFault::SectionShort(k));
     }

@@ -4,7 +4,7 @@ ghost use Rattle.std.specs.Option.{option_map};
 ghost use Rattle.bufr_frame.specs.Prelude.{three_octets, octets_of_words, sections_of, even_size, with_even_length, is_writable, message_octets, message_size, max_octets, with_pad_octet, parts_of, sections_from, head_octets, section2_octets, section3_octets, section4_octets, section2_size, size_from, octets_3, octets_4};
 
 use crate::fault::WriteFault;
-use crate::message::{high, low};
+use crate::octets::{high_octet, low_octet};
 use crate::section1::{
     Head, SECTION_0, SECTION_2, SECTION_3, SECTION_4, SECTION_5, even_len, is_padded, section_1,
 };
@@ -82,10 +82,10 @@ fn head_octets_4(head: &Head, optional: bool) -> [u8; 19]
 {
     [
         head.master,
-        high(head.centre),
-        low(head.centre),
-        high(head.subcentre),
-        low(head.subcentre),
+        high_octet(head.centre),
+        low_octet(head.centre),
+        high_octet(head.subcentre),
+        low_octet(head.subcentre),
         head.update,
         if optional { 128 } else { 0 },
         head.category,
@@ -93,8 +93,8 @@ fn head_octets_4(head: &Head, optional: bool) -> [u8; 19]
         head.local_subcategory,
         head.master_version,
         head.local_version,
-        high(head.year),
-        low(head.year),
+        high_octet(head.year),
+        low_octet(head.year),
         head.month,
         head.day,
         head.hour,
@@ -154,7 +154,7 @@ fn push_words(octets: &mut Vec<u8>, words: &[u16]) -> Result<(), AllocError>
     ensures { OnOk result (octets.new.items ≡ octets.old.items ++ octets_of_words words.now) }
 {
     for word in words {
-        octets.extend_from_slice(&[high(*word), low(*word)])?;
+        octets.extend_from_slice(&[high_octet(*word), low_octet(*word)])?;
     }
     Ok(())
 }
@@ -174,7 +174,7 @@ fn push_section3(
 {
     let len = SECTION_3 + 2 * descriptors.len();
     push_three(octets, even_len(edition, len))?;
-    octets.extend_from_slice(&[0, high(subsets), low(subsets), flags])?;
+    octets.extend_from_slice(&[0, high_octet(subsets), low_octet(subsets), flags])?;
     push_words(octets, descriptors)?;
     push_padding(octets, is_padded(edition, len))
 }

@@ -31,8 +31,8 @@ pub returns-then-m-max : goal.returns-then-m-max
 returns-then-m-max c =
     let is : IsStatedLength (drop c.in-Some.place c.args.rest.now) c.if-m-lt-SECTION_0.stated_length = elim c.if-m-lt-SECTION_0.branch [
       | then-m-lt-SECTION_0 w ↦ short c.args.rest.now c.in-Some.place _ w.if-m-lt-SECTION_0.true w.stated_length-is
-      | else-m-lt-SECTION_0 w ↦ long c.args.rest.now c.in-Some.place _ w.if-m-lt-SECTION_0.false (w.stated_length-is ∙ w.u24_from-stated_length.ensures.value)
-          (omega (arith, w.stated_length-is, w.u24_from-stated_length.ensures.most))
+      | else-m-lt-SECTION_0 w ↦ long c.args.rest.now c.in-Some.place _ w.if-m-lt-SECTION_0.false (w.stated_length-is ∙ w.u24_at-stated_length.ensures.value)
+          (omega (arith, w.stated_length-is, w.u24_at-stated_length.ensures.most))
     ] in
     (c.if-not-ended.true, open-so _ _ _ c.in-Some.ensures is.0 (omega (arith, c.if-m-max.true, c.max.ensures, ap length (take_rest c.args.rest.now c.in-Some.place))), is)
 
@@ -40,8 +40,8 @@ pub returns : goal.returns
 returns c =
     let is : IsStatedLength (drop c.in-Some.place c.args.rest.now) c.if-m-lt-SECTION_0.stated_length = elim c.if-m-lt-SECTION_0.branch [
       | then-m-lt-SECTION_0 w ↦ short c.args.rest.now c.in-Some.place _ w.if-m-lt-SECTION_0.true w.stated_length-is
-      | else-m-lt-SECTION_0 w ↦ long c.args.rest.now c.in-Some.place _ w.if-m-lt-SECTION_0.false (w.stated_length-is ∙ w.u24_from-stated_length.ensures.value)
-          (omega (arith, w.stated_length-is, w.u24_from-stated_length.ensures.most))
+      | else-m-lt-SECTION_0 w ↦ long c.args.rest.now c.in-Some.place _ w.if-m-lt-SECTION_0.false (w.stated_length-is ∙ w.u24_at-stated_length.ensures.value)
+          (omega (arith, w.stated_length-is, w.u24_at-stated_length.ensures.most))
     ] in
     let same = take_rest c.args.rest.now c.in-Some.place in (
       elim c.else-not-ended.branch [

@@ -9,6 +9,6 @@ returns-then-i-self c =
 
 pub returns : goal.returns
 returns c =
-    ap Some c.two_at.ensures
+    ap Some c.u16_at.ensures
     ∙ sym (words-some c.self.inside.descriptors.now c.args.i (omega (arith, c.if-i-self.false)))
     ∙ ap (λ s. slice_get s.descriptors c.args.i) c.self.view_is
