@@ -1,5 +1,5 @@
 -- How a line is taken apart: its word, descriptors, digits and quoted texts.
-use Rattle.std.proofs.Common.{◌≡◌, ℕ, zero, suc, ◌+◌, ◌<◌, ◌≤◌, ◌==◌, Bool, true, false, List, [], ◌∷◌, ◌++◌, length, take, drop, refl, sym, ap, ◌∙◌, arith, Option, Some, None, append-nil, append_assoc, if◌then◌else◌, ◌&&◌, not, codes, ◌*◌, nat_le, nat_lt, length-drop, length-set, length-take, subst, slice_index, option_map, MatchOption, slice_set, unwrap_or, ◌||◌}
+use Rattle.std.proofs.Common.{◌≡◌, IfSome, ℕ, zero, suc, ◌+◌, ◌<◌, ◌≤◌, ◌==◌, Bool, true, false, List, [], ◌∷◌, ◌++◌, length, take, drop, refl, sym, ap, ◌∙◌, arith, Option, Some, None, append-nil, append_assoc, if◌then◌else◌, ◌&&◌, not, codes, ◌*◌, nat_le, nat_lt, length-drop, length-set, length-take, subst, slice_index, option_map, MatchOption, slice_set, unwrap_or, ◌||◌}
 use Rattle.std.specs.Borrow.{Bor}
 use Rattle.std.specs.List.{list_all}
 use Rattle.std.specs.Str.{bytes_eq}
@@ -122,6 +122,11 @@ value-token text h1 = grind (arith, nat_tests, common_steps)
 pub value-word : (text : List ℕ) → (slice_index text 0 ≡ 34 → ⊥) → is_number_octet (slice_index text 0) ≡ false → value_read text ≡ missing_value text
 unfolding value_read without_prefix
 value-word text h1 h2 = grind (arith, nat_tests, common_steps)
+
+-- the word of a missing value
+pub value-missing : (text rest : List ℕ) → Some rest ≡ without_prefix (codes "MISSING") text → value_read text ≡ Some (missing_form, rest)
+unfolding value_read without_prefix
+value-missing text rest h = grind (arith, nat_tests, common_steps, h)
 
 pub word-is : (word text : List ℕ) (r : Option (Bor (List ℕ))) → MatchOption r (bytes_eq (take (length word) text) word ≡ false)
     (λ x. (bytes_eq (take (length word) text) word ≡ true) × (x.now ≡ drop (length word) text) × (length x.now + length word ≡ length text)) → option_map (λ s. s.now) r ≡ without_prefix word text
@@ -290,6 +295,12 @@ decimal-line line text rest fxy form h space value passed is =
     let digit = begins-by-digit line fxy h is in
     line-item line (λ (e : slice_index line 0 ≡ 35). absurd (grind (arith, nat_tests, e, digit))) digit
     ∙ rw (fxy-six line h, sym is, sym space, value, passed) refl
+
+-- the line of a missing value
+pub missing-line : (line text rest : List ℕ) (found : Option ℕ) → 6 ≤ length line → Some text ≡ without_space (drop 6 line) → Some rest ≡ without_prefix (codes "MISSING") text
+    → is_passed_after rest ≡ true → found ≡ fxy_of (take 6 line) → IfSome found (λ fxy. line_of line ≡ Item fxy missing_form)
+missing-line line text rest None h space word passed is = tt
+missing-line line text rest (Some fxy) h space word passed is = decimal-line line text rest fxy missing_form h space (value-missing text rest word) passed is
 
 pub ruleset read_steps = (line-none, line-note, line-item, line-word)
 

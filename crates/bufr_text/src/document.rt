@@ -6,7 +6,7 @@ ghost use Rattle.bufr_text.specs.Prelude.{subsets_in, beginning, closing, turn, 
 
 use crate::fault::TextLineFault;
 use crate::header::{MOST_WORDS, in_range};
-use crate::line::{MAX_LINE, ahead, decimal_item, read_line, suffix};
+use crate::line::{MAX_LINE, ahead, decimal_item, missing_item, read_line, suffix};
 use bufr_fill::{DraftItem, DraftValue, Entries};
 use bufr_frame::Head;
 use bufr_tables::Fxy;
@@ -380,7 +380,7 @@ pub(crate) struct Progress {
     pub(crate) parts: DocumentParts,
 }
 
-/// A line that is whole, mostly an item with a short decimal.
+/// A line that is whole, mostly an item with a short decimal, or one whose value is missing.
 #[inline(always)]
 // rule: reading-longest-line
 fn take_line(
@@ -397,13 +397,22 @@ fn take_line(
 {
     if let ParserState::Filling(_) = progress.state
         && line.len() <= MAX_LINE
-        && let Some((fxy, number)) = decimal_item(line)
     {
-        progress
-            .parts
-            .entries
-            .push_decimal(progress.at, fxy, number)?;
-        return Ok(LineEffect::Continues(progress.state));
+        let at = progress.at;
+        let entries = &mut progress.parts.entries;
+        if let Some((fxy, number)) = decimal_item(line) {
+            entries.push_decimal(at, fxy, number)?;
+            return Ok(LineEffect::Continues(progress.state));
+        }
+        if let Some(fxy) = missing_item(line) {
+            let form = DraftValue::Missing;
+            entries.push_item(DraftItem {
+                line: at,
+                fxy,
+                form,
+            })?;
+            return Ok(LineEffect::Continues(progress.state));
+        }
     }
     let said = read_line(line, progress.parts.known, octets, words);
     turn(progress.state, &mut progress.parts, progress.at, said)

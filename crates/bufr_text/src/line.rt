@@ -3,7 +3,7 @@ ghost use Rattle.std.specs.Prelude.{◌≡◌, ℕ, ◌<◌, ◌≤◌, ◌==◌
 ghost use Rattle.std.specs.Str.{bytes_eq};
 ghost use Rattle.bufr_text.specs.Prelude.{read_line, prefix_while, suffix_while, without_space, hex_read, number_read, without_prefix, is_number_octet, is_hashed, is_passed_after, is_unescaped, upper_value, quoting_of, either_value, Line, made, with_one_to, worded, line_of, value_read, item_line, number_value, Item, Unquotes, Unhexes, meaning, Wrong};
 ghost use Rattle.bufr_bits.specs.Prelude.{short_text};
-ghost use Rattle.bufr_fill.specs.Prelude.{number_token, reference_token, form_in};
+ghost use Rattle.bufr_fill.specs.Prelude.{number_token, reference_token, missing_form, form_in};
 
 use crate::document::ParsedLine;
 use crate::header::{MOST_WORDS, describe, fxy_prefix, place, word_at};
@@ -232,6 +232,22 @@ pub(crate) fn decimal_item(line: &[u8]) -> Option<(Fxy, ShortDecimal)>
         return None;
     }
     Some((Fxy::read(ahead(line, 6))?, number))
+}
+
+/// The descriptor of an item line whose value is missing, as half of the items of reports are.
+#[inline(always)]
+pub(crate) fn missing_item(line: &[u8]) -> Option<Fxy>
+    ensures { IfSome result (λ fxy. line_of line.now ≡ Item fxy missing_form) }
+{
+    if line.len() < 6 {
+        return None;
+    }
+    let text = without_space(suffix(line, 6))?;
+    let rest = without_prefix(text, b"MISSING")?;
+    if !is_passed_after(rest) {
+        return None;
+    }
+    Fxy::read(ahead(line, 6))
 }
 
 /// What an item line says that begins with a descriptor.
