@@ -1,11 +1,9 @@
 -- The lines that report the faults of a stream, of its messages, and of a document. (a choice of
 -- this project)
 -- Cited by public contracts.
-use Rattle.std.specs.Prelude.{◌≢◌, ℕ, List, [], ◌∷◌, ◌++◌, codes, decimal, Option, Some, None}
+use Rattle.std.specs.Prelude.{ℕ, List, [], ◌∷◌, ◌++◌, codes, decimal, Option, Some, None}
 use Rattle.bufr_frame.specs.Prelude.{section_report}
 use Rattle.bufr_tables.specs.Prelude.{template_report}
-use Rattle.bufr_tables.specs.declared.fault.TemplateFault.TheVariants as template
-use Rattle.bufr_walk.specs.declared.fault.WalkFault.TheVariants as walk
 use Rattle.bufr_walk.specs.Prelude.{data_report}
 use Rattle.bufr_text.specs.Prelude.{joined, line_report, document_report, line_of_fault}
 use Rattle.bufr_text.specs.declared.fault.DocumentFault.{DocumentFault}
@@ -15,17 +13,11 @@ use Rattle.bufr_text.specs.declared.fault.TextLineFault.{TextLineFault}
 use Rattle.bufr_text.specs.declared.fault.ReadFault.{ReadFault}
 use Rattle.bufr_text.specs.declared.fault.ReadFault.TheVariants as read
 
--- the number of a fault of a stream, and its text in parts
+-- the number of a fault of a stream, and its text in parts; want of memory has no text
 abbrev pub stream_report : StreamFault → ℕ × List (List ℕ)
 stream_report (stream.Section fault) = section_report fault
 stream_report (stream.Template fault) = template_report fault.now
 stream_report (stream.Data fault) = data_report fault.now
-
--- a message's fault has a line of its own: each but want of memory
-abbrev pub HasLine : StreamFault → Type 0
-HasLine (stream.Section fault) = Unit {0}
-HasLine (stream.Template fault) = fault.now ≢ template.Memory
-HasLine (stream.Data fault) = fault.now ≢ walk.Memory
 
 -- the beginning of a line: a word, the place that it counts, and the fault's number
 abbrev pub place_texts : (word : List ℕ) (place number : ℕ) → List (List ℕ)

@@ -1,12 +1,12 @@
 //! The lines that report the faults of a stream, its messages, and a text and its documents.
-ghost use Rattle.std.specs.Prelude.{◌≡◌, ◌≢◌, ℕ, [], ◌∷◌, ◌++◌, Err, IfErr, codes, decimal};
+ghost use Rattle.std.specs.Prelude.{◌≡◌, ℕ, [], ◌∷◌, ◌++◌, Err, IfErr, codes, decimal};
 ghost use Rattle.bufr_frame.specs.Prelude.{cause_report, section_report};
 ghost use Rattle.bufr_tables.specs.Prelude.{fxy_text, template_report};
 ghost use Rattle.bufr_walk.specs.Prelude.{data_report, spot_text};
 ghost use Rattle.bufr_fill.specs.Prelude.{expected_text, item_report};
 ghost use Rattle.bufr_text.specs.declared.fault.TextLineFault.{TextLineFault};
 ghost use Rattle.bufr_text.specs.Prelude.{line_report, Refused, parse_results, Pushes, Writes, joined};
-ghost use Rattle.bufr_cli.specs.Prelude.{HasLine, fault_line, stream_report, place_texts, document_line, line_of_read_fault, refusal_line, refused_line, OnlyWrites, writer_of};
+ghost use Rattle.bufr_cli.specs.Prelude.{fault_line, stream_report, place_texts, document_line, line_of_read_fault, refusal_line, refused_line, OnlyWrites, writer_of};
 
 use bufr_bits::Sink;
 use bufr_fill::{Expected, ItemFault, WalkRefusal};
@@ -90,10 +90,10 @@ fn push_section_fault<E: Sink>(line: &mut LineWriter<'_, '_, E>, fault: SectionF
     }
 }
 
+/// Pushes the text of a template's fault. Want of memory has none.
 #[inline(never)]
 // rule: fault-20, fault-21, fault-22, fault-23, fault-24, fault-25, fault-26, fault-27, fault-28
 fn push_template_fault<E: Sink>(line: &mut LineWriter<'_, '_, E>, fault: &TemplateFault)
-    requires { fault.now ≢ TemplateFault.Memory }
     ensures { Pushes line.old (joined (template_report fault.now).1) line.new }
 {
     match fault {
@@ -106,7 +106,7 @@ fn push_template_fault<E: Sink>(line: &mut LineWriter<'_, '_, E>, fault: &Templa
         TemplateFault::Depth(fxy) => push_descriptor(line, b"depth ", *fxy),
         TemplateFault::TemplateSize(fxy) => push_descriptor(line, b"template size ", *fxy),
         TemplateFault::LocalShape(fxy) => push_descriptor(line, b"local shape ", *fxy),
-        TemplateFault::Memory => unreachable!(),
+        TemplateFault::Memory => {}
     }
 }
 
@@ -121,10 +121,10 @@ fn push_spot<E: Sink>(line: &mut LineWriter<'_, '_, E>, name: &[u8], spot: Spot)
     line.push_named(b" bit ", spot.bit);
 }
 
+/// Pushes the text of a fault of the data. Want of memory has none.
 #[inline(never)]
 // rule: fault-30, fault-31, fault-32, fault-33, fault-34, fault-35
 fn push_walk_fault<E: Sink>(line: &mut LineWriter<'_, '_, E>, fault: &WalkFault)
-    requires { fault.now ≢ WalkFault.Memory }
     ensures { Pushes line.old (joined (data_report fault.now).1) line.new }
 {
     match fault {
@@ -134,13 +134,12 @@ fn push_walk_fault<E: Sink>(line: &mut LineWriter<'_, '_, E>, fault: &WalkFault)
         WalkFault::UnequalFactor(spot) => push_spot(line, b"unequal factor", *spot),
         WalkFault::Increment(spot) => push_spot(line, b"increment", *spot),
         WalkFault::TooManyValues(spot) => push_spot(line, b"too many values", *spot),
-        WalkFault::Memory => unreachable!(),
+        WalkFault::Memory => {}
     }
 }
 
 #[inline(always)]
 fn push_fault<E: Sink>(line: &mut LineWriter<'_, '_, E>, offset: u64, fault: StreamFault<'_>)
-    requires { HasLine fault }
     ensures { Pushes line.old (fault_line offset (stream_report fault.entry)) line.new }
 {
     line.push_named(b"offset ", offset);
@@ -186,7 +185,6 @@ pub(crate) fn write_fault<E: Sink>(
     fault: StreamFault<'_>,
     e: &mut E,
 ) -> Result<(), RunFault>
-    requires { HasLine fault }
     ensures writes { Writes (E.taken e.old) (E.taken e.new)
         (fault_line offset (stream_report fault.entry)) result }
     ensures counts { OnlyWrites (writer_of E.Sink e.old) (writer_of E.Sink e.new) result }
@@ -245,8 +243,6 @@ fn push_item_fault<E: Sink>(line: &mut LineWriter<'_, '_, E>, fault: &ItemFault)
 }
 
 fn push_document_fault<E: Sink>(line: &mut LineWriter<'_, '_, E>, fault: DocumentFault)
-    requires some { fault ≢ DocumentFault.Memory }
-    requires template { (line : ℕ) → fault ≢ DocumentFault.Template line TemplateFault.Memory }
     ensures { Pushes line.old (refusal_line fault) line.new }
 {
     let number = fault.number();
@@ -264,15 +260,17 @@ fn push_document_fault<E: Sink>(line: &mut LineWriter<'_, '_, E>, fault: Documen
             line.push(b"\n");
         }
         DocumentFault::TooLong(place) => push_line(line, *place, number, b"too long"),
-        DocumentFault::Memory => unreachable!(),
+        DocumentFault::Memory => {}
     }
 }
 
-/// Writes the line of a document that cannot be encoded.
+/// Writes the line of a document that cannot be encoded. Want of memory has none.
+///
+/// # Errors
+///
+/// [`RunFault::Write`] where the writer fails or takes nothing; a prefix of the line was taken.
 // rule: fault-lines-of-encoding
 pub fn write_document_fault<E: Sink>(fault: DocumentFault, e: &mut E) -> Result<(), RunFault>
-    requires some { fault ≢ DocumentFault.Memory }
-    requires template { (line : ℕ) → fault ≢ DocumentFault.Template line TemplateFault.Memory }
     ensures writes { Writes (E.taken e.old) (E.taken e.new) (refusal_line fault) result }
     ensures counts { OnlyWrites (writer_of E.Sink e.old) (writer_of E.Sink e.new) result }
 {
@@ -297,19 +295,21 @@ fn text_of(fault: TextLineFault) -> &'static [u8]
 }
 
 fn push_read_fault<E: Sink>(line: &mut LineWriter<'_, '_, E>, fault: ReadFault)
-    requires { (run : RunFault) → fault ≢ ReadFault.Run run }
     ensures { Pushes line.old (line_of_read_fault fault) line.new }
 {
     match fault {
         ReadFault::Line(place, why) => push_line(line, place, why.number(), text_of(why)),
-        ReadFault::Run(_) => unreachable!(),
+        ReadFault::Run(_) => {}
     }
 }
 
-/// Writes the line of a text line that is refused.
+/// Writes the line of a text line that is refused. A fault of a device or of memory has none.
+///
+/// # Errors
+///
+/// [`RunFault::Write`] where the writer fails or takes nothing; a prefix of the line was taken.
 // rule: fault-lines-of-reading
 pub fn write_read_fault<E: Sink>(fault: ReadFault, e: &mut E) -> Result<(), RunFault>
-    requires { (run : RunFault) → fault ≢ ReadFault.Run run }
     ensures writes { (line : ℕ) (why : TextLineFault) → parse_results (Err fault) ≡ Refused line why
         ∷ []
         → Writes (E.taken e.old) (E.taken e.new) (refused_line line why) result }

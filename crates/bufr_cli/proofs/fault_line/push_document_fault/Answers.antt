@@ -23,3 +23,6 @@ returns-in-Template g c =
     let text = joined_then first (template_report why).1 (named ⨾ (c.push-in-Template.ensures ⨾ nothing_pushed)) c.push_template_fault.ensures in
     rw c.in-Template.is
     (line_pushed (codes "line ") c.in-Template.place 56 (codes "template " ∷ decimal (template_report why).0 ∷ codes " " ∷ (template_report why).1) place text c.push-in-Template-2.ensures)
+
+pub returns-in-Memory : goal.returns-in-Memory
+returns-in-Memory g c = rw c.in-Memory.is nothing_pushed
