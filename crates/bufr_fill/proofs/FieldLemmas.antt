@@ -1,7 +1,8 @@
 -- An item as the content of its field, and the bits of a content.
 use Rattle.std.proofs.lemmas.Grind.{common_steps}
-use Rattle.std.proofs.Common.{Result, Ok, ◌≡◌, ℕ, zero, suc, ◌+◌, ◌-◌, ◌*◌, ◌/◌, ◌%◌, ◌^◌, ◌<◌, ◌≤◌, ◌&&◌, eqb, Bool, true, false, List, [], ◌∷◌, ◌++◌, length, take, drop, replicate, get_or, refl, sym, ◌∙◌, ap, subst, arith, ℤ, pos, negsuc, neg_ℤ, nat_abs, mod-eq_of_lt, Ok, Err, pow_mono, ◌<ℤ◌, ◌≤ℤ◌, not, ◌==◌, if◌then◌else◌, nat_lt, unsigned_abs}
+use Rattle.std.proofs.Common.{Result, Ok, ◌≡◌, ℕ, zero, suc, ◌+◌, ◌-◌, ◌*◌, ◌/◌, ◌%◌, ◌^◌, ◌<◌, ◌≤◌, ◌&&◌, eqb, Bool, true, false, List, [], ◌∷◌, ◌++◌, length, take, drop, replicate, get_or, refl, sym, ◌∙◌, ap, subst, arith, ℤ, pos, negsuc, neg_ℤ, nat_abs, mod-eq_of_lt, Ok, Err, pow_mono, ◌<ℤ◌, ◌≤ℤ◌, not, ◌==◌, if◌then◌else◌, nat_lt, unsigned_abs, Some}
 use Rattle.std.specs.List.{list_all}
+use Rattle.bufr_fill.specs.declared.draft.StoredEntry.{StoredEntry}
 use Rattle.bufr_bits.proofs.DecimalLemmas.{and_second}
 use Rattle.std.proofs.lemmas.List.{nil_from_length, take-append-drop, take_at, drop_at, length-replicate, length-take-le, length-drop, append-nil, take-replicate, drop-replicate}
 use Rattle.std.proofs.lemmas.Bool.Decides.{nat_tests}
@@ -9,13 +10,12 @@ use Rattle.std.proofs.lemmas.Nat.{shr_high}
 use Rattle.bufr_bits.specs.Prelude.{bits_of, bits_of_octet, bits_in, number_after_bits, number_of, are_all_ones}
 use Rattle.bufr_bits.proofs.BitLemmas.{are_all_ones-bits_of, bit, number_after_bits-is, number_of-below, number-bits_of_octet, length-bits_of, bits_in-above, bits_in-octet, length-bits_in, number_of-bits_in, are_all_ones-number, and_false}
 use Rattle.bufr_walk.specs.Prelude.{HasWidth, HasMissing, FieldSpec, is_reference, Content, number, text, missing, reference, octets_in, signed_by, said_by, sign_bit, bits_for, answer_of, answer_by_role, count_in, reference_in}
-use Rattle.bufr_fill.specs.Prelude.{EntryKind, Kind, AreOctets, FitsKind, raw_limit, is_of, is_marked, wrong_for, content_of, content_by_form, Draft, draft, number_token, text_form, missing_form, reference_token, DraftEntry, Holds, Ends, at_line_if_fault, entry_by, value_by, is_end, is_entry_of, entry_here}
+use Rattle.bufr_fill.specs.Prelude.{Kind, AreOctets, FitsKind, raw_limit, is_of, is_marked, wrong_for, content_by_form, Draft, draft, ValueKind, value_by, entry_by, entry_with, entry_here, at_line_if_fault}
 use Rattle.std.proofs.lemmas.Int.{ints}
 use Rattle.std.proofs.lemmas.Bool.{false≢true, eq-eqb, eqb-true}
 use Rattle.bufr_tables.specs.declared.table_b.Kind.TheVariants as kind
 use Rattle.bufr_walk.specs.declared.spec.Role.TheVariants as role
 use Rattle.bufr_walk.specs.declared.spec.Taken.TheVariants as taken
-use Rattle.bufr_fill.specs.declared.draft.EntryKind.TheVariants as entry_kind
 
 -- a number that fits its bits is written in them
 pub number_again : (v w : ℕ) → v < 2 ^ w → number_of (bits_in v w) ≡ v
@@ -294,36 +294,15 @@ eighths_ones w h = let e : 8 * (w / 8) ≡ w = omega arith in ap (λ n. replicat
 -- ---- An item as the content of its field, as the code converts it.
 
 -- an item of a field has the field's mark
-marks : (spec : FieldSpec) (d : Draft) → is_of spec d ≡ true → is_reference spec.role ≡ is_marked d.form
+pub marks : (spec : FieldSpec) (d : Draft) → is_of spec d ≡ true → is_reference spec.role ≡ is_marked d.form
 marks spec d h = grind (arith, common_steps, and_second, not)
 
--- an item of a field has its value's content
-content_there : (spec : FieldSpec) (d : Draft) → is_of spec d ≡ true → content_of spec d ≡ content_by_form d.form spec
-content_there spec d h = ap (λ b. if b then content_by_form d.form spec else Err (wrong_for spec)) h
-
--- the same of an entry, by its kind
-pub marks_at : (spec : FieldSpec) (k : EntryKind) (line fxy digits : ℕ) (octets : List ℕ) → is_entry_of spec (entry_by k line fxy digits octets) ≡ true
-    → is_reference spec.role ≡ is_marked (value_by k digits octets)
-marks_at spec (entry_kind.Decimal places negative) line fxy digits octets h = marks spec (draft line fxy (value_by (entry_kind.Decimal places negative) digits octets)) h
-marks_at spec entry_kind.Number line fxy digits octets h = marks spec (draft line fxy (number_token octets)) h
-marks_at spec entry_kind.Text line fxy digits octets h = marks spec (draft line fxy (text_form octets)) h
-marks_at spec entry_kind.Missing line fxy digits octets h = marks spec (draft line fxy missing_form) h
-marks_at spec entry_kind.Reference line fxy digits octets h = marks spec (draft line fxy (reference_token octets)) h
-marks_at spec entry_kind.End line fxy digits octets h = absurd cc
-
-pub no_end : (spec : FieldSpec) (e : DraftEntry) → is_entry_of spec e ≡ true → is_end e ≡ false
-no_end spec (Holds d) h = refl
-no_end spec (Ends line) h = absurd cc
-
-pub content_at : (spec : FieldSpec) (k : EntryKind) (line fxy digits : ℕ) (octets : List ℕ) → is_entry_of spec (entry_by k line fxy digits octets) ≡ true
-    → at_line_if_fault line (content_by_form (value_by k digits octets) spec) ≡ entry_here spec (entry_by k line fxy digits octets)
-content_at spec (entry_kind.Decimal places negative) line fxy digits octets h =
-    sym (ap (at_line_if_fault line) (content_there spec (draft line fxy (value_by (entry_kind.Decimal places negative) digits octets)) h))
-content_at spec entry_kind.Number line fxy digits octets h = sym (ap (at_line_if_fault line) (content_there spec (draft line fxy (number_token octets)) h))
-content_at spec entry_kind.Text line fxy digits octets h = sym (ap (at_line_if_fault line) (content_there spec (draft line fxy (text_form octets)) h))
-content_at spec entry_kind.Missing line fxy digits octets h = sym (ap (at_line_if_fault line) (content_there spec (draft line fxy missing_form) h))
-content_at spec entry_kind.Reference line fxy digits octets h = sym (ap (at_line_if_fault line) (content_there spec (draft line fxy (reference_token octets)) h))
-content_at spec entry_kind.End line fxy digits octets h = absurd cc
+-- the content of an item's entry is that of its value, where it is of the field
+pub entry_is : (spec : FieldSpec) (e : StoredEntry) (octets : List ℕ) (k : ValueKind) (b : Bool) → e.kind ≡ Some k → is_of spec (draft e.line e.fxy (value_by k e.start octets)) ≡ b
+    → entry_here spec (entry_with e octets) ≡ at_line_if_fault e.line (if b then content_by_form (value_by k e.start octets) spec else Err (wrong_for spec))
+entry_is spec e octets k b is of =
+    ap (λ k. entry_here spec (entry_by k e.line e.fxy e.start octets)) is
+    ∙ ap (λ b. at_line_if_fault e.line (if b then content_by_form (value_by k e.start octets) spec else Err (wrong_for spec))) of
 
 -- what each role returns to the walk
 pub answer_element : (spec : FieldSpec) (c : Content) → spec.role ≡ role.Element → taken.Plain ≡ answer_of spec c
@@ -339,6 +318,6 @@ pub answer_reference : (spec : FieldSpec) (c : Content) (v : ℤ) → spec.role 
 answer_reference spec c v e h = ap taken.Reference h ∙ sym (ap (λ r. answer_by_role r c) e)
 
 -- a number is written in at most 63 bits
-pub drawn_narrow : (m : Bool) (w raw : ℕ) → raw < raw_limit m w → raw < 2 ^ w
-drawn_narrow true w raw h = omega (arith, h)
-drawn_narrow false w raw h = h
+pub content_narrow : (m : Bool) (w raw : ℕ) → raw < raw_limit m w → raw < 2 ^ w
+content_narrow true w raw h = omega (arith, h)
+content_narrow false w raw h = h

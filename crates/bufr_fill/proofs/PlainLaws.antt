@@ -1,13 +1,13 @@
 -- A plain field that was read is written from the item that a dump writes, and read again.
 use Rattle.std.proofs.lemmas.Grind.{common_steps}
 use Rattle.std.proofs.lemmas.Bool.{eqb-true, le-ltb, lt-ltb, eq-eqb}
-use Rattle.bufr_walk.specs.Prelude.{FieldSpec, IsSpec, HasWidth, HasRole, HasMissing, is_reference, Content, found, number, text, missing, reference, content_by, content_in, bits_for, data_end, FieldRead, plain_field, signed_by, said_by, sign_bit, max_values, Item, DataCoding, ReadsItems, ReadsPass, after, plain, Course, take_next}
-use Rattle.bufr_fill.specs.Prelude.{ItemFault, Role, Kind, Draft, DraftValue, number_token, text_form, missing_form, reference_token, draft_value_of, content_of, content_by_form, raw_within, raw_of, reference_of, text_within, is_marked, wrong_for, IsMinusZero, is_of, decimal_again, normal_form, raw_limit, plainly, plain_filler, RowCell, ItemRow, written_item, Filler, fill, with_bits_before, AreDrafts, FitsText, FitsKind, FitsRole, Fits, IsDumped}
+use Rattle.bufr_walk.specs.Prelude.{FieldSpec, IsSpec, HasWidth, HasRole, HasMissing, is_reference, Content, found, number, text, missing, reference, content_by, content_in, bits_for, data_end, FieldRead, plain_field, signed_by, said_by, sign_bit, max_values, Item, DataCoding, ReadsItems, ReadsPass, after, Course, take_next}
+use Rattle.bufr_fill.specs.Prelude.{ItemFault, Role, Kind, Draft, DraftValue, number_token, text_form, missing_form, reference_token, draft_value_of, content_of, content_by_form, raw_within, raw_of, reference_of, text_within, is_marked, wrong_for, IsMinusZero, is_of, decimal_again, normal_form, raw_limit, ItemRow, written_item, Filler, fill, with_bits_before, AreDrafts, contents_here, FitsText, FitsKind, FitsRole, Fits}
 use Rattle.bufr_fill.specs.declared.fault.ItemFault.TheVariants as wrong
 use Rattle.bufr_fill.proofs.FillSteps.{fill_more, fill_end}
-use Rattle.std.proofs.Common.{Bool, ◌++◌, Ok, refl, sym, ◌∙◌, ap, subst, arith, append_assoc, suc, ◌-◌, ◌/◌, ◌^◌, ◌<◌, ◌&&◌, ltb, true, false, not, replicate, Err, ℤ, pos, negsuc, ◌+ℤ◌, ◌-ℤ◌, nat_abs, pow_mono, take, drop, Result, zero, neg_ℤ, ◌≡◌, ℕ, ◌+◌, ◌*◌, ◌≤◌, List, [], ◌∷◌, length, Option, Some, None, ◌==◌, nat_lt, if◌then◌else◌, unsigned_abs}
+use Rattle.std.proofs.Common.{Bool, ◌++◌, Ok, refl, sym, ◌∙◌, ap, subst, arith, append_assoc, suc, ◌-◌, ◌/◌, ◌^◌, ◌<◌, ◌&&◌, ltb, true, false, not, replicate, Err, ℤ, pos, negsuc, ◌+ℤ◌, ◌-ℤ◌, nat_abs, pow_mono, take, drop, Result, zero, neg_ℤ, ◌≡◌, ℕ, ◌+◌, ◌*◌, ◌≤◌, List, [], ◌∷◌, length, ◌==◌, nat_lt, if◌then◌else◌, unsigned_abs, flat_map}
 use Rattle.std.proofs.lemmas.List.{length-append, append-nil, take_at, drop_at, length-take-le, length-drop}
-use Rattle.std.specs.List.{list_all, AllByRecursion, AllZip}
+use Rattle.std.specs.List.{list_all, AllByRecursion}
 use Rattle.std.proofs.lemmas.Int.{ints}
 use Rattle.std.proofs.lemmas.Bool.Decides.{nat_tests}
 use lib.Signed.{mag}
@@ -21,7 +21,7 @@ use Rattle.bufr_tables.specs.declared.table_b.Kind.TheVariants as kind
 use Rattle.bufr_walk.specs.declared.spec.Role.TheVariants as role
 
 -- Lists in the lemmas on a round trip: each item's specification, the number of its contents, and
--- its cells.
+-- its row.
 
 -- each item's specification is one
 abbrev pub AllSpecs : {C : Type 0} → List (Item C) → Type 0
@@ -34,32 +34,25 @@ EachSpecs subsets = AllByRecursion (λ (items : List (Item Content)). AllSpecs i
 abbrev pub HaveContents : ℕ → List (Item (List Content)) → Type 0
 HaveContents n items = AllByRecursion (λ (i : Item (List Content)). length i.content ≡ n) items
 
--- each cell has the draft that a dump writes for its content
-abbrev pub IsCellOf : FieldSpec → Content → Option Draft → Type 0
-IsCellOf spec c None = ⊥
-IsCellOf spec c (Some d) = (d.fxy ≡ spec.fxy) × (d.form ≡ draft_value_of spec c)
+-- an item of all subsets has the contents of a row, at an index that is not past the most values
+pub record IsSaidRow (i : Item (List Content)) (a : ItemRow) : Type 0 where
+  pub contents : contents_here i.spec a.cells ≡ Ok i.content
+  pub few : (a.index + 1) * length a.cells ≤ max_values
 
-abbrev pub AreCellsOf : FieldSpec → List Content → List RowCell → Type 0
-AreCellsOf spec cs cells = AllZip (λ (c : Content) (cell : RowCell). IsCellOf spec c cell.draft) cs cells
-
--- so many subsets' drafts of one item, at an index that is not past the most values
-pub record IsDumpedAcross (n : ℕ) (i : Item (List Content)) (a : ItemRow) : Type 0 where
-  pub cells : AreCellsOf i.spec i.content a.cells
-  pub total : length a.cells ≡ n
-  pub few : (a.place + 1) * n ≤ max_values
+-- the bits of an item in data that are not compressed
+abbrev pub item_bits : Item Content → List Bool
+item_bits i = bits_for i.spec.width i.content
 
 -- ---- Data that were read are written so that they read the same, in no more bits.
 
 -- one item that was read is written so that it is read again, in no more bits
-pub record IsRewritten {C D E : Type 0} (form : DataCoding C) (filler : Filler D C E) (i : Item C) (d : D) (bits mid : List Bool) : Type 0 where
-  pub out : List Bool
+pub record IsRewritten {C D E : Type 0} (form : DataCoding C) (filler : Filler D C E) (i : Item C) (d : D) (out bits mid : List Bool) : Type 0 where
   pub fills : filler.fills i.spec d ≡ Ok (written_item i.content out)
   pub again : (more : List Bool) → form.field i.spec (out ++ more) ≡ Ok (found i.content more)
   pub short : length out + length mid ≤ length bits
 
 -- the same of all items
-pub record AreRewritten {C D E : Type 0} (form : DataCoding C) (filler : Filler D C E) (course : Course) (items : List (Item C)) (ds : List D) (bits suffix : List Bool) : Type 0 where
-  pub out : List Bool
+pub record AreRewritten {C D E : Type 0} (form : DataCoding C) (filler : Filler D C E) (course : Course) (items : List (Item C)) (ds : List D) (out bits suffix : List Bool) : Type 0 where
   pub fills : fill filler course ds ≡ Ok out
   pub again : (more : List Bool) → ReadsItems form course items (out ++ more) more
   pub short : length out + length suffix ≤ length bits
@@ -73,34 +66,30 @@ module _ {C D E : Type 0} (form : DataCoding C) (filler : Filler D C E) (same_an
       ∙ ap (λ t. with_bits_before filler w (fill filler (λ answers. course (t ∷ answers)) ds)) (same_answer i.spec i.content)
       ∙ ap (with_bits_before filler w) rest
 
-module _ {C D E : Type 0} (form : DataCoding C) (filler : Filler D C E) (of_item : Item C → D → Type 0)
+module _ {C D E : Type 0} (form : DataCoding C) (filler : Filler D C E) (of_item : Item C → D → Type 0) (bits_of_item : Item C → List Bool)
     (same_answer : (spec : FieldSpec) (c : C) → filler.gives spec c ≡ form.gives spec c)
-    (one : (i : Item C) (d : D) (bits mid : List Bool) → IsSpec i.spec → of_item i d → form.field i.spec bits ≡ Ok (found i.content mid) → IsRewritten form filler i d bits mid) where
+    (one : (i : Item C) (d : D) (bits mid : List Bool) → IsSpec i.spec → of_item i d → form.field i.spec bits ≡ Ok (found i.content mid)
+    → IsRewritten form filler i d (bits_of_item i) bits mid) where
   pub rewritten : (course : Course) (items : List (Item C)) (ds : List D) (bits suffix : List Bool) → AllSpecs items → AreDrafts of_item items ds → ReadsPass form course items bits suffix
-      → AreRewritten form filler course items ds bits suffix
-  rewritten course [] [] bits suffix specs drafts h = record {
-    out = [];
-    fills = fill_end filler course h.1;
-    again = λ more. refl;
-    short = omega (arith, ap length h.0);
-  }
+      → AreRewritten form filler course items ds (flat_map bits_of_item items) bits suffix
+  rewritten course [] [] bits suffix specs drafts h = record { fills = fill_end filler course h.1; again = λ more. refl; short = omega (arith, ap length h.0) }
   rewritten course [] (d ∷ ds) bits suffix specs drafts h = absurd drafts
   rewritten course (i ∷ items) [] bits suffix specs drafts h = absurd drafts
   rewritten course (i ∷ items) (d ∷ ds) bits suffix specs drafts h =
       let mid = h.0.0 in
+      let first = bits_of_item i in
+      let others = flat_map bits_of_item items in
       let here = one i d bits mid specs.0 drafts.0 h.0.2 in
       let rest = rewritten (after form course i) items ds mid suffix specs.1 drafts.1 (h.0.3, h.1) in
       record {
-        out = here.out ++ rest.out;
-        fills = join form filler same_answer course i d ds here.out rest.out h.0.1 here.fills rest.fills;
+        fills = join form filler same_answer course i d ds first others h.0.1 here.fills rest.fills;
         again = λ more. (
-          rest.out ++ more,
+          others ++ more,
           h.0.1,
-          subst (λ bits'. form.field i.spec bits' ≡ Ok (found i.content (rest.out ++ more))) (sym (append_assoc here.out rest.out more))
-              (here.again (rest.out ++ more)),
+          subst (λ bits'. form.field i.spec bits' ≡ Ok (found i.content (others ++ more))) (sym (append_assoc first others more)) (here.again (others ++ more)),
           rest.again more,
         );
-        short = omega (arith, here.short, rest.short, length-append here.out rest.out);
+        short = omega (arith, here.short, rest.short, length-append first others);
       }
 
 -- ---- The item that a dump writes for a content has that content.
@@ -276,18 +265,6 @@ module _ (spec : FieldSpec) (good : IsSpec spec) where
 
 pub same_draft : (spec : FieldSpec) (c : Content) (d : Draft) → (d.fxy ≡ spec.fxy) × (d.form ≡ draft_value_of spec c) → d ≡ record { line = d.line; fxy = spec.fxy; form = draft_value_of spec c }
 same_draft spec c d h = λ j. record { line = d.line; fxy = h.0 j; form = h.1 j }
-
--- the field law of data that are not compressed
-pub plain_rewritten : (end_line : ℕ) (i : Item Content) (d : Draft) (bits mid : List Bool) → IsSpec i.spec → IsDumped i d → plain_field i.spec bits ≡ Ok (found i.content mid)
-    → IsRewritten plain (plain_filler end_line) i d bits mid
-plain_rewritten end_line i d bits mid good dumped e =
-    let read = plain_read i.spec good bits mid i.content e in
-    record {
-      out = bits_for i.spec.width i.content;
-      fills = ap (plainly d.line i.spec) (ap (content_of i.spec) (same_draft i.spec i.content d dumped) ∙ draft_again i.spec good d.line i.content read.0);
-      again = plain_again i.spec good i.content read.0;
-      short = omega (arith, content_length i.spec good i.content read.0, read.1);
-    }
 
 -- ---- Where no reference is minus zero, a plain field is written with the bits that were read.
 

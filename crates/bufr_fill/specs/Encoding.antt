@@ -260,7 +260,7 @@ pub record RowCell : Type 0 where
 
 -- the row of all subsets at one index, from 0
 pub record ItemRow : Type 0 where
-  pub place : ℕ
+  pub index : ℕ
   pub cells : List RowCell
 
 -- the line of an item, or else another
@@ -274,13 +274,13 @@ cell_line c = line_in c.draft c.end_line
 
 -- the cells of all subsets at one index
 abbrev pub cells_at : ℕ → List Subset → List RowCell
-cells_at place [] = []
-cells_at place (s ∷ subsets) =
-    record { draft = slice_get s.items place; end_line = s.end_line } ∷ cells_at place subsets
+cells_at index [] = []
+cells_at index (s ∷ subsets) =
+    record { draft = slice_get s.items index; end_line = s.end_line } ∷ cells_at index subsets
 
 -- the row of all subsets at one index
 abbrev pub item_row : ℕ → List Subset → ItemRow
-item_row place subsets = record { place = place; cells = cells_at place subsets }
+item_row index subsets = record { index = index; cells = cells_at index subsets }
 
 -- the rows at so many indices, from one on
 abbrev pub rows : (count from : ℕ) → List Subset → List ItemRow
@@ -346,14 +346,14 @@ packed_to cs cells (Ok bits) = Ok (written_item cs bits)
 packed_to cs cells (Err why) = Err (packing_fault cs cells why)
 
 -- whether the item at an index makes too many values
-abbrev pub are_many : (place subsets : ℕ) → Bool
-are_many place subsets = nat_lt max_values ((place + 1) * subsets)
+abbrev pub are_many : (index subsets : ℕ) → Bool
+are_many index subsets = nat_lt max_values ((index + 1) * subsets)
 
 -- an item of all subsets: its contents and its bits, or its fault
 -- rule: fault-order-of-subsets
 abbrev pub pack_across : FieldSpec → ItemRow → Result (WrittenItem (List Content)) DraftFault
 pack_across spec a =
-    if are_many a.place (length a.cells)
+    if are_many a.index (length a.cells)
     then Err (at_line (first_line a.cells) (too_many_values spec.fxy))
     else (contents_here spec a.cells >>= λ cs. packed_to cs a.cells (packing spec cs))
 

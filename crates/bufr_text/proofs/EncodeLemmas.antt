@@ -660,9 +660,9 @@ end_is_last end many next mid e = subst (λ n. IsLast (packed_filler end many) n
 
 -- nor is anything taken at a fault
 packed_fault_is_last : (end : ℕ) (many : Bool) (next : Next) (mid : PackedOutModel) (f : DraftFault) → IsFaultHere next mid f → IsLast (packed_filler end many) next (rows_left mid)
-packed_fault_is_last end many (take_next spec) mid f h = by (longest mid.subsets - mid.place)
+packed_fault_is_last end many (take_next spec) mid f h = by (longest mid.subsets - mid.index)
   where
-    by : (k : ℕ) → IsLast (packed_filler end many) (take_next spec) (rows k mid.place mid.subsets)
+    by : (k : ℕ) → IsLast (packed_filler end many) (take_next spec) (rows k mid.index mid.subsets)
     by zero = tt
     by (suc k) = (f, h)
 packed_fault_is_last end many at_end mid f h = tt
@@ -679,7 +679,7 @@ walk_makes_all course ss start c mid c' h1 h2 h3 h4 = grind (arith, nat_tests, c
 -- the data were written
 pub packed_written : (n : ℕ) (course : Course) (ss : List Subset) (start : PackedOutModel) (c : ℕ) (mid : PackedOutModel) (c' : ℕ) (octets : List ℕ) → start ≡ new_packed_out ss → 1 ≤ length ss
     → c ≡ 0 → Walked PackedFills course start c (Ok tt) mid c'
-    → all_at_end (cells_at mid.place mid.subsets) ≡ Ok tt → c' ≤ c + n * (length mid.bits - length start.bits) → AreOctetsOf octets mid.bits → IsData n true course ss octets c'
+    → all_at_end (cells_at mid.index mid.subsets) ≡ Ok tt → c' ≤ c + n * (length mid.bits - length start.bits) → AreOctetsOf octets mid.bits → IsData n true course ss octets c'
 packed_written n course ss start c mid c' octets at some z w e few o =
     let h = subst (λ x. Takes (oks PackedFills) course x w.0 mid) at w.1 in
     record {
@@ -693,7 +693,7 @@ packed_written n course ss start c mid c' octets at some z w e few o =
 -- an item is left over
 pub packed_over : (n : ℕ) (course : Course) (ss : List Subset) (start : PackedOutModel) (c : ℕ) (mid : PackedOutModel) (c' : ℕ) (e : DraftFault) (why : DocumentFault) → start ≡ new_packed_out ss
     → 1 ≤ length ss → c ≡ 0 → Walked PackedFills course start c (Ok tt) mid c'
-    → all_at_end (cells_at mid.place mid.subsets) ≡ Err e → why ≡ document_fault e
+    → all_at_end (cells_at mid.index mid.subsets) ≡ Err e → why ≡ document_fault e
     → c' ≤ c + n * (length mid.bits - length start.bits) → IsNoData n true course ss why c'
 packed_over n course ss start c mid c' e why at some z w fault results few =
     let h = subst (λ x. Takes (oks PackedFills) course x w.0 mid) at w.1 in
@@ -706,7 +706,7 @@ packed_over n course ss start c mid c' e why at some z w fault results few =
 
 -- what stopped a walk is the fault where it is, and leaves it there
 reported_here : (line : ℕ) (next : Next) (mid : PackedOutModel) (stop : WalkStop DraftFault) (s' : PackedOutModel) → StopsWalk PackedFills next mid stop s'
-    → line ≡ first_line_at s'.place s'.subsets → IfDraftFault (stop_fault line stop) (IsFaultHere next mid)
+    → line ≡ first_line_at s'.index s'.subsets → IfDraftFault (stop_fault line stop) (IsFaultHere next mid)
 reported_here line next mid stop s' h1 h2 = grind (arith, nat_tests, common_steps)
 
 packed_still : (next : Next) (mid : PackedOutModel) (stop : WalkStop DraftFault) (s' : PackedOutModel) → StopsWalk PackedFills next mid stop s' → s' ≡ mid
@@ -715,7 +715,7 @@ packed_still next mid stop s' h1 = grind (arith, nat_tests, common_steps)
 -- the walk stopped
 pub packed_stopped : (n : ℕ) (course : Course) (ss : List Subset) (start : PackedOutModel) (c : ℕ) (s' : PackedOutModel) (c' line : ℕ) (stop : WalkStop DraftFault) (why : DocumentFault)
     → AddsTurns course → start ≡ new_packed_out ss → 1 ≤ length ss → c ≡ 0 → Walked PackedFills course start c (Err stop) s' c'
-    → line ≡ first_line_at s'.place s'.subsets → why ≡ document_fault (stop_fault line stop) → c' ≤ c + n * (length s'.bits - length start.bits + 1)
+    → line ≡ first_line_at s'.index s'.subsets → why ≡ document_fault (stop_fault line stop) → c' ≤ c + n * (length s'.bits - length start.bits + 1)
     → IsNoData n true course ss why c'
 packed_stopped n course ss start c s' c' line stop why g at some z w l results few =
     let h = subst (λ x. Takes (oks PackedFills) course x w.0 w.1) at w.2 in
