@@ -236,9 +236,8 @@ RowsSaid j (i ∷ items) (a ∷ more) = SaidFrom j i.spec i.content a.cells × R
 
 rows_said : (n : ℕ) (items : List (Item (List Content))) (more : List ItemRow) → AreDrafts (IsSaidAcross n) items more → RowsSaid 0 items more
 rows_said n [] [] h = tt
-rows_said n [] (a ∷ more) h = absurd h
-rows_said n (i ∷ items) [] h = absurd h
 rows_said n (i ∷ items) (a ∷ more) h = (h.0.0, rows_said n items more h.1)
+rows_said n items more h = absurd h
 
 first_subset : (j count from : ℕ) (s : Subset) (ss : List Subset) (items : List (Item (List Content))) → RowsSaid j items (rows count from (s ∷ ss)) → length s.items ≤ from + count
     → AreDrafts IsSaid (items_of_subset j items) (drop from s.items)

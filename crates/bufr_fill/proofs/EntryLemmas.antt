@@ -6,7 +6,7 @@ use Rattle.std.proofs.Math.Seq.{drop-cons, drop-append_seam}
 use Rattle.std.proofs.lemmas.List.{append-nil, append_assoc, map-append, take_all, drop_all}
 use Rattle.std.proofs.lemmas.Option.{none-some, slice_get-get_or, slice_get_within, get_or_from_slice_get}
 use Rattle.std.proofs.lemmas.Bool.Decides.{nat_tests}
-use Rattle.bufr_fill.specs.Prelude.{ValueKind, Taken, Draft, DraftEntry, Holds, Ends, Subset, subset, prepend_to_subset, subsets_of, ItemFault, DraftFault, at_line, item_too_many, RowCell, cells_at, at_line_if_fault, entry_or_end, ends_of, entry_here, is_end, value_by, entry_by, entry_with, entry_stored, entries_stored, AreOctetsInside, draft, number_token, text_form, reference_token, IsEntryInside, AreInside, line_at, PlainOutModel, plain_out_model, IsFilled, IsFaultOf, IfDraftFault, after_end, FieldContent, content_of, padded_content}
+use Rattle.bufr_fill.specs.Prelude.{ValueKind, Taken, Draft, DraftEntry, Holds, Ends, Subset, subset, prepend_to_subset, subsets_of, ItemFault, DraftFault, at_line, item_too_many, RowCell, cells_at, at_line_if_fault, entry_or_end, ends_of, entry_here, is_end, value_by, entry_by, entry_with, entries_stored, AreOctetsInside, draft, number_token, text_form, reference_token, IsEntryInside, AreInside, line_at, PlainOutModel, plain_out_model, IsFilled, IsFaultOf, IfDraftFault, after_end, FieldContent, content_of, padded_content}
 use Rattle.bufr_fill.specs.declared.draft.StoredEntry.{StoredEntry}
 use Rattle.bufr_walk.specs.Prelude.{FieldSpec, Content, answer_of, bits_for}
 use Rattle.bufr_fill.specs.declared.fault.DraftFault.TheVariants as draft_fault
@@ -238,7 +238,8 @@ value-append kind.Text octets more start end h = ap text_form (range-append octe
 value-append kind.Missing octets more start end h = refl
 value-append kind.Reference octets more start end h = ap reference_token (range-append octets more start end h.0 h.1)
 
-entry-append : (octets more : List ℕ) (one : StoredEntry) → IsEntryInside (length octets) one → entry_stored (octets ++ more) one ≡ entry_stored octets one
+entry-append : (octets more : List ℕ) (one : StoredEntry) → IsEntryInside (length octets) one
+    → entry_with one (slice_range (octets ++ more) one.start one.end) ≡ entry_with one (slice_range octets one.start one.end)
 entry-append octets more one inside = by one.kind inside
   where
     by : (k : Option ValueKind) → IfSome k (λ k. AreOctetsInside k (length octets) one.start one.end)

@@ -9,7 +9,7 @@ use Rattle.std.proofs.lemmas.Bool.Decides.{nat_tests}
 use Rattle.std.proofs.lemmas.Nat.{shr_high}
 use Rattle.bufr_bits.specs.Prelude.{bits_of, bits_of_octet, bits_in, number_after_bits, number_of, are_all_ones}
 use Rattle.bufr_bits.proofs.BitLemmas.{are_all_ones-bits_of, bit, number_after_bits-is, number_of-below, number-bits_of_octet, length-bits_of, bits_in-above, bits_in-octet, length-bits_in, number_of-bits_in, are_all_ones-number, and_false}
-use Rattle.bufr_walk.specs.Prelude.{HasWidth, HasMissing, FieldSpec, is_reference, Content, number, text, missing, reference, octets_in, signed_by, said_by, sign_bit, bits_for, answer_of, answer_by_role, count_in, reference_in}
+use Rattle.bufr_walk.specs.Prelude.{HasWidth, HasMissing, FieldSpec, is_reference, Content, number, text, missing, octets_in, signed_by, said_by, sign_bit, bits_for, answer_of, answer_by_role, count_in, reference_in}
 use Rattle.bufr_fill.specs.Prelude.{Kind, AreOctets, FitsKind, raw_limit, is_of, is_marked, wrong_for, content_by_form, Draft, draft, ValueKind, value_by, entry_by, entry_with, entry_here, at_line_if_fault}
 use Rattle.std.proofs.lemmas.Int.{ints}
 use Rattle.std.proofs.lemmas.Bool.{false≢true, eq-eqb, eqb-true}
@@ -142,47 +142,31 @@ module _ (w : ℕ) where
 
   -- what is written by kind reads the same
   pub kind_back : (k : Kind) (m : Bool) (c : Content) → HasWidth k w → HasMissing k m → FitsKind k m w c → (if are_all_ones (bits_for w c) && m then missing else said_by k w (bits_for w c)) ≡ c
-  kind_back kind.Character m (number raw) hw hm h = absurd h
-  kind_back kind.Character m (reference v) hw hm h = absurd h
   kind_back kind.Character m missing hw hm h = chosen_yes (are_all_ones (replicate w true) && m) _ (missing_back m hm)
   kind_back kind.Character m (text octets) hw hm h =
       chosen_no (are_all_ones (bits_of octets) && m) (text (octets_in (w / 8) (bits_of octets))) (text octets) (text_back m octets h.1 h.2)
       (ap (λ n. text (octets_in n (bits_of octets))) (sym h.0) ∙ ap text (octets_again octets h.1))
-  kind_back kind.Coded m (number raw) hw hm h = chosen_no (are_all_ones (bits_in raw w) && m) (number (number_of (bits_in raw w))) (number raw) (number_back m raw h)
+  kind_back kind.Character m c hw hm h = absurd h
+  kind_back k m (number raw) hw hm h = chosen_no (are_all_ones (bits_in raw w) && m) (number (number_of (bits_in raw w))) (number raw) (number_back m raw h)
       (ap number (number_again raw w (top_below m w raw h)))
-  kind_back kind.Coded m (reference v) hw hm h = absurd h
-  kind_back kind.Coded m missing hw hm h = chosen_yes (are_all_ones (replicate w true) && m) _ (missing_back m h)
-  kind_back kind.Coded m (text octets) hw hm h = absurd h
-  kind_back kind.Numeric m (number raw) hw hm h = chosen_no (are_all_ones (bits_in raw w) && m) (number (number_of (bits_in raw w))) (number raw) (number_back m raw h)
-      (ap number (number_again raw w (top_below m w raw h)))
-  kind_back kind.Numeric m (reference v) hw hm h = absurd h
-  kind_back kind.Numeric m missing hw hm h = chosen_yes (are_all_ones (replicate w true) && m) _ (missing_back m h)
-  kind_back kind.Numeric m (text octets) hw hm h = absurd h
+  kind_back k m missing hw hm h = chosen_yes (are_all_ones (replicate w true) && m) _ (missing_back m h)
+  kind_back k m c hw hm h = absurd h
 
   eighths : w % 8 ≡ 0 → 8 * (w / 8) ≡ w
   eighths h = omega arith
 
   pub kind_length : (k : Kind) (m : Bool) (c : Content) → HasWidth k w → FitsKind k m w c → length (bits_for w c) ≡ w
-  kind_length kind.Character m (number raw) hw h = absurd h
-  kind_length kind.Character m (reference v) hw h = absurd h
   kind_length kind.Character m missing hw h = length-replicate w true
   kind_length kind.Character m (text octets) hw h = length-bits_of octets ∙ ap (λ n. 8 * n) h.0 ∙ eighths hw.2
-  kind_length kind.Coded m (number raw) hw h = length-bits_in raw w
-  kind_length kind.Coded m (reference v) hw h = absurd h
-  kind_length kind.Coded m missing hw h = length-replicate w true
-  kind_length kind.Coded m (text octets) hw h = absurd h
-  kind_length kind.Numeric m (number raw) hw h = length-bits_in raw w
-  kind_length kind.Numeric m (reference v) hw h = absurd h
-  kind_length kind.Numeric m missing hw h = length-replicate w true
-  kind_length kind.Numeric m (text octets) hw h = absurd h
+  kind_length kind.Character m c hw h = absurd h
+  kind_length k m (number raw) hw h = length-bits_in raw w
+  kind_length k m missing hw h = length-replicate w true
+  kind_length k m c hw h = absurd h
 
   fits_said : (b : Bool) (k : Kind) (m : Bool) (bits : List Bool) → length bits ≡ w → HasWidth k w → HasMissing k m → (are_all_ones bits && m) ≡ b
       → FitsKind k m w (if b then missing else said_by k w bits)
   fits_said true kind.Character m bits l hw hm e = tt
-  fits_said true kind.Coded m bits l hw hm e = and_second (are_all_ones bits) m e
-  fits_said true kind.Numeric m bits l hw hm e = and_second (are_all_ones bits) m e
-  fits_said false kind.Coded m bits l hw hm e = below_top m bits w l e
-  fits_said false kind.Numeric m bits l hw hm e = below_top m bits w l e
+  fits_said true k m bits l hw hm e = and_second (are_all_ones bits) m e
   fits_said false kind.Character m bits l hw hm e =
       let whole : length bits ≡ 8 * (w / 8) = l ∙ sym (eighths hw.2) in
       let are : AreOctets (octets_in (w / 8) bits) = octets_in-are (w / 8) bits whole in
@@ -192,6 +176,7 @@ module _ (w : ℕ) where
       and_true : (b : Bool) → b ≡ (b && true)
       and_true true = refl
       and_true false = refl
+  fits_said false k m bits l hw hm e = below_top m bits w l e
 
   -- the content of bits is one that the field can have
   pub kind_fits : (k : Kind) (m : Bool) (bits : List Bool) → length bits ≡ w → HasWidth k w → HasMissing k m → FitsKind k m w (if are_all_ones bits && m then missing else said_by k w bits)

@@ -4,7 +4,7 @@ use Rattle.std.proofs.Common.{◌≡◌, ℕ, ◌+◌, ◌*◌, ◌≤◌, Bool,
 use Rattle.std.specs.List.{AllByRecursion, AllZip}
 use Rattle.std.proofs.lemmas.Bool.{le-ltb}
 use Rattle.std.proofs.lemmas.List.{length-append}
-use Rattle.bufr_walk.specs.Prelude.{FieldSpec, IsSpec, Content, found, bits_for, answer_by_role, answer_of, FieldFault, plain_field, missing, data_end, increment, unequal_factor, packed_field, answer_first, max_values, Item, packed, plain, after, ReadsPass, ReadsSubsets, IsPackedReading, content_at, Course, take_next, at_end, subsets_from, items_of_subset}
+use Rattle.bufr_walk.specs.Prelude.{FieldSpec, IsSpec, Content, found, bits_for, answer_by_role, answer_of, FieldFault, plain_field, missing, unequal_factor, packed_field, answer_first, max_values, Item, packed, plain, after, ReadsPass, ReadsSubsets, IsPackedReading, content_at, Course, take_next, at_end, subsets_from, items_of_subset}
 use Rattle.bufr_fill.specs.Prelude.{ItemFault, plainly, Taken, Role, packing, same, are_same, packed_bits, packed_unlike, written_item, fill, with_bits_before, plain_filler, RowCell, ItemRow, at_line_if_fault, content_here, contents_here, packed_to, pack_across, packed_filler, first_line, unlike_line, ◌>>=◌, plain_data, item_row, cells_at, rows, longest, packing_fault, are_many, packed_data, Fits, AllFit, IsWrittenApart, IsDumped, AreDrafts, AreDumped, IsSaid, AreSaid, IsUnlike, IsTogetherOrNot, Draft, Subset, at_line, too_many_values, content_of}
 use Rattle.bufr_fill.proofs.FillSteps.{filled, fill_more, fill_end, plain_both}
 use Rattle.bufr_fill.proofs.PlainLaws.{IsSaidRow, item_bits, join, IsRewritten, draft_again, same_draft, AllSpecs, plain_again, EachSpecs, width_least, plain_read, content_length}
@@ -65,8 +65,6 @@ pub record ArePlain (end_line : ℕ) (course : Course) (items : List (Item Conte
 
 pub plain_subset : (end_line : ℕ) (course : Course) (items : List (Item Content)) (ds : List Draft) → Follows course items → AreDrafts IsSaid items ds → ArePlain end_line course items ds
 plain_subset end_line course [] [] h said = record { fills = fill_end (plain_filler end_line) course h; again = λ more. (refl, h) }
-plain_subset end_line course [] (d ∷ ds) h said = absurd said
-plain_subset end_line course (i ∷ items) [] h said = absurd said
 plain_subset end_line course (i ∷ items) (d ∷ ds) h said =
     let first = item_bits i in
     let others = flat_map item_bits items in
@@ -83,6 +81,7 @@ plain_subset end_line course (i ∷ items) (d ∷ ds) h said =
         r.1,
       );
     }
+plain_subset end_line course items ds h said = absurd said
 
 -- ---- all subsets
 
@@ -98,8 +97,6 @@ pub record AreAllPlain (course : Course) (subsets : List (List (Item Content))) 
 
 pub plain_subsets : (course : Course) (subsets : List (List (Item Content))) (drafts : List Subset) → AllFollow course subsets → AreSaid subsets drafts → AreAllPlain course subsets drafts
 plain_subsets course [] [] h said = record { is = refl; again = λ more. refl }
-plain_subsets course [] (s ∷ ss) h said = absurd said
-plain_subsets course (items ∷ subsets) [] h said = absurd said
 plain_subsets course (items ∷ subsets) (s ∷ ss) h said =
     let bits = flat_map item_bits items in
     let others = subset_bits subsets in
@@ -113,23 +110,22 @@ plain_subsets course (items ∷ subsets) (s ∷ ss) h said =
         rest.again more,
       );
     }
+plain_subsets course subsets ss h said = absurd said
 
 -- ---- The drafts that a dump writes for items have the contents of these items.
 
 items_said : (course : Course) (items : List (Item Content)) (ds : List Draft) → Follows course items → AreDrafts IsDumped items ds → AreDrafts IsSaid items ds
 items_said course [] [] f h = tt
-items_said course [] (d ∷ ds) f h = absurd h
-items_said course (i ∷ items) [] f h = absurd h
 items_said course (i ∷ items) (d ∷ ds) f h = (
   ap (content_of i.spec) (same_draft i.spec i.content d h.0) ∙ draft_again i.spec f.1 d.line i.content f.2,
   items_said (after plain course i) items ds f.3 h.1,
 )
+items_said course items ds f h = absurd h
 
 pub subsets_said : (course : Course) (subsets : List (List (Item Content))) (ss : List Subset) → AllFollow course subsets → AreDumped subsets ss → AreSaid subsets ss
 subsets_said course [] [] f h = tt
-subsets_said course [] (s ∷ ss) f h = absurd h
-subsets_said course (items ∷ subsets) [] f h = absurd h
 subsets_said course (items ∷ subsets) (s ∷ ss) f h = (items_said course items s.items f.0 h.0, subsets_said course subsets ss f.1 h.1)
+subsets_said course subsets ss f h = absurd h
 
 -- ---- the items of compressed data
 
@@ -303,26 +299,23 @@ draft_next (suc p) (d ∷ ds) i items h = draft_next p ds i items h
 
 contents_there : (spec : FieldSpec) (p : ℕ) (rs : List (List (Item Content))) (ss : List Subset) → AreHeaded spec rs → SaidAt p rs ss → contents_here spec (cells_at p ss) ≡ Ok (firsts rs)
 contents_there spec p [] [] h d = refl
-contents_there spec p [] (s ∷ ss) h d = absurd d
-contents_there spec p (r ∷ rs) [] h d = absurd d
 contents_there spec p ([] ∷ rs) (s ∷ ss) h d = absurd h.0
 contents_there spec p ((i ∷ items) ∷ rs) (s ∷ ss) h d =
     ap (λ r. r >>= λ first. contents_here spec (cells_at p ss) >>= λ rest. Ok (first ∷ rest))
     (subst (λ a. content_here a (slice_get s.items p) s.end_line ≡ Ok i.content) h.0.0 (content_there p s.items s.end_line i items d.0))
     ∙ ap (λ r. r >>= λ rest. Ok (i.content ∷ rest)) (contents_there spec p rs ss h.1 d.1)
+contents_there spec p rs ss h d = absurd d
 
 said_next : (spec : FieldSpec) (p : ℕ) (rs : List (List (Item Content))) (ss : List Subset) → AreHeaded spec rs → SaidAt p rs ss → SaidAt (suc p) (tails rs) ss
 said_next spec p [] [] h d = tt
-said_next spec p [] (s ∷ ss) h d = absurd d
-said_next spec p (r ∷ rs) [] h d = absurd d
 said_next spec p ([] ∷ rs) (s ∷ ss) h d = absurd h.0
 said_next spec p ((i ∷ items) ∷ rs) (s ∷ ss) h d = (draft_next p s.items i items d.0, said_next spec p rs ss h.1 d.1)
+said_next spec p rs ss h d = absurd d
 
 length-said : (p : ℕ) (rs : List (List (Item Content))) (ss : List Subset) → SaidAt p rs ss → length (cells_at p ss) ≡ length rs
 length-said p [] [] d = refl
-length-said p [] (s ∷ ss) d = absurd d
-length-said p (r ∷ rs) [] d = absurd d
 length-said p (r ∷ rs) (s ∷ ss) d = ap suc (length-said p rs ss d.1)
+length-said p rs ss d = absurd d
 
 -- the item of all subsets is packed, or its contents cannot be
 across_gives : (spec : FieldSpec) (p : ℕ) (rs : List (List (Item Content))) (ss : List Subset) → AreHeaded spec rs → SaidAt p rs ss → (p + 1) * length rs ≤ max_values
@@ -404,9 +397,8 @@ module _ (end_line : ℕ) (many : Bool) where
 
   not_packed : (course : Course) (drafts : List ItemRow) (cs : List Content) (cells : List RowCell) (why : FieldFault)
       → fill (packed_filler end_line many) course drafts ≡ Err (packing_fault cs cells why) → IsNot course drafts end_line many
-  not_packed course drafts cs cells data_end e = record { line = first_line cells; why = wrong.Increment; is = e; unlike = tt }
-  not_packed course drafts cs cells increment e = record { line = first_line cells; why = wrong.Increment; is = e; unlike = tt }
   not_packed course drafts cs cells unequal_factor e = record { line = unlike_line cs cells; why = wrong.UnequalFactor; is = e; unlike = tt }
+  not_packed course drafts cs cells w e = record { line = first_line cells; why = wrong.Increment; is = e; unlike = tt }
 
   -- the first row, and those after it
   onto : (n : ℕ) (course : Course) (spec : FieldSpec) (c : Content) (cs : List Content) (rs : List (List (Item Content))) (a : ItemRow) (more : List ItemRow) → IsSpec spec
@@ -519,18 +511,15 @@ all_followed course (items ∷ subsets) bits suffix specs r =
 
 said_from : (subsets : List (List (Item Content))) (ss : List Subset) → AreSaid subsets ss → SaidAt 0 subsets ss × (longest ss ≡ longest_left subsets)
 said_from [] [] h = (tt, refl)
-said_from [] (s ∷ ss) h = absurd h
-said_from (items ∷ subsets) [] h = absurd h
 said_from (items ∷ subsets) (s ∷ ss) h =
     let rest = said_from subsets ss h.1 in
     ((h.0, rest.0), omega (arith, rest.1, AllZip-long IsSaid items s.items h.0))
+said_from subsets ss h = absurd h
 
 -- data that were read subset after subset are written together, where their contents can be
 pub together : (course : Course) (subsets : List (List (Item Content))) (drafts : List Subset) (bits suffix : List Bool) → length bits ≤ max_values → EachSpecs subsets → AreDumped subsets drafts
     → ReadsSubsets course subsets bits suffix → IsTogetherOrNot course subsets drafts
 together course [] [] bits suffix few specs dumped r = inl (record { items = []; same = refl; out = []; is = refl; again = λ more. (refl, refl) })
-together course [] (s ∷ ss) bits suffix few specs dumped r = absurd dumped
-together course (items ∷ subsets) [] bits suffix few specs dumped r = absurd dumped
 together course (items ∷ subsets) (s ∷ ss) bits suffix few specs dumped r =
     by (from_index s.end_line many course items subsets (s ∷ ss) 0 all.follow at.0 (omega (arith, all.short, all.least, few)))
   where
@@ -555,3 +544,4 @@ together course (items ∷ subsets) (s ∷ ss) bits suffix few specs dumped r =
       is = data_are ∙ x.fills;
       again = λ more. (x.again more, omega (arith, x.few, all.short, all.least, few));
     })
+together course subsets ss bits suffix few specs dumped r = absurd dumped

@@ -73,8 +73,6 @@ module _ {C D E : Type 0} (form : DataCoding C) (filler : Filler D C E) (of_item
   pub rewritten : (course : Course) (items : List (Item C)) (ds : List D) (bits suffix : List Bool) → AllSpecs items → AreDrafts of_item items ds → ReadsPass form course items bits suffix
       → AreRewritten form filler course items ds (flat_map bits_of_item items) bits suffix
   rewritten course [] [] bits suffix specs drafts h = record { fills = fill_end filler course h.1; again = λ more. refl; short = omega (arith, ap length h.0) }
-  rewritten course [] (d ∷ ds) bits suffix specs drafts h = absurd drafts
-  rewritten course (i ∷ items) [] bits suffix specs drafts h = absurd drafts
   rewritten course (i ∷ items) (d ∷ ds) bits suffix specs drafts h =
       let mid = h.0.0 in
       let first = bits_of_item i in
@@ -91,6 +89,7 @@ module _ {C D E : Type 0} (form : DataCoding C) (filler : Filler D C E) (of_item
         );
         short = omega (arith, here.short, rest.short, length-append first others);
       }
+  rewritten course items ds bits suffix specs drafts h = absurd drafts
 
 -- ---- The item that a dump writes for a content has that content.
 
@@ -133,18 +132,12 @@ module _ (spec : FieldSpec) (good : IsSpec spec) where
 
   kind_again : (k : Kind) (c : Content) → HasWidth k spec.width → HasMissing k spec.may_be_missing → FitsKind k spec.may_be_missing spec.width c → k ≡ spec.kind
       → content_by_form (draft_value_of spec c) spec ≡ Ok c
-  kind_again kind.Character (number raw) hw hm h q = absurd h
   kind_again kind.Character (text octets) hw hm h q = ap (λ k. if is_character k then text_within (spec.width / 8) octets else Err wrong.Number) (sym q) ∙ text_again (spec.width / 8) octets h
   kind_again kind.Character missing hw hm h q = missing_again spec.may_be_missing hm
-  kind_again kind.Character (reference v) hw hm h q = absurd h
-  kind_again kind.Coded (number raw) hw hm h q = as_number raw (ap is_character (sym q)) ∙ raw_again raw hw.1 h
-  kind_again kind.Coded (text octets) hw hm h q = absurd h
-  kind_again kind.Coded missing hw hm h q = missing_again spec.may_be_missing h
-  kind_again kind.Coded (reference v) hw hm h q = absurd h
-  kind_again kind.Numeric (number raw) hw hm h q = as_number raw (ap is_character (sym q)) ∙ raw_again raw hw.1 h
-  kind_again kind.Numeric (text octets) hw hm h q = absurd h
-  kind_again kind.Numeric missing hw hm h q = missing_again spec.may_be_missing h
-  kind_again kind.Numeric (reference v) hw hm h q = absurd h
+  kind_again kind.Character c hw hm h q = absurd h
+  kind_again k (number raw) hw hm h q = as_number raw (ap is_character (sym q)) ∙ raw_again raw hw.1 h
+  kind_again k missing hw hm h q = missing_again spec.may_be_missing h
+  kind_again k c hw hm h q = absurd h
 
   reference_again : (v : ℤ) → 1 ≤ spec.width → spec.width ≤ 63 → nat_abs v < 2 ^ (spec.width - 1) → reference_of spec (decimal_value_of (decimal_text_of v (pos 0)) (pos 0)) ≡ Ok (reference v)
   reference_again v least most h =
@@ -158,35 +151,23 @@ module _ (spec : FieldSpec) (good : IsSpec spec) where
       abs_mag (negsuc n) h = omega arith
 
   numeric_width : (k : Kind) → HasWidth k spec.width → k ≡ kind.Numeric → (1 ≤ spec.width) × (spec.width ≤ 63)
-  numeric_width kind.Numeric h e = h
-  numeric_width kind.Coded h e = h
   numeric_width kind.Character h e = absurd cc
+  numeric_width k h e = h
 
   role_again : (r : Role) (c : Content) → HasRole r spec.kind spec.may_be_missing → FitsRole r spec c → content_by_form (draft_value_of spec c) spec ≡ Ok c
-  role_again role.Element c hr h = kind_again spec.kind c good.width good.missing h refl
-  role_again role.Inserted c hr h = kind_again spec.kind c good.width good.missing h refl
-  role_again role.Factor c hr h = kind_again spec.kind c good.width good.missing h refl
   role_again role.Reference (reference v) hr h = let n = numeric_width spec.kind good.width hr.0 in reference_again v n.0 n.1 h
-  role_again role.Reference (number raw) hr h = absurd h
-  role_again role.Reference (text octets) hr h = absurd h
-  role_again role.Reference missing hr h = absurd h
+  role_again role.Reference c hr h = absurd h
+  role_again r c hr h = kind_again spec.kind c good.width good.missing h refl
 
-  mark_kind : (r : Role) (k : Kind) (m : Bool) (w : ℕ) (c : Content) → FitsKind k m w c → is_marked (draft_value_of spec c) ≡ false
-  mark_kind r k m w (number raw) h = refl
-  mark_kind r k m w (text octets) h = refl
-  mark_kind r k m w missing h = refl
-  mark_kind r kind.Character m w (reference v) h = absurd h
-  mark_kind r kind.Coded m w (reference v) h = absurd h
-  mark_kind r kind.Numeric m w (reference v) h = absurd h
+  mark_kind : (k : Kind) (m : Bool) (w : ℕ) (c : Content) → FitsKind k m w c → is_marked (draft_value_of spec c) ≡ false
+  mark_kind kind.Character m w (reference v) h = absurd h
+  mark_kind k m w (reference v) h = absurd h
+  mark_kind k m w c h = refl
 
   marked : (r : Role) (c : Content) → FitsRole r spec c → (if is_reference r then is_marked (draft_value_of spec c) else not (is_marked (draft_value_of spec c))) ≡ true
-  marked role.Element c h = ap not (mark_kind role.Element spec.kind spec.may_be_missing spec.width c h)
-  marked role.Inserted c h = ap not (mark_kind role.Inserted spec.kind spec.may_be_missing spec.width c h)
-  marked role.Factor c h = ap not (mark_kind role.Factor spec.kind spec.may_be_missing spec.width c h)
   marked role.Reference (reference v) h = refl
-  marked role.Reference (number raw) h = absurd h
-  marked role.Reference (text octets) h = absurd h
-  marked role.Reference missing h = absurd h
+  marked role.Reference c h = absurd h
+  marked r c h = ap not (mark_kind spec.kind spec.may_be_missing spec.width c h)
 
   -- on any line
   pub draft_again : (line : ℕ) (c : Content) → Fits spec c → content_of spec (record { line = line; fxy = spec.fxy; form = draft_value_of spec c }) ≡ Ok c
@@ -198,40 +179,29 @@ module _ (spec : FieldSpec) (good : IsSpec spec) where
 
 pub width_least : (k : Kind) (w : ℕ) → HasWidth k w → 1 ≤ w
 width_least kind.Character w h = omega (arith, h.0)
-width_least kind.Coded w h = h.0
-width_least kind.Numeric w h = h.0
+width_least k w h = h.0
 
 module _ (spec : FieldSpec) (good : IsSpec spec) where
   role_back : (r : Role) (c : Content) → FitsRole r spec c → content_by r spec (bits_for spec.width c) ≡ c
-  role_back role.Element c h = kind_back spec.width spec.kind spec.may_be_missing c good.width good.missing h
-  role_back role.Inserted c h = kind_back spec.width spec.kind spec.may_be_missing c good.width good.missing h
-  role_back role.Factor c h = kind_back spec.width spec.kind spec.may_be_missing c good.width good.missing h
   role_back role.Reference (reference v) h = ap reference (signed_back v spec.width h)
-  role_back role.Reference (number raw) h = absurd h
-  role_back role.Reference (text octets) h = absurd h
-  role_back role.Reference missing h = absurd h
+  role_back role.Reference c h = absurd h
+  role_back r c h = kind_back spec.width spec.kind spec.may_be_missing c good.width good.missing h
 
   -- the bits of a content that fits have that content
   pub content_back : (c : Content) → Fits spec c → content_in spec (bits_for spec.width c) ≡ c
   content_back c h = role_back spec.role c h
 
   role_length : (r : Role) (c : Content) → FitsRole r spec c → length (bits_for spec.width c) ≡ spec.width
-  role_length role.Element c h = kind_length spec.width spec.kind spec.may_be_missing c good.width h
-  role_length role.Inserted c h = kind_length spec.width spec.kind spec.may_be_missing c good.width h
-  role_length role.Factor c h = kind_length spec.width spec.kind spec.may_be_missing c good.width h
   role_length role.Reference (reference v) h = omega (arith, length-bits_in (nat_abs v) (spec.width - 1), width_least spec.kind spec.width good.width)
-  role_length role.Reference (number raw) h = absurd h
-  role_length role.Reference (text octets) h = absurd h
-  role_length role.Reference missing h = absurd h
+  role_length role.Reference c h = absurd h
+  role_length r c h = kind_length spec.width spec.kind spec.may_be_missing c good.width h
 
   pub content_length : (c : Content) → Fits spec c → length (bits_for spec.width c) ≡ spec.width
   content_length c h = role_length spec.role c h
 
   role_fits : (r : Role) (bits : List Bool) → length bits ≡ spec.width → FitsRole r spec (content_by r spec bits)
-  role_fits role.Element bits l = kind_fits spec.width spec.kind spec.may_be_missing bits l good.width good.missing
-  role_fits role.Inserted bits l = kind_fits spec.width spec.kind spec.may_be_missing bits l good.width good.missing
-  role_fits role.Factor bits l = kind_fits spec.width spec.kind spec.may_be_missing bits l good.width good.missing
   role_fits role.Reference bits l = signed_below bits spec.width l (width_least spec.kind spec.width good.width)
+  role_fits r bits l = kind_fits spec.width spec.kind spec.may_be_missing bits l good.width good.missing
 
   -- the content of bits fits
   pub content_fits : (bits : List Bool) → length bits ≡ spec.width → Fits spec (content_in spec bits)
@@ -278,8 +248,7 @@ number_same w bits e = ap (bits_in (number_of bits)) (sym e) ∙ bits_again bits
 kind_same : (b m : Bool) (k : Kind) (w : ℕ) (bits : List Bool) → length bits ≡ w → HasWidth k w → (are_all_ones bits && m) ≡ b → bits_for w (if b then missing else said_by k w bits) ≡ bits
 kind_same true m k w bits l h e = ap (λ n. replicate n true) (sym l) ∙ ones_are bits (and_first (are_all_ones bits) m e)
 kind_same false m kind.Character w bits l h e = octet_bits_again (w / 8) bits (omega (arith, l, h.2))
-kind_same false m kind.Coded w bits l h e = number_same w bits l
-kind_same false m kind.Numeric w bits l h e = number_same w bits l
+kind_same false m k w bits l h e = number_same w bits l
 
 zeros_are : (bits : List Bool) → number_of bits ≡ 0 → bits ≡ replicate (length bits) false
 zeros_are bits e = sym (bits_again bits) ∙ ap (λ n. bits_in n (length bits)) e ∙ bits_in-zero (length bits)
@@ -296,10 +265,8 @@ signed_same (false ∷ bits) w l h g = ap (λ xs. false ∷ xs) (number_same (w 
 signed_same (true ∷ bits) w l h g = grind (arith, common_steps, negative_same)
 
 role_same : (r : Role) (spec : FieldSpec) → IsSpec spec → (bits : List Bool) → length bits ≡ spec.width → (IsMinusZero r bits → ⊥) → bits_for spec.width (content_by r spec bits) ≡ bits
-role_same role.Element spec good bits l h = kind_same (are_all_ones bits && spec.may_be_missing) spec.may_be_missing spec.kind spec.width bits l good.width refl
-role_same role.Inserted spec good bits l h = kind_same (are_all_ones bits && spec.may_be_missing) spec.may_be_missing spec.kind spec.width bits l good.width refl
-role_same role.Factor spec good bits l h = kind_same (are_all_ones bits && spec.may_be_missing) spec.may_be_missing spec.kind spec.width bits l good.width refl
 role_same role.Reference spec good bits l h = signed_same bits spec.width l (width_least spec.kind spec.width good.width) h
+role_same r spec good bits l h = kind_same (are_all_ones bits && spec.may_be_missing) spec.may_be_missing spec.kind spec.width bits l good.width refl
 
 pub same_bits : (spec : FieldSpec) → IsSpec spec → (bits : List Bool) → length bits ≡ spec.width → (IsMinusZero spec.role bits → ⊥) → bits_for spec.width (content_in spec bits) ≡ bits
 same_bits spec good bits l h = role_same spec.role spec good bits l h

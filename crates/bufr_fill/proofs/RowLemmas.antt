@@ -11,6 +11,7 @@ use Rattle.bufr_bits.specs.Prelude.{bits_of}
 use Rattle.std.specs.Str.{bytes_eq}
 use Rattle.bufr_fill.specs.Prelude.{spaced, Taken, Role, FieldContent, padded_content, IsContentOf, raw_limit, AreContentsOf, padded_contents, need_of, most_need, FitsIncrement, AreShort, least_from, entry_or_end, entry_here, and_end, all_at_end, IsPutWithin, trimmed, same, are_same, first_from, packing, packed_bits, packed_by, packed_unlike, RowCell, content_here, contents_here, first_unlike, unlike_line, cell_line, line_in, first_line, ◌>>=◌, item_row, cells_at, packed_to, pack_across, written_item, Draft, DraftEntry, Holds, Ends, Subset, DraftFault, at_line, item_too_many, too_many_values, IfDraftFault, is_end}
 use Rattle.bufr_fill.specs.declared.fault.ItemFault.TheVariants as wrong
+use Rattle.bufr_tables.specs.Prelude.{is_character}
 use Rattle.bufr_walk.specs.Prelude.{FieldSpec, Content, reference, answer_of, bits_for, increment, unequal_factor, answer_first, max_values}
 use Rattle.bufr_fill.proofs.EntryLemmas.{entry_line}
 use Rattle.bufr_fill.proofs.LeastLemmas.{octets_self, content_same, content_self}
@@ -346,7 +347,8 @@ packed_apart spec count [] z h e = absurd (omega (arith, h))
 packed_apart spec count (d ∷ ds) z h e = grind (arith, common_steps, content_self)
 
 -- elements that differ go by their kind
-pub apart_by : (spec : FieldSpec) (cs : List Content) (r : Role) → r ≡ spec.role → (r ≡ role.Element) ⊎ (r ≡ role.Inserted) → packed_unlike spec.role spec cs ≡ packed_by spec.kind spec cs
+pub apart_by : (spec : FieldSpec) (cs : List Content) (r : Role) → r ≡ spec.role → (r ≡ role.Element) ⊎ (r ≡ role.Inserted)
+    → packed_unlike spec.role spec cs ≡ packed_by (is_character spec.kind) spec cs
 apart_by spec cs r is (inl e) = ap (λ a. packed_unlike a spec cs) (sym is ∙ e)
 apart_by spec cs r is (inr e) = ap (λ a. packed_unlike a spec cs) (sym is ∙ e)
 
@@ -371,8 +373,8 @@ put_within spec index subsets ds z t old new bits most few given some gives pack
 pub put_packed : (spec : FieldSpec) (index : ℕ) (subsets : List Subset) (ds : List FieldContent) (z : FieldContent) (t : Taken) (old new : List Bool) (few most : ℕ)
     → (index + 1) * length (cells_at index subsets) ≤ max_values
     → contents_here spec (cells_at index subsets) ≡ Ok (padded_contents (spec.width / 8) ds) → 0 < length ds → t ≡ answer_of spec (padded_content (spec.width / 8) (get_or ds 0 z))
-    → packing spec (padded_contents (spec.width / 8) ds) ≡ packed_by spec.kind spec (padded_contents (spec.width / 8) ds) → few ≤ most
-    → (bits : List Bool) × (packed_by spec.kind spec (padded_contents (spec.width / 8) ds) ≡ Ok bits) × (new ≡ old ++ bits) × (length bits ≤ few) × (length old < length new)
+    → packing spec (padded_contents (spec.width / 8) ds) ≡ packed_by (is_character spec.kind) spec (padded_contents (spec.width / 8) ds) → few ≤ most
+    → (bits : List Bool) × (packed_by (is_character spec.kind) spec (padded_contents (spec.width / 8) ds) ≡ Ok bits) × (new ≡ old ++ bits) × (length bits ≤ few) × (length old < length new)
     → IsPutWithin old new spec (item_row index subsets) most t
 put_packed spec index subsets ds z t old new few most values given some gives apart within (bits, packed, is, fits, forth) =
     put_within spec index subsets ds z t old new bits most values given some gives (apart ∙ packed) is (omega (arith, fits, within)) forth

@@ -44,10 +44,9 @@ said_at : (end_line : ℕ) (items : List (Item Content)) (ds : List Draft) (p : 
     → content_here i.spec (slice_get ds p) end_line ≡ Ok i.content
 said_at end_line [] [] zero i rest h e = absurd cc
 said_at end_line [] [] (suc p) i rest h e = absurd cc
-said_at end_line [] (d ∷ ds) p i rest h e = absurd h
-said_at end_line (x ∷ items) [] p i rest h e = absurd h
 said_at end_line (x ∷ items) (d ∷ ds) zero i rest h e = let is : x ≡ i = cc in subst (λ (y : Item Content). content_here y.spec (Some d) end_line ≡ Ok y.content) is (ap (at_line_if_fault d.line) h.0)
 said_at end_line (x ∷ items) (d ∷ ds) (suc p) i rest h e = said_at end_line items ds p i rest h.1 e
+said_at end_line items ds p i rest h e = absurd h
 
 -- the cells at an index have the contents of the item there
 contents_said : (items : List (Item (List Content))) (p : ℕ) (i : Item (List Content)) (rest : List (Item (List Content))) (j : ℕ) (ss : List Subset) → drop p items ≡ i ∷ rest
@@ -204,18 +203,16 @@ module _ (records : List Record) (table : List Row) (template : Tree) (rows : Ar
 items_alike : (items : List (Item Content)) (ds es : List Draft) → AllZip IsAlike ds es → AreDrafts IsSaid items ds → AreDrafts IsSaid items es
 items_alike [] [] [] a h = tt
 items_alike [] [] (e ∷ es) a h = absurd a
-items_alike [] (d ∷ ds) es a h = absurd h
-items_alike (i ∷ items) [] es a h = absurd h
 items_alike (i ∷ items) (d ∷ ds) [] a h = absurd a
 items_alike (i ∷ items) (d ∷ ds) (e ∷ es) a h = (sym (a.0 i.spec) ∙ h.0, items_alike items ds es a.1 h.1)
+items_alike items ds es a h = absurd h
 
 subsets_alike : (subsets : List (List (Item Content))) (ss ts : List Subset) → AllAlike ss ts → AreSaid subsets ss → AreSaid subsets ts
 subsets_alike [] [] [] a h = tt
 subsets_alike [] [] (t ∷ ts) a h = absurd a
-subsets_alike [] (s ∷ ss) ts a h = absurd h
-subsets_alike (items ∷ subsets) [] ts a h = absurd h
 subsets_alike (items ∷ subsets) (s ∷ ss) [] a h = absurd a
 subsets_alike (items ∷ subsets) (s ∷ ss) (t ∷ ts) a h = (items_alike items s.items t.items a.0 h.0, subsets_alike subsets ss ts a.1 h.1)
+subsets_alike subsets ss ts a h = absurd h
 
 module _ (records : List Record) (table : List Row) (template : Tree) (rows : AreRows records table) (legal : IsLegal template) (drafts others : List Subset) (bits : List Bool)
     (texts : AllHaveOctets drafts) (alike : AllAlike drafts others) where

@@ -278,13 +278,9 @@ entry_by (Some k) line fxy digits octets = Holds (draft line fxy (value_by k dig
 abbrev pub entry_with : StoredEntry → List ℕ → DraftEntry
 entry_with e octets = entry_by e.kind e.line e.fxy e.start octets
 
--- the entry of a stored one, whose octets are in a block
-abbrev pub entry_stored : List ℕ → StoredEntry → DraftEntry
-entry_stored block k = entry_with k (slice_range block k.start k.end)
-
--- the entries of all stored ones
+-- the entries of stored ones, whose octets are in a block
 abbrev pub entries_stored : List ℕ → List StoredEntry → List DraftEntry
-entries_stored octets kept = map (entry_stored octets) kept
+entries_stored block kept = map (λ e. entry_with e (slice_range block e.start e.end)) kept
 
 -- whether an entry is the end of a subset
 abbrev pub is_end : DraftEntry → Bool

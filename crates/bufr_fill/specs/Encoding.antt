@@ -10,7 +10,7 @@ use Rattle.std.specs.Str.{bytes_eq}
 use Rattle.std.specs.Ordering.{int_eq}
 use Rattle.bufr_bits.specs.Prelude.{◌>>=◌, bits_of, bits_in, number_of}
 pub use Rattle.bufr_tables.specs.declared.table_b.Kind.{Kind}
-use Rattle.bufr_tables.specs.declared.table_b.Kind.TheVariants as kind
+use Rattle.bufr_tables.specs.Prelude.{is_character}
 use Rattle.bufr_walk.specs.declared.spec.Role.TheVariants as role
 use Rattle.bufr_fill.specs.Draft.{TurnRefusal, Draft, Subset, ItemFault, DraftFault, at_line, item_too_many, walk_refused, too_many_values, Role, content_of, wrong_for, raw_limit}
 use Rattle.bufr_fill.specs.declared.fault.ItemFault.TheVariants as wrong
@@ -188,17 +188,18 @@ packed_texts width k cs =
     if nat_le k 63
     then Ok (packed_bits (replicate width false) k (flat_map (octet_bits k) cs)) else Err increment
 
--- contents that differ, by kind
-abbrev pub packed_by : Kind → FieldSpec → List Content → Result (List Bool) FieldFault
-packed_by kind.Character spec cs = packed_texts spec.width (least_k has_octets cs) cs
-packed_by _ spec cs = Ok (numbers_over spec.may_be_missing spec.width (unwrap_or (lowest cs) 0) cs)
+-- contents that differ, of texts or of numbers
+abbrev pub packed_by : (are_texts : Bool) → FieldSpec → List Content → Result (List Bool) FieldFault
+packed_by true spec cs = packed_texts spec.width (least_k has_octets cs) cs
+packed_by false spec cs =
+    Ok (numbers_over spec.may_be_missing spec.width (unwrap_or (lowest cs) 0) cs)
 
 -- contents that differ, by role: counts and references must not
 -- rule: packs-factors-and-references, fault-59
 abbrev pub packed_unlike : Role → FieldSpec → List Content → Result (List Bool) FieldFault
 packed_unlike role.Factor spec cs = Err unequal_factor
 packed_unlike role.Reference spec cs = Err increment
-packed_unlike _ spec cs = packed_by spec.kind spec cs
+packed_unlike _ spec cs = packed_by (is_character spec.kind) spec cs
 
 -- the contents of one item for all subsets, where they can be packed
 -- rule: packs-equal, packs-all-missing

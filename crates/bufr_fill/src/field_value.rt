@@ -207,7 +207,8 @@ pub(crate) fn put_content(out: &mut BitWriter, content: FieldContent<'_>, spec: 
     requires content { IsContentOf spec.now content }
     requires room { spec.now.width ≤ out.old.room }
     ensures bits { out.new.bits
-        ≡ out.old.bits ++ bits_for spec.now.width (padded_content (spec.now.width / 8) content.entry) }
+        ≡ out.old.bits
+        ++ bits_for spec.now.width (padded_content (spec.now.width / 8) content.entry) }
     ensures len { length out.new.bits ≡ length out.old.bits + spec.now.width }
     ensures room { out.old.room ≤ out.new.room + spec.now.width }
 {
@@ -255,7 +256,8 @@ pub(crate) fn push_content(
 #[inline(always)]
 #[tactic(auto, using(crate::proofs::FieldLemmas::answer_count, crate::proofs::FieldLemmas::answer_reference, crate::proofs::FieldLemmas::answer_element, crate::proofs::FieldLemmas::answer_inserted))]
 pub(crate) fn taken_of(content: FieldContent<'_>, spec: &Spec) -> Taken
-    ensures gives { result ≡ answer_of spec.now (padded_content (spec.now.width / 8) content.entry) }
+    ensures gives { result
+        ≡ answer_of spec.now (padded_content (spec.now.width / 8) content.entry) }
     ensures shape { IsFor spec.now result }
 {
     match (spec.role(), content) {

@@ -478,8 +478,9 @@ fn pack_numbers(
     requires contents { AreContentsOf spec.now contents.now }
     requires range { IsRangeOf range contents.now }
     requires room { length out.old.bits + (69 + 63 * length contents.now) ≤ 2 ^ 63 }
-    ensures { PacksItem out.old.bits out.new.bits (packed_by spec.now.kind spec.now
-        (padded_contents (spec.now.width / 8) contents.now)) (69 + 63 * length contents.now) result }
+    ensures { PacksItem out.old.bits out.new.bits (packed_by (is_character spec.now.kind) spec.now
+        (padded_contents (spec.now.width / 8) contents.now)) (69 + 63 * length contents.now)
+        result }
 {
     let width = spec.width();
     let base = range.base();
@@ -577,7 +578,7 @@ fn pack_texts(
     requires element { is_reference spec.now.role ≡ false }
     requires contents { AreContentsOf spec.now contents.now }
     requires room { length out.old.bits + (2046 + 504 * length contents.now) ≤ 2 ^ 63 }
-    ensures { PacksItem out.old.bits out.new.bits (packed_by spec.now.kind spec.now
+    ensures { PacksItem out.old.bits out.new.bits (packed_by (is_character spec.now.kind) spec.now
         (padded_contents (spec.now.width / 8) contents.now)) (2046 + 504 * length contents.now)
         result }
 {

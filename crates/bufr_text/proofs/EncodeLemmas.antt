@@ -237,9 +237,7 @@ module _ {D C E : Type 0} (filler : Filler D C E) where
 
       by : (n : Next) → ((t : Taken) → (course []).turns ≤ turns_filled filler (λ results. course (t ∷ results)) ds) → (course []).turns ≤ (pass_at filler course (d ∷ ds) n).turns
       by (take_next spec) h = at_field spec (filler.fills spec d) h
-      by at_end h = omega arith
-      by (refused why) h = omega arith
-      by astray h = omega arith
+      by n h = omega arith
 
   -- where a walk comes to the last turn, its turns are all
   pub last_turns : (course : Course) (items : List TakenField) (ds : List D) (n : Next) (all : ℕ) → all ≡ turns_filled filler (course_after course items) ds → (course (answers_of items)).next ≡ n
@@ -665,9 +663,7 @@ packed_fault_is_last end many (take_next spec) mid f h = by (longest mid.subsets
     by : (k : ℕ) → IsLast (packed_filler end many) (take_next spec) (rows k mid.index mid.subsets)
     by zero = tt
     by (suc k) = (f, h)
-packed_fault_is_last end many at_end mid f h = tt
-packed_fault_is_last end many (refused r) mid f h = tt
-packed_fault_is_last end many astray mid f h = tt
+packed_fault_is_last end many n mid f h = tt
 
 -- a walk to the end makes all turns
 walk_makes_all : (course : Course) (ss : List Subset) (start : PackedOutModel) (c : ℕ) (mid : PackedOutModel) (c' : ℕ) → start ≡ new_packed_out ss → 1 ≤ length ss → c ≡ 0

@@ -37,9 +37,8 @@ same_ok a b e = cc
 
 pub said_length : (subsets : List (List (Item Content))) (drafts : List Subset) → AreSaid subsets drafts → length subsets ≡ length drafts
 said_length [] [] h = refl
-said_length [] (s ∷ ss) h = absurd h
-said_length (items ∷ subsets) [] h = absurd h
 said_length (items ∷ subsets) (s ∷ ss) h = ap suc (said_length subsets ss h.1)
+said_length subsets ss h = absurd h
 
 section2_octets : (b : Bool) (octets : List ℕ) → AllByRecursion IsOctet octets → AllByRecursion IsOctet (unwrap_or (if b then Some octets else None) [])
 section2_octets true octets h = h
@@ -144,23 +143,21 @@ line_is table spec d c h1 = grind (arith, nat_tests, common_steps, said_fxy, nor
 items_are : (table : List Row) (course : Course) (items : List (reading.Item Content)) (ds : List Draft) → Follows course items → AreDrafts IsSaid items ds
     → normal_items table course ds ≡ map item_text (items_shown table items)
 items_are table course [] [] f said = refl
-items_are table course [] (d ∷ ds) f said = absurd said
-items_are table course (i ∷ items) [] f said = absurd said
 items_are table course (i ∷ items) (d ∷ ds) f said =
     ap (λ n. line_and table n d (λ t. normal_items table (λ results. course (t ∷ results)) ds)) f.0
     ∙ ap (λ r. normal_line table i.spec d ∷ normal_items table (λ results. course (draft_answer i.spec r ∷ results)) ds) said.0
     ∙ ap (λ x. x ∷ normal_items table (after plain course i) ds) (line_is table i.spec d i.content said.0)
     ∙ ap (λ xs. item_text (view_of table i.spec i.content) ∷ xs) (items_are table (after plain course i) items ds f.3 said.1)
+items_are table course items ds f said = absurd said
 
 pub subsets_are : (table : List Row) (course : Course) (n : ℕ) (subsets : List (List (reading.Item Content))) (drafts : List Subset) → AllFollow course subsets → AreSaid subsets drafts
     → normal_subsets table course n drafts ≡ subset_lines n (map (items_shown table) subsets)
 unfolding subset_lines
 subsets_are table course n [] [] f said = refl
-subsets_are table course n [] (s ∷ ss) f said = absurd said
-subsets_are table course n (items ∷ subsets) [] f said = absurd said
 subsets_are table course n (items ∷ subsets) (s ∷ ss) f said =
     ap (λ xs. subset_line n ∷ (xs ++ normal_subsets table course (n + 1) ss)) (items_are table course items s.items f.0 said.0)
     ∙ ap (λ xs. subset_line n ∷ (map item_text (items_shown table items) ++ xs)) (subsets_are table course (n + 1) subsets ss f.1 said.1)
+subsets_are table course n subsets ss f said = absurd said
 
 -- ---- the header
 

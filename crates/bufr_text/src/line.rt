@@ -361,10 +361,8 @@ fn either_value(octet: u8) -> Option<u8>
     ensures few { IfSome result (λ n. n < 16) }
 {
     match octet {
-        b'0'..=b'9' => Some(octet - b'0'),
-        b'A'..=b'F' => Some(octet - b'A' + 10),
         b'a'..=b'f' => Some(octet - b'a' + 10),
-        _ => None,
+        _ => upper_value(octet),
     }
 }
 
