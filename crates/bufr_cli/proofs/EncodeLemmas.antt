@@ -143,7 +143,7 @@ module _ (form : Form) (b : List Row) (d : List Sequence) (s : ReaderModel) (so 
 
     pub text-open : IsOpen (document_pieces form b d) so
     text-open =
-        let no_line : HasNoWholeLine s1 = (needs.going, nothing-yet s1.at s1.place s1.held s1.ended needs.none needs.short, needs.none) in
+        let no_line : HasNoWholeLine s1 = (needs.going, nothing-yet s1.at s1.parsing s1.held s1.ended needs.none needs.short, needs.none) in
         record {
           read = wrote.reads.read;
           certain = ap (encode_pieces form b d) (reported-at-fault so.from so.left s1 wrote.results so.octets held no_line) ∙ up-to-all (map piece wrote.results) none-refused ∙ sym wrote.pieces;

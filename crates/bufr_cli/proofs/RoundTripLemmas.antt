@@ -17,7 +17,8 @@ use Rattle.bufr_text.proofs.FormLemmas.{canonical_encoded}
 use Rattle.bufr_text.proofs.DumpableLemmas.{dumpable}
 use Rattle.bufr_walk.proofs.NextField.{table_read}
 use Rattle.bufr_text.proofs.RoundTripLemmas.{accepted_again, encoded_again, same_text}
-use Rattle.bufr_text.proofs.LawLemmas.{text-spells, spelled-proper}
+use Rattle.bufr_text.proofs.LawLemmas.{spelled-proper}
+use Rattle.bufr_text.proofs.DumpTextLemmas.{text-spells}
 use Rattle.bufr_cli.specs.Prelude.{text_or_fault, data_piece, template_piece, message_piece, dump_piece, Piece, OnOutput, OnErrors, output_of, errors_of, is_accepted, is_refused, encoded, result_piece, up_to_refused, accepted_in, accepted_messages, dump_pieces, dumped, longer_by, rebuilding, rebuilt, IsBuiltAgain, IsWholeRound, IsCanonicalMessage, RoundTrips, Written, IsDumpedInOneSpelling, before_refused, built, form_pieces, normal_by, normal_text, normal_texts, holding, Tallies, WritesWhole, document_pieces, event_pieces}
 use Rattle.bufr_text.specs.declared.encode.Form.TheVariants.{AsWritten}
 use Rattle.bufr_cli.proofs.DumpLemmas.{read-piece}

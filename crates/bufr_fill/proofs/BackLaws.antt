@@ -160,19 +160,19 @@ cells_said spec (cell ∷ cells) cs text e = cells_join spec cell cells cs text.
 
 -- an item of all subsets
 abbrev IsSaidAcross : ℕ → Item (List Content) → ItemRow → Type 0
-IsSaidAcross n i a = SaidFrom 0 i.spec i.content a.cells × ((a.place + 1) * n ≤ max_values)
+IsSaidAcross n i a = SaidFrom 0 i.spec i.content a.cells × ((a.index + 1) * n ≤ max_values)
 
 abbrev IsRowOf : ℕ → ItemRow → Type 0
 IsRowOf n a = (length a.cells ≡ n) × AllByRecursion (λ (cell : RowCell). OctetsIn cell.draft) a.cells
 
-few_of : (place n : ℕ) → are_many place n ≡ false → (place + 1) * n ≤ max_values
-few_of place n h = ltb-false max_values ((place + 1) * n) h
+few_of : (index n : ℕ) → are_many index n ≡ false → (index + 1) * n ≤ max_values
+few_of index n h = ltb-false max_values ((index + 1) * n) h
 
 packed_one : (n : ℕ) → 1 ≤ n → (spec : FieldSpec) (a : ItemRow) (w : WrittenItem (List Content)) → IsSpec spec → IsRowOf n a → pack_across spec a ≡ Ok w
     → IsOneBack (packed n) (IsSaidAcross n) spec a w
-packed_one n some spec a w good row e = by_many (are_many a.place (length a.cells)) refl e
+packed_one n some spec a w good row e = by_many (are_many a.index (length a.cells)) refl e
   where
-    by_list : (cs : List Content) (bits : List Bool) → (a.place + 1) * n ≤ max_values → AreCellsSaid spec a.cells cs → packing spec cs ≡ Ok bits
+    by_list : (cs : List Content) (bits : List Bool) → (a.index + 1) * n ≤ max_values → AreCellsSaid spec a.cells cs → packing spec cs ≡ Ok bits
         → IsOneBack (packed n) (IsSaidAcross n) spec a (written_item cs bits)
     by_list [] bits few are q = absurd (omega (arith, some, are.count, row.0))
     by_list (c ∷ cs) bits few are q = record {
@@ -181,20 +181,20 @@ packed_one n some spec a w good row e = by_many (are_many a.place (length a.cell
       read = λ more. fitting_again n spec good c cs bits more are.fits (are.count ∙ row.0) q;
     }
 
-    by_packing : (cs : List Content) → (a.place + 1) * n ≤ max_values → AreCellsSaid spec a.cells cs → (r : Result (List Bool) FieldFault) → packing spec cs ≡ r → packed_to cs a.cells r ≡ Ok w
+    by_packing : (cs : List Content) → (a.index + 1) * n ≤ max_values → AreCellsSaid spec a.cells cs → (r : Result (List Bool) FieldFault) → packing spec cs ≡ r → packed_to cs a.cells r ≡ Ok w
         → IsOneBack (packed n) (IsSaidAcross n) spec a w
     by_packing cs few are (Ok bits) q r = subst (IsOneBack (packed n) (IsSaidAcross n) spec a) (same_ok (written_item cs bits) w r) (by_list cs bits few are q)
     by_packing cs few are (Err why) q r = cc
 
-    by_contents : (a.place + 1) * n ≤ max_values → (r : Result (List Content) DraftFault) → contents_here spec a.cells ≡ r → (r >>= λ cs. packed_to cs a.cells (packing spec cs)) ≡ Ok w
+    by_contents : (a.index + 1) * n ≤ max_values → (r : Result (List Content) DraftFault) → contents_here spec a.cells ≡ r → (r >>= λ cs. packed_to cs a.cells (packing spec cs)) ≡ Ok w
         → IsOneBack (packed n) (IsSaidAcross n) spec a w
     by_contents few (Err why) p q = cc
     by_contents few (Ok cs) p q = by_packing cs few (cells_said spec a.cells cs row.1 p) (packing spec cs) refl q
 
-    by_many : (b : Bool) → are_many a.place (length a.cells) ≡ b → (if b then Err (at_line (first_line a.cells) (too_many_values spec.fxy)) else
+    by_many : (b : Bool) → are_many a.index (length a.cells) ≡ b → (if b then Err (at_line (first_line a.cells) (too_many_values spec.fxy)) else
         (contents_here spec a.cells >>= λ cs. packed_to cs a.cells (packing spec cs))) ≡ Ok w → IsOneBack (packed n) (IsSaidAcross n) spec a w
     by_many true p q = cc
-    by_many false p q = by_contents (subst (λ k. (a.place + 1) * k ≤ max_values) row.0 (few_of a.place (length a.cells) p)) (contents_here spec a.cells) refl q
+    by_many false p q = by_contents (subst (λ k. (a.index + 1) * k ≤ max_values) row.0 (few_of a.index (length a.cells) p)) (contents_here spec a.cells) refl q
 
 -- ---- rows and subsets
 
@@ -236,9 +236,8 @@ RowsSaid j (i ∷ items) (a ∷ more) = SaidFrom j i.spec i.content a.cells × R
 
 rows_said : (n : ℕ) (items : List (Item (List Content))) (more : List ItemRow) → AreDrafts (IsSaidAcross n) items more → RowsSaid 0 items more
 rows_said n [] [] h = tt
-rows_said n [] (a ∷ more) h = absurd h
-rows_said n (i ∷ items) [] h = absurd h
 rows_said n (i ∷ items) (a ∷ more) h = (h.0.0, rows_said n items more h.1)
+rows_said n items more h = absurd h
 
 first_subset : (j count from : ℕ) (s : Subset) (ss : List Subset) (items : List (Item (List Content))) → RowsSaid j items (rows count from (s ∷ ss)) → length s.items ≤ from + count
     → AreDrafts IsSaid (items_of_subset j items) (drop from s.items)

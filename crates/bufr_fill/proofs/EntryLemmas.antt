@@ -1,16 +1,16 @@
 -- Stored entries, and the indices of subsets among them.
 use Rattle.std.proofs.lemmas.Grind.{common_steps}
-use Rattle.std.proofs.Common.{◌≡◌, ℕ, zero, suc, ◌+◌, ◌-◌, ◌≤◌, ◌<◌, Bool, List, [], ◌∷◌, ◌++◌, true, false, length, drop, get_or, min, Option, Some, None, refl, sym, ◌∙◌, ap, arith, add-one, map, length-append, ◌/◌, Result, Ok, Err, subst, slice_get, option_map, ◌==◌, slice_range}
+use Rattle.std.proofs.Common.{◌≡◌, ℕ, zero, suc, ◌+◌, ◌-◌, ◌≤◌, ◌<◌, Bool, List, [], ◌∷◌, ◌++◌, true, false, length, drop, get_or, min, Option, Some, None, refl, sym, ◌∙◌, ap, arith, add-one, map, length-append, ◌/◌, Result, Ok, Err, subst, slice_get, option_map, ◌==◌, slice_range, IfSome}
 use Rattle.bufr_tables.proofs.TableBLemmas.{range-append}
 use Rattle.std.proofs.Math.Seq.{drop-cons, drop-append_seam}
 use Rattle.std.proofs.lemmas.List.{append-nil, append_assoc, map-append, take_all, drop_all}
 use Rattle.std.proofs.lemmas.Option.{none-some, slice_get-get_or, slice_get_within, get_or_from_slice_get}
 use Rattle.std.proofs.lemmas.Bool.Decides.{nat_tests}
-use Rattle.bufr_fill.specs.Prelude.{EntryKind, Taken, Draft, DraftEntry, Holds, Ends, Subset, subset, prepend_to_subset, subsets_of, ItemFault, DraftFault, at_line, item_too_many, RowCell, cells_at, at_line_if_fault, entry_or_end, ends_of, entry_here, is_end, entry_by, entry_with, entry_stored, entries_stored, IsPlaced, IsEntryInside, AreInside, line_at, PlainOutModel, plain_out_model, IsFilled, IsFaultOf, IfDraftFault, after_end, FieldContent, content_of, content_drawn}
+use Rattle.bufr_fill.specs.Prelude.{ValueKind, Taken, Draft, DraftEntry, Holds, Ends, Subset, subset, prepend_to_subset, subsets_of, ItemFault, DraftFault, at_line, item_too_many, RowCell, cells_at, at_line_if_fault, entry_or_end, ends_of, entry_here, is_end, value_by, entry_by, entry_with, entries_stored, AreOctetsInside, draft, number_token, text_form, reference_token, IsEntryInside, AreInside, line_at, PlainOutModel, plain_out_model, IsFilled, IsFaultOf, IfDraftFault, after_end, FieldContent, content_of, padded_content}
 use Rattle.bufr_fill.specs.declared.draft.StoredEntry.{StoredEntry}
 use Rattle.bufr_walk.specs.Prelude.{FieldSpec, Content, answer_of, bits_for}
 use Rattle.bufr_fill.specs.declared.fault.DraftFault.TheVariants as draft_fault
-use Rattle.bufr_fill.specs.declared.draft.EntryKind.TheVariants as kind
+use Rattle.bufr_fill.specs.declared.draft.ValueKind.TheVariants as kind
 
 -- the index where a subset's entries begin, by the indices of the ends
 abbrev pub begin_of : (from : ℕ) → List ℕ → (subset : ℕ) → ℕ
@@ -27,7 +27,7 @@ entry_line (Ends line) = line
 pub record Cut (from : ℕ) (xs : List DraftEntry) (e : ℕ) (rest : List ℕ) : Type 0 where
   pub items : List Draft
   pub line : ℕ
-  pub place : e ≡ from + length items
+  pub index : e ≡ from + length items
   pub subsets : subsets_of xs ≡ subset items line ∷ subsets_of (drop (suc (length items)) xs)
   pub rest_is : rest ≡ ends_of (suc e) (drop (suc (length items)) xs)
   pub within : length items < length xs
@@ -44,7 +44,7 @@ cut from (Ends line ∷ more) e rest h =
     record {
       items = [];
       line = line;
-      place = omega (arith, at);
+      index = omega (arith, at);
       subsets = refl;
       rest_is = sym suffix ∙ ap (λ n. ends_of n more) (next from ∙ ap suc at);
       within = omega arith;
@@ -58,7 +58,7 @@ cut from (Holds d ∷ more) e rest h =
     record {
       items = d ∷ c.items;
       line = c.line;
-      place = omega (arith, c.place);
+      index = omega (arith, c.index);
       subsets = ap (prepend_to_subset d) c.subsets;
       rest_is = c.rest_is;
       within = omega (arith, c.within);
@@ -102,52 +102,52 @@ length-subsets from (Holds d ∷ more) = length-onto d (subsets_of more) ∙ len
     length-onto d (s ∷ ss) = refl
 
 -- the entry of a subset at an index
-pub record IsSubsetEnd (place s from : ℕ) (xs : List DraftEntry) (ends : List ℕ) (e : ℕ) (c : RowCell) : Type 0 where
+pub record IsSubsetEnd (index s from : ℕ) (xs : List DraftEntry) (ends : List ℕ) (e : ℕ) (c : RowCell) : Type 0 where
   pub begins : from ≤ begin_of from ends s
   pub ends_at : from ≤ e
-  pub there : slice_get xs (min e (begin_of from ends s + place) - from) ≡ Some (entry_or_end c.draft c.end_line)
+  pub there : slice_get xs (min e (begin_of from ends s + index) - from) ≡ Some (entry_or_end c.draft c.end_line)
 
-module _ (place : ℕ) (e : ℕ) (c : RowCell) where
+module _ (index : ℕ) (e : ℕ) (c : RowCell) where
   some_same : (a b : RowCell) → ◌≡◌ {A = Option RowCell} (Some a) (Some b) → a ≡ b
   some_same a b e = cc
 
-  at_first : (from : ℕ) (xs : List DraftEntry) (x : ℕ) (rest : List ℕ) → Cut from xs x rest → Some x ≡ Some e → slice_get (cells_at place (subsets_of xs)) 0 ≡ Some c
-      → IsSubsetEnd place 0 from xs (x ∷ rest) e c
+  at_first : (from : ℕ) (xs : List DraftEntry) (x : ℕ) (rest : List ℕ) → Cut from xs x rest → Some x ≡ Some e → slice_get (cells_at index (subsets_of xs)) 0 ≡ Some c
+      → IsSubsetEnd index 0 from xs (x ∷ rest) e c
   at_first from xs x rest k p q =
       let same : x ≡ e = cc in
-      let cell : ◌≡◌ {A = Option RowCell} (Some (record { draft = slice_get k.items place; end_line = k.line })) (Some c) = sym (ap (λ ss. slice_get (cells_at place ss) 0) k.subsets) ∙ q in
-      let is : record { draft = slice_get k.items place; end_line = k.line } ≡ c = some_same (record { draft = slice_get k.items place; end_line = k.line }) c cell in
-      let m : min e (from + place) - from ≡ min (length k.items) place = omega (arith, same, k.place) in
+      let cell : ◌≡◌ {A = Option RowCell} (Some (record { draft = slice_get k.items index; end_line = k.line })) (Some c) = sym (ap (λ ss. slice_get (cells_at index ss) 0) k.subsets) ∙ q in
+      let is : record { draft = slice_get k.items index; end_line = k.line } ≡ c = some_same (record { draft = slice_get k.items index; end_line = k.line }) c cell in
+      let m : min e (from + index) - from ≡ min (length k.items) index = omega (arith, same, k.index) in
       record {
         begins = omega arith;
-        ends_at = omega (arith, same, k.place);
-        there = ap (slice_get xs) m ∙ k.there place ∙ ap (λ (z : RowCell). Some (entry_or_end z.draft z.end_line)) is;
+        ends_at = omega (arith, same, k.index);
+        there = ap (slice_get xs) m ∙ k.there index ∙ ap (λ (z : RowCell). Some (entry_or_end z.draft z.end_line)) is;
       }
 
-  further : (from : ℕ) (xs : List DraftEntry) (s x : ℕ) (rest : List ℕ) (k : Cut from xs x rest) → IsSubsetEnd place s (suc x) (drop (suc (length k.items)) xs) rest e c
-      → IsSubsetEnd place (suc s) from xs (x ∷ rest) e c
+  further : (from : ℕ) (xs : List DraftEntry) (s x : ℕ) (rest : List ℕ) (k : Cut from xs x rest) → IsSubsetEnd index s (suc x) (drop (suc (length k.items)) xs) rest e c
+      → IsSubsetEnd index (suc s) from xs (x ∷ rest) e c
   further from xs s x rest k r =
-      let m : suc (length k.items) + (min e (begin_of (suc x) rest s + place) - suc x) ≡ min e (begin_of (suc x) rest s + place) - from = omega (arith, k.place, r.begins, r.ends_at) in
+      let m : suc (length k.items) + (min e (begin_of (suc x) rest s + index) - suc x) ≡ min e (begin_of (suc x) rest s + index) - from = omega (arith, k.index, r.begins, r.ends_at) in
       record {
-        begins = omega (arith, k.place, r.begins);
-        ends_at = omega (arith, k.place, r.ends_at);
-        there = ap (slice_get xs) (sym m) ∙ sym (slice_get-drop (suc (length k.items)) xs (min e (begin_of (suc x) rest s + place) - suc x)) ∙ r.there;
+        begins = omega (arith, k.index, r.begins);
+        ends_at = omega (arith, k.index, r.ends_at);
+        there = ap (slice_get xs) (sym m) ∙ sym (slice_get-drop (suc (length k.items)) xs (min e (begin_of (suc x) rest s + index) - suc x)) ∙ r.there;
       }
 
-  subset_end_at : (s from : ℕ) (xs : List DraftEntry) (ends : List ℕ) → ends_of from xs ≡ ends → slice_get ends s ≡ Some e → slice_get (cells_at place (subsets_of xs)) s ≡ Some c
-      → IsSubsetEnd place s from xs ends e c
+  subset_end_at : (s from : ℕ) (xs : List DraftEntry) (ends : List ℕ) → ends_of from xs ≡ ends → slice_get ends s ≡ Some e → slice_get (cells_at index (subsets_of xs)) s ≡ Some c
+      → IsSubsetEnd index s from xs ends e c
   subset_end_at s from xs [] p q r = absurd cc
   subset_end_at zero from xs (x ∷ rest) p q r = at_first from xs x rest (cut from xs x rest p) q r
   subset_end_at (suc s) from xs (x ∷ rest) p q r =
       let k = cut from xs x rest p in
-      further from xs s x rest k (subset_end_at s (suc x) (drop (suc (length k.items)) xs) rest (sym k.rest_is) q (sym (ap (λ ss. slice_get (cells_at place ss) (suc s)) k.subsets) ∙ r))
+      further from xs s x rest k (subset_end_at s (suc x) (drop (suc (length k.items)) xs) rest (sym k.rest_is) q (sym (ap (λ ss. slice_get (cells_at index ss) (suc s)) k.subsets) ∙ r))
 
 -- the entry that the code reads
-pub entry_there : (place s : ℕ) (xs : List DraftEntry) (e : ℕ) (c : RowCell) → slice_get (ends_of 0 xs) s ≡ Some e → slice_get (cells_at place (subsets_of xs)) s ≡ Some c
-    → slice_get xs (min e (begin_of 0 (ends_of 0 xs) s + place)) ≡ Some (entry_or_end c.draft c.end_line)
-entry_there place s xs e c h g =
-    let m : min e (begin_of 0 (ends_of 0 xs) s + place) - 0 ≡ min e (begin_of 0 (ends_of 0 xs) s + place) = omega arith in
-    sym (ap (slice_get xs) m) ∙ (subset_end_at place e c s 0 xs (ends_of 0 xs) refl h g).there
+pub entry_there : (index s : ℕ) (xs : List DraftEntry) (e : ℕ) (c : RowCell) → slice_get (ends_of 0 xs) s ≡ Some e → slice_get (cells_at index (subsets_of xs)) s ≡ Some c
+    → slice_get xs (min e (begin_of 0 (ends_of 0 xs) s + index)) ≡ Some (entry_or_end c.draft c.end_line)
+entry_there index s xs e c h g =
+    let m : min e (begin_of 0 (ends_of 0 xs) s + index) - 0 ≡ min e (begin_of 0 (ends_of 0 xs) s + index) = omega arith in
+    sym (ap (slice_get xs) m) ∙ (subset_end_at index e c s 0 xs (ends_of 0 xs) refl h g).there
 
 -- the ends are indices of entries
 pub end_small : (from : ℕ) (xs : List DraftEntry) (s : ℕ) (z : ℕ) → s < length (ends_of from xs) → get_or (ends_of from xs) s z < from + length xs
@@ -175,21 +175,21 @@ none_end xs e = by (subsets_of xs) (length-subsets 0 xs ∙ ap length e)
     by [] h = refl
     by (s ∷ ss) h = absurd (omega (arith, h))
 
-pub length-cells : (place : ℕ) (ss : List Subset) → length (cells_at place ss) ≡ length ss
-length-cells place [] = refl
-length-cells place (s ∷ ss) = ap suc (length-cells place ss)
+pub length-cells : (index : ℕ) (ss : List Subset) → length (cells_at index ss) ≡ length ss
+length-cells index [] = refl
+length-cells index (s ∷ ss) = ap suc (length-cells index ss)
 
-pub count_cells : (place : ℕ) (xs : List DraftEntry) (ends : List ℕ) → ends ≡ ends_of 0 xs → length (cells_at place (subsets_of xs)) ≡ length ends
-count_cells place xs ends e = length-cells place (subsets_of xs) ∙ length-subsets 0 xs ∙ ap length (sym e)
+pub count_cells : (index : ℕ) (xs : List DraftEntry) (ends : List ℕ) → ends ≡ ends_of 0 xs → length (cells_at index (subsets_of xs)) ≡ length ends
+count_cells index xs ends e = length-cells index (subsets_of xs) ∙ length-subsets 0 xs ∙ ap length (sym e)
 
 pub end_within : (xs : List DraftEntry) (ends : List ℕ) (s : ℕ) → ends ≡ ends_of 0 xs → s < length ends → get_or ends s 0 < length xs
 end_within xs ends s e h = omega (arith, ap (λ l. get_or l s 0) e, end_small 0 xs s 0 (omega (arith, h, ap length e)))
 
 -- the entry that the code finds
-pub found_entry : (place s : ℕ) (xs : List DraftEntry) (ends : List ℕ) (z : ℕ) (begin : ℕ) (e : DraftEntry) → ends ≡ ends_of 0 xs → s < length ends → begin ≡ begin_of 0 ends s
-    → slice_get xs (min (get_or ends s z) (begin + place)) ≡ Some e
-    → (c : RowCell) → slice_get (cells_at place (subsets_of xs)) s ≡ Some c → e ≡ entry_or_end c.draft c.end_line
-found_entry place s xs ends z begin e is h b found c cell = grind (arith, common_steps, slice_get, get_there, entry_there)
+pub found_entry : (index s : ℕ) (xs : List DraftEntry) (ends : List ℕ) (z : ℕ) (begin : ℕ) (e : DraftEntry) → ends ≡ ends_of 0 xs → s < length ends → begin ≡ begin_of 0 ends s
+    → slice_get xs (min (get_or ends s z) (begin + index)) ≡ Some e
+    → (c : RowCell) → slice_get (cells_at index (subsets_of xs)) s ≡ Some c → e ≡ entry_or_end c.draft c.end_line
+found_entry index s xs ends z begin e is h b found c cell = grind (arith, common_steps, slice_get, get_there, entry_there)
 
 pub ends_few : (from : ℕ) (xs : List DraftEntry) → length (ends_of from xs) ≤ length xs
 ends_few from [] = omega arith
@@ -210,19 +210,19 @@ false-true : false ≡ true → ⊥
 false-true e = cc
 
 -- one more entry was examined
-next_of : (xs : List DraftEntry) (place : ℕ) → place < length xs → drop place xs ≡ get_or xs place (Ends 0) ∷ drop (place + 1) xs
-next_of xs place h = drop-cons xs place (Ends 0) h ∙ ap (λ j. get_or xs place (Ends 0) ∷ drop j xs) (sym (add-one place))
+next_of : (xs : List DraftEntry) (index : ℕ) → index < length xs → drop index xs ≡ get_or xs index (Ends 0) ∷ drop (index + 1) xs
+next_of xs index h = drop-cons xs index (Ends 0) h ∙ ap (λ j. get_or xs index (Ends 0) ∷ drop j xs) (sym (add-one index))
 
-pub ends_here : (xs : List DraftEntry) (ends new : List ℕ) (place : ℕ) (b : Bool) → place < length xs → Some b ≡ option_map is_end (slice_get xs place) → b ≡ true → new ≡ ends ++ place ∷ []
-    → ends ++ ends_of place (drop place xs) ≡ ends_of 0 xs → new ++ ends_of (place + 1) (drop (place + 1) xs) ≡ ends_of 0 xs
-ends_here xs ends new place b within is so grown before = grind (arith, common_steps, option_map, slice_get-get_or, next_of, true-false, some-same, append_assoc)
+pub ends_here : (xs : List DraftEntry) (ends new : List ℕ) (index : ℕ) (b : Bool) → index < length xs → Some b ≡ option_map is_end (slice_get xs index) → b ≡ true → new ≡ ends ++ index ∷ []
+    → ends ++ ends_of index (drop index xs) ≡ ends_of 0 xs → new ++ ends_of (index + 1) (drop (index + 1) xs) ≡ ends_of 0 xs
+ends_here xs ends new index b within is so grown before = grind (arith, common_steps, option_map, slice_get-get_or, next_of, true-false, some-same, append_assoc)
 
-pub ends_after : (xs : List DraftEntry) (ends new : List ℕ) (place : ℕ) (b : Bool) → place < length xs → Some b ≡ option_map is_end (slice_get xs place) → b ≡ false → new ≡ ends
-    → ends ++ ends_of place (drop place xs) ≡ ends_of 0 xs → new ++ ends_of (place + 1) (drop (place + 1) xs) ≡ ends_of 0 xs
-ends_after xs ends new place b within is so same before = grind (arith, common_steps, option_map, slice_get-get_or, next_of, false-true, some-same)
+pub ends_after : (xs : List DraftEntry) (ends new : List ℕ) (index : ℕ) (b : Bool) → index < length xs → Some b ≡ option_map is_end (slice_get xs index) → b ≡ false → new ≡ ends
+    → ends ++ ends_of index (drop index xs) ≡ ends_of 0 xs → new ++ ends_of (index + 1) (drop (index + 1) xs) ≡ ends_of 0 xs
+ends_after xs ends new index b within is so same before = grind (arith, common_steps, option_map, slice_get-get_or, next_of, false-true, some-same)
 
-pub ends_done : (xs : List DraftEntry) (ends all : List ℕ) (place : ℕ) → length xs ≤ place → ends ++ ends_of place (drop place xs) ≡ all → ends ≡ all
-ends_done xs ends all place past before = sym (append-nil ends) ∙ ap (λ ys. ends ++ ends_of place ys) (sym (drop_all place xs past)) ∙ before
+pub ends_done : (xs : List DraftEntry) (ends all : List ℕ) (index : ℕ) → length xs ≤ index → ends ++ ends_of index (drop index xs) ≡ all → ends ≡ all
+ends_done xs ends all index past before = sym (append-nil ends) ∙ ap (λ ys. ends ++ ends_of index ys) (sym (drop_all index xs past)) ∙ before
 
 -- ---- The entries of a block and its stored entries.
 
@@ -230,17 +230,22 @@ ends_done xs ends all place past before = sym (append-nil ends) ∙ ap (λ ys. e
 range-after : (xs ys : List ℕ) (j : ℕ) → j ≡ length xs + length ys → slice_range (xs ++ ys) (length xs) j ≡ ys
 range-after xs ys j e = rw (drop-append_seam xs ys) (take_all (j - length xs) ys (omega arith))
 
-placed-append : (k : EntryKind) (line fxy : ℕ) (octets more : List ℕ) (start end : ℕ) → IsPlaced k (length octets) start end
-    → entry_by k line fxy start (slice_range (octets ++ more) start end) ≡ entry_by k line fxy start (slice_range octets start end)
-placed-append (kind.Decimal places negative) line fxy octets more start end h = refl
-placed-append kind.Number line fxy octets more start end h = ap (λ (t : List ℕ). entry_by kind.Number line fxy start t) (range-append octets more start end h.0 h.1)
-placed-append kind.Text line fxy octets more start end h = ap (λ (t : List ℕ). entry_by kind.Text line fxy start t) (range-append octets more start end h.0 h.1)
-placed-append kind.Missing line fxy octets more start end h = refl
-placed-append kind.Reference line fxy octets more start end h = ap (λ (t : List ℕ). entry_by kind.Reference line fxy start t) (range-append octets more start end h.0 h.1)
-placed-append kind.End line fxy octets more start end h = refl
+value-append : (k : ValueKind) (octets more : List ℕ) (start end : ℕ) → AreOctetsInside k (length octets) start end
+    → value_by k start (slice_range (octets ++ more) start end) ≡ value_by k start (slice_range octets start end)
+value-append (kind.Decimal places negative) octets more start end h = refl
+value-append kind.Number octets more start end h = ap number_token (range-append octets more start end h.0 h.1)
+value-append kind.Text octets more start end h = ap text_form (range-append octets more start end h.0 h.1)
+value-append kind.Missing octets more start end h = refl
+value-append kind.Reference octets more start end h = ap reference_token (range-append octets more start end h.0 h.1)
 
-entry-append : (octets more : List ℕ) (one : StoredEntry) → IsEntryInside (length octets) one → entry_stored (octets ++ more) one ≡ entry_stored octets one
-entry-append octets more one inside = placed-append one.kind one.line one.fxy octets more one.start one.end inside
+entry-append : (octets more : List ℕ) (one : StoredEntry) → IsEntryInside (length octets) one
+    → entry_with one (slice_range (octets ++ more) one.start one.end) ≡ entry_with one (slice_range octets one.start one.end)
+entry-append octets more one inside = by one.kind inside
+  where
+    by : (k : Option ValueKind) → IfSome k (λ k. AreOctetsInside k (length octets) one.start one.end)
+        → entry_by k one.line one.fxy one.start (slice_range (octets ++ more) one.start one.end) ≡ entry_by k one.line one.fxy one.start (slice_range octets one.start one.end)
+    by None h = refl
+    by (Some k) h = ap (λ v. Holds (draft one.line one.fxy v)) (value-append k octets more one.start one.end h)
 
 entries-append : (octets more : List ℕ) (cells : List StoredEntry) → AreInside (length octets) cells → entries_stored (octets ++ more) cells ≡ entries_stored octets cells
 entries-append octets more [] all = refl
@@ -248,7 +253,7 @@ entries-append octets more (one ∷ cells) (here, all) = rw (entry-append octets
 
 -- one more entry, with its octets after the block
 pub entries-push : (octets more new : List ℕ) (cells : List StoredEntry) (one : StoredEntry) (e : DraftEntry) → AreInside (length octets) cells → new ≡ octets ++ more → one.start ≡ length octets
-    → one.end ≡ length new → entry_by one.kind one.line one.fxy one.start more ≡ e
+    → one.end ≡ length new → entry_with one more ≡ e
     → entries_stored new (cells ++ one ∷ []) ≡ entries_stored octets cells ++ e ∷ []
 entries-push octets more new cells one e all is from at said = grind (arith, common_steps, length-append, slice_range, range-after, map-append, map, entries-append)
 
@@ -268,23 +273,23 @@ line-with k octets more = grind (arith, common_steps, line-is)
 -- ---- One item that the code wrote, in data that are not compressed.
 
 -- the entries that are left, at an index
-pub next_there : (entries : List DraftEntry) (place : ℕ) (e : DraftEntry) → slice_get entries place ≡ Some e → drop place entries ≡ e ∷ drop (place + 1) entries
-next_there entries place e here =
-    drop-cons entries place e (slice_get_within entries place e here) ∙ ap (λ x. x ∷ drop (suc place) entries) (get_or_from_slice_get entries place e e here)
-    ∙ ap (λ j. e ∷ drop j entries) (sym (add-one place))
+pub next_there : (entries : List DraftEntry) (index : ℕ) (e : DraftEntry) → slice_get entries index ≡ Some e → drop index entries ≡ e ∷ drop (index + 1) entries
+next_there entries index e here =
+    drop-cons entries index e (slice_get_within entries index e here) ∙ ap (λ x. x ∷ drop (suc index) entries) (get_or_from_slice_get entries index e e here)
+    ∙ ap (λ j. e ∷ drop j entries) (sym (add-one index))
 
-pub filled_here : (entries : List DraftEntry) (place : ℕ) (e : DraftEntry) (spec : FieldSpec) (d : FieldContent) (t : Taken) (old new : List Bool) (s : PlainOutModel)
-    → plain_out_model (drop place entries) old ≡ s → slice_get entries place ≡ Some e
-    → Ok (content_drawn (spec.width / 8) d) ≡ entry_here spec e → t ≡ answer_of spec (content_drawn (spec.width / 8) d)
-    → new ≡ old ++ bits_for spec.width (content_drawn (spec.width / 8) d) → length old < length new
-    → IsFilled s spec t (plain_out_model (drop (place + 1) entries) new)
-filled_here entries place (Ends line) spec d t old new s view here drawn gives bits forth = absurd cc
-filled_here entries place (Holds item) spec d t old new s view here drawn gives bits forth =
-    subst (λ z. IsFilled z spec t (plain_out_model (drop (place + 1) entries) new)) view (record {
+pub filled_here : (entries : List DraftEntry) (index : ℕ) (e : DraftEntry) (spec : FieldSpec) (d : FieldContent) (t : Taken) (old new : List Bool) (s : PlainOutModel)
+    → plain_out_model (drop index entries) old ≡ s → slice_get entries index ≡ Some e
+    → Ok (padded_content (spec.width / 8) d) ≡ entry_here spec e → t ≡ answer_of spec (padded_content (spec.width / 8) d)
+    → new ≡ old ++ bits_for spec.width (padded_content (spec.width / 8) d) → length old < length new
+    → IsFilled s spec t (plain_out_model (drop (index + 1) entries) new)
+filled_here entries index (Ends line) spec d t old new s view here said gives bits forth = absurd cc
+filled_here entries index (Holds item) spec d t old new s view here said gives bits forth =
+    subst (λ z. IsFilled z spec t (plain_out_model (drop (index + 1) entries) new)) view (record {
       draft = item;
-      content = content_drawn (spec.width / 8) d;
-      here = next_there entries place (Holds item) here;
-      is = by (content_of spec item) drawn;
+      content = padded_content (spec.width / 8) d;
+      here = next_there entries index (Holds item) here;
+      is = by (content_of spec item) said;
       gives = gives;
       bits = bits;
       forth = forth;
@@ -295,12 +300,12 @@ filled_here entries place (Holds item) spec d t old new s view here drawn gives 
     by (Err why) h = absurd cc
 
 -- what a writer has left, by the entry that the code found
-pub left_there : (entries : List DraftEntry) (place : ℕ) (old : List Bool) (s : PlainOutModel) (e : DraftEntry) → plain_out_model (drop place entries) old ≡ s → Some e ≡ slice_get entries place
-    → s.left ≡ e ∷ drop (place + 1) entries
-left_there entries place old s e view here = grind (arith, common_steps, next_there)
+pub left_there : (entries : List DraftEntry) (index : ℕ) (old : List Bool) (s : PlainOutModel) (e : DraftEntry) → plain_out_model (drop index entries) old ≡ s → Some e ≡ slice_get entries index
+    → s.left ≡ e ∷ drop (index + 1) entries
+left_there entries index old s e view here = grind (arith, common_steps, next_there)
 
-pub left_none : (entries : List DraftEntry) (place : ℕ) (old : List Bool) (s : PlainOutModel) → plain_out_model (drop place entries) old ≡ s → None ≡ slice_get entries place → s.left ≡ []
-left_none entries place old s view here = sym (ap (λ (p : PlainOutModel). p.left) view) ∙ drop_all place entries (none_there entries place here)
+pub left_none : (entries : List DraftEntry) (index : ℕ) (old : List Bool) (s : PlainOutModel) → plain_out_model (drop index entries) old ≡ s → None ≡ slice_get entries index → s.left ≡ []
+left_none entries index old s view here = sym (ap (λ (p : PlainOutModel). p.left) view) ∙ drop_all index entries (none_there entries index here)
 
 -- the fault at the next entry
 pub item_fault : (spec : FieldSpec) (more : List DraftEntry) (fault : DraftFault) (e : DraftEntry) → Err fault ≡ entry_here spec e
@@ -315,21 +320,21 @@ item_fault spec more (draft_fault.Item line fault) (Holds d) is = by (content_of
     by (Err why) e h = (why, e, cc)
 
 -- the end of a subset is next
-pub end_next : (entries : List DraftEntry) (place : ℕ) (old : List Bool) (s : PlainOutModel) (e : DraftEntry) → plain_out_model (drop place entries) old ≡ s → Some e ≡ slice_get entries place
-    → is_end e ≡ true → after_end s.left ≡ Ok (drop (place + 1) entries)
-end_next entries place old s (Ends line) view here is = ap after_end (left_there entries place old s (Ends line) view here)
-end_next entries place old s (Holds d) view here is = absurd cc
+pub end_next : (entries : List DraftEntry) (index : ℕ) (old : List Bool) (s : PlainOutModel) (e : DraftEntry) → plain_out_model (drop index entries) old ≡ s → Some e ≡ slice_get entries index
+    → is_end e ≡ true → after_end s.left ≡ Ok (drop (index + 1) entries)
+end_next entries index old s (Ends line) view here is = ap after_end (left_there entries index old s (Ends line) view here)
+end_next entries index old s (Holds d) view here is = absurd cc
 
 -- one more item is next, or nothing
-pub item_next : (entries : List DraftEntry) (place : ℕ) (old : List Bool) (s : PlainOutModel) (e : DraftEntry) → plain_out_model (drop place entries) old ≡ s → Some e ≡ slice_get entries place
+pub item_next : (entries : List DraftEntry) (index : ℕ) (old : List Bool) (s : PlainOutModel) (e : DraftEntry) → plain_out_model (drop index entries) old ≡ s → Some e ≡ slice_get entries index
     → is_end e ≡ false → after_end s.left ≡ Err (at_line (line_at s.left) item_too_many)
-item_next entries place old s (Ends line) view here is = absurd cc
-item_next entries place old s (Holds d) view here is =
-    let left = left_there entries place old s (Holds d) view here in
+item_next entries index old s (Ends line) view here is = absurd cc
+item_next entries index old s (Holds d) view here is =
+    let left = left_there entries index old s (Holds d) view here in
     ap after_end left ∙ ap (λ l. Err (at_line (line_at l) item_too_many)) (sym left)
 
-pub none_next : (entries : List DraftEntry) (place : ℕ) (old : List Bool) (s : PlainOutModel) → plain_out_model (drop place entries) old ≡ s → None ≡ slice_get entries place
+pub none_next : (entries : List DraftEntry) (index : ℕ) (old : List Bool) (s : PlainOutModel) → plain_out_model (drop index entries) old ≡ s → None ≡ slice_get entries index
     → after_end s.left ≡ Err (at_line (line_at s.left) item_too_many)
-none_next entries place old s view here =
-    let left = left_none entries place old s view here in
+none_next entries index old s view here =
+    let left = left_none entries index old s view here in
     ap after_end left ∙ ap (λ l. Err (at_line (line_at l) item_too_many)) (sym left)

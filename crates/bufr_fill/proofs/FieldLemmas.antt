@@ -1,21 +1,21 @@
 -- An item as the content of its field, and the bits of a content.
 use Rattle.std.proofs.lemmas.Grind.{common_steps}
-use Rattle.std.proofs.Common.{Result, Ok, ◌≡◌, ℕ, zero, suc, ◌+◌, ◌-◌, ◌*◌, ◌/◌, ◌%◌, ◌^◌, ◌<◌, ◌≤◌, ◌&&◌, eqb, Bool, true, false, List, [], ◌∷◌, ◌++◌, length, take, drop, replicate, get_or, refl, sym, ◌∙◌, ap, subst, arith, ℤ, pos, negsuc, neg_ℤ, nat_abs, mod-eq_of_lt, Ok, Err, pow_mono, ◌<ℤ◌, ◌≤ℤ◌, not, ◌==◌, if◌then◌else◌, nat_lt, unsigned_abs}
+use Rattle.std.proofs.Common.{Result, Ok, ◌≡◌, ℕ, zero, suc, ◌+◌, ◌-◌, ◌*◌, ◌/◌, ◌%◌, ◌^◌, ◌<◌, ◌≤◌, ◌&&◌, eqb, Bool, true, false, List, [], ◌∷◌, ◌++◌, length, take, drop, replicate, get_or, refl, sym, ◌∙◌, ap, subst, arith, ℤ, pos, negsuc, neg_ℤ, nat_abs, mod-eq_of_lt, Ok, Err, pow_mono, ◌<ℤ◌, ◌≤ℤ◌, not, ◌==◌, if◌then◌else◌, nat_lt, unsigned_abs, Some}
 use Rattle.std.specs.List.{list_all}
+use Rattle.bufr_fill.specs.declared.draft.StoredEntry.{StoredEntry}
 use Rattle.bufr_bits.proofs.DecimalLemmas.{and_second}
 use Rattle.std.proofs.lemmas.List.{nil_from_length, take-append-drop, take_at, drop_at, length-replicate, length-take-le, length-drop, append-nil, take-replicate, drop-replicate}
 use Rattle.std.proofs.lemmas.Bool.Decides.{nat_tests}
 use Rattle.std.proofs.lemmas.Nat.{shr_high}
 use Rattle.bufr_bits.specs.Prelude.{bits_of, bits_of_octet, bits_in, number_after_bits, number_of, are_all_ones}
 use Rattle.bufr_bits.proofs.BitLemmas.{are_all_ones-bits_of, bit, number_after_bits-is, number_of-below, number-bits_of_octet, length-bits_of, bits_in-above, bits_in-octet, length-bits_in, number_of-bits_in, are_all_ones-number, and_false}
-use Rattle.bufr_walk.specs.Prelude.{HasWidth, HasMissing, FieldSpec, is_reference, Content, number, text, missing, reference, octets_in, signed_by, said_by, sign_bit, bits_for, answer_of, answer_by_role, count_in, reference_in}
-use Rattle.bufr_fill.specs.Prelude.{EntryKind, Kind, AreOctets, FitsKind, raw_limit, is_of, is_marked, wrong_for, content_of, content_by_form, Draft, draft, number_token, text_form, missing_form, reference_token, DraftEntry, Holds, Ends, at_line_if_fault, entry_by, value_by, is_end, is_entry_of, entry_here}
+use Rattle.bufr_walk.specs.Prelude.{HasWidth, HasMissing, FieldSpec, is_reference, Content, number, text, missing, octets_in, signed_by, said_by, sign_bit, bits_for, answer_of, answer_by_role, count_in, reference_in}
+use Rattle.bufr_fill.specs.Prelude.{Kind, AreOctets, FitsKind, raw_limit, is_of, is_marked, wrong_for, content_by_form, Draft, draft, ValueKind, value_by, entry_by, entry_with, entry_here, at_line_if_fault}
 use Rattle.std.proofs.lemmas.Int.{ints}
 use Rattle.std.proofs.lemmas.Bool.{false≢true, eq-eqb, eqb-true}
 use Rattle.bufr_tables.specs.declared.table_b.Kind.TheVariants as kind
 use Rattle.bufr_walk.specs.declared.spec.Role.TheVariants as role
 use Rattle.bufr_walk.specs.declared.spec.Taken.TheVariants as taken
-use Rattle.bufr_fill.specs.declared.draft.EntryKind.TheVariants as entry_kind
 
 -- a number that fits its bits is written in them
 pub number_again : (v w : ℕ) → v < 2 ^ w → number_of (bits_in v w) ≡ v
@@ -142,47 +142,31 @@ module _ (w : ℕ) where
 
   -- what is written by kind reads the same
   pub kind_back : (k : Kind) (m : Bool) (c : Content) → HasWidth k w → HasMissing k m → FitsKind k m w c → (if are_all_ones (bits_for w c) && m then missing else said_by k w (bits_for w c)) ≡ c
-  kind_back kind.Character m (number raw) hw hm h = absurd h
-  kind_back kind.Character m (reference v) hw hm h = absurd h
   kind_back kind.Character m missing hw hm h = chosen_yes (are_all_ones (replicate w true) && m) _ (missing_back m hm)
   kind_back kind.Character m (text octets) hw hm h =
       chosen_no (are_all_ones (bits_of octets) && m) (text (octets_in (w / 8) (bits_of octets))) (text octets) (text_back m octets h.1 h.2)
       (ap (λ n. text (octets_in n (bits_of octets))) (sym h.0) ∙ ap text (octets_again octets h.1))
-  kind_back kind.Coded m (number raw) hw hm h = chosen_no (are_all_ones (bits_in raw w) && m) (number (number_of (bits_in raw w))) (number raw) (number_back m raw h)
+  kind_back kind.Character m c hw hm h = absurd h
+  kind_back k m (number raw) hw hm h = chosen_no (are_all_ones (bits_in raw w) && m) (number (number_of (bits_in raw w))) (number raw) (number_back m raw h)
       (ap number (number_again raw w (top_below m w raw h)))
-  kind_back kind.Coded m (reference v) hw hm h = absurd h
-  kind_back kind.Coded m missing hw hm h = chosen_yes (are_all_ones (replicate w true) && m) _ (missing_back m h)
-  kind_back kind.Coded m (text octets) hw hm h = absurd h
-  kind_back kind.Numeric m (number raw) hw hm h = chosen_no (are_all_ones (bits_in raw w) && m) (number (number_of (bits_in raw w))) (number raw) (number_back m raw h)
-      (ap number (number_again raw w (top_below m w raw h)))
-  kind_back kind.Numeric m (reference v) hw hm h = absurd h
-  kind_back kind.Numeric m missing hw hm h = chosen_yes (are_all_ones (replicate w true) && m) _ (missing_back m h)
-  kind_back kind.Numeric m (text octets) hw hm h = absurd h
+  kind_back k m missing hw hm h = chosen_yes (are_all_ones (replicate w true) && m) _ (missing_back m h)
+  kind_back k m c hw hm h = absurd h
 
   eighths : w % 8 ≡ 0 → 8 * (w / 8) ≡ w
   eighths h = omega arith
 
   pub kind_length : (k : Kind) (m : Bool) (c : Content) → HasWidth k w → FitsKind k m w c → length (bits_for w c) ≡ w
-  kind_length kind.Character m (number raw) hw h = absurd h
-  kind_length kind.Character m (reference v) hw h = absurd h
   kind_length kind.Character m missing hw h = length-replicate w true
   kind_length kind.Character m (text octets) hw h = length-bits_of octets ∙ ap (λ n. 8 * n) h.0 ∙ eighths hw.2
-  kind_length kind.Coded m (number raw) hw h = length-bits_in raw w
-  kind_length kind.Coded m (reference v) hw h = absurd h
-  kind_length kind.Coded m missing hw h = length-replicate w true
-  kind_length kind.Coded m (text octets) hw h = absurd h
-  kind_length kind.Numeric m (number raw) hw h = length-bits_in raw w
-  kind_length kind.Numeric m (reference v) hw h = absurd h
-  kind_length kind.Numeric m missing hw h = length-replicate w true
-  kind_length kind.Numeric m (text octets) hw h = absurd h
+  kind_length kind.Character m c hw h = absurd h
+  kind_length k m (number raw) hw h = length-bits_in raw w
+  kind_length k m missing hw h = length-replicate w true
+  kind_length k m c hw h = absurd h
 
   fits_said : (b : Bool) (k : Kind) (m : Bool) (bits : List Bool) → length bits ≡ w → HasWidth k w → HasMissing k m → (are_all_ones bits && m) ≡ b
       → FitsKind k m w (if b then missing else said_by k w bits)
   fits_said true kind.Character m bits l hw hm e = tt
-  fits_said true kind.Coded m bits l hw hm e = and_second (are_all_ones bits) m e
-  fits_said true kind.Numeric m bits l hw hm e = and_second (are_all_ones bits) m e
-  fits_said false kind.Coded m bits l hw hm e = below_top m bits w l e
-  fits_said false kind.Numeric m bits l hw hm e = below_top m bits w l e
+  fits_said true k m bits l hw hm e = and_second (are_all_ones bits) m e
   fits_said false kind.Character m bits l hw hm e =
       let whole : length bits ≡ 8 * (w / 8) = l ∙ sym (eighths hw.2) in
       let are : AreOctets (octets_in (w / 8) bits) = octets_in-are (w / 8) bits whole in
@@ -192,6 +176,7 @@ module _ (w : ℕ) where
       and_true : (b : Bool) → b ≡ (b && true)
       and_true true = refl
       and_true false = refl
+  fits_said false k m bits l hw hm e = below_top m bits w l e
 
   -- the content of bits is one that the field can have
   pub kind_fits : (k : Kind) (m : Bool) (bits : List Bool) → length bits ≡ w → HasWidth k w → HasMissing k m → FitsKind k m w (if are_all_ones bits && m then missing else said_by k w bits)
@@ -294,36 +279,15 @@ eighths_ones w h = let e : 8 * (w / 8) ≡ w = omega arith in ap (λ n. replicat
 -- ---- An item as the content of its field, as the code converts it.
 
 -- an item of a field has the field's mark
-marks : (spec : FieldSpec) (d : Draft) → is_of spec d ≡ true → is_reference spec.role ≡ is_marked d.form
+pub marks : (spec : FieldSpec) (d : Draft) → is_of spec d ≡ true → is_reference spec.role ≡ is_marked d.form
 marks spec d h = grind (arith, common_steps, and_second, not)
 
--- an item of a field has its value's content
-content_there : (spec : FieldSpec) (d : Draft) → is_of spec d ≡ true → content_of spec d ≡ content_by_form d.form spec
-content_there spec d h = ap (λ b. if b then content_by_form d.form spec else Err (wrong_for spec)) h
-
--- the same of an entry, by its kind
-pub marks_at : (spec : FieldSpec) (k : EntryKind) (line fxy digits : ℕ) (octets : List ℕ) → is_entry_of spec (entry_by k line fxy digits octets) ≡ true
-    → is_reference spec.role ≡ is_marked (value_by k digits octets)
-marks_at spec (entry_kind.Decimal places negative) line fxy digits octets h = marks spec (draft line fxy (value_by (entry_kind.Decimal places negative) digits octets)) h
-marks_at spec entry_kind.Number line fxy digits octets h = marks spec (draft line fxy (number_token octets)) h
-marks_at spec entry_kind.Text line fxy digits octets h = marks spec (draft line fxy (text_form octets)) h
-marks_at spec entry_kind.Missing line fxy digits octets h = marks spec (draft line fxy missing_form) h
-marks_at spec entry_kind.Reference line fxy digits octets h = marks spec (draft line fxy (reference_token octets)) h
-marks_at spec entry_kind.End line fxy digits octets h = absurd cc
-
-pub no_end : (spec : FieldSpec) (e : DraftEntry) → is_entry_of spec e ≡ true → is_end e ≡ false
-no_end spec (Holds d) h = refl
-no_end spec (Ends line) h = absurd cc
-
-pub content_at : (spec : FieldSpec) (k : EntryKind) (line fxy digits : ℕ) (octets : List ℕ) → is_entry_of spec (entry_by k line fxy digits octets) ≡ true
-    → at_line_if_fault line (content_by_form (value_by k digits octets) spec) ≡ entry_here spec (entry_by k line fxy digits octets)
-content_at spec (entry_kind.Decimal places negative) line fxy digits octets h =
-    sym (ap (at_line_if_fault line) (content_there spec (draft line fxy (value_by (entry_kind.Decimal places negative) digits octets)) h))
-content_at spec entry_kind.Number line fxy digits octets h = sym (ap (at_line_if_fault line) (content_there spec (draft line fxy (number_token octets)) h))
-content_at spec entry_kind.Text line fxy digits octets h = sym (ap (at_line_if_fault line) (content_there spec (draft line fxy (text_form octets)) h))
-content_at spec entry_kind.Missing line fxy digits octets h = sym (ap (at_line_if_fault line) (content_there spec (draft line fxy missing_form) h))
-content_at spec entry_kind.Reference line fxy digits octets h = sym (ap (at_line_if_fault line) (content_there spec (draft line fxy (reference_token octets)) h))
-content_at spec entry_kind.End line fxy digits octets h = absurd cc
+-- the content of an item's entry is that of its value, where it is of the field
+pub entry_is : (spec : FieldSpec) (e : StoredEntry) (octets : List ℕ) (k : ValueKind) (b : Bool) → e.kind ≡ Some k → is_of spec (draft e.line e.fxy (value_by k e.start octets)) ≡ b
+    → entry_here spec (entry_with e octets) ≡ at_line_if_fault e.line (if b then content_by_form (value_by k e.start octets) spec else Err (wrong_for spec))
+entry_is spec e octets k b is of =
+    ap (λ k. entry_here spec (entry_by k e.line e.fxy e.start octets)) is
+    ∙ ap (λ b. at_line_if_fault e.line (if b then content_by_form (value_by k e.start octets) spec else Err (wrong_for spec))) of
 
 -- what each role returns to the walk
 pub answer_element : (spec : FieldSpec) (c : Content) → spec.role ≡ role.Element → taken.Plain ≡ answer_of spec c
@@ -339,6 +303,6 @@ pub answer_reference : (spec : FieldSpec) (c : Content) (v : ℤ) → spec.role 
 answer_reference spec c v e h = ap taken.Reference h ∙ sym (ap (λ r. answer_by_role r c) e)
 
 -- a number is written in at most 63 bits
-pub drawn_narrow : (m : Bool) (w raw : ℕ) → raw < raw_limit m w → raw < 2 ^ w
-drawn_narrow true w raw h = omega (arith, h)
-drawn_narrow false w raw h = h
+pub content_narrow : (m : Bool) (w raw : ℕ) → raw < raw_limit m w → raw < 2 ^ w
+content_narrow true w raw h = omega (arith, h)
+content_narrow false w raw h = h

@@ -1,55 +1,52 @@
 -- Items that were read in one form are written in the other so that they are read again.
-use Rattle.std.proofs.lemmas.Grind.{common_steps}
 use Rattle.std.proofs.lemmas.Slice.Zip.{AllZip-long}
-use Rattle.std.proofs.Common.{◌≡◌, ℕ, ◌+◌, ◌*◌, ◌≤◌, Bool, false, List, [], ◌∷◌, length, Option, Some, None, Ok, Err, refl, sym, ◌∙◌, ap, subst, arith, zero, suc, ◌<◌, true, ◌++◌, Result, append_assoc, ◌⊎◌, inl, inr, max, drop, if◌then◌else◌, slice_get}
+use Rattle.std.proofs.Common.{◌≡◌, ℕ, ◌+◌, ◌*◌, ◌≤◌, Bool, false, List, [], ◌∷◌, length, Ok, Err, refl, sym, ◌∙◌, ap, subst, arith, zero, suc, ◌<◌, true, ◌++◌, Result, append_assoc, ◌⊎◌, inl, inr, max, drop, if◌then◌else◌, slice_get, flat_map}
 use Rattle.std.specs.List.{AllByRecursion, AllZip}
 use Rattle.std.proofs.lemmas.Bool.{le-ltb}
-use Rattle.bufr_walk.specs.Prelude.{FieldSpec, IsSpec, Content, found, bits_for, answer_by_role, answer_of, FieldFault, plain_field, missing, data_end, increment, unequal_factor, packed_field, answer_first, max_values, Item, packed, plain, after, ReadsPass, ReadsSubsets, IsPackedReading, content_at, Course, take_next, at_end, subsets_from, items_of_subset}
-use Rattle.bufr_fill.specs.Prelude.{ItemFault, plainly, Taken, Role, packing, same, are_same, packed_bits, packed_unlike, written_item, fill, with_bits_before, plain_filler, RowCell, ItemRow, at_line_if_fault, content_here, contents_here, packed_to, pack_across, packed_filler, first_line, unlike_line, ◌>>=◌, plain_data, item_row, cells_at, rows, longest, packing_fault, are_many, packed_data, Fits, AllFit, IsWrittenApart, IsDumped, AreDrafts, AreDumped, IsUnlike, IsTogetherOrNot, Draft, Subset, at_line, too_many_values, content_of}
+use Rattle.std.proofs.lemmas.List.{length-append}
+use Rattle.bufr_walk.specs.Prelude.{FieldSpec, IsSpec, Content, found, bits_for, answer_by_role, answer_of, FieldFault, plain_field, missing, unequal_factor, packed_field, answer_first, max_values, Item, packed, plain, after, ReadsPass, ReadsSubsets, IsPackedReading, content_at, Course, take_next, at_end, subsets_from, items_of_subset}
+use Rattle.bufr_fill.specs.Prelude.{ItemFault, plainly, Taken, Role, packing, same, are_same, packed_bits, packed_unlike, written_item, fill, with_bits_before, plain_filler, RowCell, ItemRow, at_line_if_fault, content_here, contents_here, packed_to, pack_across, packed_filler, first_line, unlike_line, ◌>>=◌, plain_data, item_row, cells_at, rows, longest, packing_fault, are_many, packed_data, Fits, AllFit, IsWrittenApart, IsDumped, AreDrafts, AreDumped, IsSaid, AreSaid, IsUnlike, IsTogetherOrNot, Draft, Subset, at_line, too_many_values, content_of}
 use Rattle.bufr_fill.proofs.FillSteps.{filled, fill_more, fill_end, plain_both}
-use Rattle.bufr_fill.proofs.PlainLaws.{IsCellOf, AreCellsOf, IsDumpedAcross, IsRewritten, draft_again, same_draft, AllSpecs, plain_again, EachSpecs, width_least, plain_read}
+use Rattle.bufr_fill.proofs.PlainLaws.{IsSaidRow, item_bits, join, IsRewritten, draft_again, same_draft, AllSpecs, plain_again, EachSpecs, width_least, plain_read, content_length}
 use Rattle.bufr_fill.proofs.PackedLaws.{packed_again, packed_count, fitting_again}
 use Rattle.bufr_bits.proofs.DecimalLemmas.{and_first, and_second}
 use Rattle.bufr_fill.proofs.LeastLemmas.{content_same}
 use Rattle.bufr_fill.specs.declared.fault.ItemFault.TheVariants as wrong
 use Rattle.bufr_walk.specs.declared.spec.Role.TheVariants as role
 
-one_here : (spec : FieldSpec) → IsSpec spec → (c : Content) (d : Option Draft) (end_line : ℕ) → Fits spec c → IsCellOf spec c d → content_here spec d end_line ≡ Ok c
-one_here spec good c None end_line fits h = absurd h
-one_here spec good c (Some d) end_line fits h = ap (at_line_if_fault d.line) (ap (content_of spec) (same_draft spec c d h) ∙ draft_again spec good d.line c fits)
+-- the contents of a row are packed
+pub across : (spec : FieldSpec) (cs : List Content) (a : ItemRow) → contents_here spec a.cells ≡ Ok cs → (a.index + 1) * length a.cells ≤ max_values
+    → pack_across spec a ≡ packed_to cs a.cells (packing spec cs)
+across spec cs a contents few =
+    ap (λ b. if b then Err (at_line (first_line a.cells) (too_many_values spec.fxy)) else (contents_here spec a.cells >>= λ xs. packed_to xs a.cells (packing spec xs)))
+    (le-ltb max_values ((a.index + 1) * length a.cells) few)
+    ∙ ap (λ r. r >>= λ xs. packed_to xs a.cells (packing spec xs)) contents
 
-pub all_here : (spec : FieldSpec) → IsSpec spec → (cs : List Content) (cells : List RowCell) → AllFit spec cs → AreCellsOf spec cs cells → contents_here spec cells ≡ Ok cs
-all_here spec good [] [] fits h = refl
-all_here spec good [] (cell ∷ cells) fits h = absurd h
-all_here spec good (c ∷ cs) [] fits h = absurd h
-all_here spec good (c ∷ cs) (cell ∷ cells) fits h =
-    ap (λ r. r >>= λ first. contents_here spec cells >>= λ rest. Ok (first ∷ rest)) (one_here spec good c cell.draft cell.end_line fits.0 h.0)
-    ∙ ap (λ r. r >>= λ rest. Ok (c ∷ rest)) (all_here spec good cs cells fits.1 h.1)
+abbrev pub bits_or_none : Result (List Bool) FieldFault → List Bool
+bits_or_none (Ok bits) = bits
+bits_or_none (Err why) = []
 
-across_again : (n : ℕ) (spec : FieldSpec) → IsSpec spec → (cs : List Content) (a : ItemRow) (out : List Bool) → AllFit spec cs → AreCellsOf spec cs a.cells → length a.cells ≡ n
-    → (a.place + 1) * n ≤ max_values → packing spec cs ≡ Ok out → pack_across spec a ≡ Ok (written_item cs out)
-across_again n spec good cs a out fits cells total few e = grind (arith, common_steps, le-ltb, all_here)
+-- the bits of an item of compressed data
+abbrev pub row_bits : Item (List Content) → List Bool
+row_bits i = bits_or_none (packing i.spec i.content)
 
 -- the field law of compressed data
-pub packed_rewritten : (n : ℕ) (end_line : ℕ) (many : Bool) → 1 ≤ n → (i : Item (List Content)) (a : ItemRow) (bits mid : List Bool) → IsSpec i.spec → IsDumpedAcross n i a
-    → packed_field n i.spec bits ≡ Ok (found i.content mid) → IsRewritten (packed n) (packed_filler end_line many) i a bits mid
-packed_rewritten n end_line many some i a bits mid good dumped e = by_content i.content refl
+pub packed_rewritten : (n : ℕ) (end_line : ℕ) (many : Bool) → 1 ≤ n → (i : Item (List Content)) (a : ItemRow) (bits mid : List Bool) → IsSpec i.spec → IsSaidRow i a
+    → packed_field n i.spec bits ≡ Ok (found i.content mid) → IsRewritten (packed n) (packed_filler end_line many) i a (row_bits i) bits mid
+packed_rewritten n end_line many some i a bits mid good row e = let r = by i.content e in record {
+  fills = across i.spec i.content a row.contents row.few ∙ r.0;
+  again = r.1;
+  short = r.2;
+}
   where
-    no_cells : (cells : List RowCell) → AreCellsOf i.spec [] cells → length cells ≡ 0
-    no_cells [] h = refl
-    no_cells (c ∷ cs) h = absurd h
-
-    by_content : (cs : List Content) → i.content ≡ cs → IsRewritten (packed n) (packed_filler end_line many) i a bits mid
-    by_content [] q = absurd (omega (arith, some, dumped.total, no_cells a.cells (subst (λ xs. AreCellsOf i.spec xs a.cells) q dumped.cells)))
-    by_content (c ∷ cs) q =
-        let p = packed_again n i.spec good c cs bits mid (e ∙ ap (λ xs. Ok (found xs mid)) q) in
-        record {
-          out = p.2.out;
-          fills = across_again n i.spec good (c ∷ cs) a p.2.out p.2.fits (subst (λ xs. AreCellsOf i.spec xs a.cells) q dumped.cells) dumped.total dumped.few p.2.is
-              ∙ ap (λ xs. Ok (written_item xs p.2.out)) (sym q);
-          again = λ more. p.2.again more ∙ ap (λ xs. Ok (found xs more)) (sym q);
-          short = omega (arith, p.1, p.2.short);
-        }
+    by : (cs : List Content) → packed_field n i.spec bits ≡ Ok (found cs mid)
+        → (packed_to cs a.cells (packing i.spec cs) ≡ Ok (written_item cs (bits_or_none (packing i.spec cs))))
+        × ((more : List Bool) → packed_field n i.spec (bits_or_none (packing i.spec cs) ++ more) ≡ Ok (found cs more))
+        × (length (bits_or_none (packing i.spec cs)) + length mid ≤ length bits)
+    by [] q = absurd (omega (arith, some, packed_count n i.spec good [] bits mid q))
+    by (c ∷ cs) q =
+        let p = packed_again n i.spec good c cs bits mid q in
+        rw p.2.is (refl, p.2.again, omega (arith, p.1, p.2.short))
 
 -- Items that fit their fields are written subset after subset so that they are read again. Those of
 -- compressed data are such items.
@@ -61,71 +58,74 @@ abbrev pub Follows : Course → List (Item Content) → Type 0
 Follows course [] = (course []).next ≡ at_end
 Follows course (i ∷ items) = ((course []).next ≡ take_next i.spec) × IsSpec i.spec × Fits i.spec i.content × Follows (after plain course i) items
 
-pub record IsPlainSubset (end_line : ℕ) (course : Course) (items : List (Item Content)) (ds : List Draft) : Type 0 where
-  pub out : List Bool
-  pub fills : fill (plain_filler end_line) course ds ≡ Ok out
-  pub again : (more : List Bool) → ReadsPass plain course items (out ++ more) more
+-- the drafts with the contents of items are written, and read again
+pub record ArePlain (end_line : ℕ) (course : Course) (items : List (Item Content)) (ds : List Draft) : Type 0 where
+  pub fills : fill (plain_filler end_line) course ds ≡ Ok (flat_map item_bits items)
+  pub again : (more : List Bool) → ReadsPass plain course items (flat_map item_bits items ++ more) more
 
--- the bits of the first item, and those of the rest
-join : (end_line : ℕ) (course : Course) (i : Item Content) (d : Draft) (ds : List Draft) (w out : List Bool) → (course []).next ≡ take_next i.spec → content_of i.spec d ≡ Ok i.content
-    → bits_for i.spec.width i.content ≡ w
-    → fill (plain_filler end_line) (after plain course i) ds ≡ Ok out → fill (plain_filler end_line) course (d ∷ ds) ≡ Ok (w ++ out)
-join end_line course i d ds w out next fills bits rest =
-    fill_more (plain_filler end_line) course d ds i.spec (plainly d.line i.spec (Ok i.content)) next (ap (plainly d.line i.spec) fills)
-    ∙ ap (with_bits_before (plain_filler end_line) (bits_for i.spec.width i.content)) rest ∙ ap (λ x. Ok (x ++ out)) bits
-
-pub plain_subset : (end_line : ℕ) (course : Course) (items : List (Item Content)) (ds : List Draft) → Follows course items → AreDrafts IsDumped items ds → IsPlainSubset end_line course items ds
-plain_subset end_line course [] [] h dumped = record {
-  out = [];
-  fills = fill_end (plain_filler end_line) course h;
-  again = λ more. (refl, h);
-}
-plain_subset end_line course [] (d ∷ ds) h dumped = absurd dumped
-plain_subset end_line course (i ∷ items) [] h dumped = absurd dumped
-plain_subset end_line course (i ∷ items) (d ∷ ds) h dumped =
-    let here = bits_for i.spec.width i.content in
-    let rest = plain_subset end_line (after plain course i) items ds h.3 dumped.1 in
-    let fills : content_of i.spec d ≡ Ok i.content = ap (content_of i.spec) (same_draft i.spec i.content d dumped.0) ∙ draft_again i.spec h.1 d.line i.content h.2 in
+pub plain_subset : (end_line : ℕ) (course : Course) (items : List (Item Content)) (ds : List Draft) → Follows course items → AreDrafts IsSaid items ds → ArePlain end_line course items ds
+plain_subset end_line course [] [] h said = record { fills = fill_end (plain_filler end_line) course h; again = λ more. (refl, h) }
+plain_subset end_line course (i ∷ items) (d ∷ ds) h said =
+    let first = item_bits i in
+    let others = flat_map item_bits items in
+    let rest = plain_subset end_line (after plain course i) items ds h.3 said.1 in
     record {
-      out = here ++ rest.out;
-      fills = join end_line course i d ds here rest.out h.0 fills refl rest.fills;
+      fills = join plain (plain_filler end_line) (λ spec c. refl) course i d ds first others h.0 (ap (plainly d.line i.spec) said.0) rest.fills;
       again = λ more. let r = rest.again more in (
         (
-          rest.out ++ more,
+          others ++ more,
           h.0,
-          subst (λ bits. plain_field i.spec bits ≡ Ok (found i.content (rest.out ++ more))) (sym (append_assoc here rest.out more)) (plain_again i.spec h.1 i.content h.2 (rest.out ++ more)),
+          subst (λ bits. plain_field i.spec bits ≡ Ok (found i.content (others ++ more))) (sym (append_assoc first others more)) (plain_again i.spec h.1 i.content h.2 (others ++ more)),
           r.0,
         ),
         r.1,
       );
     }
+plain_subset end_line course items ds h said = absurd said
 
 -- ---- all subsets
 
 abbrev pub AllFollow : Course → List (List (Item Content)) → Type 0
 AllFollow course subsets = AllByRecursion (λ (items : List (Item Content)). Follows course items) subsets
 
-record ArePlain (course : Course) (subsets : List (List (Item Content))) (drafts : List Subset) : Type 0 where
-  out : List Bool
-  is : plain_data course drafts ≡ Ok out
-  again : (more : List Bool) → ReadsSubsets course subsets (out ++ more) more
+abbrev pub subset_bits : List (List (Item Content)) → List Bool
+subset_bits subsets = flat_map (flat_map item_bits) subsets
 
-plain_subsets : (course : Course) (subsets : List (List (Item Content))) (drafts : List Subset) → AllFollow course subsets → AreDumped subsets drafts → ArePlain course subsets drafts
-plain_subsets course [] [] h dumped = record { out = []; is = refl; again = λ more. refl }
-plain_subsets course [] (s ∷ ss) h dumped = absurd dumped
-plain_subsets course (items ∷ subsets) [] h dumped = absurd dumped
-plain_subsets course (items ∷ subsets) (s ∷ ss) h dumped =
-    let first = plain_subset s.end_line course items s.items h.0 dumped.0 in
-    let rest = plain_subsets course subsets ss h.1 dumped.1 in
+pub record AreAllPlain (course : Course) (subsets : List (List (Item Content))) (drafts : List Subset) : Type 0 where
+  pub is : plain_data course drafts ≡ Ok (subset_bits subsets)
+  pub again : (more : List Bool) → ReadsSubsets course subsets (subset_bits subsets ++ more) more
+
+pub plain_subsets : (course : Course) (subsets : List (List (Item Content))) (drafts : List Subset) → AllFollow course subsets → AreSaid subsets drafts → AreAllPlain course subsets drafts
+plain_subsets course [] [] h said = record { is = refl; again = λ more. refl }
+plain_subsets course (items ∷ subsets) (s ∷ ss) h said =
+    let bits = flat_map item_bits items in
+    let others = subset_bits subsets in
+    let first = plain_subset s.end_line course items s.items h.0 said.0 in
+    let rest = plain_subsets course subsets ss h.1 said.1 in
     record {
-      out = first.out ++ rest.out;
-      is = plain_both course s ss first.out rest.out first.fills rest.is;
+      is = plain_both course s ss bits others first.fills rest.is;
       again = λ more. (
-        rest.out ++ more,
-        subst (λ bits. ReadsPass plain course items bits (rest.out ++ more)) (sym (append_assoc first.out rest.out more)) (first.again (rest.out ++ more)),
+        others ++ more,
+        subst (λ xs. ReadsPass plain course items xs (others ++ more)) (sym (append_assoc bits others more)) (first.again (others ++ more)),
         rest.again more,
       );
     }
+plain_subsets course subsets ss h said = absurd said
+
+-- ---- The drafts that a dump writes for items have the contents of these items.
+
+items_said : (course : Course) (items : List (Item Content)) (ds : List Draft) → Follows course items → AreDrafts IsDumped items ds → AreDrafts IsSaid items ds
+items_said course [] [] f h = tt
+items_said course (i ∷ items) (d ∷ ds) f h = (
+  ap (content_of i.spec) (same_draft i.spec i.content d h.0) ∙ draft_again i.spec f.1 d.line i.content f.2,
+  items_said (after plain course i) items ds f.3 h.1,
+)
+items_said course items ds f h = absurd h
+
+pub subsets_said : (course : Course) (subsets : List (List (Item Content))) (ss : List Subset) → AllFollow course subsets → AreDumped subsets ss → AreSaid subsets ss
+subsets_said course [] [] f h = tt
+subsets_said course (items ∷ subsets) (s ∷ ss) f h = (items_said course items s.items f.0 h.0, subsets_said course subsets ss f.1 h.1)
+subsets_said course subsets ss f h = absurd h
 
 -- ---- the items of compressed data
 
@@ -201,8 +201,10 @@ follow_reading (suc n) course items bits suffix specs r = all_follow (suc n) 0 (
 pub apart : (n : ℕ) (course : Course) (items : List (Item (List Content))) (drafts : List Subset) (bits suffix : List Bool) → AllSpecs items → AreDumped (subsets_from n 0 items) drafts
     → IsPackedReading n course items bits suffix → IsWrittenApart n course items drafts
 apart n course items drafts bits suffix specs dumped r =
-    let w = plain_subsets course (subsets_from n 0 items) drafts (follow_reading n course items bits suffix specs r) dumped in
-    record { out = w.out; is = w.is; again = λ more. (w.again more, length-subsets_from n 0 items) }
+    let subsets = subsets_from n 0 items in
+    let follow = follow_reading n course items bits suffix specs r in
+    let w = plain_subsets course subsets drafts follow (subsets_said course subsets drafts follow dumped) in
+    record { out = subset_bits subsets; is = w.is; again = λ more. (w.again more, length-subsets_from n 0 items) }
 
 -- ---- Items that were read subset after subset are written together so that they are read again.
 -- Otherwise their factors differ, or no increments can write their contents.
@@ -234,9 +236,9 @@ abbrev longest_left : List (List (Item Content)) → ℕ
 longest_left [] = 0
 longest_left (r ∷ rs) = max (length r) (longest_left rs)
 
--- the drafts from an index on are those of what is left
-abbrev DumpedAt : ℕ → List (List (Item Content)) → List Subset → Type 0
-DumpedAt p rs ss = AllZip (λ (r : List (Item Content)) (s : Subset). AreDrafts IsDumped r (drop p s.items)) rs ss
+-- the drafts from an index on have the contents of what is left
+abbrev SaidAt : ℕ → List (List (Item Content)) → List Subset → Type 0
+SaidAt p rs ss = AllZip (λ (r : List (Item Content)) (s : Subset). AreDrafts IsSaid r (drop p s.items)) rs ss
 
 -- the next item of a subset is of this field, and fits it
 abbrev IsHeaded : FieldSpec → List (Item Content) → Type 0
@@ -282,47 +284,43 @@ longest_tails spec (i ∷ items) (q ∷ rs) h = omega (arith, longest_tails spec
 
 -- ---- the cells at an index
 
-cell_there : (p : ℕ) (ds : List Draft) (i : Item Content) (items : List (Item Content)) → AreDrafts IsDumped (i ∷ items) (drop p ds) → IsCellOf i.spec i.content (slice_get ds p)
-cell_there zero [] i items h = absurd h
-cell_there zero (d ∷ ds) i items h = h.0
-cell_there (suc p) [] i items h = absurd h
-cell_there (suc p) (d ∷ ds) i items h = cell_there p ds i items h
+content_there : (p : ℕ) (ds : List Draft) (end_line : ℕ) (i : Item Content) (items : List (Item Content)) → AreDrafts IsSaid (i ∷ items) (drop p ds)
+    → content_here i.spec (slice_get ds p) end_line ≡ Ok i.content
+content_there zero [] end_line i items h = absurd h
+content_there zero (d ∷ ds) end_line i items h = ap (at_line_if_fault d.line) h.0
+content_there (suc p) [] end_line i items h = absurd h
+content_there (suc p) (d ∷ ds) end_line i items h = content_there p ds end_line i items h
 
-draft_next : (p : ℕ) (ds : List Draft) (i : Item Content) (items : List (Item Content)) → AreDrafts IsDumped (i ∷ items) (drop p ds) → AreDrafts IsDumped items (drop (suc p) ds)
+draft_next : (p : ℕ) (ds : List Draft) (i : Item Content) (items : List (Item Content)) → AreDrafts IsSaid (i ∷ items) (drop p ds) → AreDrafts IsSaid items (drop (suc p) ds)
 draft_next zero [] i items h = absurd h
 draft_next zero (d ∷ ds) i items h = h.1
 draft_next (suc p) [] i items h = absurd h
 draft_next (suc p) (d ∷ ds) i items h = draft_next p ds i items h
 
-cells_there : (spec : FieldSpec) (p : ℕ) (rs : List (List (Item Content))) (ss : List Subset) → AreHeaded spec rs → DumpedAt p rs ss → AreCellsOf spec (firsts rs) (cells_at p ss)
-cells_there spec p [] [] h d = tt
-cells_there spec p [] (s ∷ ss) h d = absurd d
-cells_there spec p (r ∷ rs) [] h d = absurd d
-cells_there spec p ([] ∷ rs) (s ∷ ss) h d = absurd h.0
-cells_there spec p ((i ∷ items) ∷ rs) (s ∷ ss) h d = (subst (λ a. IsCellOf a i.content (slice_get s.items p)) h.0.0 (cell_there p s.items i items d.0), cells_there spec p rs ss h.1 d.1)
+contents_there : (spec : FieldSpec) (p : ℕ) (rs : List (List (Item Content))) (ss : List Subset) → AreHeaded spec rs → SaidAt p rs ss → contents_here spec (cells_at p ss) ≡ Ok (firsts rs)
+contents_there spec p [] [] h d = refl
+contents_there spec p ([] ∷ rs) (s ∷ ss) h d = absurd h.0
+contents_there spec p ((i ∷ items) ∷ rs) (s ∷ ss) h d =
+    ap (λ r. r >>= λ first. contents_here spec (cells_at p ss) >>= λ rest. Ok (first ∷ rest))
+    (subst (λ a. content_here a (slice_get s.items p) s.end_line ≡ Ok i.content) h.0.0 (content_there p s.items s.end_line i items d.0))
+    ∙ ap (λ r. r >>= λ rest. Ok (i.content ∷ rest)) (contents_there spec p rs ss h.1 d.1)
+contents_there spec p rs ss h d = absurd d
 
-dumped_next : (spec : FieldSpec) (p : ℕ) (rs : List (List (Item Content))) (ss : List Subset) → AreHeaded spec rs → DumpedAt p rs ss → DumpedAt (suc p) (tails rs) ss
-dumped_next spec p [] [] h d = tt
-dumped_next spec p [] (s ∷ ss) h d = absurd d
-dumped_next spec p (r ∷ rs) [] h d = absurd d
-dumped_next spec p ([] ∷ rs) (s ∷ ss) h d = absurd h.0
-dumped_next spec p ((i ∷ items) ∷ rs) (s ∷ ss) h d = (draft_next p s.items i items d.0, dumped_next spec p rs ss h.1 d.1)
+said_next : (spec : FieldSpec) (p : ℕ) (rs : List (List (Item Content))) (ss : List Subset) → AreHeaded spec rs → SaidAt p rs ss → SaidAt (suc p) (tails rs) ss
+said_next spec p [] [] h d = tt
+said_next spec p ([] ∷ rs) (s ∷ ss) h d = absurd h.0
+said_next spec p ((i ∷ items) ∷ rs) (s ∷ ss) h d = (draft_next p s.items i items d.0, said_next spec p rs ss h.1 d.1)
+said_next spec p rs ss h d = absurd d
 
-length-dumped : (p : ℕ) (rs : List (List (Item Content))) (ss : List Subset) → DumpedAt p rs ss → length (cells_at p ss) ≡ length rs
-length-dumped p [] [] d = refl
-length-dumped p [] (s ∷ ss) d = absurd d
-length-dumped p (r ∷ rs) [] d = absurd d
-length-dumped p (r ∷ rs) (s ∷ ss) d = ap suc (length-dumped p rs ss d.1)
+length-said : (p : ℕ) (rs : List (List (Item Content))) (ss : List Subset) → SaidAt p rs ss → length (cells_at p ss) ≡ length rs
+length-said p [] [] d = refl
+length-said p (r ∷ rs) (s ∷ ss) d = ap suc (length-said p rs ss d.1)
+length-said p rs ss d = absurd d
 
 -- the item of all subsets is packed, or its contents cannot be
-across_gives : (spec : FieldSpec) → IsSpec spec → (p : ℕ) (rs : List (List (Item Content))) (ss : List Subset) → AreHeaded spec rs → DumpedAt p rs ss → (p + 1) * length rs ≤ max_values
+across_gives : (spec : FieldSpec) (p : ℕ) (rs : List (List (Item Content))) (ss : List Subset) → AreHeaded spec rs → SaidAt p rs ss → (p + 1) * length rs ≤ max_values
     → pack_across spec (item_row p ss) ≡ packed_to (firsts rs) (cells_at p ss) (packing spec (firsts rs))
-across_gives spec good p rs ss h d few =
-    let cells = cells_at p ss in
-    let within : (p + 1) * length cells ≤ max_values = subst (λ n. (p + 1) * n ≤ max_values) (sym (length-dumped p rs ss d)) few in
-    ap (λ b. if b then Err (at_line (first_line cells) (too_many_values spec.fxy)) else (contents_here spec cells >>= λ xs. packed_to xs cells (packing spec xs)))
-    (le-ltb max_values ((p + 1) * length cells) within)
-    ∙ ap (λ r. r >>= λ xs. packed_to xs cells (packing spec xs)) (all_here spec good (firsts rs) cells (all_fit spec rs h) (cells_there spec p rs ss h d))
+across_gives spec p rs ss h d few = across spec (firsts rs) (item_row p ss) (contents_there spec p rs ss h d) (subst (λ n. (p + 1) * n ≤ max_values) (sym (length-said p rs ss d)) few)
 
 -- ---- the course continues the same for all
 
@@ -399,9 +397,8 @@ module _ (end_line : ℕ) (many : Bool) where
 
   not_packed : (course : Course) (drafts : List ItemRow) (cs : List Content) (cells : List RowCell) (why : FieldFault)
       → fill (packed_filler end_line many) course drafts ≡ Err (packing_fault cs cells why) → IsNot course drafts end_line many
-  not_packed course drafts cs cells data_end e = record { line = first_line cells; why = wrong.Increment; is = e; unlike = tt }
-  not_packed course drafts cs cells increment e = record { line = first_line cells; why = wrong.Increment; is = e; unlike = tt }
   not_packed course drafts cs cells unequal_factor e = record { line = unlike_line cs cells; why = wrong.UnequalFactor; is = e; unlike = tt }
+  not_packed course drafts cs cells w e = record { line = first_line cells; why = wrong.Increment; is = e; unlike = tt }
 
   -- the first row, and those after it
   onto : (n : ℕ) (course : Course) (spec : FieldSpec) (c : Content) (cs : List Content) (rs : List (List (Item Content))) (a : ItemRow) (more : List ItemRow) → IsSpec spec
@@ -441,10 +438,10 @@ module _ (end_line : ℕ) (many : Bool) where
           })
 
   -- all rows from an index on
-  from_place : (course : Course) (r : List (Item Content)) (rs : List (List (Item Content))) (ss : List Subset) (p : ℕ) → AllFollow course (r ∷ rs) → DumpedAt p (r ∷ rs) ss
+  from_index : (course : Course) (r : List (Item Content)) (rs : List (List (Item Content))) (ss : List Subset) (p : ℕ) → AllFollow course (r ∷ rs) → SaidAt p (r ∷ rs) ss
       → p * suc (length rs) + total (r ∷ rs) ≤ max_values
       → Either (suc (length rs)) course (r ∷ rs) (rows (longest_left (r ∷ rs)) p ss) end_line many
-  from_place course [] rs ss p f d few =
+  from_index course [] rs ss p f d few =
       let none = no_parts course 0 ([] ∷ rs) f.0 f in
       inl (subst (λ k. IsTogether (suc (length rs)) course ([] ∷ rs) (rows k p ss) end_line many) (sym none.1) (record {
         items = [];
@@ -454,7 +451,7 @@ module _ (end_line : ℕ) (many : Bool) where
         again = λ more. (refl, f.0);
         few = omega arith;
       }))
-  from_place course (i ∷ items) rs ss p f d few =
+  from_index course (i ∷ items) rs ss p f d few =
       let n = suc (length rs) in
       let all = (i ∷ items) ∷ rs in
       let spec = i.spec in
@@ -465,60 +462,75 @@ module _ (end_line : ℕ) (many : Bool) where
       let one : p * n + n ≡ (p + 1) * n = grind arith in
       let tot : total all ≡ n + total (tails all) = total_tails spec all h in
       let within : (p + 1) * n ≤ max_values = omega (arith, few, one, tot) in
-      let gives = across_gives spec f.0.1 p all ss h d within in
+      let gives = across_gives spec p all ss h d within in
       let forth : suc p ≡ p + 1 = omega arith in
       subst (λ k. Either n course all (rows k p ss) end_line many) (sym (longest_tails spec (i ∷ items) rs h))
       (onto n course spec i.content cs all (item_row p ss) more f.0.1 f.0.0 h refl refl (packing spec (i.content ∷ cs)) refl gives (λ w q.
       let gives = all_answer spec (answer_of spec i.content) cs (λ j l. packed_alike spec i.content cs w (suc j) q (omega (arith, l))) in
-      let d' = subst (λ k. DumpedAt k (tails all) ss) forth (dumped_next spec p all ss h d) in
+      let d' = subst (λ k. SaidAt k (tails all) ss) forth (said_next spec p all ss h d) in
       let f' = follow_next course spec (answer_of spec i.content) all h (refl, gives) f in
       let same : length (tails rs) ≡ length rs = length-tails rs in
       subst (λ k. Either (suc k) (λ answer_so. course (answer_of spec i.content ∷ answer_so)) (tails all) more end_line many) same
-      (from_place (λ answer_so. course (answer_of spec i.content ∷ answer_so)) items (tails rs) ss (p + 1) f' d' (
+      (from_index (λ answer_so. course (answer_of spec i.content ∷ answer_so)) items (tails rs) ss (p + 1) f' d' (
       let e : (p + 1) * suc (length (tails rs)) ≡ (p + 1) * n = ap (λ k. (p + 1) * suc k) same in omega (arith, few, one, tot, e)))))
 
 -- ---- from a reading
 
-follows_plain : (course : Course) (items : List (Item Content)) (bits suffix : List Bool) → AllSpecs items → ReadsPass plain course items bits suffix
-    → Follows course items × (length items + length suffix ≤ length bits)
-follows_plain course [] bits suffix specs r = (r.1, omega (arith, ap length r.0))
-follows_plain course (i ∷ items) bits suffix specs r =
-    let rest = follows_plain (after plain course i) items r.0.0 suffix specs.1 (r.0.3, r.1) in
+-- items follow one another, and take no more bits than were read, and no fewer than they are
+record AreFollowed (course : Course) (items : List (Item Content)) (bits suffix : List Bool) : Type 0 where
+  follow : Follows course items
+  short : length (flat_map item_bits items) + length suffix ≤ length bits
+  least : length items ≤ length (flat_map item_bits items)
+
+followed : (course : Course) (items : List (Item Content)) (bits suffix : List Bool) → AllSpecs items → ReadsPass plain course items bits suffix → AreFollowed course items bits suffix
+followed course [] bits suffix specs r = record { follow = r.1; short = omega (arith, ap length r.0); least = omega arith }
+followed course (i ∷ items) bits suffix specs r =
+    let rest = followed (after plain course i) items r.0.0 suffix specs.1 (r.0.3, r.1) in
     let read = plain_read i.spec specs.0 bits r.0.0 i.content r.0.2 in
-    ((r.0.1, specs.0, read.0, rest.0), omega (arith, rest.1, read.1, width_least i.spec.kind i.spec.width (specs.0).width))
+    let long = content_length i.spec specs.0 i.content read.0 in
+    let both = length-append (item_bits i) (flat_map item_bits items) in
+    record {
+      follow = (r.0.1, specs.0, read.0, rest.follow);
+      short = omega (arith, rest.short, read.1, long, both);
+      least = omega (arith, rest.least, long, both, width_least i.spec.kind i.spec.width (specs.0).width);
+    }
 
-pub all_plain : (course : Course) (subsets : List (List (Item Content))) (bits suffix : List Bool) → EachSpecs subsets → ReadsSubsets course subsets bits suffix
-    → AllFollow course subsets × (total subsets + length suffix ≤ length bits)
-all_plain course [] bits suffix specs r = (tt, omega (arith, ap length r))
-all_plain course (items ∷ subsets) bits suffix specs r =
-    let first = follows_plain course items bits r.0 specs.0 r.1 in
-    let rest = all_plain course subsets r.0 suffix specs.1 r.2 in
-    ((first.0, rest.0), omega (arith, first.1, rest.1))
+pub record AreAllFollowed (course : Course) (subsets : List (List (Item Content))) (bits suffix : List Bool) : Type 0 where
+  pub follow : AllFollow course subsets
+  pub short : length (subset_bits subsets) + length suffix ≤ length bits
+  pub least : total subsets ≤ length (subset_bits subsets)
 
-dumped_at : (subsets : List (List (Item Content))) (ss : List Subset) → AreDumped subsets ss → DumpedAt 0 subsets ss × (longest ss ≡ longest_left subsets)
-dumped_at [] [] h = (tt, refl)
-dumped_at [] (s ∷ ss) h = absurd h
-dumped_at (items ∷ subsets) [] h = absurd h
-dumped_at (items ∷ subsets) (s ∷ ss) h =
-    let rest = dumped_at subsets ss h.1 in
-    ((h.0, rest.0), omega (arith, rest.1, AllZip-long IsDumped items s.items h.0))
+pub all_followed : (course : Course) (subsets : List (List (Item Content))) (bits suffix : List Bool) → EachSpecs subsets → ReadsSubsets course subsets bits suffix
+    → AreAllFollowed course subsets bits suffix
+all_followed course [] bits suffix specs r = record { follow = tt; short = omega (arith, ap length r); least = omega arith }
+all_followed course (items ∷ subsets) bits suffix specs r =
+    let first = followed course items bits r.0 specs.0 r.1 in
+    let rest = all_followed course subsets r.0 suffix specs.1 r.2 in
+    let both = length-append (flat_map item_bits items) (subset_bits subsets) in
+    record { follow = (first.follow, rest.follow); short = omega (arith, first.short, rest.short, both); least = omega (arith, first.least, rest.least, both) }
+
+said_from : (subsets : List (List (Item Content))) (ss : List Subset) → AreSaid subsets ss → SaidAt 0 subsets ss × (longest ss ≡ longest_left subsets)
+said_from [] [] h = (tt, refl)
+said_from (items ∷ subsets) (s ∷ ss) h =
+    let rest = said_from subsets ss h.1 in
+    ((h.0, rest.0), omega (arith, rest.1, AllZip-long IsSaid items s.items h.0))
+said_from subsets ss h = absurd h
 
 -- data that were read subset after subset are written together, where their contents can be
 pub together : (course : Course) (subsets : List (List (Item Content))) (drafts : List Subset) (bits suffix : List Bool) → length bits ≤ max_values → EachSpecs subsets → AreDumped subsets drafts
     → ReadsSubsets course subsets bits suffix → IsTogetherOrNot course subsets drafts
 together course [] [] bits suffix few specs dumped r = inl (record { items = []; same = refl; out = []; is = refl; again = λ more. (refl, refl) })
-together course [] (s ∷ ss) bits suffix few specs dumped r = absurd dumped
-together course (items ∷ subsets) [] bits suffix few specs dumped r = absurd dumped
-together course (items ∷ subsets) (s ∷ ss) bits suffix few specs dumped r = by (from_place s.end_line many course items subsets (s ∷ ss) 0 all.0 at.0 (omega (arith, all.1, few)))
+together course (items ∷ subsets) (s ∷ ss) bits suffix few specs dumped r =
+    by (from_index s.end_line many course items subsets (s ∷ ss) 0 all.follow at.0 (omega (arith, all.short, all.least, few)))
   where
     many : Bool
     many = are_many (longest (s ∷ ss)) (length (s ∷ ss))
 
-    all : AllFollow course (items ∷ subsets) × (total (items ∷ subsets) + length suffix ≤ length bits)
-    all = all_plain course (items ∷ subsets) bits suffix specs r
+    all : AreAllFollowed course (items ∷ subsets) bits suffix
+    all = all_followed course (items ∷ subsets) bits suffix specs r
 
-    at : DumpedAt 0 (items ∷ subsets) (s ∷ ss) × (longest (s ∷ ss) ≡ longest_left (items ∷ subsets))
-    at = dumped_at (items ∷ subsets) (s ∷ ss) dumped
+    at : SaidAt 0 (items ∷ subsets) (s ∷ ss) × (longest (s ∷ ss) ≡ longest_left (items ∷ subsets))
+    at = said_from (items ∷ subsets) (s ∷ ss) (subsets_said course (items ∷ subsets) (s ∷ ss) all.follow dumped)
 
     data_are : packed_data course (s ∷ ss) ≡ fill (packed_filler s.end_line many) course (rows (longest_left (items ∷ subsets)) 0 (s ∷ ss))
     data_are = ap (λ k. fill (packed_filler s.end_line many) course (rows k 0 (s ∷ ss))) at.1
@@ -530,5 +542,6 @@ together course (items ∷ subsets) (s ∷ ss) bits suffix few specs dumped r = 
       same = parts_subsets 0 x.items (items ∷ subsets) x.parts;
       out = x.out;
       is = data_are ∙ x.fills;
-      again = λ more. (x.again more, omega (arith, x.few, all.1, few));
+      again = λ more. (x.again more, omega (arith, x.few, all.short, all.least, few));
     })
+together course subsets ss bits suffix few specs dumped r = absurd dumped

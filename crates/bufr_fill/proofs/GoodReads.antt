@@ -28,21 +28,16 @@ abbrev pub EachFields : List (List (Item Content)) → Type 0
 EachFields subsets = AllByRecursion (λ (items : List (Item Content)). AllFields items) subsets
 
 narrow : (k : Kind) (w : ℕ) → HasWidth k w → k ≡ kind.Numeric → w ≤ 63
-narrow kind.Numeric w h e = h.1
-narrow kind.Coded w h e = h.1
 narrow kind.Character w h e = absurd cc
+narrow k w h e = h.1
 
 pub answer_within : (r : Role) (spec : FieldSpec) (c : Content) → IsSpec spec → HasRole r spec.kind spec.may_be_missing → FitsRole r spec c → IsWithin (answer_by_role r c)
-answer_within role.Element spec c good hr h = tt
-answer_within role.Inserted spec c good hr h = tt
-answer_within role.Factor spec c good hr h = tt
 answer_within role.Reference spec (reference v) good hr h =
     let n : spec.width - 1 ≤ 63 = omega (arith, narrow spec.kind spec.width good.width hr.0) in
     let p : 2 ^ (spec.width - 1) ≤ 2 ^ 63 = pow_mono n in
     omega (arith, p, h)
-answer_within role.Reference spec (number raw) good hr h = absurd h
-answer_within role.Reference spec (text os) good hr h = absurd h
-answer_within role.Reference spec missing good hr h = absurd h
+answer_within role.Reference spec c good hr h = absurd h
+answer_within r spec c good hr h = tt
 
 module _ {C : Type 0} (form : DataCoding C) (gives : (spec : FieldSpec) (c : C) (bits mid : List Bool) → IsSpec spec → form.field spec bits ≡ Ok (found c mid) → IsWithin (form.gives spec c)) where
   fields_of_reads : (course : Course) (items : List (Item C)) (bits suffix : List Bool) → IsGoodCourse course → ReadsItems form course items bits suffix → AllFields items
@@ -97,8 +92,7 @@ module _ (m : Bool) (w : ℕ) (c : Content) where
 
   missing_fits : (k : Kind) → (if m then Ok missing else Err wrong.MissingForbidden) ≡ Ok c → FitsKind k m w c
   missing_fits kind.Character e = subst (FitsText (w / 8)) (sym (missing_test m refl e).1) tt
-  missing_fits kind.Coded e = subst (FitsNumber m w) (sym (missing_test m refl e).1) (missing_test m refl e).0
-  missing_fits kind.Numeric e = subst (FitsNumber m w) (sym (missing_test m refl e).1) (missing_test m refl e).0
+  missing_fits k e = subst (FitsNumber m w) (sym (missing_test m refl e).1) (missing_test m refl e).0
 
 text_fits : (count : ℕ) (octets : List ℕ) (c : Content) → AreOctets octets → text_within count octets ≡ Ok c → FitsText count c
 text_fits count octets c h e = by_tests (nat_lt count (length octets)) (list_all (λ octet. octet == 255) (octets ++ replicate (count - length octets) 32)) refl refl e
@@ -128,8 +122,7 @@ module _ (spec : FieldSpec) (c : Content) where
 
   number_kind : (k : Kind) (r : Result ℤ NumberFault) → (if is_character k then Err wrong.Number else raw_of spec r) ≡ Ok c → FitsKind k spec.may_be_missing spec.width c
   number_kind kind.Character r e = cc
-  number_kind kind.Coded r e = raw_fits r e
-  number_kind kind.Numeric r e = raw_fits r e
+  number_kind k r e = raw_fits r e
 
   text_kind : (k : Kind) (octets : List ℕ) → AreOctets octets → (if is_character k then text_within (spec.width / 8) octets else Err wrong.Number) ≡ Ok c → FitsKind k spec.may_be_missing spec.width c
   text_kind kind.Character octets h e = text_fits (spec.width / 8) octets c h e

@@ -7,13 +7,12 @@ use Rattle.bufr_walk.specs.Prelude.{Content, number, text, missing, reference, i
 use Rattle.std.specs.Str.{bytes_eq}
 use Rattle.std.proofs.lemmas.Slice.Eq.{bytes_eq-Decides}
 use Rattle.std.proofs.lemmas.Bool.Decides.{Decides-int_eq}
-use Rattle.bufr_fill.specs.Prelude.{Kind, raw_limit, spaced, content_drawn, same, are_same, smaller, lowest, first_from, has_bits, least_k, increment_bits, packed_bits, numbers_over, packed_by, has_octets, octet_bits, packed_texts, FitsNumber, FieldContent, AllDrawn, contents_drawn, spread, least_from, AreShort, trimmed, need, most_need, over_of, number_or, least_number}
+use Rattle.bufr_fill.specs.Prelude.{raw_limit, spaced, padded_content, same, are_same, smaller, lowest, first_from, has_bits, least_k, increment_bits, packed_bits, numbers_over, packed_by, has_octets, octet_bits, packed_texts, FitsNumber, FieldContent, AreContentsOf, padded_contents, spread, least_from, AreShort, trimmed, need, most_need, over_of, number_or, least_number}
 use Rattle.std.specs.List.{list_all, flat_map, AllByRecursion}
 use Rattle.std.proofs.lemmas.List.{length-append}
 use Rattle.bufr_bits.specs.Prelude.{bits_in}
 use Rattle.bufr_tables.specs.Prelude.{is_character}
-use Rattle.bufr_tables.specs.declared.table_b.Kind.TheVariants as kind
-use Rattle.bufr_fill.specs.declared.field_value.FieldContent.TheVariants as drawn
+use Rattle.bufr_fill.specs.declared.field_value.FieldContent.TheVariants as field_content
 
 -- the first number that passes is at most any that does
 first_step : (b : Bool) (from k x : ℕ) → from ≤ k → (b ≡ false → x ≤ k) → (if b then from else x) ≤ k
@@ -49,21 +48,10 @@ octets_same a b h = (bytes_eq-Decides a b).0 h
 
 pub content_same : (c d : Content) → same c d ≡ true → c ≡ d
 content_same (number a) (number b) h = ap number (eqb-true a b h)
-content_same (number a) (text b) h = cc
-content_same (number a) missing h = cc
-content_same (number a) (reference b) h = cc
-content_same (text a) (number b) h = cc
 content_same (text a) (text b) h = ap text (octets_same a b h)
-content_same (text a) missing h = cc
-content_same (text a) (reference b) h = cc
-content_same missing (number b) h = cc
-content_same missing (text b) h = cc
 content_same missing missing h = refl
-content_same missing (reference b) h = cc
-content_same (reference a) (number b) h = cc
-content_same (reference a) (text b) h = cc
-content_same (reference a) missing h = cc
 content_same (reference a) (reference b) h = ap reference ((Decides-int_eq a b).0 h)
+content_same c x h = cc
 
 pub octets_self : (a : List ℕ) → bytes_eq a a ≡ true
 octets_self a = (bytes_eq-Decides a a).1 refl
@@ -93,17 +81,13 @@ AreNumbers m w cs = AllByRecursion (λ (c : Content). FitsNumber m w c) cs
 over_less : (a b : ℕ) (cs : List Content) → a ≤ b → AreOver b cs → AreOver a cs
 over_less a b [] h g = tt
 over_less a b (number n ∷ cs) h g = (omega (arith, g.0), over_less a b cs h g.1)
-over_less a b (text o ∷ cs) h g = (tt, over_less a b cs h g.1)
-over_less a b (missing ∷ cs) h g = (tt, over_less a b cs h g.1)
-over_less a b (reference v ∷ cs) h g = (tt, over_less a b cs h g.1)
+over_less a b (c ∷ cs) h g = (tt, over_less a b cs h g.1)
 
 -- without a number, none is over or under any
 pub none_over : (cs : List Content) (b : ℕ) → lowest cs ≡ None → AreOver b cs
 none_over [] b e = tt
 none_over (number n ∷ cs) b e = absurd cc
-none_over (text o ∷ cs) b e = (tt, none_over cs b e)
-none_over (missing ∷ cs) b e = (tt, none_over cs b e)
-none_over (reference v ∷ cs) b e = (tt, none_over cs b e)
+none_over (c ∷ cs) b e = (tt, none_over cs b e)
 
 pub lowest_over : (cs : List Content) (m : ℕ) → lowest cs ≡ Some m → AreOver m cs
 lowest_over [] m e = absurd cc
@@ -112,17 +96,14 @@ lowest_over (number n ∷ cs) m e = by_rest n m cs (lowest cs) refl e (λ l q. l
     by_rest : (n m : ℕ) (cs : List Content) (o : Option ℕ) → lowest cs ≡ o → Some (smaller n o) ≡ Some m → ((l : ℕ) → lowest cs ≡ Some l → AreOver l cs) → (m ≤ n) × AreOver m cs
     by_rest n m cs None q e h = let s : n ≡ m = cc in (omega arith, none_over cs m q)
     by_rest n m cs (Some l) q e h = let s : min n l ≡ m = cc in (omega arith, over_less m l cs (omega arith) (h l q))
-lowest_over (text o ∷ cs) m e = (tt, lowest_over cs m e)
-lowest_over (missing ∷ cs) m e = (tt, lowest_over cs m e)
-lowest_over (reference v ∷ cs) m e = (tt, lowest_over cs m e)
+lowest_over (c ∷ cs) m e = (tt, lowest_over cs m e)
 
 -- the least number fits as each does
 pub lowest_fits : (may : Bool) (w : ℕ) (cs : List Content) (m : ℕ) → AreNumbers may w cs → lowest cs ≡ Some m → m < raw_limit may w
 lowest_fits may w [] m h e = absurd cc
 lowest_fits may w (number n ∷ cs) m h e = grind (arith, common_steps)
-lowest_fits may w (text o ∷ cs) m h e = absurd h.0
 lowest_fits may w (missing ∷ cs) m h e = lowest_fits may w cs m h.1 e
-lowest_fits may w (reference v ∷ cs) m h e = absurd h.0
+lowest_fits may w (c ∷ cs) m h e = absurd h.0
 
 -- a number that none is under is not over the least
 pub under_lowest : (cs : List Content) (b m : ℕ) → AreOver b cs → lowest cs ≡ Some m → b ≤ m
@@ -132,17 +113,14 @@ under_lowest (number n ∷ cs) b m h e = by_rest (lowest cs) refl e (λ l q. und
     by_rest : (o : Option ℕ) → lowest cs ≡ o → Some (smaller n o) ≡ Some m → ((l : ℕ) → lowest cs ≡ Some l → b ≤ l) → b ≤ m
     by_rest None q s g = let t : n ≡ m = cc in omega (arith, h.0)
     by_rest (Some l) q s g = let t : min n l ≡ m = cc in omega (arith, h.0, g l q)
-under_lowest (text o ∷ cs) b m h e = under_lowest cs b m h.1 e
-under_lowest (missing ∷ cs) b m h e = under_lowest cs b m h.1 e
-under_lowest (reference v ∷ cs) b m h e = under_lowest cs b m h.1 e
+under_lowest (c ∷ cs) b m h e = under_lowest cs b m h.1 e
 
 -- numbers of which none is there are all missing
 pub all_missing : (may : Bool) (w : ℕ) (cs : List Content) → AreNumbers may w cs → lowest cs ≡ None → are_same missing cs ≡ true
 all_missing may w [] h e = refl
 all_missing may w (number n ∷ cs) h e = absurd cc
-all_missing may w (text o ∷ cs) h e = absurd h.0
 all_missing may w (missing ∷ cs) h e = all_missing may w cs h.1 e
-all_missing may w (reference v ∷ cs) h e = absurd h.0
+all_missing may w (c ∷ cs) h e = absurd h.0
 
 -- ---- Numbers are packed by the least base and the least k.
 
@@ -159,28 +137,28 @@ top_below true w = omega arith
 top_below false w = omega arith
 
 module _ (spec : FieldSpec) (numeric : is_character spec.kind ≡ false) (element : is_reference spec.role ≡ false) where
-  pub numbers_fit : (count : ℕ) (ds : List FieldContent) → AllDrawn spec ds → AreNumbers spec.may_be_missing spec.width (contents_drawn count ds)
+  pub numbers_fit : (count : ℕ) (ds : List FieldContent) → AreContentsOf spec ds → AreNumbers spec.may_be_missing spec.width (padded_contents count ds)
   numbers_fit count [] all = tt
-  numbers_fit count (drawn.Number n ∷ ds) all = (all.0.2, numbers_fit count ds all.1)
-  numbers_fit count (drawn.Text t ∷ ds) all = absurd (true_false (is_character spec.kind) all.0.0 numeric)
-  numbers_fit count (drawn.Missing ∷ ds) all = (all.0.1, numbers_fit count ds all.1)
-  numbers_fit count (drawn.Reference v ∷ ds) all = absurd (true_false (is_reference spec.role) all.0.0 element)
+  numbers_fit count (field_content.Number n ∷ ds) all = (all.0.2, numbers_fit count ds all.1)
+  numbers_fit count (field_content.Text t ∷ ds) all = absurd (true_false (is_character spec.kind) all.0.0 numeric)
+  numbers_fit count (field_content.Missing ∷ ds) all = (all.0.1, numbers_fit count ds all.1)
+  numbers_fit count (field_content.Reference v ∷ ds) all = absurd (true_false (is_reference spec.role) all.0.0 element)
 
   -- no increment is wider than the field
-  pub spread_under : (base : ℕ) (ds : List FieldContent) → 1 ≤ spec.width → AllDrawn spec ds → spread base ds < raw_limit spec.may_be_missing spec.width
+  pub spread_under : (base : ℕ) (ds : List FieldContent) → 1 ≤ spec.width → AreContentsOf spec ds → spread base ds < raw_limit spec.may_be_missing spec.width
   spread_under base [] some all = omega (arith, top_some spec.may_be_missing spec.width some)
-  spread_under base (drawn.Number n ∷ ds) some all = omega (arith, all.0.2, spread_under base ds some all.1)
-  spread_under base (drawn.Text t ∷ ds) some all = absurd (true_false (is_character spec.kind) all.0.0 numeric)
-  spread_under base (drawn.Missing ∷ ds) some all = omega (arith, spread_under base ds some all.1)
-  spread_under base (drawn.Reference v ∷ ds) some all = absurd (true_false (is_reference spec.role) all.0.0 element)
+  spread_under base (field_content.Number n ∷ ds) some all = omega (arith, all.0.2, spread_under base ds some all.1)
+  spread_under base (field_content.Text t ∷ ds) some all = absurd (true_false (is_character spec.kind) all.0.0 numeric)
+  spread_under base (field_content.Missing ∷ ds) some all = omega (arith, spread_under base ds some all.1)
+  spread_under base (field_content.Reference v ∷ ds) some all = absurd (true_false (is_reference spec.role) all.0.0 element)
 
   -- the least number is one of the field
-  pub base_under : (count : ℕ) (ds : List FieldContent) → 1 ≤ spec.width → AllDrawn spec ds → unwrap_or (lowest (contents_drawn count ds)) 0 < 2 ^ spec.width
-  base_under count ds some all = by (lowest (contents_drawn count ds)) refl
+  pub base_under : (count : ℕ) (ds : List FieldContent) → 1 ≤ spec.width → AreContentsOf spec ds → unwrap_or (lowest (padded_contents count ds)) 0 < 2 ^ spec.width
+  base_under count ds some all = by (lowest (padded_contents count ds)) refl
     where
-      by : (o : Option ℕ) → lowest (contents_drawn count ds) ≡ o → unwrap_or o 0 < 2 ^ spec.width
+      by : (o : Option ℕ) → lowest (padded_contents count ds) ≡ o → unwrap_or o 0 < 2 ^ spec.width
       by None e = omega (arith, top_some false spec.width some)
-      by (Some n) e = omega (arith, lowest_fits spec.may_be_missing spec.width (contents_drawn count ds) n (numbers_fit count ds all) e, top_below spec.may_be_missing spec.width)
+      by (Some n) e = omega (arith, lowest_fits spec.may_be_missing spec.width (padded_contents count ds) n (numbers_fit count ds all) e, top_below spec.may_be_missing spec.width)
 
 -- the least k is one of those that pass, and at most a width that does
 pub least_most : (m : Bool) (s w : ℕ) → 1 ≤ w → w ≤ 63 → s < raw_limit m w → least_from m s 1 ≤ w
@@ -194,10 +172,8 @@ least_fits m s w some most h = ltb-true s (raw_limit m (first_from (λ k. nat_lt
 
 pub all_short : (m : Bool) (base k : ℕ) (ds : List FieldContent) → spread base ds < raw_limit m k → AreShort base k ds
 all_short m base k [] h = tt
-all_short m base k (drawn.Number n ∷ ds) h = (omega (arith, h, top_below m k), all_short m base k ds (omega (arith, h)))
-all_short m base k (drawn.Text t ∷ ds) h = (tt, all_short m base k ds (omega (arith, h)))
-all_short m base k (drawn.Missing ∷ ds) h = (tt, all_short m base k ds (omega (arith, h)))
-all_short m base k (drawn.Reference v ∷ ds) h = (tt, all_short m base k ds (omega (arith, h)))
+all_short m base k (field_content.Number n ∷ ds) h = (omega (arith, h, top_below m k), all_short m base k ds (omega (arith, h)))
+all_short m base k (d ∷ ds) h = (tt, all_short m base k ds (omega (arith, h)))
 
 -- all increments have the bits where the greatest has
 max_test : (a b t : ℕ) → nat_lt (max a b) t ≡ (nat_lt a t && nat_lt b t)
@@ -206,24 +182,23 @@ max_test a b t = grind (arith, common_steps, nat_lt, lt-ltb, ltb-true, le-ltb, l
 zero_max : (s t : ℕ) → nat_lt s t ≡ nat_lt (max 0 s) t
 zero_max s t = let e : s ≡ max 0 s = omega arith in ap (λ n. nat_lt n t) e
 
-all_have : (m : Bool) (base k count : ℕ) (ds : List FieldContent) → 1 ≤ k → list_all (has_bits m base k) (contents_drawn count ds) ≡ nat_lt (spread base ds) (raw_limit m k)
+all_have : (m : Bool) (base k count : ℕ) (ds : List FieldContent) → 1 ≤ k → list_all (has_bits m base k) (padded_contents count ds) ≡ nat_lt (spread base ds) (raw_limit m k)
 all_have m base k count [] h = sym (lt-ltb 0 (raw_limit m k) (omega (arith, top_some m k h)))
-all_have m base k count (drawn.Number n ∷ ds) h = ap (λ b. nat_lt (n - base) (raw_limit m k) && b) (all_have m base k count ds h) ∙ sym (max_test (n - base) (spread base ds) (raw_limit m k))
-all_have m base k count (drawn.Text t ∷ ds) h = all_have m base k count ds h ∙ zero_max (spread base ds) (raw_limit m k)
-all_have m base k count (drawn.Missing ∷ ds) h = all_have m base k count ds h ∙ zero_max (spread base ds) (raw_limit m k)
-all_have m base k count (drawn.Reference v ∷ ds) h = all_have m base k count ds h ∙ zero_max (spread base ds) (raw_limit m k)
+all_have m base k count (field_content.Number n ∷ ds) h = ap (λ b. nat_lt (n - base) (raw_limit m k) && b) (all_have m base k count ds h) ∙ sym (max_test (n - base) (spread base ds) (raw_limit m k))
+all_have m base k count (d ∷ ds) h = all_have m base k count ds h ∙ zero_max (spread base ds) (raw_limit m k)
 
 pub first_same : (p q : ℕ → Bool) (fuel from : ℕ) → ((k : ℕ) → from ≤ k → p k ≡ q k) → first_from p fuel from ≡ first_from q fuel from
 first_same p q zero from h = refl
 first_same p q (suc fuel) from h =
     ap (λ b. if b then from else first_from p fuel (from + 1)) (h from (omega arith)) ∙ ap (λ n. if q from then from else n) (first_same p q fuel (from + 1) (λ k g. h k (omega (arith, g))))
 
-pub least_is : (m : Bool) (base count : ℕ) (ds : List FieldContent) → least_k (has_bits m base) (contents_drawn count ds) ≡ least_from m (spread base ds) 1
+pub least_is : (m : Bool) (base count : ℕ) (ds : List FieldContent) → least_k (has_bits m base) (padded_contents count ds) ≡ least_from m (spread base ds) 1
 unfolding least_from
-least_is m base count ds = first_same (λ k. list_all (has_bits m base k) (contents_drawn count ds)) (λ k. nat_lt (spread base ds) (raw_limit m k)) (64 - 1) 1 (λ k h. all_have m base k count ds h)
+least_is m base count ds = first_same (λ k. list_all (has_bits m base k) (padded_contents count ds)) (λ k. nat_lt (spread base ds) (raw_limit m k)) (64 - 1) 1 (λ k h. all_have m base k count ds h)
 
 -- the least k of numbers has at most 63 bits, and writes each increment
-pub k_narrow : (spec : FieldSpec) → is_character spec.kind ≡ false → is_reference spec.role ≡ false → (base : ℕ) (ds : List FieldContent) (k : ℕ) → 1 ≤ spec.width → spec.width ≤ 63 → AllDrawn spec ds
+pub k_narrow : (spec : FieldSpec) → is_character spec.kind ≡ false → is_reference spec.role ≡ false → (base : ℕ) (ds : List FieldContent) (k : ℕ) → 1 ≤ spec.width → spec.width ≤ 63
+    → AreContentsOf spec ds
     → k ≡ least_from spec.may_be_missing (spread base ds) 1 → k ≤ 63
 k_narrow spec numeric element base ds k some narrow all e = omega (
   arith,
@@ -232,25 +207,21 @@ k_narrow spec numeric element base ds k some narrow all e = omega (
   least_most spec.may_be_missing (spread base ds) spec.width some narrow (spread_under spec numeric element base ds some all),
 )
 
-pub k_short : (spec : FieldSpec) → is_character spec.kind ≡ false → is_reference spec.role ≡ false → (base : ℕ) (ds : List FieldContent) (k : ℕ) → 1 ≤ spec.width → spec.width ≤ 63 → AllDrawn spec ds
+pub k_short : (spec : FieldSpec) → is_character spec.kind ≡ false → is_reference spec.role ≡ false → (base : ℕ) (ds : List FieldContent) (k : ℕ) → 1 ≤ spec.width → spec.width ≤ 63
+    → AreContentsOf spec ds
     → k ≡ least_from spec.may_be_missing (spread base ds) 1 → AreShort base k ds
 k_short spec numeric element base ds k some narrow all e =
     subst (λ n. AreShort base n ds) (sym e) (all_short spec.may_be_missing base (least_from spec.may_be_missing (spread base ds) 1) ds
     (least_fits spec.may_be_missing (spread base ds) spec.width some narrow (spread_under spec numeric element base ds some all)))
 
-kind_packed : (kd : Kind) (spec : FieldSpec) (cs : List Content) → is_character kd ≡ false → packed_by kd spec cs ≡ Ok (numbers_over spec.may_be_missing spec.width (unwrap_or (lowest cs) 0) cs)
-kind_packed kind.Character spec cs h = absurd cc
-kind_packed kind.Coded spec cs h = refl
-kind_packed kind.Numeric spec cs h = refl
-
 -- the bits of numbers
-pub numbers_packed : (spec : FieldSpec) (count : ℕ) (ds : List FieldContent) (base k : ℕ) → is_character spec.kind ≡ false → base ≡ unwrap_or (lowest (contents_drawn count ds)) 0
+pub numbers_packed : (spec : FieldSpec) (count : ℕ) (ds : List FieldContent) (base k : ℕ) → is_character spec.kind ≡ false → base ≡ unwrap_or (lowest (padded_contents count ds)) 0
     → k ≡ least_from spec.may_be_missing (spread base ds) 1
-    → packed_by spec.kind spec (contents_drawn count ds) ≡ Ok (packed_bits (bits_in base spec.width) k (flat_map (increment_bits base k) (contents_drawn count ds)))
+    → packed_by (is_character spec.kind) spec (padded_contents count ds) ≡ Ok (packed_bits (bits_in base spec.width) k (flat_map (increment_bits base k) (padded_contents count ds)))
 numbers_packed spec count ds base k numeric b l =
-    kind_packed spec.kind spec (contents_drawn count ds) numeric
-    ∙ ap (λ n. Ok (numbers_over spec.may_be_missing spec.width n (contents_drawn count ds))) (sym b)
-    ∙ ap (λ n. Ok (packed_bits (bits_in base spec.width) n (flat_map (increment_bits base n) (contents_drawn count ds)))) (least_is spec.may_be_missing base count ds ∙ sym l)
+    ap (λ b. packed_by b spec (padded_contents count ds)) numeric
+    ∙ ap (λ n. Ok (numbers_over spec.may_be_missing spec.width n (padded_contents count ds))) (sym b)
+    ∙ ap (λ n. Ok (packed_bits (bits_in base spec.width) n (flat_map (increment_bits base n) (padded_contents count ds)))) (least_is spec.may_be_missing base count ds ∙ sym l)
 
 -- what was written, one part after another
 pub parts_put : (old one two three base k rest : List Bool) → one ≡ old ++ base → two ≡ one ++ k → three ≡ two ++ rest → three ≡ old ++ (base ++ (k ++ rest))
@@ -401,12 +372,10 @@ need_room count os h = by (full (take (trimmed os) os)) refl
     by true e = less (omega (arith, trimmed_within os, h.0)) (λ q. none q e)
     by false e = omega (arith, trimmed_within os, h.0)
 
-pub most_room : (spec : FieldSpec) (ds : List FieldContent) → 1 ≤ spec.width / 8 → AllDrawn spec ds → most_need ds ≤ spec.width / 8
+pub most_room : (spec : FieldSpec) (ds : List FieldContent) → 1 ≤ spec.width / 8 → AreContentsOf spec ds → most_need ds ≤ spec.width / 8
 most_room spec [] some all = some
-most_room spec (drawn.Number n ∷ ds) some all = omega (arith, some, most_room spec ds some all.1)
-most_room spec (drawn.Text t ∷ ds) some all = omega (arith, need_room (spec.width / 8) t.now all.0.2, most_room spec ds some all.1)
-most_room spec (drawn.Missing ∷ ds) some all = omega (arith, some, most_room spec ds some all.1)
-most_room spec (drawn.Reference v ∷ ds) some all = omega (arith, some, most_room spec ds some all.1)
+most_room spec (field_content.Text t ∷ ds) some all = omega (arith, need_room (spec.width / 8) t.now all.0.2, most_room spec ds some all.1)
+most_room spec (d ∷ ds) some all = omega (arith, some, most_room spec ds some all.1)
 
 -- the text that needs most octets determines those of all texts
 max_le : (a b k : ℕ) → nat_le (max a b) k ≡ (nat_le a k && nat_le b k)
@@ -415,14 +384,12 @@ max_le a b k = grind (arith, common_steps, nat_le, le-leb, leb-true, lt-leb, leb
 one_le : (s k : ℕ) → 1 ≤ k → nat_le s k ≡ nat_le (max 1 s) k
 one_le s k h = sym (max_le 1 s k ∙ ap (λ b. b && nat_le s k) (le-leb 1 k h))
 
-texts_pass : (spec : FieldSpec) (ds : List FieldContent) (k : ℕ) → 1 ≤ k → AllDrawn spec ds → list_all (has_octets k) (contents_drawn (spec.width / 8) ds) ≡ nat_le (most_need ds) k
+texts_pass : (spec : FieldSpec) (ds : List FieldContent) (k : ℕ) → 1 ≤ k → AreContentsOf spec ds → list_all (has_octets k) (padded_contents (spec.width / 8) ds) ≡ nat_le (most_need ds) k
 texts_pass spec [] k h all = sym (le-leb 1 k h)
-texts_pass spec (drawn.Number n ∷ ds) k h all = texts_pass spec ds k h all.1 ∙ one_le (most_need ds) k h
-texts_pass spec (drawn.Text t ∷ ds) k h all =
-    ap (λ b. b && list_all (has_octets k) (contents_drawn (spec.width / 8) ds)) (gives_is (spaced (spec.width / 8) t.now) k all.0.2.1 ∙ ap (λ n. nat_le n k) (need_spaced (spec.width / 8) t.now))
+texts_pass spec (field_content.Text t ∷ ds) k h all =
+    ap (λ b. b && list_all (has_octets k) (padded_contents (spec.width / 8) ds)) (gives_is (spaced (spec.width / 8) t.now) k all.0.2.1 ∙ ap (λ n. nat_le n k) (need_spaced (spec.width / 8) t.now))
     ∙ ap (λ b. nat_le (need t.now) k && b) (texts_pass spec ds k h all.1) ∙ sym (max_le (need t.now) (most_need ds) k)
-texts_pass spec (drawn.Missing ∷ ds) k h all = texts_pass spec ds k h all.1 ∙ one_le (most_need ds) k h
-texts_pass spec (drawn.Reference v ∷ ds) k h all = texts_pass spec ds k h all.1 ∙ one_le (most_need ds) k h
+texts_pass spec (d ∷ ds) k h all = texts_pass spec ds k h all.1 ∙ one_le (most_need ds) k h
 
 first_at : (m fuel from : ℕ) → from ≤ m → first_from (λ k. nat_le m k) fuel from ≡ min m (from + fuel)
 first_at m zero from h = let e : from ≡ min m (from + 0) = omega (arith, h) in e
@@ -437,29 +404,24 @@ first_at m (suc fuel) from h = by (nat_le m from) refl (λ g. first_at m fuel (f
 least_of : (p q : ℕ → Bool) (fuel m : ℕ) → ((k : ℕ) → 1 ≤ k → p k ≡ q k) → (first_from q fuel 1 ≡ min m (1 + fuel)) → first_from p fuel 1 ≡ min m (1 + fuel)
 least_of p q fuel m h e = first_same p q fuel 1 h ∙ e
 
-pub texts_least : (spec : FieldSpec) (ds : List FieldContent) → 1 ≤ most_need ds → AllDrawn spec ds → least_k has_octets (contents_drawn (spec.width / 8) ds) ≡ min (most_need ds) 64
+pub texts_least : (spec : FieldSpec) (ds : List FieldContent) → 1 ≤ most_need ds → AreContentsOf spec ds → least_k has_octets (padded_contents (spec.width / 8) ds) ≡ min (most_need ds) 64
 texts_least spec ds some all =
-    least_of (λ k. list_all (has_octets k) (contents_drawn (spec.width / 8) ds)) (λ k. nat_le (most_need ds) k) 63 (most_need ds) (λ k h. texts_pass spec ds k h all)
+    least_of (λ k. list_all (has_octets k) (padded_contents (spec.width / 8) ds)) (λ k. nat_le (most_need ds) k) 63 (most_need ds) (λ k h. texts_pass spec ds k h all)
     (first_at (most_need ds) 63 1 some)
-
-kind_texts : (kd : Kind) (spec : FieldSpec) (cs : List Content) → is_character kd ≡ true → packed_by kd spec cs ≡ packed_texts spec.width (least_k has_octets cs) cs
-kind_texts kind.Character spec cs h = refl
-kind_texts kind.Coded spec cs h = absurd cc
-kind_texts kind.Numeric spec cs h = absurd cc
 
 texts_by : (w k : ℕ) (cs : List Content) (b : Bool) → nat_le k 63 ≡ b → packed_texts w k cs ≡ (if b then Ok (packed_bits (replicate w false) k (flat_map (octet_bits k) cs)) else Err increment)
 texts_by w k cs b e = ap (λ t. if t then Ok (packed_bits (replicate w false) k (flat_map (octet_bits k) cs)) else Err increment) e
 
-pub texts_packed : (spec : FieldSpec) (ds : List FieldContent) (k : ℕ) → is_character spec.kind ≡ true → 1 ≤ most_need ds → AllDrawn spec ds → k ≡ most_need ds → k ≤ 63
-    → packed_by spec.kind spec (contents_drawn (spec.width / 8) ds) ≡ Ok (packed_bits (replicate spec.width false) k (flat_map (octet_bits k) (contents_drawn (spec.width / 8) ds)))
+pub texts_packed : (spec : FieldSpec) (ds : List FieldContent) (k : ℕ) → is_character spec.kind ≡ true → 1 ≤ most_need ds → AreContentsOf spec ds → k ≡ most_need ds → k ≤ 63
+    → packed_by (is_character spec.kind) spec (padded_contents (spec.width / 8) ds) ≡ Ok (packed_bits (replicate spec.width false) k (flat_map (octet_bits k) (padded_contents (spec.width / 8) ds)))
 texts_packed spec ds k char some all is few =
-    let least : least_k has_octets (contents_drawn (spec.width / 8) ds) ≡ k = texts_least spec ds some all ∙ (let q : min (most_need ds) 64 ≡ k = omega (arith, is, few) in q) in
-    kind_texts spec.kind spec (contents_drawn (spec.width / 8) ds) char ∙ ap (λ n. packed_texts spec.width n (contents_drawn (spec.width / 8) ds)) least
-    ∙ texts_by spec.width k (contents_drawn (spec.width / 8) ds) true (le-leb k 63 few)
+    let least : least_k has_octets (padded_contents (spec.width / 8) ds) ≡ k = texts_least spec ds some all ∙ (let q : min (most_need ds) 64 ≡ k = omega (arith, is, few) in q) in
+    ap (λ b. packed_by b spec (padded_contents (spec.width / 8) ds)) char ∙ ap (λ n. packed_texts spec.width n (padded_contents (spec.width / 8) ds)) least
+    ∙ texts_by spec.width k (padded_contents (spec.width / 8) ds) true (le-leb k 63 few)
 
-pub texts_apart : (spec : FieldSpec) (ds : List FieldContent) (k : ℕ) → is_character spec.kind ≡ true → 1 ≤ most_need ds → AllDrawn spec ds → k ≡ most_need ds → 63 < k
-    → packed_by spec.kind spec (contents_drawn (spec.width / 8) ds) ≡ Err increment
-texts_apart spec ds k char some all is many = grind (arith, common_steps, texts_least, kind_texts, texts_by, lt-leb)
+pub texts_apart : (spec : FieldSpec) (ds : List FieldContent) (k : ℕ) → is_character spec.kind ≡ true → 1 ≤ most_need ds → AreContentsOf spec ds → k ≡ most_need ds → 63 < k
+    → packed_by (is_character spec.kind) spec (padded_contents (spec.width / 8) ds) ≡ Err increment
+texts_apart spec ds k char some all is many = grind (arith, common_steps, texts_least, texts_by, lt-leb)
 
 -- ---- The least and the greatest number of an item, gathered content after content.
 
@@ -485,23 +447,21 @@ lowest_more : (m : ℕ) (o : Option ℕ) (least most : ℕ) → max (m - 0) most
 lowest_more m None least most h g = (omega (arith, g.0, h), omega arith)
 lowest_more m (Some n) least most h g = (omega (arith, g.0), omega (arith, g.1))
 
-lowest_is : (count : ℕ) (ds : List FieldContent) → spread 0 ds ≤ 18446744073709551615 → IsLowest (lowest (contents_drawn count ds)) (least_number ds) (spread 0 ds)
+lowest_is : (count : ℕ) (ds : List FieldContent) → spread 0 ds ≤ 18446744073709551615 → IsLowest (lowest (padded_contents count ds)) (least_number ds) (spread 0 ds)
 lowest_is count [] h = (refl, refl)
-lowest_is count (drawn.Number m ∷ ds) h = lowest_more m (lowest (contents_drawn count ds)) (least_number ds) (spread 0 ds) h (lowest_is count ds (omega (arith, h)))
-lowest_is count (drawn.Text t ∷ ds) h = lowest_same (lowest (contents_drawn count ds)) (least_number ds) (spread 0 ds) (least_is_u64 ds) (lowest_is count ds (omega (arith, h)))
-lowest_is count (drawn.Missing ∷ ds) h = lowest_same (lowest (contents_drawn count ds)) (least_number ds) (spread 0 ds) (least_is_u64 ds) (lowest_is count ds (omega (arith, h)))
-lowest_is count (drawn.Reference v ∷ ds) h = lowest_same (lowest (contents_drawn count ds)) (least_number ds) (spread 0 ds) (least_is_u64 ds) (lowest_is count ds (omega (arith, h)))
+lowest_is count (field_content.Number m ∷ ds) h = lowest_more m (lowest (padded_contents count ds)) (least_number ds) (spread 0 ds) h (lowest_is count ds (omega (arith, h)))
+lowest_is count (d ∷ ds) h = lowest_same (lowest (padded_contents count ds)) (least_number ds) (spread 0 ds) (least_is_u64 ds) (lowest_is count ds (omega (arith, h)))
 
 -- the base of an item, by the least and the greatest
-pub base_some : (count : ℕ) (ds : List FieldContent) → spread 0 ds ≤ 18446744073709551615 → least_number ds ≤ spread 0 ds → least_number ds ≡ unwrap_or (lowest (contents_drawn count ds)) 0
-base_some count ds h g = by (lowest (contents_drawn count ds)) (lowest_is count ds h)
+pub base_some : (count : ℕ) (ds : List FieldContent) → spread 0 ds ≤ 18446744073709551615 → least_number ds ≤ spread 0 ds → least_number ds ≡ unwrap_or (lowest (padded_contents count ds)) 0
+base_some count ds h g = by (lowest (padded_contents count ds)) (lowest_is count ds h)
   where
     by : (o : Option ℕ) → IsLowest o (least_number ds) (spread 0 ds) → least_number ds ≡ unwrap_or o 0
     by None q = absurd (omega (arith, q.0, q.1, g))
     by (Some n) q = q.0
 
-pub base_none : (count : ℕ) (ds : List FieldContent) → spread 0 ds ≤ 18446744073709551615 → spread 0 ds < least_number ds → 0 ≡ unwrap_or (lowest (contents_drawn count ds)) 0
-base_none count ds h g = by (lowest (contents_drawn count ds)) (lowest_is count ds h)
+pub base_none : (count : ℕ) (ds : List FieldContent) → spread 0 ds ≤ 18446744073709551615 → spread 0 ds < least_number ds → 0 ≡ unwrap_or (lowest (padded_contents count ds)) 0
+base_none count ds h g = by (lowest (padded_contents count ds)) (lowest_is count ds h)
   where
     by : (o : Option ℕ) → IsLowest o (least_number ds) (spread 0 ds) → 0 ≡ unwrap_or o 0
     by None q = refl
@@ -513,61 +473,55 @@ most_with [] d = refl
 most_with (x ∷ ds) d = omega (arith, most_with ds d)
 
 pub number_is : (d : FieldContent) → number_or 0 d ≡ over_of 0 d
-number_is (drawn.Number n) = omega arith
-number_is (drawn.Text t) = refl
-number_is drawn.Missing = refl
-number_is (drawn.Reference v) = refl
+number_is (field_content.Number n) = omega arith
+number_is d = refl
 
 -- the greatest increment is that of the greatest number
 pub spread_over : (base : ℕ) (ds : List FieldContent) → spread base ds ≡ spread 0 ds - base
 spread_over base [] = omega arith
-spread_over base (drawn.Number n ∷ ds) = omega (arith, spread_over base ds)
-spread_over base (drawn.Text t ∷ ds) = omega (arith, spread_over base ds)
-spread_over base (drawn.Missing ∷ ds) = omega (arith, spread_over base ds)
-spread_over base (drawn.Reference v ∷ ds) = omega (arith, spread_over base ds)
+spread_over base (field_content.Number n ∷ ds) = omega (arith, spread_over base ds)
+spread_over base (d ∷ ds) = omega (arith, spread_over base ds)
 
 smaller_least : (a n : ℕ) (o : Option ℕ) → a ≡ n → smaller a o ≡ a → smaller n o ≡ a
 smaller_least a n o e h = ap (λ m. smaller m o) (sym e) ∙ h
 
 -- contents that are all one number
-all_one : (count a : ℕ) (ds : List FieldContent) → are_same (number a) (contents_drawn count ds) ≡ true → (smaller a (lowest (contents_drawn count ds)) ≡ a) × (max a (spread 0 ds) ≡ a)
+all_one : (count a : ℕ) (ds : List FieldContent) → are_same (number a) (padded_contents count ds) ≡ true → (smaller a (lowest (padded_contents count ds)) ≡ a) × (max a (spread 0 ds) ≡ a)
 all_one count a [] h = (refl, omega arith)
-all_one count a (drawn.Number n ∷ ds) h =
-    let e = eqb-true a n (and_first (a == n) (are_same (number a) (contents_drawn count ds)) h) in
-    let rest = all_one count a ds (and_second (a == n) (are_same (number a) (contents_drawn count ds)) h) in
-    let least = smaller_least a n (lowest (contents_drawn count ds)) e rest.0 in (
+all_one count a (field_content.Number n ∷ ds) h =
+    let e = eqb-true a n (and_first (a == n) (are_same (number a) (padded_contents count ds)) h) in
+    let rest = all_one count a ds (and_second (a == n) (are_same (number a) (padded_contents count ds)) h) in
+    let least = smaller_least a n (lowest (padded_contents count ds)) e rest.0 in (
       omega (arith, least),
       omega (arith, e, rest.1),
     )
-all_one count a (drawn.Text t ∷ ds) h = absurd cc
-all_one count a (drawn.Missing ∷ ds) h = absurd cc
-all_one count a (drawn.Reference v ∷ ds) h = absurd cc
+all_one count a (d ∷ ds) h = absurd cc
 
 -- contents that are all the same, and no number
-all_none : (count : ℕ) (c : Content) (ds : List FieldContent) → ((n : ℕ) → same c (number n) ≡ false) → are_same c (contents_drawn count ds) ≡ true
-    → (lowest (contents_drawn count ds) ≡ None) × (spread 0 ds ≡ 0)
+all_none : (count : ℕ) (c : Content) (ds : List FieldContent) → ((n : ℕ) → same c (number n) ≡ false) → are_same c (padded_contents count ds) ≡ true
+    → (lowest (padded_contents count ds) ≡ None) × (spread 0 ds ≡ 0)
 all_none count c [] differs h = (refl, refl)
-all_none count c (drawn.Number n ∷ ds) differs h = absurd (true_false (same c (number n)) (and_first (same c (number n)) (are_same c (contents_drawn count ds)) h) (differs n))
-all_none count c (drawn.Text t ∷ ds) differs h = let rest = all_none count c ds differs (and_second (same c (content_drawn count (drawn.Text t))) (are_same c (contents_drawn count ds)) h) in
+all_none count c (field_content.Number n ∷ ds) differs h = absurd (true_false (same c (number n)) (and_first (same c (number n)) (are_same c (padded_contents count ds)) h) (differs n))
+all_none count c (field_content.Text t ∷ ds) differs h = let rest =
+    all_none count c ds differs (and_second (same c (padded_content count (field_content.Text t))) (are_same c (padded_contents count ds)) h) in
     (rest.0, omega (arith, rest.1))
-all_none count c (drawn.Missing ∷ ds) differs h = let rest = all_none count c ds differs (and_second (same c missing) (are_same c (contents_drawn count ds)) h) in (rest.0, omega (arith, rest.1))
-all_none count c (drawn.Reference v ∷ ds) differs h = let rest = all_none count c ds differs (and_second (same c (reference v)) (are_same c (contents_drawn count ds)) h) in
+all_none count c (field_content.Missing ∷ ds) differs h = let rest =
+    all_none count c ds differs (and_second (same c missing) (are_same c (padded_contents count ds)) h) in (rest.0, omega (arith, rest.1))
+all_none count c (field_content.Reference v ∷ ds) differs h = let rest = all_none count c ds differs (and_second (same c (reference v)) (are_same c (padded_contents count ds)) h) in
     (rest.0, omega (arith, rest.1))
 
-no_range : (count : ℕ) (ds : List FieldContent) → (lowest (contents_drawn count ds) ≡ None) × (spread 0 ds ≡ 0) → unwrap_or (lowest (contents_drawn count ds)) 0 ≡ spread 0 ds
+no_range : (count : ℕ) (ds : List FieldContent) → (lowest (padded_contents count ds) ≡ None) × (spread 0 ds ≡ 0) → unwrap_or (lowest (padded_contents count ds)) 0 ≡ spread 0 ds
 no_range count ds h = ap (λ o. unwrap_or o 0) h.0 ∙ sym h.1
 
 -- the least and the greatest number of contents that are all the same are one
-pub range_of_same : (count : ℕ) (c : Content) (ds : List FieldContent) → are_same c (contents_drawn count ds) ≡ true → unwrap_or (lowest (contents_drawn count ds)) 0 ≡ spread 0 ds
+pub range_of_same : (count : ℕ) (c : Content) (ds : List FieldContent) → are_same c (padded_contents count ds) ≡ true → unwrap_or (lowest (padded_contents count ds)) 0 ≡ spread 0 ds
 range_of_same count (number a) [] h = refl
-range_of_same count (number a) (drawn.Number n ∷ ds) h = grind (arith, common_steps, eqb-true, and_first, all_one, and_second, smaller_least)
-range_of_same count (number a) (drawn.Text t ∷ ds) h = absurd cc
-range_of_same count (number a) (drawn.Missing ∷ ds) h = absurd cc
-range_of_same count (number a) (drawn.Reference v ∷ ds) h = absurd cc
+range_of_same count (number a) (field_content.Number n ∷ ds) h = grind (arith, common_steps, eqb-true, and_first, all_one, and_second, smaller_least)
+range_of_same count (number a) (d ∷ ds) h = absurd cc
 range_of_same count (text t) ds h = no_range count ds (all_none count (text t) ds (λ n. refl) h)
 range_of_same count missing ds h = no_range count ds (all_none count missing ds (λ n. refl) h)
 range_of_same count (reference v) ds h = no_range count ds (all_none count (reference v) ds (λ n. refl) h)
 
 -- contents with two numbers are not all the same
-pub not_alike : (count : ℕ) (c : Content) (ds : List FieldContent) → (unwrap_or (lowest (contents_drawn count ds)) 0 ≡ spread 0 ds → ⊥) → false ≡ are_same c (contents_drawn count ds)
+pub not_alike : (count : ℕ) (c : Content) (ds : List FieldContent) → (unwrap_or (lowest (padded_contents count ds)) 0 ≡ spread 0 ds → ⊥) → false ≡ are_same c (padded_contents count ds)
 not_alike count c ds h = grind (arith, common_steps, range_of_same)

@@ -80,9 +80,7 @@ module _ (m : Bool) (w base k : ℕ) where
 
   pub increment_length : (c : Content) → length (increment_bits base k c) ≡ k
   increment_length (number n) = length-bits_in (n - base) k
-  increment_length (text os) = length-replicate k true
-  increment_length missing = length-replicate k true
-  increment_length (reference v) = length-replicate k true
+  increment_length c = length-replicate k true
 
   pub increments_long : (cs : List Content) → AreLong (increment_bits base k) k cs
   increments_long [] = tt
@@ -212,9 +210,7 @@ numbers_read m w base k (i ∷ is) long h =
 -- over a greater base increments are no longer
 has_over : (m : Bool) (base low k : ℕ) (c : Content) → base ≤ low → IsShort m base k c → has_bits m low k c ≡ true
 has_over m base low k (number n) h s = lt-ltb (n - low) (raw_limit m k) (omega (arith, s))
-has_over m base low k (text os) h s = refl
-has_over m base low k missing h s = refl
-has_over m base low k (reference v) h s = refl
+has_over m base low k c h s = refl
 
 pub all_over : (m : Bool) (base low k : ℕ) (cs : List Content) → base ≤ low → AreShort m base k cs → list_all (has_bits m low k) cs ≡ true
 all_over m base low k [] h s = refl

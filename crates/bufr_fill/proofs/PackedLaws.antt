@@ -11,7 +11,8 @@ use Rattle.bufr_bits.proofs.BitLemmas.{number_of-below, length-bits_in}
 use Rattle.bufr_bits.proofs.DecimalLemmas.{and_first, and_second}
 use Rattle.bufr_tables.specs.declared.table_b.Kind.{Kind}
 use Rattle.bufr_walk.specs.declared.spec.Role.{Role}
-use Rattle.bufr_walk.specs.Prelude.{FieldSpec, IsSpec, HasRole, HasWidth, Content, number, text, missing, reference, content_in, bits_for, FieldFault, increment, FieldRead, found, increments, padded_text, kind_step, increment_bits_of, is_missing, stays_within, all_within, are_number_increments_valid, are_increments_valid_by, are_increments_valid, all_equal, equal_in, increased_to, number_from, content_from, contents_of, packed_field}
+use Rattle.bufr_tables.specs.Prelude.{is_character}
+use Rattle.bufr_walk.specs.Prelude.{FieldSpec, IsSpec, HasRole, HasWidth, Content, number, text, missing, content_in, bits_for, FieldFault, increment, FieldRead, found, increments, padded_text, kind_step, increment_bits_of, is_missing, stays_within, all_within, are_number_increments_valid, are_increments_valid_by, are_increments_valid, all_equal, equal_in, increased_to, number_from, content_from, contents_of, packed_field}
 use Rattle.bufr_walk.proofs.PackedLemmas.{item_tested, item_ok, neither}
 use Rattle.bufr_fill.specs.Prelude.{raw_limit, same, are_same, lowest, has_bits, has_octets, least_k, increment_bits, octet_bits, packed_bits, numbers_over, packed_by, packed_unlike, packing, k_of, HasLeastK, first_from, FitsNumber, FitsText, FitsKind, FitsRole, Fits, AllFit, Role, Kind}
 use Rattle.bufr_fill.proofs.FieldLemmas.{number_again, number_back, top_below, same_ok}
@@ -91,8 +92,7 @@ module _ (n : ℕ) (spec : FieldSpec) where
 -- each are enough
 abbrev pub IsVaried : Kind → Bool → (w k : ℕ) → List Content → Type 0
 IsVaried kind.Character m w k cs = AreTexts (w / 8) cs × (list_all (has_octets k) cs ≡ true) × (k ≤ w / 8)
-IsVaried kind.Coded m w k cs = AreNumbers m w cs × ((low : ℕ) → lowest cs ≡ Some low → list_all (has_bits m low k) cs ≡ true)
-IsVaried kind.Numeric m w k cs = AreNumbers m w cs × ((low : ℕ) → lowest cs ≡ Some low → list_all (has_bits m low k) cs ≡ true)
+IsVaried kd m w k cs = AreNumbers m w cs × ((low : ℕ) → lowest cs ≡ Some low → list_all (has_bits m low k) cs ≡ true)
 
 missing_numbers : {X : Type 0} (m : Bool) (w : ℕ) (is : List X) → m ≡ true → AreNumbers m w (map (λ i. missing) is)
 missing_numbers m w [] e = tt
@@ -119,24 +119,21 @@ module _ (spec : FieldSpec) (k n : ℕ) (base suffix : List Bool) where
   spec_by_kind kind.Character long h =
       let short : k ≤ spec.width / 8 = ltb-false (spec.width / 8) k (not_true (nat_lt (spec.width / 8) k) h) in
       (texts_fit (spec.width / 8) k (increments n (8 * k) suffix) short long, texts_again (spec.width / 8) k (increments n (8 * k) suffix) short long, short)
-  spec_by_kind kind.Coded long h = numbers_varied (is_missing spec base) long refl h
-  spec_by_kind kind.Numeric long h = numbers_varied (is_missing spec base) long refl h
+  spec_by_kind k long h = numbers_varied (is_missing spec base) long refl h
 
 -- ---- contents that differ are written
 
 none_has : (m : Bool) (low k : ℕ) (cs : List Content) → lowest cs ≡ None → list_all (has_bits m low k) cs ≡ true
 none_has m low k [] e = refl
 none_has m low k (number n ∷ cs) e = absurd cc
-none_has m low k (text os ∷ cs) e = none_has m low k cs e
-none_has m low k (missing ∷ cs) e = none_has m low k cs e
-none_has m low k (reference v ∷ cs) e = none_has m low k cs e
+none_has m low k (c ∷ cs) e = none_has m low k cs e
 
 -- what holds of contents that differ, by kind
 pub record IsWritten (kd : Kind) (spec : FieldSpec) (cs : List Content) (most : ℕ) : Type 0 where
   pub base : List Bool
   pub k : ℕ
   pub pieces : List Bool
-  pub is : packed_by kd spec cs ≡ Ok (packed_bits base k pieces)
+  pub is : packed_by (is_character kd) spec cs ≡ Ok (packed_bits base k pieces)
   pub long : length base ≡ spec.width
   pub some : 1 ≤ k
   pub small : k ≤ 63
@@ -263,8 +260,7 @@ all_map (x ∷ xs) f h = (f x h.0, all_map xs f h.1)
 
 varied_fit : (spec : FieldSpec) (kd : Kind) (m : Bool) (w k : ℕ) (cs : List Content) → ((c : Content) → FitsKind kd m w c → Fits spec c) → IsVaried kd m w k cs → AllFit spec cs
 varied_fit spec kind.Character m w k cs h v = all_map cs h v.0
-varied_fit spec kind.Coded m w k cs h v = all_map cs h v.0
-varied_fit spec kind.Numeric m w k cs h v = all_map cs h v.0
+varied_fit spec kd m w k cs h v = all_map cs h v.0
 
 same_copies : (c : Content) (cs : List Content) → are_same c cs ≡ true → cs ≡ replicate (length cs) c
 same_copies c [] h = refl
@@ -280,16 +276,9 @@ copies_are (suc n) x c cs h = let f = heads x c (replicate n x) cs h in (f.0, ap
     heads x c xs cs h = (cc, cc)
 
 step_none : (r : Role) (kd : Kind) → increment_bits_of r kd 0 ≡ 0
-step_none role.Element kind.Character = refl
-step_none role.Element kind.Coded = refl
-step_none role.Element kind.Numeric = refl
-step_none role.Inserted kind.Character = refl
-step_none role.Inserted kind.Coded = refl
-step_none role.Inserted kind.Numeric = refl
-step_none role.Factor kind.Character = refl
-step_none role.Factor kind.Coded = refl
-step_none role.Factor kind.Numeric = refl
 step_none role.Reference kd = refl
+step_none r kind.Character = refl
+step_none r kd = refl
 
 -- equal increments of numbers give the same contents
 equal_numbers : (spec : FieldSpec) (k first : ℕ) (base : List Bool) (is : List (List Bool)) → list_all (λ i. number_of i == first) is ≡ true
@@ -310,7 +299,7 @@ record IsOpen (spec : FieldSpec) : Type 0 where
   holds : (k n : ℕ) (base suffix : List Bool) → are_increments_valid spec.role spec k n base suffix ≡ are_increments_valid_by spec.kind spec k n base suffix
   equal : (k n : ℕ) (suffix : List Bool) → equal_in spec.role k n suffix ≡ true
   steps : (k : ℕ) → increment_bits_of spec.role spec.kind k ≡ kind_step spec.kind k
-  packings : (cs : List Content) → packed_unlike spec.role spec cs ≡ packed_by spec.kind spec cs
+  packings : (cs : List Content) → packed_unlike spec.role spec cs ≡ packed_by (is_character spec.kind) spec cs
   fit : (c : Content) → FitsKind spec.kind spec.may_be_missing spec.width c → Fits spec c
 
 open_element : (spec : FieldSpec) → spec.role ≡ role.Element → IsOpen spec
@@ -376,13 +365,11 @@ module _ (n : ℕ) (spec : FieldSpec) (good : IsSpec spec) where
 
       step_grows : (kd : Kind) (a b : ℕ) → a ≤ b → kind_step kd a ≤ kind_step kd b
       step_grows kind.Character a b h = omega arith
-      step_grows kind.Coded a b h = h
-      step_grows kind.Numeric a b h = h
+      step_grows k a b h = h
 
   first_fits_kind : (kd : Kind) (k : ℕ) (c : Content) (cs : List Content) → IsVaried kd spec.may_be_missing spec.width k (c ∷ cs) → FitsKind kd spec.may_be_missing spec.width c
   first_fits_kind kind.Character k c cs v = v.0.0
-  first_fits_kind kind.Coded k c cs v = v.0.0
-  first_fits_kind kind.Numeric k c cs v = v.0.0
+  first_fits_kind kd k c cs v = v.0.0
 
   -- either all the same, or not
   of_element : IsOpen spec → (c : Content) (cs : List Content) (k most : ℕ) (b : Bool) → are_same c cs ≡ b → 1 ≤ k → k ≤ 63 → IsVaried spec.kind spec.may_be_missing spec.width k (c ∷ cs)
@@ -460,18 +447,15 @@ module _ (n : ℕ) (spec : FieldSpec) (good : IsSpec spec) where
 -- where an increment is no longer, its k is no greater
 lesser_step : (kd : Kind) (k j : ℕ) → kind_step kd k ≤ kind_step kd j → k ≤ j
 lesser_step kind.Character k j g = omega (arith, g)
-lesser_step kind.Coded k j g = g
-lesser_step kind.Numeric k j g = g
+lesser_step kd k j g = g
 
 module _ (n : ℕ) (spec : FieldSpec) (some : 1 ≤ n) where
   -- a reference has no k but 0
   lesser_k : (r : Role) (b : Bool) (k j : ℕ) (base suffix : List Bool) → (k == 0) ≡ b → (b || are_increments_valid r spec k n base suffix) ≡ true
       → n * increment_bits_of r spec.kind k ≤ n * increment_bits_of r spec.kind j → k ≤ j
   lesser_k r true k j base suffix p e h = omega (arith, eqb-true k 0 p)
-  lesser_k role.Element false k j base suffix p e h = lesser_step spec.kind k j (le_of_mul-le-mul_left h some)
-  lesser_k role.Inserted false k j base suffix p e h = lesser_step spec.kind k j (le_of_mul-le-mul_left h some)
-  lesser_k role.Factor false k j base suffix p e h = lesser_step spec.kind k j (le_of_mul-le-mul_left h some)
   lesser_k role.Reference false k j base suffix p e h = absurd cc
+  lesser_k r false k j base suffix p e h = lesser_step spec.kind k j (le_of_mul-le-mul_left h some)
 
   -- of two items with the same contents the one that is no longer has no greater k
   shorter : (out bits : List Bool) (cs : List Content) (suffix : List Bool) → packed_field n spec out ≡ Ok (found cs []) → packed_field n spec bits ≡ Ok (found cs suffix)
@@ -523,9 +507,8 @@ found_from p (suc fuel) from h = found_step p (p from) from (first_from p fuel (
 -- the whole width is enough
 number_has : (m : Bool) (w low : ℕ) (c : Content) → FitsNumber m w c → has_bits m low w c ≡ true
 number_has m w low (number n) h = lt-ltb (n - low) (raw_limit m w) (omega (arith, h))
-number_has m w low (text os) h = absurd h
 number_has m w low missing h = refl
-number_has m w low (reference v) h = absurd h
+number_has m w low c h = absurd h
 
 numbers_have : (m : Bool) (w low : ℕ) (cs : List Content) → AreNumbers m w cs → list_all (has_bits m low w) cs ≡ true
 numbers_have m w low [] h = refl
@@ -539,9 +522,8 @@ whole_again count os l none = grind (arith, common_steps, take_all, not, append-
 
 text_has : (count : ℕ) (c : Content) → FitsText count c → has_octets count c ≡ true
 text_has count (text os) h = whole_again count os h.0 h.2
-text_has count (number n) h = absurd h
 text_has count missing h = refl
-text_has count (reference v) h = absurd h
+text_has count c h = absurd h
 
 texts_have : (count : ℕ) (cs : List Content) → AreTexts count cs → list_all (has_octets count) cs ≡ true
 texts_have count [] h = refl
@@ -567,7 +549,8 @@ text_varies true m w cs out wide are q e =
     let least : k ≤ w / 8 = first_least (λ k. list_all (has_octets k) cs) 63 1 (w / 8) some (texts_have (w / 8) cs are) in
     (k, first_from_start (λ k. list_all (has_octets k) cs) 63 1, few, (are, passes, least))
 
-kind_varies : (kd : Kind) (spec : FieldSpec) (cs : List Content) (out : List Bool) → HasWidth kd spec.width → AllKind kd spec.may_be_missing spec.width cs → packed_by kd spec cs ≡ Ok out
+kind_varies : (kd : Kind) (spec : FieldSpec) (cs : List Content) (out : List Bool) → HasWidth kd spec.width → AllKind kd spec.may_be_missing spec.width cs
+    → packed_by (is_character kd) spec cs ≡ Ok out
     → Varies kd spec.may_be_missing spec.width cs
 kind_varies kind.Character spec cs out hw h e = text_varies (nat_le (least_k has_octets cs) 63) spec.may_be_missing spec.width cs out hw.0 h refl e
 kind_varies kind.Coded spec cs out hw h e =
@@ -591,12 +574,11 @@ module _ (n : ℕ) (spec : FieldSpec) (good : IsSpec spec) where
 
   unlike_by_role : (r : Role) → spec.role ≡ r → (c : Content) (cs : List Content) (out : List Bool) → AllFit spec (c ∷ cs) → length (c ∷ cs) ≡ n → are_same c cs ≡ false
       → packed_unlike r spec (c ∷ cs) ≡ Ok out → (most : ℕ) × PacksWithin n spec (c ∷ cs) most
-  unlike_by_role role.Factor er c cs out fits count unlike e = absurd cc
-  unlike_by_role role.Reference er c cs out fits count unlike e = absurd cc
   unlike_by_role role.Element er c cs out fits count unlike e = unlike_open (open_element spec er) c cs out (kinds_of role.Element er (λ x f. f) (c ∷ cs) fits) count unlike
       (ap (λ r. packed_unlike r spec (c ∷ cs)) er ∙ e)
   unlike_by_role role.Inserted er c cs out fits count unlike e = unlike_open (open_inserted spec er) c cs out (kinds_of role.Inserted er (λ x f. f) (c ∷ cs) fits) count unlike
       (ap (λ r. packed_unlike r spec (c ∷ cs)) er ∙ e)
+  unlike_by_role r er c cs out fits count unlike e = absurd cc
 
   by_same : (b : Bool) (c : Content) (cs : List Content) (out : List Bool) → AllFit spec (c ∷ cs) → length (c ∷ cs) ≡ n → are_same c cs ≡ b
       → (if b then Ok (packed_bits (bits_for spec.width c) 0 []) else packed_unlike spec.role spec (c ∷ cs)) ≡ Ok out

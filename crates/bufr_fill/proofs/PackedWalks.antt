@@ -13,8 +13,8 @@ written_bits : (a b : WrittenItem (List Content)) → ◌≡◌ {A = Result (Wri
 written_bits a b e = grind (arith, common_steps)
 
 -- without a subset nothing is written
-none_written : (spec : FieldSpec) (place : ℕ) (cs : List Content) (item : List Bool) → pack_across spec (item_row place []) ≡ Ok (written_item cs item) → item ≡ []
-none_written spec place cs item e = grind (arith, common_steps, written_bits)
+none_written : (spec : FieldSpec) (index : ℕ) (cs : List Content) (item : List Bool) → pack_across spec (item_row index []) ≡ Ok (written_item cs item) → item ≡ []
+none_written spec index cs item e = grind (arith, common_steps, written_bits)
 
 pub some_there : {X : Type 0} (xs : List X) (k : ℕ) (x : X) → slice_get xs k ≡ Some x → k < length xs
 some_there [] k x e = absurd cc
@@ -22,30 +22,30 @@ some_there (y ∷ xs) zero x e = omega arith
 some_there (y ∷ xs) (suc k) x e = omega (arith, some_there xs k x e)
 
 -- an item that was written is in the first subset
-first_has_place : (spec : FieldSpec) (place : ℕ) (s : Subset) (ss : List Subset) (w : WrittenItem (List Content)) → pack_across spec (item_row place (s ∷ ss)) ≡ Ok w → place < length s.items
-first_has_place spec place s ss w e = grind (arith, common_steps, slice_get, some_there)
+first_has_index : (spec : FieldSpec) (index : ℕ) (s : Subset) (ss : List Subset) (w : WrittenItem (List Content)) → pack_across spec (item_row index (s ∷ ss)) ≡ Ok w → index < length s.items
+first_has_index spec index s ss w e = grind (arith, common_steps, slice_get, some_there)
 
-pub within : (s s' : PackedOutModel) (spec : FieldSpec) (t : Taken) → IsPacked s spec t s' → s.place < longest s.subsets
+pub within : (s s' : PackedOutModel) (spec : FieldSpec) (t : Taken) → IsPacked s spec t s' → s.index < longest s.subsets
 within s s' spec t h = by s.subsets refl
   where
-    by : (ss : List Subset) → s.subsets ≡ ss → s.place < longest s.subsets
+    by : (ss : List Subset) → s.subsets ≡ ss → s.index < longest s.subsets
     by [] e =
-        let none : h.put.item ≡ [] = none_written spec s.place h.put.contents h.put.item (ap (λ ss. pack_across spec (item_row s.place ss)) (sym e) ∙ h.put.is) in
+        let none : h.put.item ≡ [] = none_written spec s.index h.put.contents h.put.item (ap (λ ss. pack_across spec (item_row s.index ss)) (sym e) ∙ h.put.is) in
         absurd (omega (arith, h.put.forth, ap length (h.put.bits ∙ ap (λ b. s.bits ++ b) none ∙ append-nil s.bits)))
     by (x ∷ ss) e =
-        let there = first_has_place spec s.place x ss (written_item h.put.contents h.put.item) (ap (λ ss. pack_across spec (item_row s.place ss)) (sym e) ∙ h.put.is) in
+        let there = first_has_index spec s.index x ss (written_item h.put.contents h.put.item) (ap (λ ss. pack_across spec (item_row s.index ss)) (sym e) ∙ h.put.is) in
         omega (arith, there, ap longest e)
 
-pub row_first : (n place : ℕ) (ss : List Subset) → place < n → rows (n - place) place ss ≡ item_row place ss ∷ rows (n - (place + 1)) (place + 1) ss
-row_first n place ss h = let e : n - place ≡ suc (n - (place + 1)) = omega (arith, h) in ap (λ k. rows k place ss) e
+pub row_first : (n index : ℕ) (ss : List Subset) → index < n → rows (n - index) index ss ≡ item_row index ss ∷ rows (n - (index + 1)) (index + 1) ss
+row_first n index ss h = let e : n - index ≡ suc (n - (index + 1)) = omega (arith, h) in ap (λ k. rows k index ss) e
 
 pub fills : (end : ℕ) (many : Bool) (s : PackedOutModel) (spec : FieldSpec) (t : Taken) (s' : PackedOutModel) → oks PackedFills s spec t s'
     → HasFilled (packed_filler end many) (rows_left s) s.bits spec t (rows_left s') s'.bits
 fills end many s spec t s' h = record {
-  draft = item_row s.place s.subsets;
+  draft = item_row s.index s.subsets;
   item = written_item h.put.contents h.put.item;
-  here = row_first (longest s.subsets) s.place s.subsets (within s s' spec t h) ∙ ap (λ k. item_row s.place s.subsets ∷ rows (longest s.subsets - k) k s.subsets) (sym h.place)
-      ∙ ap (λ ss. item_row s.place s.subsets ∷ rows (longest ss - s'.place) s'.place ss) (sym h.subsets);
+  here = row_first (longest s.subsets) s.index s.subsets (within s s' spec t h) ∙ ap (λ k. item_row s.index s.subsets ∷ rows (longest s.subsets - k) k s.subsets) (sym h.index)
+      ∙ ap (λ ss. item_row s.index s.subsets ∷ rows (longest ss - s'.index) s'.index ss) (sym h.subsets);
   fills = h.put.is;
   gives = h.put.gives;
   bits = h.put.bits;
@@ -60,73 +60,73 @@ walk_of_rows end many course s items s' h = walk_fills (packed_filler end many) 
 
 -- ---- places
 
-none_past : (items : List Draft) (place : ℕ) → length items ≤ place → slice_get items place ≡ None
-none_past [] place h = refl
+none_past : (items : List Draft) (index : ℕ) → length items ≤ index → slice_get items index ≡ None
+none_past [] index h = refl
 none_past (x ∷ items) zero h = absurd (omega (arith, h))
-none_past (x ∷ items) (suc place) h = none_past items place (omega (arith, h))
+none_past (x ∷ items) (suc index) h = none_past items index (omega (arith, h))
 
-past_none : (items : List Draft) (place : ℕ) → slice_get items place ≡ None → length items ≤ place
-past_none [] place e = omega arith
+past_none : (items : List Draft) (index : ℕ) → slice_get items index ≡ None → length items ≤ index
+past_none [] index e = omega arith
 past_none (x ∷ items) zero e = absurd cc e
-past_none (x ∷ items) (suc place) e = omega (arith, past_none items place e)
+past_none (x ∷ items) (suc index) e = omega (arith, past_none items index e)
 
-no_row : (place : ℕ) (ss : List Subset) → longest ss ≤ place → rows (longest ss - place) place ss ≡ []
-no_row place ss h = let e : longest ss - place ≡ 0 = omega (arith, h) in ap (λ n. rows n place ss) e
+no_row : (index : ℕ) (ss : List Subset) → longest ss ≤ index → rows (longest ss - index) index ss ≡ []
+no_row index ss h = let e : longest ss - index ≡ 0 = omega (arith, h) in ap (λ n. rows n index ss) e
 
 -- all subsets end after the longest
-ends_past : (place : ℕ) (ss : List Subset) → all_at_end (cells_at place ss) ≡ Ok tt → longest ss ≤ place
-ends_past place [] e = omega arith
-ends_past place (s ∷ ss) e = by (slice_get s.items place) refl e (λ e. ends_past place ss e)
+ends_past : (index : ℕ) (ss : List Subset) → all_at_end (cells_at index ss) ≡ Ok tt → longest ss ≤ index
+ends_past index [] e = omega arith
+ends_past index (s ∷ ss) e = by (slice_get s.items index) refl e (λ e. ends_past index ss e)
   where
-    by : (o : Option Draft) → slice_get s.items place ≡ o → and_end o (all_at_end (cells_at place ss)) ≡ Ok tt → (all_at_end (cells_at place ss) ≡ Ok tt → longest ss ≤ place)
-        → max (length s.items) (longest ss) ≤ place
-    by None is e g = omega (arith, past_none s.items place is, g e)
+    by : (o : Option Draft) → slice_get s.items index ≡ o → and_end o (all_at_end (cells_at index ss)) ≡ Ok tt → (all_at_end (cells_at index ss) ≡ Ok tt → longest ss ≤ index)
+        → max (length s.items) (longest ss) ≤ index
+    by None is e g = omega (arith, past_none s.items index is, g e)
     by (Some d) is e g = absurd cc e
 
 -- an item that is left over is there
-ends_before : (place : ℕ) (ss : List Subset) (f : DraftFault) → all_at_end (cells_at place ss) ≡ Err f → (place < longest ss) × (f ≡ at_line (first_there (cells_at place ss)) item_too_many)
-ends_before place [] f e = absurd cc e
-ends_before place (s ∷ ss) f e = by (slice_get s.items place) refl e (λ e. ends_before place ss f e)
+ends_before : (index : ℕ) (ss : List Subset) (f : DraftFault) → all_at_end (cells_at index ss) ≡ Err f → (index < longest ss) × (f ≡ at_line (first_there (cells_at index ss)) item_too_many)
+ends_before index [] f e = absurd cc e
+ends_before index (s ∷ ss) f e = by (slice_get s.items index) refl e (λ e. ends_before index ss f e)
   where
-    by : (o : Option Draft) → slice_get s.items place ≡ o → and_end o (all_at_end (cells_at place ss)) ≡ Err f
-        → (all_at_end (cells_at place ss) ≡ Err f → (place < longest ss) × (f ≡ at_line (first_there (cells_at place ss)) item_too_many))
-        → (place < longest (s ∷ ss)) × (f ≡ at_line (first_there (cells_at place (s ∷ ss))) item_too_many)
-    by None is e g = let r = g e in (omega (arith, r.0), r.1 ∙ ap (λ o. at_line (line_in o (first_there (cells_at place ss))) item_too_many) (sym is))
+    by : (o : Option Draft) → slice_get s.items index ≡ o → and_end o (all_at_end (cells_at index ss)) ≡ Err f
+        → (all_at_end (cells_at index ss) ≡ Err f → (index < longest ss) × (f ≡ at_line (first_there (cells_at index ss)) item_too_many))
+        → (index < longest (s ∷ ss)) × (f ≡ at_line (first_there (cells_at index (s ∷ ss))) item_too_many)
+    by None is e g = let r = g e in (omega (arith, r.0), r.1 ∙ ap (λ o. at_line (line_in o (first_there (cells_at index ss))) item_too_many) (sym is))
     by (Some d) is e g = let same : at_line d.line item_too_many ≡ f =
-        cc in (omega (arith, some_there s.items place d is), sym same ∙ ap (λ o. at_line (line_in o (first_there (cells_at place ss))) item_too_many) (sym is))
+        cc in (omega (arith, some_there s.items index d is), sym same ∙ ap (λ o. at_line (line_in o (first_there (cells_at index ss))) item_too_many) (sym is))
 
 -- ---- the walk
 
 -- a walk stays with its subsets, and within the longest of them
 pub record Stays (s s' : PackedOutModel) : Type 0 where
   pub subsets : s'.subsets ≡ s.subsets
-  pub within : s'.place ≤ longest s'.subsets
+  pub within : s'.index ≤ longest s'.subsets
 
-pub stays : (course : Course) (s : PackedOutModel) (items : List TakenField) (s' : PackedOutModel) → Takes (oks PackedFills) course s items s' → s.place ≤ longest s.subsets → Stays s s'
+pub stays : (course : Course) (s : PackedOutModel) (items : List TakenField) (s' : PackedOutModel) → Takes (oks PackedFills) course s items s' → s.index ≤ longest s.subsets → Stays s s'
 stays course s [] s' h p = record {
   subsets = ap (λ (x : PackedOutModel). x.subsets) h;
-  within = omega (arith, p, ap (λ (x : PackedOutModel). x.place) h, ap (λ (x : PackedOutModel). longest x.subsets) h);
+  within = omega (arith, p, ap (λ (x : PackedOutModel). x.index) h, ap (λ (x : PackedOutModel). longest x.subsets) h);
 }
 stays course s (i ∷ items) s' h p =
     let near = within s h.0 i.spec i.taken h.2 in
-    let rest = stays (λ answers. course (i.taken ∷ answers)) h.0 items s' h.3 (omega (arith, near, h.2.place, ap longest h.2.subsets)) in
+    let rest = stays (λ answers. course (i.taken ∷ answers)) h.0 items s' h.3 (omega (arith, near, h.2.index, ap longest h.2.subsets)) in
     record { subsets = rest.subsets ∙ h.2.subsets; within = rest.within }
 
 module _ (course : Course) (s : Subset) (more : List Subset) where
   abbrev filler : Filler ItemRow (List Content) DraftFault
   filler = packed_filler s.end_line (are_many (longest (s ∷ more)) (length (s ∷ more)))
 
-  -- what the definition makes of the rows from a place on
+  -- what the definition makes of the rows from an index on
   abbrev fill_from : Course → ℕ → Result (List Bool) DraftFault
-  fill_from c place = fill filler c (rows (longest (s ∷ more) - place) place (s ∷ more))
+  fill_from c index = fill filler c (rows (longest (s ∷ more) - index) index (s ∷ more))
 
   -- what a walk from the beginning wrote
   record Came (items : List TakenField) (mid : PackedOutModel) : Type 0 where
     bits : List Bool
     are : mid.bits ≡ bits
-    is : packed_data course (s ∷ more) ≡ with_bits_before filler bits (fill_from (course_after course items) mid.place)
+    is : packed_data course (s ∷ more) ≡ with_bits_before filler bits (fill_from (course_after course items) mid.index)
     subsets : mid.subsets ≡ s ∷ more
-    near : mid.place ≤ longest (s ∷ more)
+    near : mid.index ≤ longest (s ∷ more)
 
   came : (items : List TakenField) (mid : PackedOutModel) → Takes (oks PackedFills) course (new_packed_out (s ∷ more)) items mid → Came items mid
   came items mid h =
@@ -138,33 +138,33 @@ module _ (course : Course) (s : Subset) (more : List Subset) where
         bits = f.0;
         are = f.1;
         is = ap (λ k. fill filler course (rows k 0 (s ∷ more))) (sym e) ∙ f.2
-            ∙ ap (λ ss. with_bits_before filler f.0 (fill filler (course_after course items) (rows (longest ss - mid.place) mid.place ss))) w.subsets;
+            ∙ ap (λ ss. with_bits_before filler f.0 (fill filler (course_after course items) (rows (longest ss - mid.index) mid.index ss))) w.subsets;
         subsets = w.subsets;
         near = omega (arith, w.within, ap longest w.subsets);
       }
 
   -- where the walk is refused
-  refused_here : (c : Course) (place : ℕ) (why : refusal.the_data) → (c []).next ≡ refused why → place ≤ longest (s ∷ more)
-      → fill_from c place ≡ Err (at_line (first_line_at place (s ∷ more)) (walk_refused why))
-  refused_here c place why e h = by (longest (s ∷ more) - place) refl
+  refused_here : (c : Course) (index : ℕ) (why : refusal.the_data) → (c []).next ≡ refused why → index ≤ longest (s ∷ more)
+      → fill_from c index ≡ Err (at_line (first_line_at index (s ∷ more)) (walk_refused why))
+  refused_here c index why e h = by (longest (s ∷ more) - index) refl
     where
-      by : (left : ℕ) → longest (s ∷ more) - place ≡ left → fill_from c place ≡ Err (at_line (first_line_at place (s ∷ more)) (walk_refused why))
+      by : (left : ℕ) → longest (s ∷ more) - index ≡ left → fill_from c index ≡ Err (at_line (first_line_at index (s ∷ more)) (walk_refused why))
       by zero l =
-          ap (λ k. fill filler c (rows k place (s ∷ more))) l
+          ap (λ k. fill filler c (rows k index (s ∷ more))) l
           ∙ ap (fill_at filler c []) e
-          ∙ ap (λ o. Err (at_line (line_in o s.end_line) (walk_refused why))) (sym (none_past s.items place (omega (arith, l, h))))
+          ∙ ap (λ o. Err (at_line (line_in o s.end_line) (walk_refused why))) (sym (none_past s.items index (omega (arith, l, h))))
       by (suc k) l =
-          ap (λ k. fill filler c (rows k place (s ∷ more))) l
-          ∙ ap (fill_at filler c (item_row place (s ∷ more) ∷ rows k (place + 1) (s ∷ more))) e
+          ap (λ k. fill filler c (rows k index (s ∷ more))) l
+          ∙ ap (fill_at filler c (item_row index (s ∷ more) ∷ rows k (index + 1) (s ∷ more))) e
 
   -- where an item is at fault
-  fault_here : (c : Course) (place : ℕ) (spec : FieldSpec) (f : DraftFault) → (c []).next ≡ take_next spec → place ≤ longest (s ∷ more) → pack_across spec (item_row place (s ∷ more)) ≡ Err f
-      → fill_from c place ≡ Err f
-  fault_here c place spec f e h p = by (longest (s ∷ more) - place) refl
+  fault_here : (c : Course) (index : ℕ) (spec : FieldSpec) (f : DraftFault) → (c []).next ≡ take_next spec → index ≤ longest (s ∷ more) → pack_across spec (item_row index (s ∷ more)) ≡ Err f
+      → fill_from c index ≡ Err f
+  fault_here c index spec f e h p = by (longest (s ∷ more) - index) refl
     where
       past : (many many' : Bool) (o : Option Draft) → many ≡ many' → o ≡ None
           → (if many then Err (at_line (line_in o s.end_line) (too_many_values spec.fxy)) else
-          ((content_here spec o s.end_line >>= λ first. contents_here spec (cells_at place more) >>= λ rest. Ok (first ∷ rest)) >>= λ cs. packed_to cs (cells_at place (s ∷ more))
+          ((content_here spec o s.end_line >>= λ first. contents_here spec (cells_at index more) >>= λ rest. Ok (first ∷ rest)) >>= λ cs. packed_to cs (cells_at index (s ∷ more))
           (packing spec cs))) ≡ Err f
           → (packed_filler s.end_line many').none_left spec ≡ f
       past true true None a b p = cc
@@ -173,27 +173,27 @@ module _ (course : Course) (s : Subset) (more : List Subset) where
       past false true o a b p = absurd cc a
       past m m' (Some d) a b p = absurd cc b
 
-      by : (left : ℕ) → longest (s ∷ more) - place ≡ left → fill_from c place ≡ Err f
+      by : (left : ℕ) → longest (s ∷ more) - index ≡ left → fill_from c index ≡ Err f
       by zero l =
-          let at : place ≡ longest (s ∷ more) = omega (arith, l, h) in
-          ap (λ k. fill filler c (rows k place (s ∷ more))) l
+          let at : index ≡ longest (s ∷ more) = omega (arith, l, h) in
+          ap (λ k. fill filler c (rows k index (s ∷ more))) l
           ∙ ap (fill_at filler c []) e
-          ∙ ap Err (past (are_many place (length (cells_at place (s ∷ more)))) (are_many (longest (s ∷ more)) (length (s ∷ more))) (slice_get s.items place)
-          (ap (are_many place) (length-cells place (s ∷ more)) ∙ ap (λ x. are_many x (length (s ∷ more))) at) (none_past s.items place (omega (arith, l, h))) p)
+          ∙ ap Err (past (are_many index (length (cells_at index (s ∷ more)))) (are_many (longest (s ∷ more)) (length (s ∷ more))) (slice_get s.items index)
+          (ap (are_many index) (length-cells index (s ∷ more)) ∙ ap (λ x. are_many x (length (s ∷ more))) at) (none_past s.items index (omega (arith, l, h))) p)
       by (suc k) l =
-          ap (λ k. fill filler c (rows k place (s ∷ more))) l
+          ap (λ k. fill filler c (rows k index (s ∷ more))) l
           ∙ unfilled filler rows_left (λ (p : PackedOutModel). p.bits) (oks PackedFills) (fills s.end_line (are_many (longest (s ∷ more)) (length (s ∷ more)))) c
-          (item_row place (s ∷ more) ∷ rows k (place + 1) (s ∷ more)) spec f e p
+          (item_row index (s ∷ more) ∷ rows k (index + 1) (s ∷ more)) spec f e p
 
   -- where an item is left over
-  over_here : (c : Course) (place : ℕ) (f : DraftFault) → (c []).next ≡ at_end → all_at_end (cells_at place (s ∷ more)) ≡ Err f → fill_from c place ≡ Err f
-  over_here c place f e p =
-      let b = ends_before place (s ∷ more) f p in
-      ap (fill filler c) (row_first (longest (s ∷ more)) place (s ∷ more) b.0)
-      ∙ ap (fill_at filler c (item_row place (s ∷ more) ∷ rows (longest (s ∷ more) - (place + 1)) (place + 1) (s ∷ more))) e
+  over_here : (c : Course) (index : ℕ) (f : DraftFault) → (c []).next ≡ at_end → all_at_end (cells_at index (s ∷ more)) ≡ Err f → fill_from c index ≡ Err f
+  over_here c index f e p =
+      let b = ends_before index (s ∷ more) f p in
+      ap (fill filler c) (row_first (longest (s ∷ more)) index (s ∷ more) b.0)
+      ∙ ap (fill_at filler c (item_row index (s ∷ more) ∷ rows (longest (s ∷ more) - (index + 1)) (index + 1) (s ∷ more))) e
       ∙ ap Err (sym b.1)
 
-  later : (items : List TakenField) (mid : PackedOutModel) → Came items mid → (f : DraftFault) → fill_from (course_after course items) mid.place ≡ Err f → packed_data course (s ∷ more) ≡ Err f
+  later : (items : List TakenField) (mid : PackedOutModel) → Came items mid → (f : DraftFault) → fill_from (course_after course items) mid.index ≡ Err f → packed_data course (s ∷ more) ≡ Err f
   later items mid h f e = h.is ∙ ap (with_bits_before filler h.bits) e
 
   stops : (items : List TakenField) (mid : PackedOutModel) (f : DraftFault) → Takes (oks PackedFills) course (new_packed_out (s ∷ more)) items mid → IsFaultHere (course (answers_of items)).next mid f
@@ -203,19 +203,19 @@ module _ (course : Course) (s : Subset) (more : List Subset) where
       k : Came items mid
       k = came items mid h
 
-      by : (next : Next) → (course_after course items []).next ≡ next → IsFaultHere next mid f → fill_from (course_after course items) mid.place ≡ Err f
-      by (take_next spec) e x = fault_here (course_after course items) mid.place spec f e k.near (ap (λ ss. pack_across spec (item_row mid.place ss)) (sym k.subsets) ∙ x)
-      by (refused why) e x = refused_here (course_after course items) mid.place why e k.near ∙ ap (λ ss. Err (at_line (first_line_at mid.place ss) (walk_refused why))) (sym k.subsets) ∙ ap Err (sym x)
-      by at_end e x = over_here (course_after course items) mid.place f e (ap (λ ss. all_at_end (cells_at mid.place ss)) (sym k.subsets) ∙ x)
+      by : (next : Next) → (course_after course items []).next ≡ next → IsFaultHere next mid f → fill_from (course_after course items) mid.index ≡ Err f
+      by (take_next spec) e x = fault_here (course_after course items) mid.index spec f e k.near (ap (λ ss. pack_across spec (item_row mid.index ss)) (sym k.subsets) ∙ x)
+      by (refused why) e x = refused_here (course_after course items) mid.index why e k.near ∙ ap (λ ss. Err (at_line (first_line_at mid.index ss) (walk_refused why))) (sym k.subsets) ∙ ap Err (sym x)
+      by at_end e x = over_here (course_after course items) mid.index f e (ap (λ ss. all_at_end (cells_at mid.index ss)) (sym k.subsets) ∙ x)
       by astray e x = absurd x
 
   ends : (items : List TakenField) (mid : PackedOutModel) → Takes (oks PackedFills) course (new_packed_out (s ∷ more)) items mid → (course (answers_of items)).next ≡ at_end
-      → all_at_end (cells_at mid.place mid.subsets) ≡ Ok tt → packed_data course (s ∷ more) ≡ Ok mid.bits
+      → all_at_end (cells_at mid.index mid.subsets) ≡ Ok tt → packed_data course (s ∷ more) ≡ Ok mid.bits
   ends items mid h e x =
       let k = came items mid h in
-      let past = ends_past mid.place (s ∷ more) (ap (λ ss. all_at_end (cells_at mid.place ss)) (sym k.subsets) ∙ x) in
-      let none : fill_from (course_after course items) mid.place ≡ Ok [] =
-      ap (fill filler (course_after course items)) (no_row mid.place (s ∷ more) past) ∙ fill_end filler (course_after course items) (ap (λ a. a.next) (after_answers course items) ∙ e) in
+      let past = ends_past mid.index (s ∷ more) (ap (λ ss. all_at_end (cells_at mid.index ss)) (sym k.subsets) ∙ x) in
+      let none : fill_from (course_after course items) mid.index ≡ Ok [] =
+      ap (fill filler (course_after course items)) (no_row mid.index (s ∷ more) past) ∙ fill_end filler (course_after course items) (ap (λ a. a.next) (after_answers course items) ∙ e) in
       k.is ∙ ap (with_bits_before filler k.bits) none ∙ ap Ok (append-nil k.bits ∙ sym k.are)
 
 pub fault_as_defined : (course : Course) (subsets : List Subset) (items : List TakenField) (s : PackedOutModel) (f : DraftFault) → 1 ≤ length subsets
@@ -224,7 +224,7 @@ fault_as_defined course [] items s f some h x = absurd (omega (arith, some))
 fault_as_defined course (first ∷ more) items s f some h x = stops course first more items s f h x
 
 pub written_as_defined : (course : Course) (subsets : List Subset) (items : List TakenField) (s : PackedOutModel) → 1 ≤ length subsets
-    → Takes (oks PackedFills) course (new_packed_out subsets) items s → (course (answers_of items)).next ≡ at_end → all_at_end (cells_at s.place s.subsets) ≡ Ok tt
+    → Takes (oks PackedFills) course (new_packed_out subsets) items s → (course (answers_of items)).next ≡ at_end → all_at_end (cells_at s.index s.subsets) ≡ Ok tt
     → packed_data course subsets ≡ Ok s.bits
 written_as_defined course [] items s some h e x = absurd (omega (arith, some))
 written_as_defined course (first ∷ more) items s some h e x = ends course first more items s h e x

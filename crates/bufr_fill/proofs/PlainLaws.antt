@@ -1,13 +1,13 @@
 -- A plain field that was read is written from the item that a dump writes, and read again.
 use Rattle.std.proofs.lemmas.Grind.{common_steps}
 use Rattle.std.proofs.lemmas.Bool.{eqb-true, le-ltb, lt-ltb, eq-eqb}
-use Rattle.bufr_walk.specs.Prelude.{FieldSpec, IsSpec, HasWidth, HasRole, HasMissing, is_reference, Content, found, number, text, missing, reference, content_by, content_in, bits_for, data_end, FieldRead, plain_field, signed_by, said_by, sign_bit, max_values, Item, DataCoding, ReadsItems, ReadsPass, after, plain, Course, take_next}
-use Rattle.bufr_fill.specs.Prelude.{ItemFault, Role, Kind, Draft, DraftValue, number_token, text_form, missing_form, reference_token, draft_value_of, content_of, content_by_form, raw_within, raw_of, reference_of, text_within, is_marked, wrong_for, IsMinusZero, is_of, decimal_again, normal_form, raw_limit, plainly, plain_filler, RowCell, ItemRow, written_item, Filler, fill, with_bits_before, AreDrafts, FitsText, FitsKind, FitsRole, Fits, IsDumped}
+use Rattle.bufr_walk.specs.Prelude.{FieldSpec, IsSpec, HasWidth, HasRole, HasMissing, is_reference, Content, found, number, text, missing, reference, content_by, content_in, bits_for, data_end, FieldRead, plain_field, signed_by, said_by, sign_bit, max_values, Item, DataCoding, ReadsItems, ReadsPass, after, Course, take_next}
+use Rattle.bufr_fill.specs.Prelude.{ItemFault, Role, Kind, Draft, DraftValue, number_token, text_form, missing_form, reference_token, draft_value_of, content_of, content_by_form, raw_within, raw_of, reference_of, text_within, is_marked, wrong_for, IsMinusZero, is_of, decimal_again, normal_form, raw_limit, ItemRow, written_item, Filler, fill, with_bits_before, AreDrafts, contents_here, FitsText, FitsKind, FitsRole, Fits}
 use Rattle.bufr_fill.specs.declared.fault.ItemFault.TheVariants as wrong
 use Rattle.bufr_fill.proofs.FillSteps.{fill_more, fill_end}
-use Rattle.std.proofs.Common.{Bool, ◌++◌, Ok, refl, sym, ◌∙◌, ap, subst, arith, append_assoc, suc, ◌-◌, ◌/◌, ◌^◌, ◌<◌, ◌&&◌, ltb, true, false, not, replicate, Err, ℤ, pos, negsuc, ◌+ℤ◌, ◌-ℤ◌, nat_abs, pow_mono, take, drop, Result, zero, neg_ℤ, ◌≡◌, ℕ, ◌+◌, ◌*◌, ◌≤◌, List, [], ◌∷◌, length, Option, Some, None, ◌==◌, nat_lt, if◌then◌else◌, unsigned_abs}
+use Rattle.std.proofs.Common.{Bool, ◌++◌, Ok, refl, sym, ◌∙◌, ap, subst, arith, append_assoc, suc, ◌-◌, ◌/◌, ◌^◌, ◌<◌, ◌&&◌, ltb, true, false, not, replicate, Err, ℤ, pos, negsuc, ◌+ℤ◌, ◌-ℤ◌, nat_abs, pow_mono, take, drop, Result, zero, neg_ℤ, ◌≡◌, ℕ, ◌+◌, ◌*◌, ◌≤◌, List, [], ◌∷◌, length, ◌==◌, nat_lt, if◌then◌else◌, unsigned_abs, flat_map}
 use Rattle.std.proofs.lemmas.List.{length-append, append-nil, take_at, drop_at, length-take-le, length-drop}
-use Rattle.std.specs.List.{list_all, AllByRecursion, AllZip}
+use Rattle.std.specs.List.{list_all, AllByRecursion}
 use Rattle.std.proofs.lemmas.Int.{ints}
 use Rattle.std.proofs.lemmas.Bool.Decides.{nat_tests}
 use lib.Signed.{mag}
@@ -21,7 +21,7 @@ use Rattle.bufr_tables.specs.declared.table_b.Kind.TheVariants as kind
 use Rattle.bufr_walk.specs.declared.spec.Role.TheVariants as role
 
 -- Lists in the lemmas on a round trip: each item's specification, the number of its contents, and
--- its cells.
+-- its row.
 
 -- each item's specification is one
 abbrev pub AllSpecs : {C : Type 0} → List (Item C) → Type 0
@@ -34,32 +34,25 @@ EachSpecs subsets = AllByRecursion (λ (items : List (Item Content)). AllSpecs i
 abbrev pub HaveContents : ℕ → List (Item (List Content)) → Type 0
 HaveContents n items = AllByRecursion (λ (i : Item (List Content)). length i.content ≡ n) items
 
--- each cell has the draft that a dump writes for its content
-abbrev pub IsCellOf : FieldSpec → Content → Option Draft → Type 0
-IsCellOf spec c None = ⊥
-IsCellOf spec c (Some d) = (d.fxy ≡ spec.fxy) × (d.form ≡ draft_value_of spec c)
+-- an item of all subsets has the contents of a row, at an index that is not past the most values
+pub record IsSaidRow (i : Item (List Content)) (a : ItemRow) : Type 0 where
+  pub contents : contents_here i.spec a.cells ≡ Ok i.content
+  pub few : (a.index + 1) * length a.cells ≤ max_values
 
-abbrev pub AreCellsOf : FieldSpec → List Content → List RowCell → Type 0
-AreCellsOf spec cs cells = AllZip (λ (c : Content) (cell : RowCell). IsCellOf spec c cell.draft) cs cells
-
--- so many subsets' drafts of one item, at an index that is not past the most values
-pub record IsDumpedAcross (n : ℕ) (i : Item (List Content)) (a : ItemRow) : Type 0 where
-  pub cells : AreCellsOf i.spec i.content a.cells
-  pub total : length a.cells ≡ n
-  pub few : (a.place + 1) * n ≤ max_values
+-- the bits of an item in data that are not compressed
+abbrev pub item_bits : Item Content → List Bool
+item_bits i = bits_for i.spec.width i.content
 
 -- ---- Data that were read are written so that they read the same, in no more bits.
 
 -- one item that was read is written so that it is read again, in no more bits
-pub record IsRewritten {C D E : Type 0} (form : DataCoding C) (filler : Filler D C E) (i : Item C) (d : D) (bits mid : List Bool) : Type 0 where
-  pub out : List Bool
+pub record IsRewritten {C D E : Type 0} (form : DataCoding C) (filler : Filler D C E) (i : Item C) (d : D) (out bits mid : List Bool) : Type 0 where
   pub fills : filler.fills i.spec d ≡ Ok (written_item i.content out)
   pub again : (more : List Bool) → form.field i.spec (out ++ more) ≡ Ok (found i.content more)
   pub short : length out + length mid ≤ length bits
 
 -- the same of all items
-pub record AreRewritten {C D E : Type 0} (form : DataCoding C) (filler : Filler D C E) (course : Course) (items : List (Item C)) (ds : List D) (bits suffix : List Bool) : Type 0 where
-  pub out : List Bool
+pub record AreRewritten {C D E : Type 0} (form : DataCoding C) (filler : Filler D C E) (course : Course) (items : List (Item C)) (ds : List D) (out bits suffix : List Bool) : Type 0 where
   pub fills : fill filler course ds ≡ Ok out
   pub again : (more : List Bool) → ReadsItems form course items (out ++ more) more
   pub short : length out + length suffix ≤ length bits
@@ -73,35 +66,30 @@ module _ {C D E : Type 0} (form : DataCoding C) (filler : Filler D C E) (same_an
       ∙ ap (λ t. with_bits_before filler w (fill filler (λ answers. course (t ∷ answers)) ds)) (same_answer i.spec i.content)
       ∙ ap (with_bits_before filler w) rest
 
-module _ {C D E : Type 0} (form : DataCoding C) (filler : Filler D C E) (of_item : Item C → D → Type 0)
+module _ {C D E : Type 0} (form : DataCoding C) (filler : Filler D C E) (of_item : Item C → D → Type 0) (bits_of_item : Item C → List Bool)
     (same_answer : (spec : FieldSpec) (c : C) → filler.gives spec c ≡ form.gives spec c)
-    (one : (i : Item C) (d : D) (bits mid : List Bool) → IsSpec i.spec → of_item i d → form.field i.spec bits ≡ Ok (found i.content mid) → IsRewritten form filler i d bits mid) where
+    (one : (i : Item C) (d : D) (bits mid : List Bool) → IsSpec i.spec → of_item i d → form.field i.spec bits ≡ Ok (found i.content mid)
+    → IsRewritten form filler i d (bits_of_item i) bits mid) where
   pub rewritten : (course : Course) (items : List (Item C)) (ds : List D) (bits suffix : List Bool) → AllSpecs items → AreDrafts of_item items ds → ReadsPass form course items bits suffix
-      → AreRewritten form filler course items ds bits suffix
-  rewritten course [] [] bits suffix specs drafts h = record {
-    out = [];
-    fills = fill_end filler course h.1;
-    again = λ more. refl;
-    short = omega (arith, ap length h.0);
-  }
-  rewritten course [] (d ∷ ds) bits suffix specs drafts h = absurd drafts
-  rewritten course (i ∷ items) [] bits suffix specs drafts h = absurd drafts
+      → AreRewritten form filler course items ds (flat_map bits_of_item items) bits suffix
+  rewritten course [] [] bits suffix specs drafts h = record { fills = fill_end filler course h.1; again = λ more. refl; short = omega (arith, ap length h.0) }
   rewritten course (i ∷ items) (d ∷ ds) bits suffix specs drafts h =
       let mid = h.0.0 in
+      let first = bits_of_item i in
+      let others = flat_map bits_of_item items in
       let here = one i d bits mid specs.0 drafts.0 h.0.2 in
       let rest = rewritten (after form course i) items ds mid suffix specs.1 drafts.1 (h.0.3, h.1) in
       record {
-        out = here.out ++ rest.out;
-        fills = join form filler same_answer course i d ds here.out rest.out h.0.1 here.fills rest.fills;
+        fills = join form filler same_answer course i d ds first others h.0.1 here.fills rest.fills;
         again = λ more. (
-          rest.out ++ more,
+          others ++ more,
           h.0.1,
-          subst (λ bits'. form.field i.spec bits' ≡ Ok (found i.content (rest.out ++ more))) (sym (append_assoc here.out rest.out more))
-              (here.again (rest.out ++ more)),
+          subst (λ bits'. form.field i.spec bits' ≡ Ok (found i.content (others ++ more))) (sym (append_assoc first others more)) (here.again (others ++ more)),
           rest.again more,
         );
-        short = omega (arith, here.short, rest.short, length-append here.out rest.out);
+        short = omega (arith, here.short, rest.short, length-append first others);
       }
+  rewritten course items ds bits suffix specs drafts h = absurd drafts
 
 -- ---- The item that a dump writes for a content has that content.
 
@@ -144,18 +132,12 @@ module _ (spec : FieldSpec) (good : IsSpec spec) where
 
   kind_again : (k : Kind) (c : Content) → HasWidth k spec.width → HasMissing k spec.may_be_missing → FitsKind k spec.may_be_missing spec.width c → k ≡ spec.kind
       → content_by_form (draft_value_of spec c) spec ≡ Ok c
-  kind_again kind.Character (number raw) hw hm h q = absurd h
   kind_again kind.Character (text octets) hw hm h q = ap (λ k. if is_character k then text_within (spec.width / 8) octets else Err wrong.Number) (sym q) ∙ text_again (spec.width / 8) octets h
   kind_again kind.Character missing hw hm h q = missing_again spec.may_be_missing hm
-  kind_again kind.Character (reference v) hw hm h q = absurd h
-  kind_again kind.Coded (number raw) hw hm h q = as_number raw (ap is_character (sym q)) ∙ raw_again raw hw.1 h
-  kind_again kind.Coded (text octets) hw hm h q = absurd h
-  kind_again kind.Coded missing hw hm h q = missing_again spec.may_be_missing h
-  kind_again kind.Coded (reference v) hw hm h q = absurd h
-  kind_again kind.Numeric (number raw) hw hm h q = as_number raw (ap is_character (sym q)) ∙ raw_again raw hw.1 h
-  kind_again kind.Numeric (text octets) hw hm h q = absurd h
-  kind_again kind.Numeric missing hw hm h q = missing_again spec.may_be_missing h
-  kind_again kind.Numeric (reference v) hw hm h q = absurd h
+  kind_again kind.Character c hw hm h q = absurd h
+  kind_again k (number raw) hw hm h q = as_number raw (ap is_character (sym q)) ∙ raw_again raw hw.1 h
+  kind_again k missing hw hm h q = missing_again spec.may_be_missing h
+  kind_again k c hw hm h q = absurd h
 
   reference_again : (v : ℤ) → 1 ≤ spec.width → spec.width ≤ 63 → nat_abs v < 2 ^ (spec.width - 1) → reference_of spec (decimal_value_of (decimal_text_of v (pos 0)) (pos 0)) ≡ Ok (reference v)
   reference_again v least most h =
@@ -169,35 +151,23 @@ module _ (spec : FieldSpec) (good : IsSpec spec) where
       abs_mag (negsuc n) h = omega arith
 
   numeric_width : (k : Kind) → HasWidth k spec.width → k ≡ kind.Numeric → (1 ≤ spec.width) × (spec.width ≤ 63)
-  numeric_width kind.Numeric h e = h
-  numeric_width kind.Coded h e = h
   numeric_width kind.Character h e = absurd cc
+  numeric_width k h e = h
 
   role_again : (r : Role) (c : Content) → HasRole r spec.kind spec.may_be_missing → FitsRole r spec c → content_by_form (draft_value_of spec c) spec ≡ Ok c
-  role_again role.Element c hr h = kind_again spec.kind c good.width good.missing h refl
-  role_again role.Inserted c hr h = kind_again spec.kind c good.width good.missing h refl
-  role_again role.Factor c hr h = kind_again spec.kind c good.width good.missing h refl
   role_again role.Reference (reference v) hr h = let n = numeric_width spec.kind good.width hr.0 in reference_again v n.0 n.1 h
-  role_again role.Reference (number raw) hr h = absurd h
-  role_again role.Reference (text octets) hr h = absurd h
-  role_again role.Reference missing hr h = absurd h
+  role_again role.Reference c hr h = absurd h
+  role_again r c hr h = kind_again spec.kind c good.width good.missing h refl
 
-  mark_kind : (r : Role) (k : Kind) (m : Bool) (w : ℕ) (c : Content) → FitsKind k m w c → is_marked (draft_value_of spec c) ≡ false
-  mark_kind r k m w (number raw) h = refl
-  mark_kind r k m w (text octets) h = refl
-  mark_kind r k m w missing h = refl
-  mark_kind r kind.Character m w (reference v) h = absurd h
-  mark_kind r kind.Coded m w (reference v) h = absurd h
-  mark_kind r kind.Numeric m w (reference v) h = absurd h
+  mark_kind : (k : Kind) (m : Bool) (w : ℕ) (c : Content) → FitsKind k m w c → is_marked (draft_value_of spec c) ≡ false
+  mark_kind kind.Character m w (reference v) h = absurd h
+  mark_kind k m w (reference v) h = absurd h
+  mark_kind k m w c h = refl
 
   marked : (r : Role) (c : Content) → FitsRole r spec c → (if is_reference r then is_marked (draft_value_of spec c) else not (is_marked (draft_value_of spec c))) ≡ true
-  marked role.Element c h = ap not (mark_kind role.Element spec.kind spec.may_be_missing spec.width c h)
-  marked role.Inserted c h = ap not (mark_kind role.Inserted spec.kind spec.may_be_missing spec.width c h)
-  marked role.Factor c h = ap not (mark_kind role.Factor spec.kind spec.may_be_missing spec.width c h)
   marked role.Reference (reference v) h = refl
-  marked role.Reference (number raw) h = absurd h
-  marked role.Reference (text octets) h = absurd h
-  marked role.Reference missing h = absurd h
+  marked role.Reference c h = absurd h
+  marked r c h = ap not (mark_kind spec.kind spec.may_be_missing spec.width c h)
 
   -- on any line
   pub draft_again : (line : ℕ) (c : Content) → Fits spec c → content_of spec (record { line = line; fxy = spec.fxy; form = draft_value_of spec c }) ≡ Ok c
@@ -209,40 +179,29 @@ module _ (spec : FieldSpec) (good : IsSpec spec) where
 
 pub width_least : (k : Kind) (w : ℕ) → HasWidth k w → 1 ≤ w
 width_least kind.Character w h = omega (arith, h.0)
-width_least kind.Coded w h = h.0
-width_least kind.Numeric w h = h.0
+width_least k w h = h.0
 
 module _ (spec : FieldSpec) (good : IsSpec spec) where
   role_back : (r : Role) (c : Content) → FitsRole r spec c → content_by r spec (bits_for spec.width c) ≡ c
-  role_back role.Element c h = kind_back spec.width spec.kind spec.may_be_missing c good.width good.missing h
-  role_back role.Inserted c h = kind_back spec.width spec.kind spec.may_be_missing c good.width good.missing h
-  role_back role.Factor c h = kind_back spec.width spec.kind spec.may_be_missing c good.width good.missing h
   role_back role.Reference (reference v) h = ap reference (signed_back v spec.width h)
-  role_back role.Reference (number raw) h = absurd h
-  role_back role.Reference (text octets) h = absurd h
-  role_back role.Reference missing h = absurd h
+  role_back role.Reference c h = absurd h
+  role_back r c h = kind_back spec.width spec.kind spec.may_be_missing c good.width good.missing h
 
   -- the bits of a content that fits have that content
   pub content_back : (c : Content) → Fits spec c → content_in spec (bits_for spec.width c) ≡ c
   content_back c h = role_back spec.role c h
 
   role_length : (r : Role) (c : Content) → FitsRole r spec c → length (bits_for spec.width c) ≡ spec.width
-  role_length role.Element c h = kind_length spec.width spec.kind spec.may_be_missing c good.width h
-  role_length role.Inserted c h = kind_length spec.width spec.kind spec.may_be_missing c good.width h
-  role_length role.Factor c h = kind_length spec.width spec.kind spec.may_be_missing c good.width h
   role_length role.Reference (reference v) h = omega (arith, length-bits_in (nat_abs v) (spec.width - 1), width_least spec.kind spec.width good.width)
-  role_length role.Reference (number raw) h = absurd h
-  role_length role.Reference (text octets) h = absurd h
-  role_length role.Reference missing h = absurd h
+  role_length role.Reference c h = absurd h
+  role_length r c h = kind_length spec.width spec.kind spec.may_be_missing c good.width h
 
   pub content_length : (c : Content) → Fits spec c → length (bits_for spec.width c) ≡ spec.width
   content_length c h = role_length spec.role c h
 
   role_fits : (r : Role) (bits : List Bool) → length bits ≡ spec.width → FitsRole r spec (content_by r spec bits)
-  role_fits role.Element bits l = kind_fits spec.width spec.kind spec.may_be_missing bits l good.width good.missing
-  role_fits role.Inserted bits l = kind_fits spec.width spec.kind spec.may_be_missing bits l good.width good.missing
-  role_fits role.Factor bits l = kind_fits spec.width spec.kind spec.may_be_missing bits l good.width good.missing
   role_fits role.Reference bits l = signed_below bits spec.width l (width_least spec.kind spec.width good.width)
+  role_fits r bits l = kind_fits spec.width spec.kind spec.may_be_missing bits l good.width good.missing
 
   -- the content of bits fits
   pub content_fits : (bits : List Bool) → length bits ≡ spec.width → Fits spec (content_in spec bits)
@@ -277,18 +236,6 @@ module _ (spec : FieldSpec) (good : IsSpec spec) where
 pub same_draft : (spec : FieldSpec) (c : Content) (d : Draft) → (d.fxy ≡ spec.fxy) × (d.form ≡ draft_value_of spec c) → d ≡ record { line = d.line; fxy = spec.fxy; form = draft_value_of spec c }
 same_draft spec c d h = λ j. record { line = d.line; fxy = h.0 j; form = h.1 j }
 
--- the field law of data that are not compressed
-pub plain_rewritten : (end_line : ℕ) (i : Item Content) (d : Draft) (bits mid : List Bool) → IsSpec i.spec → IsDumped i d → plain_field i.spec bits ≡ Ok (found i.content mid)
-    → IsRewritten plain (plain_filler end_line) i d bits mid
-plain_rewritten end_line i d bits mid good dumped e =
-    let read = plain_read i.spec good bits mid i.content e in
-    record {
-      out = bits_for i.spec.width i.content;
-      fills = ap (plainly d.line i.spec) (ap (content_of i.spec) (same_draft i.spec i.content d dumped) ∙ draft_again i.spec good d.line i.content read.0);
-      again = plain_again i.spec good i.content read.0;
-      short = omega (arith, content_length i.spec good i.content read.0, read.1);
-    }
-
 -- ---- Where no reference is minus zero, a plain field is written with the bits that were read.
 
 ones_are : (bits : List Bool) → are_all_ones bits ≡ true → replicate (length bits) true ≡ bits
@@ -301,8 +248,7 @@ number_same w bits e = ap (bits_in (number_of bits)) (sym e) ∙ bits_again bits
 kind_same : (b m : Bool) (k : Kind) (w : ℕ) (bits : List Bool) → length bits ≡ w → HasWidth k w → (are_all_ones bits && m) ≡ b → bits_for w (if b then missing else said_by k w bits) ≡ bits
 kind_same true m k w bits l h e = ap (λ n. replicate n true) (sym l) ∙ ones_are bits (and_first (are_all_ones bits) m e)
 kind_same false m kind.Character w bits l h e = octet_bits_again (w / 8) bits (omega (arith, l, h.2))
-kind_same false m kind.Coded w bits l h e = number_same w bits l
-kind_same false m kind.Numeric w bits l h e = number_same w bits l
+kind_same false m k w bits l h e = number_same w bits l
 
 zeros_are : (bits : List Bool) → number_of bits ≡ 0 → bits ≡ replicate (length bits) false
 zeros_are bits e = sym (bits_again bits) ∙ ap (λ n. bits_in n (length bits)) e ∙ bits_in-zero (length bits)
@@ -319,10 +265,8 @@ signed_same (false ∷ bits) w l h g = ap (λ xs. false ∷ xs) (number_same (w 
 signed_same (true ∷ bits) w l h g = grind (arith, common_steps, negative_same)
 
 role_same : (r : Role) (spec : FieldSpec) → IsSpec spec → (bits : List Bool) → length bits ≡ spec.width → (IsMinusZero r bits → ⊥) → bits_for spec.width (content_by r spec bits) ≡ bits
-role_same role.Element spec good bits l h = kind_same (are_all_ones bits && spec.may_be_missing) spec.may_be_missing spec.kind spec.width bits l good.width refl
-role_same role.Inserted spec good bits l h = kind_same (are_all_ones bits && spec.may_be_missing) spec.may_be_missing spec.kind spec.width bits l good.width refl
-role_same role.Factor spec good bits l h = kind_same (are_all_ones bits && spec.may_be_missing) spec.may_be_missing spec.kind spec.width bits l good.width refl
 role_same role.Reference spec good bits l h = signed_same bits spec.width l (width_least spec.kind spec.width good.width) h
+role_same r spec good bits l h = kind_same (are_all_ones bits && spec.may_be_missing) spec.may_be_missing spec.kind spec.width bits l good.width refl
 
 pub same_bits : (spec : FieldSpec) → IsSpec spec → (bits : List Bool) → length bits ≡ spec.width → (IsMinusZero spec.role bits → ⊥) → bits_for spec.width (content_in spec bits) ≡ bits
 same_bits spec good bits l h = role_same spec.role spec good bits l h

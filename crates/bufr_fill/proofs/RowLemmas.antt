@@ -9,8 +9,9 @@ use Rattle.std.proofs.Math.Seq.{drop-cons}
 use Rattle.std.proofs.lemmas.List.{append-nil, take-replicate, length-append}
 use Rattle.bufr_bits.specs.Prelude.{bits_of}
 use Rattle.std.specs.Str.{bytes_eq}
-use Rattle.bufr_fill.specs.Prelude.{spaced, Taken, Role, FieldContent, content_drawn, IsDrawn, raw_limit, AllDrawn, contents_drawn, need_of, most_need, FitsIncrement, AreShort, least_from, entry_or_end, entry_here, and_end, all_at_end, IsPutWithin, trimmed, same, are_same, first_from, packing, packed_bits, packed_by, packed_unlike, RowCell, content_here, contents_here, first_unlike, unlike_line, cell_line, line_in, first_line, ◌>>=◌, item_row, cells_at, packed_to, pack_across, written_item, Draft, DraftEntry, Holds, Ends, Subset, DraftFault, at_line, item_too_many, too_many_values, IfDraftFault, is_end}
+use Rattle.bufr_fill.specs.Prelude.{spaced, Taken, Role, FieldContent, padded_content, IsContentOf, raw_limit, AreContentsOf, padded_contents, need_of, most_need, FitsIncrement, AreShort, least_from, entry_or_end, entry_here, and_end, all_at_end, IsPutWithin, trimmed, same, are_same, first_from, packing, packed_bits, packed_by, packed_unlike, RowCell, content_here, contents_here, first_unlike, unlike_line, cell_line, line_in, first_line, ◌>>=◌, item_row, cells_at, packed_to, pack_across, written_item, Draft, DraftEntry, Holds, Ends, Subset, DraftFault, at_line, item_too_many, too_many_values, IfDraftFault, is_end}
 use Rattle.bufr_fill.specs.declared.fault.ItemFault.TheVariants as wrong
+use Rattle.bufr_tables.specs.Prelude.{is_character}
 use Rattle.bufr_walk.specs.Prelude.{FieldSpec, Content, reference, answer_of, bits_for, increment, unequal_factor, answer_first, max_values}
 use Rattle.bufr_fill.proofs.EntryLemmas.{entry_line}
 use Rattle.bufr_fill.proofs.LeastLemmas.{octets_self, content_same, content_self}
@@ -23,10 +24,10 @@ with_contents_before cs (Ok more) = Ok (cs ++ more)
 with_contents_before cs (Err f) = Err f
 
 -- the first `number` cells were converted
-pub record IsGathering (count : ℕ) (spec : FieldSpec) (cells : List RowCell) (number : ℕ) (drawn : List FieldContent) : Type 0 where
-  pub so : contents_here spec cells ≡ with_contents_before (contents_drawn count drawn) (contents_here spec (drop number cells))
-  pub all : AllDrawn spec drawn
-  pub many : length drawn ≡ number
+pub record IsGathering (count : ℕ) (spec : FieldSpec) (cells : List RowCell) (number : ℕ) (contents : List FieldContent) : Type 0 where
+  pub so : contents_here spec cells ≡ with_contents_before (padded_contents count contents) (contents_here spec (drop number cells))
+  pub all : AreContentsOf spec contents
+  pub many : length contents ≡ number
 
 -- the line of the first cell that is left and whose content is not the first of all
 abbrev pub unlike_from : (all left : List Content) → List RowCell → ℕ
@@ -48,8 +49,8 @@ other_references a b h = by (same (reference a) (reference b)) refl
     by false e = sym e
 
 -- the first of those that are left
-pub at_place : {X : Type 0} (xs : List X) (i : ℕ) (x : X) → i < length xs → x ≡ get_or xs i x → drop i xs ≡ x ∷ drop (i + 1) xs
-at_place xs i x h e = drop-cons xs i x h ∙ ap (λ y. y ∷ drop (suc i) xs) (sym e) ∙ ap (λ j. x ∷ drop j xs) (sym (add-one i))
+pub at_next : {X : Type 0} (xs : List X) (i : ℕ) (x : X) → i < length xs → x ≡ get_or xs i x → drop i xs ≡ x ∷ drop (i + 1) xs
+at_next xs i x h e = drop-cons xs i x h ∙ ap (λ y. y ∷ drop (suc i) xs) (sym e) ∙ ap (λ j. x ∷ drop j xs) (sym (add-one i))
 
 drop_all : {X : Type 0} (xs : List X) (n : ℕ) → length xs ≤ n → drop n xs ≡ []
 drop_all [] zero h = refl
@@ -60,7 +61,7 @@ drop_all (x ∷ xs) (suc n) h = drop_all xs n (omega (arith, h))
 -- the octets needed so far, and by those that are left
 pub need_more : (ds : List FieldContent) (i : ℕ) (d : FieldContent) (most one : ℕ) → i < length ds → d ≡ get_or ds i d → max most (most_need (drop i ds)) ≡ most_need ds → one ≡ need_of d
     → max (max one most) (most_need (drop (i + 1) ds)) ≡ most_need ds
-need_more ds i d most one h e inv is = omega (arith, ap most_need (at_place ds i d h e), inv, is)
+need_more ds i d most one h e inv is = omega (arith, ap most_need (at_next ds i d h e), inv, is)
 
 pub need_done : (ds : List FieldContent) (i most : ℕ) → 1 ≤ most → length ds ≤ i → max most (most_need (drop i ds)) ≡ most_need ds → most ≡ most_need ds
 need_done ds i most some h inv = omega (arith, some, ap most_need (drop_all ds i h), inv)
@@ -91,10 +92,10 @@ pub eighth_most : (w : ℕ) → w ≤ 2040 → w / 8 ≤ 255
 eighth_most w h = omega (arith, h)
 
 -- what holds of all holds of each
-pub drawn_at : (spec : FieldSpec) (ds : List FieldContent) (i : ℕ) (d : FieldContent) → i < length ds → AllDrawn spec ds → IsDrawn spec (get_or ds i d)
-drawn_at spec [] i d h all = absurd (omega (arith, h))
-drawn_at spec (x ∷ ds) zero d h all = all.0
-drawn_at spec (x ∷ ds) (suc i) d h all = drawn_at spec ds i d (omega (arith, h)) all.1
+pub is_content_at : (spec : FieldSpec) (ds : List FieldContent) (i : ℕ) (d : FieldContent) → i < length ds → AreContentsOf spec ds → IsContentOf spec (get_or ds i d)
+is_content_at spec [] i d h all = absurd (omega (arith, h))
+is_content_at spec (x ∷ ds) zero d h all = all.0
+is_content_at spec (x ∷ ds) (suc i) d h all = is_content_at spec ds i d (omega (arith, h)) all.1
 
 pub short_at : (base k : ℕ) (ds : List FieldContent) (i : ℕ) (d : FieldContent) → i < length ds → AreShort base k ds → FitsIncrement base k (get_or ds i d)
 short_at base k [] i d h s = absurd (omega (arith, h))
@@ -114,13 +115,13 @@ flat_one : (f : Content → List Bool) (old now new bits rest all : List Bool) �
 flat_one f old now new bits rest all inv is = ap (λ x. x ++ rest) is ∙ append_assoc now bits rest ∙ inv
 
 pub flat_more : (f : Content → List Bool) (count : ℕ) (old now new : List Bool) (ds : List FieldContent) (i : ℕ) (z : FieldContent) → i < length ds
-    → now ++ flat_map f (contents_drawn count (drop i ds)) ≡ old ++ flat_map f (contents_drawn count ds) → new ≡ now ++ f (content_drawn count (get_or ds i z))
-    → new ++ flat_map f (contents_drawn count (drop (i + 1) ds)) ≡ old ++ flat_map f (contents_drawn count ds)
+    → now ++ flat_map f (padded_contents count (drop i ds)) ≡ old ++ flat_map f (padded_contents count ds) → new ≡ now ++ f (padded_content count (get_or ds i z))
+    → new ++ flat_map f (padded_contents count (drop (i + 1) ds)) ≡ old ++ flat_map f (padded_contents count ds)
 flat_more f count old now new ds i z h inv is = grind (arith, common_steps, flat_one, at_index)
 
 pub flat_done : (f : Content → List Bool) (count : ℕ) (old now : List Bool) (ds : List FieldContent) (i : ℕ) → length ds ≤ i
-    → now ++ flat_map f (contents_drawn count (drop i ds)) ≡ old ++ flat_map f (contents_drawn count ds) → now ≡ old ++ flat_map f (contents_drawn count ds)
-flat_done f count old now ds i h inv = sym (append-nil now) ∙ ap (λ xs. now ++ flat_map f (contents_drawn count xs)) (sym (drop_all ds i h)) ∙ inv
+    → now ++ flat_map f (padded_contents count (drop i ds)) ≡ old ++ flat_map f (padded_contents count ds) → now ≡ old ++ flat_map f (padded_contents count ds)
+flat_done f count old now ds i h inv = sym (append-nil now) ∙ ap (λ xs. now ++ flat_map f (padded_contents count xs)) (sym (drop_all ds i h)) ∙ inv
 
 -- n numbers of k bits, of which i were put: there is room for the next, and for those after it
 pub room_next : (n i k room next : ℕ) → n * k ≤ room + i * k → room ≤ next + k → n * k ≤ next + (i + 1) * k
@@ -131,18 +132,18 @@ few_bits n k most h = let most = mul-le-mul_right n h in omega (arith, most)
 
 -- whether those that are left are the same as one
 pub alike_more : (count : ℕ) (c : Content) (ds : List FieldContent) (i : ℕ) (d : FieldContent) (b : Bool) → i < length ds → d ≡ get_or ds i d
-    → are_same c (contents_drawn count ds) ≡ are_same c (contents_drawn count (drop i ds)) → same c (content_drawn count d) ≡ true
-    → are_same c (contents_drawn count ds) ≡ are_same c (contents_drawn count (drop (i + 1) ds))
-alike_more count c ds i d b h e inv is = inv ∙ ap (λ xs. are_same c (contents_drawn count xs)) (at_place ds i d h e) ∙ ap (λ t. t && are_same c (contents_drawn count (drop (i + 1) ds))) is
+    → are_same c (padded_contents count ds) ≡ are_same c (padded_contents count (drop i ds)) → same c (padded_content count d) ≡ true
+    → are_same c (padded_contents count ds) ≡ are_same c (padded_contents count (drop (i + 1) ds))
+alike_more count c ds i d b h e inv is = inv ∙ ap (λ xs. are_same c (padded_contents count xs)) (at_next ds i d h e) ∙ ap (λ t. t && are_same c (padded_contents count (drop (i + 1) ds))) is
 
 pub alike_not : (count : ℕ) (c : Content) (ds : List FieldContent) (i : ℕ) (d : FieldContent) → i < length ds → d ≡ get_or ds i d
-    → are_same c (contents_drawn count ds) ≡ are_same c (contents_drawn count (drop i ds)) → same c (content_drawn count d) ≡ false
-    → are_same c (contents_drawn count ds) ≡ false
-alike_not count c ds i d h e inv is = inv ∙ ap (λ xs. are_same c (contents_drawn count xs)) (at_place ds i d h e) ∙ ap (λ t. t && are_same c (contents_drawn count (drop (i + 1) ds))) is
+    → are_same c (padded_contents count ds) ≡ are_same c (padded_contents count (drop i ds)) → same c (padded_content count d) ≡ false
+    → are_same c (padded_contents count ds) ≡ false
+alike_not count c ds i d h e inv is = inv ∙ ap (λ xs. are_same c (padded_contents count xs)) (at_next ds i d h e) ∙ ap (λ t. t && are_same c (padded_contents count (drop (i + 1) ds))) is
 
-pub alike_done : (count : ℕ) (c : Content) (ds : List FieldContent) (i : ℕ) → length ds ≤ i → are_same c (contents_drawn count ds) ≡ are_same c (contents_drawn count (drop i ds))
-    → are_same c (contents_drawn count ds) ≡ true
-alike_done count c ds i h inv = inv ∙ ap (λ xs. are_same c (contents_drawn count xs)) (drop_all ds i h)
+pub alike_done : (count : ℕ) (c : Content) (ds : List FieldContent) (i : ℕ) → length ds ≤ i → are_same c (padded_contents count ds) ≡ are_same c (padded_contents count (drop i ds))
+    → are_same c (padded_contents count ds) ≡ true
+alike_done count c ds i h inv = inv ∙ ap (λ xs. are_same c (padded_contents count xs)) (drop_all ds i h)
 
 -- octets of zeros
 zeros_are : (n : ℕ) → bits_of (replicate n 0) ≡ replicate (8 * n) false
@@ -184,11 +185,11 @@ pub line_same : (o : Option Draft) (line : ℕ) → entry_line (entry_or_end o l
 line_same None line = refl
 line_same (Some d) line = refl
 
-contents_more : (count : ℕ) (ds : List FieldContent) (d : FieldContent) → contents_drawn count (ds ++ d ∷ []) ≡ contents_drawn count ds ++ content_drawn count d ∷ []
+contents_more : (count : ℕ) (ds : List FieldContent) (d : FieldContent) → padded_contents count (ds ++ d ∷ []) ≡ padded_contents count ds ++ padded_content count d ∷ []
 contents_more count [] d = refl
-contents_more count (x ∷ ds) d = ap (λ cs. content_drawn count x ∷ cs) (contents_more count ds d)
+contents_more count (x ∷ ds) d = ap (λ cs. padded_content count x ∷ cs) (contents_more count ds d)
 
-all_more : (spec : FieldSpec) (ds : List FieldContent) (d : FieldContent) → AllDrawn spec ds → IsDrawn spec d → AllDrawn spec (ds ++ d ∷ [])
+all_more : (spec : FieldSpec) (ds : List FieldContent) (d : FieldContent) → AreContentsOf spec ds → IsContentOf spec d → AreContentsOf spec (ds ++ d ∷ [])
 all_more spec [] d h g = (g, tt)
 all_more spec (x ∷ ds) d h g = (h.0, all_more spec ds d h.1 g)
 
@@ -199,30 +200,30 @@ contents_before_more cs x (Err f) = refl
 module _ (count : ℕ) (spec : FieldSpec) (cells : List RowCell) (j : ℕ) (ds : List FieldContent) (e : DraftEntry) (inv : IsGathering count spec cells j ds) (within : j < length cells)
     (here : (c : RowCell) → slice_get cells j ≡ Some c → e ≡ entry_or_end c.draft c.end_line) where
   -- the contents of the row, by the next cell
-  next_is : (k : CellAt cells j) → contents_here spec cells ≡ with_contents_before (contents_drawn count ds)
+  next_is : (k : CellAt cells j) → contents_here spec cells ≡ with_contents_before (padded_contents count ds)
       (entry_here spec e >>= λ first. contents_here spec (drop (j + 1) cells) >>= λ rest. Ok (first ∷ rest))
   next_is k =
-      inv.so ∙ ap (λ cs. with_contents_before (contents_drawn count ds) (contents_here spec cs)) k.left
-      ∙ ap (λ r. with_contents_before (contents_drawn count ds) (r >>= λ first. contents_here spec (drop (j + 1) cells) >>= λ rest. Ok (first ∷ rest)))
+      inv.so ∙ ap (λ cs. with_contents_before (padded_contents count ds) (contents_here spec cs)) k.left
+      ∙ ap (λ r. with_contents_before (padded_contents count ds) (r >>= λ first. contents_here spec (drop (j + 1) cells) >>= λ rest. Ok (first ∷ rest)))
       (sym (entry_same spec k.cell.draft k.cell.end_line) ∙ ap (entry_here spec) (sym (here k.cell k.is)))
 
   pub gather_fault : (o : DraftFault) → Err o ≡ entry_here spec e → IfDraftFault o (λ f. contents_here spec cells ≡ Err f)
   gather_fault draft_fault.Memory h = tt
   gather_fault (draft_fault.Item line fault) h =
-      next_is (cell_at cells j within) ∙ ap (λ r. with_contents_before (contents_drawn count ds) (r >>= λ first. contents_here spec (drop (j + 1) cells) >>= λ rest. Ok (first ∷ rest))) (sym h)
+      next_is (cell_at cells j within) ∙ ap (λ r. with_contents_before (padded_contents count ds) (r >>= λ first. contents_here spec (drop (j + 1) cells) >>= λ rest. Ok (first ∷ rest))) (sym h)
 
-  pub gather_more : (d : FieldContent) → Ok (content_drawn count d) ≡ entry_here spec e → IsDrawn spec d → IsGathering count spec cells (j + 1) (ds ++ d ∷ [])
+  pub gather_more : (d : FieldContent) → Ok (padded_content count d) ≡ entry_here spec e → IsContentOf spec d → IsGathering count spec cells (j + 1) (ds ++ d ∷ [])
   gather_more d h g = record {
-    so = next_is (cell_at cells j within) ∙ ap (λ r. with_contents_before (contents_drawn count ds) (r >>= λ first. contents_here spec (drop (j + 1) cells) >>= λ rest. Ok (first ∷ rest))) (sym h)
-        ∙ contents_before_more (contents_drawn count ds) (content_drawn count d) (contents_here spec (drop (j + 1) cells))
+    so = next_is (cell_at cells j within) ∙ ap (λ r. with_contents_before (padded_contents count ds) (r >>= λ first. contents_here spec (drop (j + 1) cells) >>= λ rest. Ok (first ∷ rest))) (sym h)
+        ∙ contents_before_more (padded_contents count ds) (padded_content count d) (contents_here spec (drop (j + 1) cells))
         ∙ ap (λ cs. with_contents_before cs (contents_here spec (drop (j + 1) cells))) (sym (contents_more count ds d));
     all = all_more spec ds d inv.all g;
     many = omega (arith, length-append ds (d ∷ []), inv.many);
   }
 
 pub gathered : (count : ℕ) (spec : FieldSpec) (cells : List RowCell) (j : ℕ) (ds : List FieldContent) → IsGathering count spec cells j ds → length cells ≤ j
-    → contents_here spec cells ≡ Ok (contents_drawn count ds)
-gathered count spec cells j ds inv h = inv.so ∙ ap (λ cs. with_contents_before (contents_drawn count ds) (contents_here spec cs)) (drop_all cells j h) ∙ ap Ok (append-nil (contents_drawn count ds))
+    → contents_here spec cells ≡ Ok (padded_contents count ds)
+gathered count spec cells j ds inv h = inv.so ∙ ap (λ cs. with_contents_before (padded_contents count ds) (contents_here spec cs)) (drop_all cells j h) ∙ ap Ok (append-nil (padded_contents count ds))
 
 -- whether all subsets end
 pub end_item : (cells : List RowCell) (j : ℕ) (e : DraftEntry) → j < length cells → ((c : RowCell) → slice_get cells j ≡ Some c → e ≡ entry_or_end c.draft c.end_line) → is_end e ≡ false
@@ -262,103 +263,105 @@ unlike_left : (c : Content) (cs : List Content) (d : Content) (ds : List Content
     → unlike_from (c ∷ cs) (d ∷ ds) (k ∷ ks) ≡ (if b then unlike_from (c ∷ cs) ds ks else cell_line k)
 unlike_left c cs d ds k ks b e = ap (λ t. if t then first_unlike c ds ks else cell_line k) e
 
-first_drawn : (count : ℕ) (ds : List FieldContent) (z : FieldContent) → 0 < length ds → contents_drawn count ds ≡ content_drawn count (get_or ds 0 z) ∷ contents_drawn count (drop 1 ds)
-first_drawn count [] z h = absurd (omega (arith, h))
-first_drawn count (d ∷ []) z h = refl
-first_drawn count (d ∷ x ∷ ds) z h = refl
+first_content : (count : ℕ) (ds : List FieldContent) (z : FieldContent) → 0 < length ds → padded_contents count ds ≡ padded_content count (get_or ds 0 z) ∷ padded_contents count (drop 1 ds)
+first_content count [] z h = absurd (omega (arith, h))
+first_content count (d ∷ []) z h = refl
+first_content count (d ∷ x ∷ ds) z h = refl
 
 module _ (count : ℕ) (ds : List FieldContent) (cells : List RowCell) (j : ℕ) (z : FieldContent) (within : j < length ds) (many : length cells ≡ length ds)
-    (inv : unlike_line (contents_drawn count ds) cells ≡ unlike_from (contents_drawn count ds) (contents_drawn count (drop j ds)) (drop j cells)) where
-  unlike_next : (b : Bool) → same (content_drawn count (get_or ds 0 z)) (content_drawn count (get_or ds j z)) ≡ b → (k : CellAt cells j)
-      → unlike_line (contents_drawn count ds) cells ≡ (if b then unlike_from (contents_drawn count ds) (contents_drawn count (drop (j + 1) ds)) (drop (j + 1) cells) else cell_line k.cell)
+    (inv : unlike_line (padded_contents count ds) cells ≡ unlike_from (padded_contents count ds) (padded_contents count (drop j ds)) (drop j cells)) where
+  unlike_next : (b : Bool) → same (padded_content count (get_or ds 0 z)) (padded_content count (get_or ds j z)) ≡ b → (k : CellAt cells j)
+      → unlike_line (padded_contents count ds) cells ≡ (if b then unlike_from (padded_contents count ds) (padded_contents count (drop (j + 1) ds)) (drop (j + 1) cells) else cell_line k.cell)
   unlike_next b e k =
-      let all = first_drawn count ds z (omega (arith, within)) in
-      inv ∙ ap (λ xs. unlike_from (contents_drawn count ds) (contents_drawn count xs) (drop j cells)) (at_index ds j z within)
-      ∙ ap (λ ks. unlike_from (contents_drawn count ds) (content_drawn count (get_or ds j z) ∷ contents_drawn count (drop (j + 1) ds)) ks) k.left
-      ∙ ap (λ cs. unlike_from cs (content_drawn count (get_or ds j z) ∷ contents_drawn count (drop (j + 1) ds)) (k.cell ∷ drop (j + 1) cells)) all
-      ∙ unlike_left (content_drawn count (get_or ds 0 z)) (contents_drawn count (drop 1 ds)) (content_drawn count (get_or ds j z)) (contents_drawn count (drop (j + 1) ds)) k.cell (drop (j + 1) cells)
+      let all = first_content count ds z (omega (arith, within)) in
+      inv ∙ ap (λ xs. unlike_from (padded_contents count ds) (padded_contents count xs) (drop j cells)) (at_index ds j z within)
+      ∙ ap (λ ks. unlike_from (padded_contents count ds) (padded_content count (get_or ds j z) ∷ padded_contents count (drop (j + 1) ds)) ks) k.left
+      ∙ ap (λ cs. unlike_from cs (padded_content count (get_or ds j z) ∷ padded_contents count (drop (j + 1) ds)) (k.cell ∷ drop (j + 1) cells)) all
+      ∙ unlike_left (padded_content count (get_or ds 0 z)) (padded_contents count (drop 1 ds)) (padded_content count (get_or ds j z)) (padded_contents count (drop (j + 1) ds)) k.cell
+      (drop (j + 1) cells)
       b e
-      ∙ ap (λ cs. if b then unlike_from cs (contents_drawn count (drop (j + 1) ds)) (drop (j + 1) cells) else cell_line k.cell) (sym all)
+      ∙ ap (λ cs. if b then unlike_from cs (padded_contents count (drop (j + 1) ds)) (drop (j + 1) cells) else cell_line k.cell) (sym all)
 
-  pub unlike_more : same (content_drawn count (get_or ds 0 z)) (content_drawn count (get_or ds j z)) ≡ true
-      → unlike_line (contents_drawn count ds) cells ≡ unlike_from (contents_drawn count ds) (contents_drawn count (drop (j + 1) ds)) (drop (j + 1) cells)
+  pub unlike_more : same (padded_content count (get_or ds 0 z)) (padded_content count (get_or ds j z)) ≡ true
+      → unlike_line (padded_contents count ds) cells ≡ unlike_from (padded_contents count ds) (padded_contents count (drop (j + 1) ds)) (drop (j + 1) cells)
   unlike_more e = unlike_next true e (cell_at cells j (omega (arith, within, many)))
 
-  pub unlike_here : same (content_drawn count (get_or ds 0 z)) (content_drawn count (get_or ds j z)) ≡ false → (n : ℕ) → ((c : RowCell) → slice_get cells j ≡ Some c → n ≡ cell_line c)
-      → n ≡ unlike_line (contents_drawn count ds) cells
+  pub unlike_here : same (padded_content count (get_or ds 0 z)) (padded_content count (get_or ds j z)) ≡ false → (n : ℕ) → ((c : RowCell) → slice_get cells j ≡ Some c → n ≡ cell_line c)
+      → n ≡ unlike_line (padded_contents count ds) cells
   unlike_here s n here =
       let k = cell_at cells j (omega (arith, within, many)) in
       here k.cell k.is ∙ sym (unlike_next false s k)
 
 -- ---- One item of all subsets, as the code writes it.
 
-module _ (spec : FieldSpec) (place : ℕ) (subsets : List Subset) where
+module _ (spec : FieldSpec) (index : ℕ) (subsets : List Subset) where
   -- with too many values
-  pub many_fault : max_values < (place + 1) * length (cells_at place subsets)
-      → pack_across spec (item_row place subsets) ≡ Err (at_line (first_line (cells_at place subsets)) (too_many_values spec.fxy))
+  pub many_fault : max_values < (index + 1) * length (cells_at index subsets)
+      → pack_across spec (item_row index subsets) ≡ Err (at_line (first_line (cells_at index subsets)) (too_many_values spec.fxy))
   many_fault h =
-      ap (λ b. if b then Err (at_line (first_line (cells_at place subsets)) (too_many_values spec.fxy)) else
-      (contents_here spec (cells_at place subsets) >>= λ cs. packed_to cs (cells_at place subsets) (packing spec cs)))
-      (lt-ltb max_values ((place + 1) * length (cells_at place subsets)) h)
+      ap (λ b. if b then Err (at_line (first_line (cells_at index subsets)) (too_many_values spec.fxy)) else
+      (contents_here spec (cells_at index subsets) >>= λ cs. packed_to cs (cells_at index subsets) (packing spec cs)))
+      (lt-ltb max_values ((index + 1) * length (cells_at index subsets)) h)
 
-  module _ (few : (place + 1) * length (cells_at place subsets) ≤ max_values) where
-    across_is : pack_across spec (item_row place subsets) ≡ (contents_here spec (cells_at place subsets) >>= λ cs. packed_to cs (cells_at place subsets) (packing spec cs))
+  module _ (few : (index + 1) * length (cells_at index subsets) ≤ max_values) where
+    across_is : pack_across spec (item_row index subsets) ≡ (contents_here spec (cells_at index subsets) >>= λ cs. packed_to cs (cells_at index subsets) (packing spec cs))
     across_is =
-        ap (λ b. if b then Err (at_line (first_line (cells_at place subsets)) (too_many_values spec.fxy)) else
-        (contents_here spec (cells_at place subsets) >>= λ cs. packed_to cs (cells_at place subsets) (packing spec cs)))
-        (le-ltb max_values ((place + 1) * length (cells_at place subsets)) few)
+        ap (λ b. if b then Err (at_line (first_line (cells_at index subsets)) (too_many_values spec.fxy)) else
+        (contents_here spec (cells_at index subsets) >>= λ cs. packed_to cs (cells_at index subsets) (packing spec cs)))
+        (le-ltb max_values ((index + 1) * length (cells_at index subsets)) few)
 
-    pub put_fault : (o : DraftFault) → IfDraftFault o (λ f. contents_here spec (cells_at place subsets) ≡ Err f) → IfDraftFault o (λ f. pack_across spec (item_row place subsets) ≡ Err f)
+    pub put_fault : (o : DraftFault) → IfDraftFault o (λ f. contents_here spec (cells_at index subsets) ≡ Err f) → IfDraftFault o (λ f. pack_across spec (item_row index subsets) ≡ Err f)
     put_fault draft_fault.Memory h = tt
-    put_fault (draft_fault.Item line fault) h = across_is ∙ ap (λ r. r >>= λ cs. packed_to cs (cells_at place subsets) (packing spec cs)) h
+    put_fault (draft_fault.Item line fault) h = across_is ∙ ap (λ r. r >>= λ cs. packed_to cs (cells_at index subsets) (packing spec cs)) h
 
-    given : (cs : List Content) → contents_here spec (cells_at place subsets) ≡ Ok cs → pack_across spec (item_row place subsets) ≡ packed_to cs (cells_at place subsets) (packing spec cs)
-    given cs h = across_is ∙ ap (λ r. r >>= λ cs. packed_to cs (cells_at place subsets) (packing spec cs)) h
+    given : (cs : List Content) → contents_here spec (cells_at index subsets) ≡ Ok cs → pack_across spec (item_row index subsets) ≡ packed_to cs (cells_at index subsets) (packing spec cs)
+    given cs h = across_is ∙ ap (λ r. r >>= λ cs. packed_to cs (cells_at index subsets) (packing spec cs)) h
 
-    pub put_ok : (cs : List Content) (bits : List Bool) → contents_here spec (cells_at place subsets) ≡ Ok cs → packing spec cs ≡ Ok bits
-        → pack_across spec (item_row place subsets) ≡ Ok (written_item cs bits)
-    put_ok cs bits h e = given cs h ∙ ap (packed_to cs (cells_at place subsets)) e
+    pub put_ok : (cs : List Content) (bits : List Bool) → contents_here spec (cells_at index subsets) ≡ Ok cs → packing spec cs ≡ Ok bits
+        → pack_across spec (item_row index subsets) ≡ Ok (written_item cs bits)
+    put_ok cs bits h e = given cs h ∙ ap (packed_to cs (cells_at index subsets)) e
 
-    pub put_unequal : (cs : List Content) → contents_here spec (cells_at place subsets) ≡ Ok cs → packing spec cs ≡ Err unequal_factor
-        → pack_across spec (item_row place subsets) ≡ Err (at_line (unlike_line cs (cells_at place subsets)) wrong.UnequalFactor)
-    put_unequal cs h e = given cs h ∙ ap (packed_to cs (cells_at place subsets)) e
+    pub put_unequal : (cs : List Content) → contents_here spec (cells_at index subsets) ≡ Ok cs → packing spec cs ≡ Err unequal_factor
+        → pack_across spec (item_row index subsets) ≡ Err (at_line (unlike_line cs (cells_at index subsets)) wrong.UnequalFactor)
+    put_unequal cs h e = given cs h ∙ ap (packed_to cs (cells_at index subsets)) e
 
-    pub put_uneven : (cs : List Content) → contents_here spec (cells_at place subsets) ≡ Ok cs → packing spec cs ≡ Err increment
-        → pack_across spec (item_row place subsets) ≡ Err (at_line (first_line (cells_at place subsets)) wrong.Increment)
-    put_uneven cs h e = given cs h ∙ ap (packed_to cs (cells_at place subsets)) e
+    pub put_uneven : (cs : List Content) → contents_here spec (cells_at index subsets) ≡ Ok cs → packing spec cs ≡ Err increment
+        → pack_across spec (item_row index subsets) ≡ Err (at_line (first_line (cells_at index subsets)) wrong.Increment)
+    put_uneven cs h e = given cs h ∙ ap (packed_to cs (cells_at index subsets)) e
 
 -- what the first subset's content returns to the walk
-pub answers_first : (spec : FieldSpec) (count : ℕ) (ds : List FieldContent) (z : FieldContent) (t : Taken) → 0 < length ds → t ≡ answer_of spec (content_drawn count (get_or ds 0 z))
-    → t ≡ answer_first spec (contents_drawn count ds)
+pub answers_first : (spec : FieldSpec) (count : ℕ) (ds : List FieldContent) (z : FieldContent) (t : Taken) → 0 < length ds → t ≡ answer_of spec (padded_content count (get_or ds 0 z))
+    → t ≡ answer_first spec (padded_contents count ds)
 answers_first spec count [] z t h e = absurd (omega (arith, h))
 answers_first spec count (d ∷ ds) z t h e = e
 
 -- contents that are all the same, and those that are not
-pub packed_alike : (spec : FieldSpec) (count : ℕ) (ds : List FieldContent) (z : FieldContent) → 0 < length ds → are_same (content_drawn count (get_or ds 0 z)) (contents_drawn count ds) ≡ true
-    → packing spec (contents_drawn count ds) ≡ Ok (packed_bits (bits_for spec.width (content_drawn count (get_or ds 0 z))) 0 [])
+pub packed_alike : (spec : FieldSpec) (count : ℕ) (ds : List FieldContent) (z : FieldContent) → 0 < length ds → are_same (padded_content count (get_or ds 0 z)) (padded_contents count ds) ≡ true
+    → packing spec (padded_contents count ds) ≡ Ok (packed_bits (bits_for spec.width (padded_content count (get_or ds 0 z))) 0 [])
 packed_alike spec count [] z h e = absurd (omega (arith, h))
 packed_alike spec count (d ∷ ds) z h e = grind (arith, common_steps, content_self)
 
-pub packed_apart : (spec : FieldSpec) (count : ℕ) (ds : List FieldContent) (z : FieldContent) → 0 < length ds → are_same (content_drawn count (get_or ds 0 z)) (contents_drawn count ds) ≡ false
-    → packing spec (contents_drawn count ds) ≡ packed_unlike spec.role spec (contents_drawn count ds)
+pub packed_apart : (spec : FieldSpec) (count : ℕ) (ds : List FieldContent) (z : FieldContent) → 0 < length ds → are_same (padded_content count (get_or ds 0 z)) (padded_contents count ds) ≡ false
+    → packing spec (padded_contents count ds) ≡ packed_unlike spec.role spec (padded_contents count ds)
 packed_apart spec count [] z h e = absurd (omega (arith, h))
 packed_apart spec count (d ∷ ds) z h e = grind (arith, common_steps, content_self)
 
 -- elements that differ go by their kind
-pub apart_by : (spec : FieldSpec) (cs : List Content) (r : Role) → r ≡ spec.role → (r ≡ role.Element) ⊎ (r ≡ role.Inserted) → packed_unlike spec.role spec cs ≡ packed_by spec.kind spec cs
+pub apart_by : (spec : FieldSpec) (cs : List Content) (r : Role) → r ≡ spec.role → (r ≡ role.Element) ⊎ (r ≡ role.Inserted)
+    → packed_unlike spec.role spec cs ≡ packed_by (is_character spec.kind) spec cs
 apart_by spec cs r is (inl e) = ap (λ a. packed_unlike a spec cs) (sym is ∙ e)
 apart_by spec cs r is (inr e) = ap (λ a. packed_unlike a spec cs) (sym is ∙ e)
 
 -- the item was put, by its bits
-pub put_within : (spec : FieldSpec) (place : ℕ) (subsets : List Subset) (ds : List FieldContent) (z : FieldContent) (t : Taken) (old new bits : List Bool) (most : ℕ)
-    → (place + 1) * length (cells_at place subsets) ≤ max_values
-    → contents_here spec (cells_at place subsets) ≡ Ok (contents_drawn (spec.width / 8) ds) → 0 < length ds → t ≡ answer_of spec (content_drawn (spec.width / 8) (get_or ds 0 z))
-    → packing spec (contents_drawn (spec.width / 8) ds) ≡ Ok bits → new ≡ old ++ bits → length bits ≤ most → length old < length new → IsPutWithin old new spec (item_row place subsets) most t
-put_within spec place subsets ds z t old new bits most few given some gives packed is fits forth = record {
+pub put_within : (spec : FieldSpec) (index : ℕ) (subsets : List Subset) (ds : List FieldContent) (z : FieldContent) (t : Taken) (old new bits : List Bool) (most : ℕ)
+    → (index + 1) * length (cells_at index subsets) ≤ max_values
+    → contents_here spec (cells_at index subsets) ≡ Ok (padded_contents (spec.width / 8) ds) → 0 < length ds → t ≡ answer_of spec (padded_content (spec.width / 8) (get_or ds 0 z))
+    → packing spec (padded_contents (spec.width / 8) ds) ≡ Ok bits → new ≡ old ++ bits → length bits ≤ most → length old < length new → IsPutWithin old new spec (item_row index subsets) most t
+put_within spec index subsets ds z t old new bits most few given some gives packed is fits forth = record {
   put = record {
-    contents = contents_drawn (spec.width / 8) ds;
+    contents = padded_contents (spec.width / 8) ds;
     item = bits;
-    is = put_ok spec place subsets few (contents_drawn (spec.width / 8) ds) bits given packed;
+    is = put_ok spec index subsets few (padded_contents (spec.width / 8) ds) bits given packed;
     gives = answers_first spec (spec.width / 8) ds z t some gives;
     bits = is;
     forth = forth;
@@ -367,14 +370,14 @@ put_within spec place subsets ds z t old new bits most few given some gives pack
 }
 
 -- the same by what packed it, where the contents differ
-pub put_packed : (spec : FieldSpec) (place : ℕ) (subsets : List Subset) (ds : List FieldContent) (z : FieldContent) (t : Taken) (old new : List Bool) (few most : ℕ)
-    → (place + 1) * length (cells_at place subsets) ≤ max_values
-    → contents_here spec (cells_at place subsets) ≡ Ok (contents_drawn (spec.width / 8) ds) → 0 < length ds → t ≡ answer_of spec (content_drawn (spec.width / 8) (get_or ds 0 z))
-    → packing spec (contents_drawn (spec.width / 8) ds) ≡ packed_by spec.kind spec (contents_drawn (spec.width / 8) ds) → few ≤ most
-    → (bits : List Bool) × (packed_by spec.kind spec (contents_drawn (spec.width / 8) ds) ≡ Ok bits) × (new ≡ old ++ bits) × (length bits ≤ few) × (length old < length new)
-    → IsPutWithin old new spec (item_row place subsets) most t
-put_packed spec place subsets ds z t old new few most values given some gives apart within (bits, packed, is, fits, forth) =
-    put_within spec place subsets ds z t old new bits most values given some gives (apart ∙ packed) is (omega (arith, fits, within)) forth
+pub put_packed : (spec : FieldSpec) (index : ℕ) (subsets : List Subset) (ds : List FieldContent) (z : FieldContent) (t : Taken) (old new : List Bool) (few most : ℕ)
+    → (index + 1) * length (cells_at index subsets) ≤ max_values
+    → contents_here spec (cells_at index subsets) ≡ Ok (padded_contents (spec.width / 8) ds) → 0 < length ds → t ≡ answer_of spec (padded_content (spec.width / 8) (get_or ds 0 z))
+    → packing spec (padded_contents (spec.width / 8) ds) ≡ packed_by (is_character spec.kind) spec (padded_contents (spec.width / 8) ds) → few ≤ most
+    → (bits : List Bool) × (packed_by (is_character spec.kind) spec (padded_contents (spec.width / 8) ds) ≡ Ok bits) × (new ≡ old ++ bits) × (length bits ≤ few) × (length old < length new)
+    → IsPutWithin old new spec (item_row index subsets) most t
+put_packed spec index subsets ds z t old new few most values given some gives apart within (bits, packed, is, fits, forth) =
+    put_within spec index subsets ds z t old new bits most values given some gives (apart ∙ packed) is (omega (arith, fits, within)) forth
 
 -- ---- Steps of the code that reads texts.
 

@@ -1,7 +1,7 @@
 -- The items of a dump text and its subsets; an item as the content of its field, and its one
 -- spelling; the faults in items; and the stored entries. (A choice of this project)
 -- Cited by public contracts.
-use Rattle.std.specs.Prelude.{ℕ, List, [], ◌∷◌, Bool, true, false, ◌-◌, ◌/◌, ◌^◌, ◌==◌, ◌&&◌, nat_lt, not, if◌then◌else◌, ◌++◌, length, replicate, ℤ, pos, negsuc, nat_abs, ◌+ℤ◌, ◌-ℤ◌, Result, Ok, Err, ◌≡◌, ◌≤◌, ◌<◌, unsigned_abs, map, slice_range, codes, decimal}
+use Rattle.std.specs.Prelude.{ℕ, List, [], ◌∷◌, Bool, true, false, ◌-◌, ◌/◌, ◌^◌, ◌==◌, ◌&&◌, nat_lt, not, if◌then◌else◌, ◌++◌, length, replicate, ℤ, pos, negsuc, nat_abs, ◌+ℤ◌, ◌-ℤ◌, Result, Ok, Err, ◌≡◌, ◌≤◌, ◌<◌, unsigned_abs, map, slice_range, codes, decimal, Option, Some, None, IfSome}
 pub use Rattle.bufr_walk.specs.declared.spec.TurnRefusal.{TurnRefusal}
 use Rattle.bufr_fill.specs.declared.fault.Expected.{Expected}
 pub use Rattle.bufr_fill.specs.declared.fault.DraftFault.{DraftFault}
@@ -20,10 +20,10 @@ use Rattle.bufr_tables.specs.Prelude.{is_character, fxy_text}
 pub use Rattle.bufr_walk.specs.declared.spec.Role.{Role}
 use Rattle.bufr_walk.specs.Prelude.{FieldSpec, is_reference, Content, number, text, missing, reference, ones}
 pub use Rattle.bufr_fill.specs.declared.field_value.FieldContent.{FieldContent}
-use Rattle.bufr_fill.specs.declared.field_value.FieldContent.TheVariants as drawn
+use Rattle.bufr_fill.specs.declared.field_value.FieldContent.TheVariants as field_content
 use Rattle.bufr_walk.specs.declared.spec.Role.TheVariants as role
-pub use Rattle.bufr_fill.specs.declared.draft.EntryKind.{EntryKind}
-use Rattle.bufr_fill.specs.declared.draft.EntryKind.TheVariants as entry_kind
+pub use Rattle.bufr_fill.specs.declared.draft.ValueKind.{ValueKind}
+use Rattle.bufr_fill.specs.declared.draft.ValueKind.TheVariants as value_kind
 use Rattle.bufr_fill.specs.declared.draft.StoredEntry.{StoredEntry}
 use Rattle.bufr_fill.specs.declared.draft.DraftValue as given
 use Rattle.bufr_fill.specs.declared.draft.DraftValue.TheVariants as item_value
@@ -218,23 +218,24 @@ abbrev pub spaced : (count : ℕ) → List ℕ → List ℕ
 spaced count octets = octets ++ replicate (count - length octets) 32
 
 -- the content of a field, whose text has `count` octets
-abbrev pub content_drawn : (count : ℕ) → FieldContent → Content
-content_drawn count (drawn.Number raw) = number raw
-content_drawn count (drawn.Text octets) = text (spaced count octets.now)
-content_drawn count drawn.Missing = missing
-content_drawn count (drawn.Reference value) = reference value
+abbrev pub padded_content : (count : ℕ) → FieldContent → Content
+padded_content count (field_content.Number raw) = number raw
+padded_content count (field_content.Text octets) = text (spaced count octets.now)
+padded_content count field_content.Missing = missing
+padded_content count (field_content.Reference value) = reference value
 
 -- the contents that a field can have; it has room for a text, which does not read as missing
-abbrev pub IsDrawn : FieldSpec → FieldContent → Type 0
-IsDrawn spec (drawn.Number raw) =
+abbrev pub IsContentOf : FieldSpec → FieldContent → Type 0
+IsContentOf spec (field_content.Number raw) =
     (is_character spec.kind ≡ false) × (is_reference spec.role ≡ false)
     × (raw < raw_limit spec.may_be_missing spec.width)
-IsDrawn spec (drawn.Text octets) =
+IsContentOf spec (field_content.Text octets) =
     (is_character spec.kind ≡ true) × (is_reference spec.role ≡ false)
     × ((length octets.now ≤ spec.width / 8)
     × (list_all (λ octet. octet == 255) (spaced (spec.width / 8) octets.now) ≡ false))
-IsDrawn spec drawn.Missing = (is_reference spec.role ≡ false) × (spec.may_be_missing ≡ true)
-IsDrawn spec (drawn.Reference value) =
+IsContentOf spec field_content.Missing =
+    (is_reference spec.role ≡ false) × (spec.may_be_missing ≡ true)
+IsContentOf spec (field_content.Reference value) =
     (is_reference spec.role ≡ true) × (unsigned_abs value < 2 ^ (spec.width - 1))
 
 -- minus zero: the sign bit alone; none is written (a choice of this project)
@@ -259,51 +260,41 @@ normal_form spec missing_form = missing_form
 normal_form spec (reference_token digits) =
     reference_token (decimal_again digits (pos 0) (decimal_value_of digits (pos 0)))
 
--- the value of a kind with digits or octets; the end of a subset has none
-abbrev pub value_by : EntryKind → (digits : ℕ) → List ℕ → DraftValue
-value_by (entry_kind.Decimal places negative) digits octets = number_token
+-- the value of a kind with digits or octets
+abbrev pub value_by : ValueKind → (digits : ℕ) → List ℕ → DraftValue
+value_by (value_kind.Decimal places negative) digits octets = number_token
     (short_text (record { digits = digits; places = places; negative = negative }))
-value_by entry_kind.Number digits octets = number_token octets
-value_by entry_kind.Text digits octets = text_form octets
-value_by entry_kind.Missing digits octets = missing_form
-value_by entry_kind.Reference digits octets = reference_token octets
-value_by entry_kind.End digits octets = missing_form
+value_by value_kind.Number digits octets = number_token octets
+value_by value_kind.Text digits octets = text_form octets
+value_by value_kind.Missing digits octets = missing_form
+value_by value_kind.Reference digits octets = reference_token octets
 
--- the entry of a line with a descriptor, and digits or octets
-abbrev pub entry_by : EntryKind → (line fxy digits : ℕ) → List ℕ → DraftEntry
-entry_by entry_kind.End line fxy digits octets = Ends line
-entry_by k line fxy digits octets = Holds (draft line fxy (value_by k digits octets))
+-- the item of a line, or with no kind the end of a subset
+abbrev pub entry_by : Option ValueKind → (line fxy digits : ℕ) → List ℕ → DraftEntry
+entry_by None line fxy digits octets = Ends line
+entry_by (Some k) line fxy digits octets = Holds (draft line fxy (value_by k digits octets))
 
 -- the entry of a stored one with these octets
 abbrev pub entry_with : StoredEntry → List ℕ → DraftEntry
-entry_with k octets = entry_by k.kind k.line k.fxy k.start octets
+entry_with e octets = entry_by e.kind e.line e.fxy e.start octets
 
--- the entry of a stored one, whose octets are in a block
-abbrev pub entry_stored : List ℕ → StoredEntry → DraftEntry
-entry_stored block k = entry_with k (slice_range block k.start k.end)
-
--- the entries of all stored ones
+-- the entries of stored ones, whose octets are in a block
 abbrev pub entries_stored : List ℕ → List StoredEntry → List DraftEntry
-entries_stored octets kept = map (entry_stored octets) kept
+entries_stored block kept = map (λ e. entry_with e (slice_range block e.start e.end)) kept
 
 -- whether an entry is the end of a subset
 abbrev pub is_end : DraftEntry → Bool
 is_end (Holds d) = false
 is_end (Ends line) = true
 
--- whether an entry is an item of a field
-abbrev pub is_entry_of : FieldSpec → DraftEntry → Bool
-is_entry_of spec (Holds d) = is_of spec d
-is_entry_of spec (Ends line) = false
-
--- the octets of an entry, if it has any, are in order and inside the block
-abbrev pub IsPlaced : EntryKind → (size start end : ℕ) → Type 0
-IsPlaced (entry_kind.Decimal places negative) size start end = Unit {0}
-IsPlaced _ size start end = (start ≤ end) × (end ≤ size)
+-- the octets of a value, if it has any, are in order and inside a block of this size
+abbrev pub AreOctetsInside : ValueKind → (size start end : ℕ) → Type 0
+AreOctetsInside (value_kind.Decimal places negative) size start end = Unit {0}
+AreOctetsInside _ size start end = (start ≤ end) × (end ≤ size)
 
 -- the octets of a stored entry are inside a block of this size
 abbrev pub IsEntryInside : ℕ → StoredEntry → Type 0
-IsEntryInside size k = IsPlaced k.kind size k.start k.end
+IsEntryInside size e = IfSome e.kind (λ k. AreOctetsInside k size e.start e.end)
 
 -- the octets of all stored entries are inside a block of this size
 abbrev pub AreInside : ℕ → List StoredEntry → Type 0

@@ -10,7 +10,7 @@ use Rattle.std.specs.Str.{bytes_eq}
 use Rattle.std.specs.Ordering.{int_eq}
 use Rattle.bufr_bits.specs.Prelude.{◌>>=◌, bits_of, bits_in, number_of}
 pub use Rattle.bufr_tables.specs.declared.table_b.Kind.{Kind}
-use Rattle.bufr_tables.specs.declared.table_b.Kind.TheVariants as kind
+use Rattle.bufr_tables.specs.Prelude.{is_character}
 use Rattle.bufr_walk.specs.declared.spec.Role.TheVariants as role
 use Rattle.bufr_fill.specs.Draft.{TurnRefusal, Draft, Subset, ItemFault, DraftFault, at_line, item_too_many, walk_refused, too_many_values, Role, content_of, wrong_for, raw_limit}
 use Rattle.bufr_fill.specs.declared.fault.ItemFault.TheVariants as wrong
@@ -188,17 +188,18 @@ packed_texts width k cs =
     if nat_le k 63
     then Ok (packed_bits (replicate width false) k (flat_map (octet_bits k) cs)) else Err increment
 
--- contents that differ, by kind
-abbrev pub packed_by : Kind → FieldSpec → List Content → Result (List Bool) FieldFault
-packed_by kind.Character spec cs = packed_texts spec.width (least_k has_octets cs) cs
-packed_by _ spec cs = Ok (numbers_over spec.may_be_missing spec.width (unwrap_or (lowest cs) 0) cs)
+-- contents that differ, of texts or of numbers
+abbrev pub packed_by : (are_texts : Bool) → FieldSpec → List Content → Result (List Bool) FieldFault
+packed_by true spec cs = packed_texts spec.width (least_k has_octets cs) cs
+packed_by false spec cs =
+    Ok (numbers_over spec.may_be_missing spec.width (unwrap_or (lowest cs) 0) cs)
 
 -- contents that differ, by role: counts and references must not
 -- rule: packs-factors-and-references, fault-59
 abbrev pub packed_unlike : Role → FieldSpec → List Content → Result (List Bool) FieldFault
 packed_unlike role.Factor spec cs = Err unequal_factor
 packed_unlike role.Reference spec cs = Err increment
-packed_unlike _ spec cs = packed_by spec.kind spec cs
+packed_unlike _ spec cs = packed_by (is_character spec.kind) spec cs
 
 -- the contents of one item for all subsets, where they can be packed
 -- rule: packs-equal, packs-all-missing
@@ -260,7 +261,7 @@ pub record RowCell : Type 0 where
 
 -- the row of all subsets at one index, from 0
 pub record ItemRow : Type 0 where
-  pub place : ℕ
+  pub index : ℕ
   pub cells : List RowCell
 
 -- the line of an item, or else another
@@ -274,13 +275,13 @@ cell_line c = line_in c.draft c.end_line
 
 -- the cells of all subsets at one index
 abbrev pub cells_at : ℕ → List Subset → List RowCell
-cells_at place [] = []
-cells_at place (s ∷ subsets) =
-    record { draft = slice_get s.items place; end_line = s.end_line } ∷ cells_at place subsets
+cells_at index [] = []
+cells_at index (s ∷ subsets) =
+    record { draft = slice_get s.items index; end_line = s.end_line } ∷ cells_at index subsets
 
 -- the row of all subsets at one index
 abbrev pub item_row : ℕ → List Subset → ItemRow
-item_row place subsets = record { place = place; cells = cells_at place subsets }
+item_row index subsets = record { index = index; cells = cells_at index subsets }
 
 -- the rows at so many indices, from one on
 abbrev pub rows : (count from : ℕ) → List Subset → List ItemRow
@@ -346,14 +347,14 @@ packed_to cs cells (Ok bits) = Ok (written_item cs bits)
 packed_to cs cells (Err why) = Err (packing_fault cs cells why)
 
 -- whether the item at an index makes too many values
-abbrev pub are_many : (place subsets : ℕ) → Bool
-are_many place subsets = nat_lt max_values ((place + 1) * subsets)
+abbrev pub are_many : (index subsets : ℕ) → Bool
+are_many index subsets = nat_lt max_values ((index + 1) * subsets)
 
 -- an item of all subsets: its contents and its bits, or its fault
 -- rule: fault-order-of-subsets
 abbrev pub pack_across : FieldSpec → ItemRow → Result (WrittenItem (List Content)) DraftFault
 pack_across spec a =
-    if are_many a.place (length a.cells)
+    if are_many a.index (length a.cells)
     then Err (at_line (first_line a.cells) (too_many_values spec.fxy))
     else (contents_here spec a.cells >>= λ cs. packed_to cs a.cells (packing spec cs))
 

@@ -4,13 +4,13 @@
 use Rattle.std.specs.Prelude.{ℕ, ◌≡◌, ◌≤◌, ◌<◌, ◌*◌, ◌^◌, Bool, List, [], ◌∷◌, ◌++◌, length, Option, Some, None, Result, Ok, Err, ◌+◌, ◌-◌, suc, ◌==◌, ◌&&◌, nat_lt, max, min, if◌then◌else◌, take}
 use Rattle.bufr_walk.specs.declared.spec.Taken.{Taken}
 use Rattle.bufr_walk.specs.Prelude.{FieldSpec, Content, answer_of, bits_for, Next, take_next, at_end, astray, refused, FieldFault, answer_first, max_values}
-use Rattle.bufr_fill.specs.Draft.{DraftFault, Draft, DraftEntry, Holds, Ends, ItemFault, at_line, item_too_many, walk_refused, Subset, content_of, wrong_for, FieldContent, raw_limit, content_drawn, IsDrawn}
+use Rattle.bufr_fill.specs.Draft.{DraftFault, Draft, DraftEntry, Holds, Ends, ItemFault, at_line, item_too_many, walk_refused, Subset, content_of, wrong_for, FieldContent, raw_limit, padded_content, IsContentOf}
 use Rattle.bufr_fill.specs.declared.fault.DraftFault.{DraftFault}
 use Rattle.bufr_fill.specs.Encoding.{written_item, RowCell, ItemRow, rows, longest, item_row, cells_at, first_line, pack_across, content_here, contents_here, first_from, Taken}
 use Rattle.std.specs.List.{list_all, AllByRecursion}
 use Rattle.bufr_fill.specs.declared.packed_out.NumberRange.{NumberRange}
 use Rattle.bufr_fill.specs.declared.fault.DraftFault.TheVariants as draft_fault
-use Rattle.bufr_fill.specs.declared.field_value.FieldContent.TheVariants as drawn
+use Rattle.bufr_fill.specs.declared.field_value.FieldContent.TheVariants as field_content
 
 -- the writer: the entries that are left, and the bits that were written
 pub record PlainOutModel : Type 0 where
@@ -21,11 +21,11 @@ pub record PlainOutModel : Type 0 where
 abbrev pub plain_out_model : List DraftEntry → List Bool → PlainOutModel
 plain_out_model left bits = record { left = left; bits = bits }
 
--- what holds of a writer: `place` of `count` entries were taken, each for at most 2,040 bits
-pub record IsPlainOut (place count bits : ℕ) : Type 0 where
-  pub within : place ≤ count
+-- what holds of a writer: `index` of `count` entries were taken, each for at most 2,040 bits
+pub record IsPlainOut (index count bits : ℕ) : Type 0 where
+  pub within : index ≤ count
   pub few : count ≤ 2 ^ 45
-  pub room : bits ≤ 2040 * place
+  pub room : bits ≤ 2040 * index
 
 -- the next item is that of the field, and was written
 pub record IsFilled (s : PlainOutModel) (spec : FieldSpec) (t : Taken)
@@ -95,12 +95,12 @@ end_left (Ends line ∷ more) = line
 -- the writer: the subsets, how many items of each were taken, and the bits that were written
 pub record PackedOutModel : Type 0 where
   pub subsets : List Subset
-  pub place : ℕ
+  pub index : ℕ
   pub bits : List Bool
 
 -- a writer that has written nothing
 abbrev pub new_packed_out : List Subset → PackedOutModel
-new_packed_out subsets = record { subsets = subsets; place = 0; bits = [] }
+new_packed_out subsets = record { subsets = subsets; index = 0; bits = [] }
 
 -- a writer for these subsets, where there is one at least
 abbrev pub StartsPackedOut : List Subset → Option PackedOutModel → Type 0
@@ -114,12 +114,12 @@ ends_of from (Holds d ∷ more) = ends_of (from + 1) more
 ends_of from (Ends line ∷ more) = from ∷ ends_of (from + 1) more
 
 -- what holds of a writer: the ends of its subsets, and bounds on its bits and values
-pub record IsPackedOut (entries : List DraftEntry) (ends : List ℕ) (place bits : ℕ) : Type 0 where
+pub record IsPackedOut (entries : List DraftEntry) (ends : List ℕ) (index bits : ℕ) : Type 0 where
   pub few : length entries ≤ 2 ^ 45
   pub ends_are : ends ≡ ends_of 0 entries
   pub some : 1 ≤ length ends
-  pub room : bits ≤ 2550 * (place * length ends)
-  pub values : place * length ends ≤ max_values
+  pub room : bits ≤ 2550 * (index * length ends)
+  pub values : index * length ends ≤ max_values
 
 -- the item of all subsets in a row was written after the bits before
 pub record IsPutAcross (old new : List Bool) (spec : FieldSpec) (a : ItemRow)
@@ -134,8 +134,8 @@ pub record IsPutAcross (old new : List Bool) (spec : FieldSpec) (a : ItemRow)
 -- the next item of all subsets was written
 pub record IsPacked (s : PackedOutModel) (spec : FieldSpec) (t : Taken)
     (s' : PackedOutModel) : Type 0 where
-  pub put : IsPutAcross s.bits s'.bits spec (item_row s.place s.subsets) t
-  pub place : s'.place ≡ s.place + 1
+  pub put : IsPutAcross s.bits s'.bits spec (item_row s.index s.subsets) t
+  pub index : s'.index ≡ s.index + 1
   pub subsets : s'.subsets ≡ s.subsets
 
 -- one call: the next item was packed, or is at fault, or memory ran out; a fault changes nothing
@@ -143,7 +143,7 @@ abbrev pub PackedFills : PackedOutModel → FieldSpec → Result Taken DraftFaul
     → Type 0
 PackedFills s spec (Ok t) s' = IsPacked s spec t s'
 PackedFills s spec (Err e) s' =
-    IfDraftFault e (λ f. pack_across spec (item_row s.place s.subsets) ≡ Err f)
+    IfDraftFault e (λ f. pack_across spec (item_row s.index s.subsets) ≡ Err f)
     × (s' ≡ s)
 
 -- the end of a cell, or the fault of an item that is left over
@@ -157,35 +157,35 @@ all_at_end [] = Ok tt
 all_at_end (c ∷ cells) = and_end c.draft (all_at_end cells)
 
 -- a call finds that all subsets end, or the first item that is left over
-abbrev pub EndsAllSubsets : (place : ℕ) → List Subset → Result (Unit {0}) DraftFault → Type 0
-EndsAllSubsets place subsets (Ok _) = all_at_end (cells_at place subsets) ≡ Ok tt
-EndsAllSubsets place subsets (Err e) = all_at_end (cells_at place subsets) ≡ Err e
+abbrev pub EndsAllSubsets : (index : ℕ) → List Subset → Result (Unit {0}) DraftFault → Type 0
+EndsAllSubsets index subsets (Ok _) = all_at_end (cells_at index subsets) ≡ Ok tt
+EndsAllSubsets index subsets (Err e) = all_at_end (cells_at index subsets) ≡ Err e
 
 -- the line of the first subset's next item, or of its end
-abbrev pub first_line_at : (place : ℕ) → List Subset → ℕ
-first_line_at place subsets = first_line (cells_at place subsets)
+abbrev pub first_line_at : (index : ℕ) → List Subset → ℕ
+first_line_at index subsets = first_line (cells_at index subsets)
 
 -- the rows that are left
 abbrev pub rows_left : PackedOutModel → List ItemRow
-rows_left s = rows (longest s.subsets - s.place) s.place s.subsets
+rows_left s = rows (longest s.subsets - s.index) s.index s.subsets
 
 -- the fault by what comes next: of the item, of the walk on its line, or of an item left over
 abbrev pub IsFaultHere : Next → PackedOutModel → DraftFault → Type 0
-IsFaultHere (take_next spec) s f = pack_across spec (item_row s.place s.subsets) ≡ Err f
-IsFaultHere (refused why) s f = f ≡ at_line (first_line_at s.place s.subsets) (walk_refused why)
-IsFaultHere at_end s f = all_at_end (cells_at s.place s.subsets) ≡ Err f
+IsFaultHere (take_next spec) s f = pack_across spec (item_row s.index s.subsets) ≡ Err f
+IsFaultHere (refused why) s f = f ≡ at_line (first_line_at s.index s.subsets) (walk_refused why)
+IsFaultHere at_end s f = all_at_end (cells_at s.index s.subsets) ≡ Err f
 IsFaultHere astray s f = ⊥
 
 -- ---- How the code finds the least k of an item, and what it writes.
 
 -- the number of a content, or another where it is none
 abbrev pub number_or : (other : ℕ) → FieldContent → ℕ
-number_or other (drawn.Number n) = n
+number_or other (field_content.Number n) = n
 number_or other _ = other
 
 -- an increment over a base
 abbrev pub over_of : (base : ℕ) → FieldContent → ℕ
-over_of base (drawn.Number n) = n - base
+over_of base (field_content.Number n) = n - base
 over_of base _ = 0
 
 -- the greatest increment over a base
@@ -214,7 +214,7 @@ need os =
 
 -- how many octets determine a content
 abbrev pub need_of : FieldContent → ℕ
-need_of (drawn.Text octets) = need octets.now
+need_of (field_content.Text octets) = need octets.now
 need_of _ = 1
 
 -- how many octets determine each of the contents
@@ -232,7 +232,7 @@ PacksItem old new expected most (Err _) = new ≡ old
 
 -- a content's increment over a base fits k bits
 abbrev pub FitsIncrement : (base k : ℕ) → FieldContent → Type 0
-FitsIncrement base k (drawn.Number raw) = raw - base < 2 ^ k
+FitsIncrement base k (field_content.Number raw) = raw - base < 2 ^ k
 FitsIncrement base k _ = Unit {0}
 
 -- the increment of each content over a base fits k bits
@@ -265,24 +265,24 @@ entry_here spec (Holds d) = content_here spec (Some d) d.line
 entry_here spec (Ends line) = content_here spec None line
 
 -- each content is one that the field can have
-abbrev pub AllDrawn : FieldSpec → List FieldContent → Type 0
-AllDrawn spec ds = AllByRecursion (λ (d : FieldContent). IsDrawn spec d) ds
+abbrev pub AreContentsOf : FieldSpec → List FieldContent → Type 0
+AreContentsOf spec ds = AllByRecursion (λ (d : FieldContent). IsContentOf spec d) ds
 
 -- the contents, whose texts have `count` octets
-abbrev pub contents_drawn : (count : ℕ) → List FieldContent → List Content
-contents_drawn count [] = []
-contents_drawn count (d ∷ ds) = content_drawn count d ∷ contents_drawn count ds
+abbrev pub padded_contents : (count : ℕ) → List FieldContent → List Content
+padded_contents count [] = []
+padded_contents count (d ∷ ds) = padded_content count d ∷ padded_contents count ds
 
 -- the least number among contents, or the greatest of 64 bits, and the greatest, or 0
-pub record IsRangeOf (range : NumberRange) (drawn : List FieldContent) : Type 0 where
-  pub least : range.least ≡ least_number drawn
-  pub greatest : range.greatest ≡ spread 0 drawn
+pub record IsRangeOf (range : NumberRange) (contents : List FieldContent) : Type 0 where
+  pub least : range.least ≡ least_number contents
+  pub greatest : range.greatest ≡ spread 0 contents
 
 -- all cells were converted, and the range of their numbers returned, or the first fault
 abbrev pub ReturnsRow : (count : ℕ) → FieldSpec → List RowCell → List FieldContent
     → Result NumberRange DraftFault → Type 0
-ReturnsRow count spec cells drawn (Ok range) =
-    (contents_here spec cells ≡ Ok (contents_drawn count drawn)) × AllDrawn spec drawn
-    × (length drawn ≡ length cells) × IsRangeOf range drawn
-ReturnsRow count spec cells drawn (Err e) =
+ReturnsRow count spec cells contents (Ok range) =
+    (contents_here spec cells ≡ Ok (padded_contents count contents)) × AreContentsOf spec contents
+    × (length contents ≡ length cells) × IsRangeOf range contents
+ReturnsRow count spec cells contents (Err e) =
     IfDraftFault e (λ f. contents_here spec cells ≡ Err f)

@@ -1,6 +1,6 @@
 //! The items of a dump text, and the entries of a document, which are kept in one block.
 ghost use Rattle.std.specs.Prelude.{◌≡◌, ◌≤◌, ℕ, List, length, option_map, slice_get, ◌<◌, [], ◌∷◌, ◌++◌, Some, OnOk, OnErr};
-ghost use Rattle.bufr_fill.specs.Prelude.{draft, DraftEntry, Holds, form_in, entry_by, entry_with, IsPlaced, is_end, number_token, Ends, draft_in};
+ghost use Rattle.bufr_fill.specs.Prelude.{draft, DraftEntry, Holds, form_in, value_by, entry_with, AreOctetsInside, is_end, number_token, Ends, draft_in};
 ghost use Rattle.bufr_bits.specs.Prelude.{short_text};
 
 use bufr_bits::ShortDecimal;
@@ -32,9 +32,9 @@ pub struct DraftItem<'a> {
     pub form: DraftValue<'a>,
 }
 
-/// What an entry is: an item by its value, or the line that ends a subset.
+/// How the value of an item is kept.
 #[derive(Clone, Copy)]
-pub(crate) enum EntryKind {
+pub(crate) enum ValueKind {
     /// A number whose digits were read.
     Decimal { places: u8, negative: bool },
     /// The octets of another number; its syntax is checked later.
@@ -45,7 +45,6 @@ pub(crate) enum EntryKind {
     Missing,
     /// The octets of a redefined reference.
     Reference,
-    End,
 }
 
 /// An entry, as it is kept: its octets in one block, or the digits of a short decimal in `start`.
@@ -55,7 +54,8 @@ pub(crate) struct StoredEntry {
     pub(crate) start: usize,
     end: usize,
     pub(crate) fxy: Fxy,
-    pub(crate) kind: EntryKind,
+    /// `None` where the line ends a subset.
+    pub(crate) kind: Option<ValueKind>,
 }
 
 impl StoredEntry {
@@ -63,23 +63,22 @@ impl StoredEntry {
     pub(crate) fn is_end(&self) -> bool
         ensures { (octets : List ℕ) → result ≡ is_end (entry_with self.now octets) }
     {
-        matches!(self.kind, EntryKind::End)
+        self.kind.is_none()
     }
 }
 
 /// The kind of a value, and its octets.
 #[inline(always)]
-fn parts_of<'a>(form: DraftValue<'a>) -> (EntryKind, &'a [u8])
-    ensures is { (line fxy digits : ℕ) → entry_by result.0 line fxy digits result.1.now
-        ≡ Holds (draft line fxy (form_in form.entry)) }
-    ensures placed { (size start end : ℕ) → start ≤ end → end ≤ size
-        → IsPlaced result.0 size start end }
+fn parts_of<'a>(form: DraftValue<'a>) -> (ValueKind, &'a [u8])
+    ensures is { (digits : ℕ) → value_by result.0 digits result.1.now ≡ form_in form.entry }
+    ensures inside { (size start end : ℕ) → start ≤ end → end ≤ size
+        → AreOctetsInside result.0 size start end }
 {
     match form {
-        DraftValue::Number(octets) => (EntryKind::Number, octets),
-        DraftValue::Text(octets) => (EntryKind::Text, octets),
-        DraftValue::Missing => (EntryKind::Missing, &[]),
-        DraftValue::Reference(octets) => (EntryKind::Reference, octets),
+        DraftValue::Number(octets) => (ValueKind::Number, octets),
+        DraftValue::Text(octets) => (ValueKind::Text, octets),
+        DraftValue::Missing => (ValueKind::Missing, &[]),
+        DraftValue::Reference(octets) => (ValueKind::Reference, octets),
     }
 }
 
@@ -153,7 +152,7 @@ impl Entries {
             start,
             end,
             fxy: item.fxy,
-            kind,
+            kind: Some(kind),
         })?;
         Ok(())
     }
@@ -179,10 +178,10 @@ impl Entries {
             start: number.digits as usize,
             end: 0,
             fxy,
-            kind: EntryKind::Decimal {
+            kind: Some(ValueKind::Decimal {
                 places: number.places,
                 negative: number.negative,
-            },
+            }),
         })?;
         Ok(())
     }
@@ -202,7 +201,7 @@ impl Entries {
             start: end,
             end,
             fxy: Fxy::from_word(0),
-            kind: EntryKind::End,
+            kind: None,
         })?;
         Ok(())
     }
@@ -216,27 +215,36 @@ impl Entries {
 
     /// The entry at an index, from 0, and its octets; `None` after the last.
     #[inline(always)]
-    pub(crate) fn get(&self, place: usize) -> Option<(StoredEntry, &[u8])>
+    pub(crate) fn get(&self, index: usize) -> Option<(StoredEntry, &[u8])>
         ensures { option_map (λ found. entry_with found.0 found.1.now) result
-            ≡ slice_get self.now place }
+            ≡ slice_get self.now index }
     {
-        if place >= self.kept.len() {
+        if index >= self.kept.len() {
             return None;
         }
-        let entry = self.kept[place];
+        Some(self.entry_at(index))
+    }
+
+    /// The entry at the index of one, and its octets.
+    #[inline(always)]
+    pub(crate) fn entry_at(&self, index: usize) -> (StoredEntry, &[u8])
+        requires { index < length self.now }
+        ensures { Some (entry_with result.0 result.1.now) ≡ slice_get self.now index }
+    {
+        let entry = self.kept[index];
         match entry.kind {
-            EntryKind::Number | EntryKind::Text | EntryKind::Reference => {
-                Some((entry, &self.octets[entry.start..entry.end]))
+            Some(ValueKind::Number | ValueKind::Text | ValueKind::Reference) => {
+                (entry, &self.octets[entry.start..entry.end])
             }
-            EntryKind::Decimal { .. } | EntryKind::Missing | EntryKind::End => Some((entry, &[])),
+            Some(ValueKind::Decimal { .. } | ValueKind::Missing) | None => (entry, &[]),
         }
     }
 
     /// Whether the entry at an index is the end of a subset.
-    pub(crate) fn is_end(&self, place: usize) -> bool
-        requires { place < length self.now }
-        ensures { Some result ≡ option_map is_end (slice_get self.now place) }
+    pub(crate) fn is_end(&self, index: usize) -> bool
+        requires { index < length self.now }
+        ensures { Some result ≡ option_map is_end (slice_get self.now index) }
     {
-        self.kept[place].is_end()
+        self.kept[index].is_end()
     }
 }

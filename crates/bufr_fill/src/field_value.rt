@@ -3,11 +3,12 @@ ghost use Rattle.std.specs.Prelude.{◌≡◌, ℕ, List, ◌≤◌, ◌<◌, �
 ghost use Rattle.std.specs.List.{list_all};
 ghost use Rattle.bufr_tables.specs.Prelude.{is_character};
 ghost use Rattle.bufr_walk.specs.Prelude.{is_reference, IsFor, number, reference, bits_for, answer_of};
-ghost use Rattle.bufr_fill.specs.Prelude.{raw_of, is_marked, wrong_for, content_by_form, returned, content_drawn, IsDrawn, raw_limit, entry_with, is_end, is_entry_of, value_by, entry_here, at_line};
+ghost use Rattle.bufr_fill.specs.Prelude.{raw_of, is_marked, wrong_for, content_by_form, returned, padded_content, IsContentOf, raw_limit, entry_with, is_of, draft, value_by, entry_here, at_line};
 
-use crate::draft::{EntryKind, StoredEntry};
+use crate::draft::{StoredEntry, ValueKind};
 use crate::fault::{DraftFault, Expected, ItemFault};
 use bufr_bits::{BitWriter, NumberFault, ShortDecimal, decimal_read};
+use bufr_tables::Fxy;
 use bufr_walk::{Role, Spec, Taken};
 use std::alloc::AllocError;
 
@@ -70,49 +71,47 @@ pub(crate) fn is_all_255(octets: &[u8]) -> bool
 #[inline(always)]
 #[tactic(auto, using(crate::proofs::FieldLemmas::all_of_spaced))]
 // rule: fault-52, fault-53, fault-54, fault-55, fault-order-of-an-item
-fn draw_form<'a>(
-    entry: &StoredEntry,
+fn content_by_form<'a>(
+    kind: ValueKind,
+    digits: usize,
     octets: &'a [u8],
     spec: &Spec,
 ) -> Result<FieldContent<'a>, ItemFault>
-    requires item { is_end (entry_with entry.now octets.now) ≡ false }
-    requires mark { is_reference spec.now.role
-        ≡ is_marked (value_by entry.now.kind entry.now.start octets.now) }
-    ensures is { returned (content_drawn (spec.now.width / 8)) result
-        ≡ content_by_form (value_by entry.now.kind entry.now.start octets.now) spec.now }
-    ensures drawn { IfOk result (λ d. IsDrawn spec.now d) }
+    requires mark { is_reference spec.now.role ≡ is_marked (value_by kind digits octets.now) }
+    ensures is { returned (padded_content (spec.now.width / 8)) result
+        ≡ content_by_form (value_by kind digits octets.now) spec.now }
+    ensures content { IfOk result (λ d. IsContentOf spec.now d) }
 {
     let count = (spec.width() / 8) as usize;
-    match entry.kind {
-        EntryKind::Decimal { places, negative } => {
+    match kind {
+        ValueKind::Decimal { places, negative } => {
             if spec.is_text() {
                 return Err(ItemFault::Number);
             }
-            let digits = entry.start as u64;
             let number = ShortDecimal {
-                digits,
+                digits: digits as u64,
                 places,
                 negative,
             };
             let read = number.scaled(spec.scale());
             Ok(FieldContent::Number(raw_of_read(read, spec)?))
         }
-        EntryKind::Number if spec.is_text() => Err(ItemFault::Number),
-        EntryKind::Number => {
+        ValueKind::Number if spec.is_text() => Err(ItemFault::Number),
+        ValueKind::Number => {
             let read = decimal_read(octets, spec.scale());
             Ok(FieldContent::Number(raw_of_read(read, spec)?))
         }
-        EntryKind::Text if !spec.is_text() => Err(ItemFault::Number),
-        EntryKind::Text if octets.len() > count => Err(ItemFault::TextLong),
-        EntryKind::Text => {
+        ValueKind::Text if !spec.is_text() => Err(ItemFault::Number),
+        ValueKind::Text if octets.len() > count => Err(ItemFault::TextLong),
+        ValueKind::Text => {
             if is_all_255(octets) && octets.len() == count {
                 return Err(ItemFault::OutOfRange);
             }
             Ok(FieldContent::Text(octets))
         }
-        EntryKind::Missing if spec.may_be_missing() => Ok(FieldContent::Missing),
-        EntryKind::Missing => Err(ItemFault::MissingForbidden),
-        EntryKind::Reference => {
+        ValueKind::Missing if spec.may_be_missing() => Ok(FieldContent::Missing),
+        ValueKind::Missing => Err(ItemFault::MissingForbidden),
+        ValueKind::Reference => {
             let value = match decimal_read(octets, 0) {
                 Ok(value) => value,
                 Err(NumberFault::Large) => return Err(ItemFault::OutOfRange),
@@ -124,21 +123,19 @@ fn draw_form<'a>(
             }
             Ok(FieldContent::Reference(value as i64))
         }
-        EntryKind::End => unreachable!(),
     }
 }
 
-/// Whether an entry is an item with the descriptor and the mark of a field.
+/// Whether an item has the descriptor and the mark of a field.
 #[inline(always)]
 // rule: fault-51
-fn is_item_of(entry: &StoredEntry, spec: &Spec) -> bool
-    ensures { (octets : List ℕ)
-        → result ≡ is_entry_of spec.now (entry_with entry.now octets) }
+fn is_of(fxy: Fxy, kind: ValueKind, spec: &Spec) -> bool
+    ensures { (line digits : ℕ) (octets : List ℕ)
+        → result ≡ is_of spec.now (draft line fxy (value_by kind digits octets)) }
 {
-    match entry.kind {
-        EntryKind::End => false,
-        EntryKind::Reference => entry.fxy == spec.fxy() && spec.is_reference(),
-        _ => entry.fxy == spec.fxy() && !spec.is_reference(),
+    match kind {
+        ValueKind::Reference => fxy == spec.fxy() && spec.is_reference(),
+        _ => fxy == spec.fxy() && !spec.is_reference(),
     }
 }
 
@@ -156,22 +153,24 @@ pub(crate) fn wrong_item(spec: &Spec, line: u64) -> DraftFault
 
 /// Converts an entry to the content of its field.
 #[inline(always)]
-#[tactic(auto, using(crate::proofs::FieldLemmas::no_end))]
 // rule: fault-order-of-an-item
 pub(crate) fn field_content<'a>(
     entry: &StoredEntry,
     octets: &'a [u8],
     spec: &Spec,
 ) -> Result<FieldContent<'a>, DraftFault>
-    ensures is { returned (content_drawn (spec.now.width / 8)) result
+    ensures is { returned (padded_content (spec.now.width / 8)) result
         ≡ entry_here spec.now (entry_with entry.now octets.now) }
-    ensures drawn { IfOk result (λ d. IsDrawn spec.now d) }
+    ensures content { IfOk result (λ d. IsContentOf spec.now d) }
 {
-    if !is_item_of(entry, spec) {
+    let Some(kind) = entry.kind else {
+        return Err(wrong_item(spec, entry.line));
+    };
+    if !is_of(entry.fxy, kind, spec) {
         return Err(wrong_item(spec, entry.line));
     }
-    match draw_form(entry, octets, spec) {
-        Ok(drawn) => Ok(drawn),
+    match content_by_form(kind, entry.start, octets, spec) {
+        Ok(content) => Ok(content),
         Err(why) => Err(DraftFault::Item(entry.line, why)),
     }
 }
@@ -202,18 +201,19 @@ pub(crate) fn put_full(out: &mut BitWriter, count: usize)
 
 /// Writes the content of a field, in the field's bits.
 #[inline(always)]
-#[tactic(auto, using(crate::proofs::FieldLemmas::drawn_narrow, crate::proofs::FieldLemmas::spaced_prefix, crate::proofs::FieldLemmas::eighths_ones, crate::proofs::FieldLemmas::ones_bits, crate::proofs::FieldLemmas::negative_bits, crate::proofs::FieldLemmas::positive_bits))]
+#[tactic(auto, using(crate::proofs::FieldLemmas::content_narrow, crate::proofs::FieldLemmas::spaced_prefix, crate::proofs::FieldLemmas::eighths_ones, crate::proofs::FieldLemmas::ones_bits, crate::proofs::FieldLemmas::negative_bits, crate::proofs::FieldLemmas::positive_bits))]
 // rule: writes-plus-zero
-pub(crate) fn put_content(out: &mut BitWriter, drawn: FieldContent<'_>, spec: &Spec)
-    requires drawn { IsDrawn spec.now drawn }
+pub(crate) fn put_content(out: &mut BitWriter, content: FieldContent<'_>, spec: &Spec)
+    requires content { IsContentOf spec.now content }
     requires room { spec.now.width ≤ out.old.room }
     ensures bits { out.new.bits
-        ≡ out.old.bits ++ bits_for spec.now.width (content_drawn (spec.now.width / 8) drawn.entry) }
+        ≡ out.old.bits
+        ++ bits_for spec.now.width (padded_content (spec.now.width / 8) content.entry) }
     ensures len { length out.new.bits ≡ length out.old.bits + spec.now.width }
     ensures room { out.old.room ≤ out.new.room + spec.now.width }
 {
     let width = spec.width();
-    match drawn {
+    match content {
         FieldContent::Number(raw) => out.put(raw, width),
         FieldContent::Text(octets) => {
             out.put_octets(&with_spaces(octets)[..(width / 8) as usize]);
@@ -229,37 +229,38 @@ pub(crate) fn put_content(out: &mut BitWriter, drawn: FieldContent<'_>, spec: &S
 
 /// Makes room for the content of a field, and writes it in the field's bits.
 #[inline(always)]
-#[tactic(auto, using(crate::proofs::FieldLemmas::drawn_narrow))]
+#[tactic(auto, using(crate::proofs::FieldLemmas::content_narrow))]
 pub(crate) fn push_content(
     out: &mut BitWriter,
-    drawn: FieldContent<'_>,
+    content: FieldContent<'_>,
     spec: &Spec,
 ) -> Result<(), AllocError>
-    requires drawn { IsDrawn spec.now drawn }
+    requires content { IsContentOf spec.now content }
     requires room { length out.old.bits + 2040 ≤ 2 ^ 63 }
     ensures ok { OnOk result (out.new.bits ≡ out.old.bits
-        ++ bits_for spec.now.width (content_drawn (spec.now.width / 8) drawn.entry)) }
+        ++ bits_for spec.now.width (padded_content (spec.now.width / 8) content.entry)) }
     ensures some { OnOk result (length out.old.bits < length out.new.bits) }
     ensures most { OnOk result (length out.new.bits ≤ length out.old.bits + 2040) }
     ensures err { OnErr result (out.new.bits ≡ out.old.bits) }
 {
     let width = spec.width();
-    if let FieldContent::Number(raw) = drawn {
+    if let FieldContent::Number(raw) = content {
         return out.push(raw, width);
     }
     out.reserve(u64::from(width))?;
-    put_content(out, drawn, spec);
+    put_content(out, content, spec);
     Ok(())
 }
 
 /// What a field returns to the walk.
 #[inline(always)]
 #[tactic(auto, using(crate::proofs::FieldLemmas::answer_count, crate::proofs::FieldLemmas::answer_reference, crate::proofs::FieldLemmas::answer_element, crate::proofs::FieldLemmas::answer_inserted))]
-pub(crate) fn taken_of(drawn: FieldContent<'_>, spec: &Spec) -> Taken
-    ensures gives { result ≡ answer_of spec.now (content_drawn (spec.now.width / 8) drawn.entry) }
+pub(crate) fn taken_of(content: FieldContent<'_>, spec: &Spec) -> Taken
+    ensures gives { result
+        ≡ answer_of spec.now (padded_content (spec.now.width / 8) content.entry) }
     ensures shape { IsFor spec.now result }
 {
-    match (spec.role(), drawn) {
+    match (spec.role(), content) {
         (Role::Factor, FieldContent::Number(raw)) => Taken::Count(raw),
         (Role::Factor, _) => Taken::Count(0),
         (Role::Reference, FieldContent::Reference(value)) => Taken::Reference(value),

@@ -102,7 +102,7 @@ pub fn walks_write_as_defined()
         (s : PackedOutModel) → 1 ≤ length subsets
         → Takes (oks PackedFills) course (new_packed_out subsets) items s
         → (course (answers_of items)).next ≡ at_end
-        → all_at_end (cells_at s.place s.subsets) ≡ Ok tt → packed_data course subsets ≡ Ok s.bits }
+        → all_at_end (cells_at s.index s.subsets) ≡ Ok tt → packed_data course subsets ≡ Ok s.bits }
 {}
 
 /// Law: where a walk over the items of one subset, or of all subsets, stops, its fault is that of

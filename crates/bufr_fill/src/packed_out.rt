@@ -1,7 +1,7 @@
 //! The writer of compressed data, from the items of a dump text.
 ghost use Rattle.std.specs.Prelude.{◌≡◌, ◌==◌, ◌≤◌, ◌<◌, ◌+◌, ◌*◌, ◌/◌, ◌^◌, IfOk, Ok, length, ℕ, slice_get, Some, List, ◌-◌, ◌++◌, ◌∷◌, [], true, false, take, unwrap_or, vec_len};
 ghost use Rattle.bufr_walk.specs.Prelude.{IsFor, is_reference, max_values};
-ghost use Rattle.bufr_fill.specs.Prelude.{item_row, cells_at, contents_here, RowCell, unlike_line, same, are_same, lowest, increment_bits, octet_bits, packed_by, subsets_of, AllDrawn, contents_drawn, IsRangeOf, entry_or_end, cell_line, ReturnsRow, PutAcross, number_or, spread, trimmed, most_need, PacksItem, FitsIncrement, AreShort, least_from, ends_of, first_line_at, EndsAllSubsets, entry_with, content_drawn, IsDrawn, raw_limit, FieldContent, StartsPackedOut, PackedFills, spaced};
+ghost use Rattle.bufr_fill.specs.Prelude.{item_row, cells_at, contents_here, RowCell, unlike_line, same, are_same, lowest, increment_bits, octet_bits, packed_by, subsets_of, AreContentsOf, padded_contents, IsRangeOf, entry_or_end, cell_line, ReturnsRow, PutAcross, number_or, spread, trimmed, most_need, PacksItem, FitsIncrement, AreShort, least_from, ends_of, first_line_at, EndsAllSubsets, entry_with, padded_content, IsContentOf, raw_limit, FieldContent, StartsPackedOut, PackedFills, spaced};
 ghost use Rattle.std.specs.Str.{bytes_eq};
 ghost use Rattle.std.specs.List.{flat_map, list_all};
 ghost use Rattle.bufr_bits.specs.Prelude.{bits_in, bits_of, padding};
@@ -29,9 +29,9 @@ use std::marker::Model;
 pub struct PackedOut<'s> {
     entries: &'s Entries,
     ends: Vec<usize>,
-    place: usize,
+    index: usize,
     /// The contents of the item that is packed. Each item uses their memory again.
-    drawn: Vec<FieldContent<'s>>,
+    contents: Vec<FieldContent<'s>>,
     out: BitWriter,
 }
 
@@ -44,58 +44,58 @@ impl<'s> Model for PackedOut<'s> {
 
     ghost view = { λ s. record {
       subsets = subsets_of s.entries.now;
-      place = s.place;
+      index = s.index;
       bits = s.out.bits;
     } };
 
-    ghost invariant = { λ s. IsPackedOut s.entries.now s.ends.items s.place (length s.out.bits) };
+    ghost invariant = { λ s. IsPackedOut s.entries.now s.ends.items s.index (length s.out.bits) };
 }
 
 /// Writes the contents of an item for all subsets, with the least base and the least `k`.
-#[tactic(auto, using(crate::proofs::RowLemmas::drawn_at))]
+#[tactic(auto, using(crate::proofs::RowLemmas::is_content_at))]
 // rule: packs-factors-and-references, fault-59, packs-equal, packs-all-missing
-fn put_drawn(
+fn pack_row(
     row: Row<'_, '_>,
     spec: &Spec,
-    drawn: &[FieldContent<'_>],
+    contents: &[FieldContent<'_>],
     range: NumberRange,
     out: &mut BitWriter,
 ) -> Result<Taken, DraftFault>
-    requires values { (row.place + 1) * length row.ends.now ≤ max_values }
-    requires given { contents_here spec.now (cells_at row.place (subsets_of row.entries.now))
-        ≡ Ok (contents_drawn (spec.now.width / 8) drawn.now) }
-    requires all { AllDrawn spec.now drawn.now }
-    requires range { IsRangeOf range drawn.now }
-    requires many { length drawn.now ≡ length row.ends.now }
+    requires values { (row.index + 1) * length row.ends.now ≤ max_values }
+    requires given { contents_here spec.now (cells_at row.index (subsets_of row.entries.now))
+        ≡ Ok (padded_contents (spec.now.width / 8) contents.now) }
+    requires all { AreContentsOf spec.now contents.now }
+    requires range { IsRangeOf range contents.now }
+    requires many { length contents.now ≡ length row.ends.now }
     requires room { length out.old.bits + (2046 + 504 * length row.ends.now) ≤ 2 ^ 63 }
     ensures put { PutAcross out.old.bits out.new.bits spec.now
-        (item_row row.entry.place (subsets_of row.entry.entries.now))
+        (item_row row.entry.index (subsets_of row.entry.entries.now))
         (2046 + 504 * length row.entry.ends.now) result }
     ensures shape { IfOk result (λ t. IsFor spec.now t) }
 {
-    if are_alike(drawn[0], drawn, range, spec) {
+    if are_alike(contents[0], contents, range, spec) {
         out.reserve(u64::from(spec.width()) + 6)?;
-        put_content(out, drawn[0], spec);
+        put_content(out, contents[0], spec);
         out.put(0, 6);
-        return Ok(taken_of(drawn[0], spec));
+        return Ok(taken_of(contents[0], spec));
     }
     match spec.role() {
         Role::Factor => {
-            let line = unlike_line(row, spec, drawn);
+            let line = unlike_line(row, spec, contents);
             Err(DraftFault::Item(line, ItemFault::UnequalFactor))
         }
         Role::Reference => Err(DraftFault::Item(row.first_line(), ItemFault::Increment)),
         Role::Element | Role::Inserted => {
             if spec.is_text() {
-                let k = octets_needed(drawn, spec);
+                let k = octets_needed(contents, spec);
                 if k > 63 {
                     return Err(DraftFault::Item(row.first_line(), ItemFault::Increment));
                 }
-                pack_texts(out, drawn, k, spec)?;
+                pack_texts(out, contents, k, spec)?;
             } else {
-                pack_numbers(out, drawn, range, spec)?;
+                pack_numbers(out, contents, range, spec)?;
             }
-            Ok(taken_of(drawn[0], spec))
+            Ok(taken_of(contents[0], spec))
         }
     }
 }
@@ -112,9 +112,9 @@ impl<'s> PackedOut<'s> {
         ensures { IfOk result (λ out. StartsPackedOut (subsets_of entries.now) out) }
     {
         let mut ends = Vec::new(alloc);
-        for place in 0..entries.len() {
-            if entries.is_end(place) {
-                ends.push(place)?;
+        for index in 0..entries.len() {
+            if entries.is_end(index) {
+                ends.push(index)?;
             }
         }
         if ends.is_empty() {
@@ -123,20 +123,20 @@ impl<'s> PackedOut<'s> {
         Ok(Some(PackedOut {
             entries,
             ends,
-            place: 0,
-            drawn: Vec::new(alloc),
+            index: 0,
+            contents: Vec::new(alloc),
             out: BitWriter::new(alloc),
         }))
     }
 
     /// The line of the next item of the first subset, or the line that ends that subset.
     pub fn line(&self) -> u64
-        ensures { result ≡ first_line_at self.now.place self.now.subsets }
+        ensures { result ≡ first_line_at self.now.index self.now.subsets }
     {
         let row = Row {
             entries: self.entries,
             ends: &self.ends,
-            place: self.place,
+            index: self.index,
         };
         row.first_line()
     }
@@ -147,12 +147,12 @@ impl<'s> PackedOut<'s> {
     ///
     /// [`ItemFault::WrongDescriptor`] with the first subset that has one more item.
     pub fn end(&self) -> Result<(), DraftFault>
-        ensures { EndsAllSubsets self.now.place self.now.subsets result }
+        ensures { EndsAllSubsets self.now.index self.now.subsets result }
     {
         let row = Row {
             entries: self.entries,
             ends: &self.ends,
-            place: self.place,
+            index: self.index,
         };
         all_at_end(row)
     }
@@ -183,15 +183,15 @@ impl<'s> Fields for PackedOut<'s> {
         let row = Row {
             entries: self.entries,
             ends: &self.ends,
-            place: self.place,
+            index: self.index,
         };
-        if (row.place as u64 + 1) * row.ends.len() as u64 > MAX_VALUES {
+        if (row.index as u64 + 1) * row.ends.len() as u64 > MAX_VALUES {
             let why = WalkRefusal::TooManyValues(spec.fxy());
             return Err(DraftFault::Item(row.first_line(), ItemFault::Walk(why)));
         }
-        let range = read_row(row, spec, &mut self.drawn)?;
-        let taken = put_drawn(row, spec, &self.drawn, range, &mut self.out)?;
-        self.place += 1;
+        let range = read_row(row, spec, &mut self.contents)?;
+        let taken = pack_row(row, spec, &self.contents, range, &mut self.out)?;
+        self.index += 1;
         Ok(taken)
     }
 
@@ -205,11 +205,11 @@ impl<'s> Fields for PackedOut<'s> {
 pub(crate) struct Row<'a, 'b> {
     entries: &'a Entries,
     ends: &'b [usize],
-    place: usize,
+    index: usize,
     ghost few: { length entries.now ≤ 2 ^ 45 },
     ghost ends_are: { ends.now ≡ ends_of 0 entries.now },
     ghost some: { 0 < length ends.now },
-    ghost near: { place ≤ 2 ^ 45 },
+    ghost near: { index ≤ 2 ^ 45 },
 }
 
 impl<'a, 'b> Row<'a, 'b> {
@@ -218,7 +218,7 @@ impl<'a, 'b> Row<'a, 'b> {
     fn find(self, subset: usize) -> (StoredEntry, &'a [u8])
         requires { subset < length self.ends.now }
         ensures { (c : RowCell)
-            → slice_get (cells_at self.entry.place (subsets_of self.entry.entries.now)) subset
+            → slice_get (cells_at self.entry.index (subsets_of self.entry.entries.now)) subset
             ≡ Some c → entry_with result.0 result.1.now ≡ entry_or_end c.draft c.end_line }
     {
         let start = if subset == 0 {
@@ -226,17 +226,15 @@ impl<'a, 'b> Row<'a, 'b> {
         } else {
             self.ends[subset - 1] + 1
         };
-        match self.entries.get(self.ends[subset].min(start + self.place)) {
-            Some(found) => found,
-            None => unreachable!(),
-        }
+        self.entries
+            .entry_at(self.ends[subset].min(start + self.index))
     }
 
     /// The line of a subset's entry.
     fn line_of(self, subset: usize) -> u64
         requires { subset < length self.ends.now }
         ensures { (c : RowCell)
-            → slice_get (cells_at self.entry.place (subsets_of self.entry.entries.now)) subset
+            → slice_get (cells_at self.entry.index (subsets_of self.entry.entries.now)) subset
             ≡ Some c → result ≡ cell_line c }
     {
         let (entry, _octets) = self.find(subset);
@@ -245,7 +243,7 @@ impl<'a, 'b> Row<'a, 'b> {
 
     /// The line of the first subset's entry.
     fn first_line(self) -> u64
-        ensures { result ≡ first_line_at self.entry.place (subsets_of self.entry.entries.now) }
+        ensures { result ≡ first_line_at self.entry.index (subsets_of self.entry.entries.now) }
     {
         self.line_of(0)
     }
@@ -255,19 +253,19 @@ impl<'a, 'b> Row<'a, 'b> {
 fn read_row<'a>(
     row: Row<'a, '_>,
     spec: &Spec,
-    drawn: &mut Vec<FieldContent<'a>>,
+    contents: &mut Vec<FieldContent<'a>>,
 ) -> Result<NumberRange, DraftFault>
-    ensures { ReturnsRow (spec.now.width / 8) spec.now (cells_at row.entry.place
-        (subsets_of row.entry.entries.now)) drawn.new.items result }
+    ensures { ReturnsRow (spec.now.width / 8) spec.now (cells_at row.entry.index
+        (subsets_of row.entry.entries.now)) contents.new.items result }
 {
     let spec = *spec;
-    drawn.clear();
+    contents.clear();
     let mut range = NumberRange::new();
     for subset in 0..row.ends.len() {
         let (entry, octets) = row.find(subset);
         let content = field_content(&entry, octets, &spec)?;
         range = range.with(content);
-        match drawn.push(content) {
+        match contents.push(content) {
             Ok(()) => {}
             Err(_) => return Err(DraftFault::Memory),
         }
@@ -277,14 +275,14 @@ fn read_row<'a>(
 
 /// The line of the first subset whose content differs from that of the first subset.
 // rule: fault-58
-fn unlike_line(row: Row<'_, '_>, spec: &Spec, drawn: &[FieldContent<'_>]) -> u64
-    requires all { AllDrawn spec.now drawn.now }
-    requires many { length drawn.now ≡ length row.ends.now }
-    ensures { result ≡ unlike_line (contents_drawn (spec.now.width / 8) drawn.now)
-        (cells_at row.entry.place (subsets_of row.entry.entries.now)) }
+fn unlike_line(row: Row<'_, '_>, spec: &Spec, contents: &[FieldContent<'_>]) -> u64
+    requires all { AreContentsOf spec.now contents.now }
+    requires many { length contents.now ≡ length row.ends.now }
+    ensures { result ≡ unlike_line (padded_contents (spec.now.width / 8) contents.now)
+        (cells_at row.entry.index (subsets_of row.entry.entries.now)) }
 {
     for subset in 0..row.ends.len() {
-        if !is_same(drawn[0], drawn[subset], spec) {
+        if !is_same(contents[0], contents[subset], spec) {
             return row.line_of(subset);
         }
     }
@@ -293,7 +291,7 @@ fn unlike_line(row: Row<'_, '_>, spec: &Spec, drawn: &[FieldContent<'_>]) -> u64
 
 /// Checks that all subsets end at an index; else returns the first item there as the fault.
 fn all_at_end(row: Row<'_, '_>) -> Result<(), DraftFault>
-    ensures { EndsAllSubsets row.entry.place (subsets_of row.entry.entries.now) result }
+    ensures { EndsAllSubsets row.entry.index (subsets_of row.entry.entries.now) result }
 {
     for subset in 0..row.ends.len() {
         let (entry, _octets) = row.find(subset);
@@ -326,10 +324,10 @@ fn is_spaced(text: &[u8], longer: &[u8]) -> bool
 #[tactic(auto, using(crate::proofs::RowLemmas::same_references, crate::proofs::RowLemmas::other_references, crate::proofs::RowLemmas::same_spaced, crate::proofs::RowLemmas::spaced_other))]
 #[inline(always)]
 fn is_same(one: FieldContent<'_>, other: FieldContent<'_>, spec: &Spec) -> bool
-    requires one { IsDrawn spec.now one }
-    requires other { IsDrawn spec.now other }
-    ensures { result ≡ same (content_drawn (spec.now.width / 8) one.entry)
-        (content_drawn (spec.now.width / 8) other.entry) }
+    requires one { IsContentOf spec.now one }
+    requires other { IsContentOf spec.now other }
+    ensures { result ≡ same (padded_content (spec.now.width / 8) one.entry)
+        (padded_content (spec.now.width / 8) other.entry) }
 {
     match (one, other) {
         (FieldContent::Number(a), FieldContent::Number(b)) => a == b,
@@ -343,23 +341,23 @@ fn is_same(one: FieldContent<'_>, other: FieldContent<'_>, spec: &Spec) -> bool
 }
 
 /// Whether all contents are the same as one.
-#[tactic(auto, using(crate::proofs::RowLemmas::drawn_at, crate::proofs::RowLemmas::alike_more, crate::proofs::RowLemmas::alike_not, crate::proofs::RowLemmas::alike_done))]
+#[tactic(auto, using(crate::proofs::RowLemmas::is_content_at, crate::proofs::RowLemmas::alike_more, crate::proofs::RowLemmas::alike_not, crate::proofs::RowLemmas::alike_done))]
 fn are_alike(
     first: FieldContent<'_>,
-    drawn: &[FieldContent<'_>],
+    contents: &[FieldContent<'_>],
     range: NumberRange,
     spec: &Spec,
 ) -> bool
-    requires first { IsDrawn spec.now first }
-    requires drawn { AllDrawn spec.now drawn.now }
-    requires range { IsRangeOf range drawn.now }
-    ensures { result ≡ are_same (content_drawn (spec.now.width / 8) first.entry)
-        (contents_drawn (spec.now.width / 8) drawn.now) }
+    requires first { IsContentOf spec.now first }
+    requires contents { AreContentsOf spec.now contents.now }
+    requires range { IsRangeOf range contents.now }
+    ensures { result ≡ are_same (padded_content (spec.now.width / 8) first.entry)
+        (padded_contents (spec.now.width / 8) contents.now) }
 {
     if range.base() != range.greatest {
         return false;
     }
-    for other in drawn {
+    for other in contents {
         if !is_same(first, *other, spec) {
             return false;
         }
@@ -369,10 +367,10 @@ fn are_alike(
 
 /// The number of a content, or another where it is none.
 #[inline(always)]
-fn number_or(other: u64, drawn: FieldContent<'_>) -> u64
-    ensures { result ≡ number_or other drawn.entry }
+fn number_or(other: u64, content: FieldContent<'_>) -> u64
+    ensures { result ≡ number_or other content.entry }
 {
-    match drawn {
+    match content {
         FieldContent::Number(raw) => raw,
         FieldContent::Text(_) | FieldContent::Missing | FieldContent::Reference(_) => other,
     }
@@ -398,20 +396,20 @@ impl NumberRange {
 
     /// The range with one more content.
     #[inline(always)]
-    pub(crate) fn with(self, drawn: FieldContent<'_>) -> NumberRange
+    pub(crate) fn with(self, content: FieldContent<'_>) -> NumberRange
         ensures { (contents : List FieldContent) → IsRangeOf self contents
-            → IsRangeOf result (contents ++ drawn.entry ∷ []) }
+            → IsRangeOf result (contents ++ content.entry ∷ []) }
     {
         NumberRange {
-            least: number_or(u64::MAX, drawn).min(self.least),
-            greatest: number_or(0, drawn).max(self.greatest),
+            least: number_or(u64::MAX, content).min(self.least),
+            greatest: number_or(0, content).max(self.greatest),
         }
     }
 
     /// The least of the numbers, or 0.
     fn base(self) -> u64
         ensures { (count : ℕ) (contents : List FieldContent) → IsRangeOf self contents
-            → result ≡ unwrap_or (lowest (contents_drawn count contents)) 0 }
+            → result ≡ unwrap_or (lowest (padded_contents count contents)) 0 }
     {
         if self.least <= self.greatest {
             self.least
@@ -437,14 +435,14 @@ fn least_bits(spread: u64, may_be_missing: bool) -> u32
 
 /// The increment of a content over a base: all ones of `k` bits where it is no number.
 #[tactic(auto, using(crate::proofs::FieldLemmas::ones_bits))]
-fn increment_of(drawn: FieldContent<'_>, base: u64, k: u32) -> u64
+fn increment_of(content: FieldContent<'_>, base: u64, k: u32) -> u64
     requires narrow { k ≤ 63 }
-    requires short { FitsIncrement base k drawn }
+    requires short { FitsIncrement base k content }
     ensures bits { (count : ℕ)
-        → bits_in result k ≡ increment_bits base k (content_drawn count drawn.entry) }
+        → bits_in result k ≡ increment_bits base k (padded_content count content.entry) }
     ensures below { result < 2 ^ k }
 {
-    match drawn {
+    match content {
         FieldContent::Number(raw) => raw.saturating_sub(base),
         FieldContent::Text(_) => (1u64 << k) - 1,
         FieldContent::Missing => (1u64 << k) - 1,
@@ -454,16 +452,16 @@ fn increment_of(drawn: FieldContent<'_>, base: u64, k: u32) -> u64
 
 /// Writes the increments over a base, each in `k` bits.
 #[tactic(auto, using(crate::proofs::RowLemmas::short_at, crate::proofs::RowLemmas::flat_done))]
-fn put_increments(out: &mut BitWriter, drawn: &[FieldContent<'_>], base: u64, k: u32)
+fn put_increments(out: &mut BitWriter, contents: &[FieldContent<'_>], base: u64, k: u32)
     requires narrow { k ≤ 63 }
-    requires short { AreShort base k drawn.now }
-    requires room { length drawn.now * k ≤ out.old.room }
+    requires short { AreShort base k contents.now }
+    requires room { length contents.now * k ≤ out.old.room }
     ensures bits { (count : ℕ) → out.new.bits
-        ≡ out.old.bits ++ flat_map (increment_bits base k) (contents_drawn count drawn.now) }
-    ensures len { length out.new.bits ≡ length out.old.bits + length drawn.now * k }
+        ≡ out.old.bits ++ flat_map (increment_bits base k) (padded_contents count contents.now) }
+    ensures len { length out.new.bits ≡ length out.old.bits + length contents.now * k }
 {
-    for d in drawn {
-        out.put(increment_of(*d, base, k), k);
+    for content in contents {
+        out.put(increment_of(*content, base, k), k);
     }
 }
 
@@ -471,25 +469,26 @@ fn put_increments(out: &mut BitWriter, drawn: &[FieldContent<'_>], base: u64, k:
 // rule: packs-numbers
 fn pack_numbers(
     out: &mut BitWriter,
-    drawn: &[FieldContent<'_>],
+    contents: &[FieldContent<'_>],
     range: NumberRange,
     spec: &Spec,
 ) -> Result<(), AllocError>
     requires number { is_character spec.now.kind ≡ false }
     requires element { is_reference spec.now.role ≡ false }
-    requires drawn { AllDrawn spec.now drawn.now }
-    requires range { IsRangeOf range drawn.now }
-    requires room { length out.old.bits + (69 + 63 * length drawn.now) ≤ 2 ^ 63 }
-    ensures { PacksItem out.old.bits out.new.bits (packed_by spec.now.kind spec.now
-        (contents_drawn (spec.now.width / 8) drawn.now)) (69 + 63 * length drawn.now) result }
+    requires contents { AreContentsOf spec.now contents.now }
+    requires range { IsRangeOf range contents.now }
+    requires room { length out.old.bits + (69 + 63 * length contents.now) ≤ 2 ^ 63 }
+    ensures { PacksItem out.old.bits out.new.bits (packed_by (is_character spec.now.kind) spec.now
+        (padded_contents (spec.now.width / 8) contents.now)) (69 + 63 * length contents.now)
+        result }
 {
     let width = spec.width();
     let base = range.base();
     let k = least_bits(range.greatest.saturating_sub(base), spec.may_be_missing());
-    out.reserve(u64::from(width) + 6 + drawn.len() as u64 * u64::from(k))?;
+    out.reserve(u64::from(width) + 6 + contents.len() as u64 * u64::from(k))?;
     out.put(base, width);
     out.put(u64::from(k), 6);
-    put_increments(out, drawn, base, k);
+    put_increments(out, contents, base, k);
     Ok(())
 }
 
@@ -508,17 +507,17 @@ fn trimmed_len(octets: &[u8]) -> usize
 }
 
 /// How many octets determine all texts, so that none reads as missing.
-#[tactic(auto, using(crate::proofs::RowLemmas::eighth_most, crate::proofs::RowLemmas::need_more, crate::proofs::RowLemmas::need_done, crate::proofs::RowLemmas::drawn_at))]
+#[tactic(auto, using(crate::proofs::RowLemmas::eighth_most, crate::proofs::RowLemmas::need_more, crate::proofs::RowLemmas::need_done, crate::proofs::RowLemmas::is_content_at))]
 // rule: packs-texts-not-missing
-fn octets_needed(drawn: &[FieldContent<'_>], spec: &Spec) -> usize
-    requires { AllDrawn spec.now drawn.now }
-    ensures { result ≡ most_need drawn.now }
+fn octets_needed(contents: &[FieldContent<'_>], spec: &Spec) -> usize
+    requires { AreContentsOf spec.now contents.now }
+    ensures { result ≡ most_need contents.now }
 {
     // For the proof alone: a text has at most 255 octets.
     let _width = spec.width();
     let mut most: usize = 1;
-    for d in drawn {
-        if let FieldContent::Text(octets) = *d {
+    for content in contents {
+        if let FieldContent::Text(octets) = *content {
             let len = trimmed_len(octets);
             let needed = if is_all_255(&octets[..len]) {
                 len + 1
@@ -533,34 +532,34 @@ fn octets_needed(drawn: &[FieldContent<'_>], spec: &Spec) -> usize
 
 /// Writes the first octets of a text that spaces follow, or ones where the text is missing.
 #[tactic(auto, using(crate::proofs::RowLemmas::eighth_most))]
-fn put_prefix(out: &mut BitWriter, drawn: FieldContent<'_>, k: usize, spec: &Spec)
+fn put_prefix(out: &mut BitWriter, content: FieldContent<'_>, k: usize, spec: &Spec)
     requires few { k ≤ spec.now.width / 8 }
-    requires drawn { IsDrawn spec.now drawn }
+    requires content { IsContentOf spec.now content }
     requires room { 8 * k ≤ out.old.room }
     ensures bits { out.new.bits
-        ≡ out.old.bits ++ octet_bits k (content_drawn (spec.now.width / 8) drawn.entry) }
+        ≡ out.old.bits ++ octet_bits k (padded_content (spec.now.width / 8) content.entry) }
     ensures len { length out.new.bits ≡ length out.old.bits + 8 * k }
     ensures room { out.old.room ≤ out.new.room + 8 * k }
 {
     // For the proof alone: a text has at most 255 octets.
     let _width = spec.width();
-    match drawn {
+    match content {
         FieldContent::Text(octets) => out.put_octets(&with_spaces(octets)[..k]),
         _ => put_full(out, k),
     }
 }
 
 /// Writes the first `k` octets of each text.
-fn put_prefixes(out: &mut BitWriter, drawn: &[FieldContent<'_>], k: usize, spec: &Spec)
+fn put_prefixes(out: &mut BitWriter, contents: &[FieldContent<'_>], k: usize, spec: &Spec)
     requires few { k ≤ spec.now.width / 8 }
-    requires drawn { AllDrawn spec.now drawn.now }
-    requires room { length drawn.now * (8 * k) ≤ out.old.room }
+    requires contents { AreContentsOf spec.now contents.now }
+    requires room { length contents.now * (8 * k) ≤ out.old.room }
     ensures bits { out.new.bits ≡ out.old.bits
-        ++ flat_map (octet_bits k) (contents_drawn (spec.now.width / 8) drawn.now) }
-    ensures len { length out.new.bits ≡ length out.old.bits + length drawn.now * (8 * k) }
+        ++ flat_map (octet_bits k) (padded_contents (spec.now.width / 8) contents.now) }
+    ensures len { length out.new.bits ≡ length out.old.bits + length contents.now * (8 * k) }
 {
-    for d in drawn {
-        put_prefix(out, *d, k, spec);
+    for content in contents {
+        put_prefix(out, *content, k, spec);
     }
 }
 
@@ -569,24 +568,25 @@ fn put_prefixes(out: &mut BitWriter, drawn: &[FieldContent<'_>], k: usize, spec:
 // rule: packs-texts
 fn pack_texts(
     out: &mut BitWriter,
-    drawn: &[FieldContent<'_>],
+    contents: &[FieldContent<'_>],
     k: usize,
     spec: &Spec,
 ) -> Result<(), AllocError>
-    requires k { k ≡ most_need drawn.now }
+    requires k { k ≡ most_need contents.now }
     requires short { k ≤ 63 }
     requires text { is_character spec.now.kind ≡ true }
     requires element { is_reference spec.now.role ≡ false }
-    requires drawn { AllDrawn spec.now drawn.now }
-    requires room { length out.old.bits + (2046 + 504 * length drawn.now) ≤ 2 ^ 63 }
-    ensures { PacksItem out.old.bits out.new.bits (packed_by spec.now.kind spec.now
-        (contents_drawn (spec.now.width / 8) drawn.now)) (2046 + 504 * length drawn.now) result }
+    requires contents { AreContentsOf spec.now contents.now }
+    requires room { length out.old.bits + (2046 + 504 * length contents.now) ≤ 2 ^ 63 }
+    ensures { PacksItem out.old.bits out.new.bits (packed_by (is_character spec.now.kind) spec.now
+        (padded_contents (spec.now.width / 8) contents.now)) (2046 + 504 * length contents.now)
+        result }
 {
     let width = spec.width();
-    out.reserve(u64::from(width) + 6 + drawn.len() as u64 * (8 * k as u64))?;
+    out.reserve(u64::from(width) + 6 + contents.len() as u64 * (8 * k as u64))?;
     let zeros = [0u8; 255];
     out.put_octets(&zeros[..(width / 8) as usize]);
     out.put(k as u64, 6);
-    put_prefixes(out, drawn, k, spec);
+    put_prefixes(out, contents, k, spec);
     Ok(())
 }

@@ -26,7 +26,7 @@ use std::marker::Model;
 #[derive(Drop)]
 pub struct PlainOut<'s> {
     entries: &'s Entries,
-    place: usize,
+    index: usize,
     out: BitWriter,
 }
 
@@ -36,9 +36,9 @@ impl<'s> Model for PlainOut<'s> {
 
     ghost Value = { PlainOutModel };
 
-    ghost view = { λ s. plain_out_model (drop s.place s.entries.now) s.out.bits };
+    ghost view = { λ s. plain_out_model (drop s.index s.entries.now) s.out.bits };
 
-    ghost invariant = { λ s. IsPlainOut s.place (length s.entries.now) (length s.out.bits) };
+    ghost invariant = { λ s. IsPlainOut s.index (length s.entries.now) (length s.out.bits) };
 }
 
 impl<'s> PlainOut<'s> {
@@ -50,7 +50,7 @@ impl<'s> PlainOut<'s> {
     {
         PlainOut {
             entries,
-            place: 0,
+            index: 0,
             out: BitWriter::new(alloc),
         }
     }
@@ -59,7 +59,7 @@ impl<'s> PlainOut<'s> {
     pub fn line(&self) -> u64
         ensures { result ≡ line_at self.now.left }
     {
-        match self.entries.get(self.place) {
+        match self.entries.get(self.index) {
             Some((entry, _)) => entry.line,
             None => 0,
         }
@@ -74,9 +74,9 @@ impl<'s> PlainOut<'s> {
     pub fn end_subset(&mut self) -> Result<(), DraftFault>
         ensures { EndsSubset self.old result self.new }
     {
-        if let Some((entry, _)) = self.entries.get(self.place) {
+        if let Some((entry, _)) = self.entries.get(self.index) {
             if entry.is_end() {
-                self.place += 1;
+                self.index += 1;
                 return Ok(());
             }
         }
@@ -109,15 +109,15 @@ impl<'s> Fields for PlainOut<'s> {
 
     #[inline(always)]
     fn take(&mut self, spec: &Spec) -> Result<Taken, DraftFault> {
-        let (entry, octets) = match self.entries.get(self.place) {
+        let (entry, octets) = match self.entries.get(self.index) {
             Some(found) => found,
             None => return Err(wrong_item(spec, 0)),
         };
-        let drawn = field_content(&entry, octets, spec)?;
-        match push_content(&mut self.out, drawn, spec) {
+        let content = field_content(&entry, octets, spec)?;
+        match push_content(&mut self.out, content, spec) {
             Ok(()) => {
-                self.place += 1;
-                Ok(taken_of(drawn, spec))
+                self.index += 1;
+                Ok(taken_of(content, spec))
             }
             Err(_) => Err(DraftFault::Memory),
         }

@@ -53,7 +53,7 @@ module _ (left mid left' : Option (List ℕ)) (old s s' : ReaderModel) (results 
   goes : ContinuesParse (position_after old (bs ++ bs')) (position_of s') (results ++ results')
   goes =
       rw whole
-      (goes-further (record { at = old.at; place = old.place; held = (old.held ++ bs) ++ bs'; ended = old.ended }) (position_after s bs') (position_of s') results results' (λ e. (two.kept e).0)
+      (goes-further (record { at = old.at; parsing = old.parsing; held = (old.held ++ bs) ++ bs'; ended = old.ended }) (position_after s bs') (position_of s') results results' (λ e. (two.kept e).0)
       (goes-more (position_after old bs) (position_of s) results bs' s.ended one.goes (λ e. (e, (two.kept e).1))) two.goes)
 
   -- the end was not reached before, or nothing more came
@@ -139,8 +139,8 @@ pub takes-call : (left : Option (List ℕ)) (s s' : ReaderModel) (results : List
 takes-call left s s' results h1 h2 h3 = grind (arith, nat_tests, common_steps)
 
 module _ (left left' : Option (List ℕ)) (s s' : ReaderModel) (bs : List ℕ) (read : ReadsMoreText left left' s s' (Ok tt) bs) (open' : s.ended ≡ false) (clean : has_no_feed s.held ≡ true) where
-  same-hold : (h : List ℕ) (t : List ℕ) → parse_lines s.at s.place (lines_of (h ++ t)) ≡ parse_lines s'.at s'.place (lines_of (h ++ t))
-  same-hold h t = ap (λ (k : ℕ). parse_lines k s.place (lines_of (h ++ t))) (sym read.at) ∙ ap (λ (p : Parsing). parse_lines s'.at p (lines_of (h ++ t))) (sym read.place)
+  same-hold : (h : List ℕ) (t : List ℕ) → parse_lines s.at s.parsing (lines_of (h ++ t)) ≡ parse_lines s'.at s'.parsing (lines_of (h ++ t))
+  same-hold h t = ap (λ (k : ℕ). parse_lines k s.parsing (lines_of (h ++ t))) (sym read.at) ∙ ap (λ (p : Parsing). parse_lines s'.at p (lines_of (h ++ t))) (sym read.parsing)
 
   -- the line feed that the last line lacks makes no difference
   held-lines : (t : List ℕ) → (s'.ended ≡ true → t ≡ []) → ((read.feed ≡ []) ⊎ ((s'.ended ≡ true) × (read.feed ≡ 10 ∷ []) × (0 < length s.held)))
@@ -173,11 +173,12 @@ module _ (left left' : Option (List ℕ)) (s s' : ReaderModel) (bs : List ℕ) (
         order = omega (arith, read.fills.ends.0);
         few = omega (arith, read.few, read.fills.ends.0);
         goes = record {
-          whole = λ t none. ap (parse_lines s.at s.place) (held-lines t none read.missing) ∙ ap (λ (z : List ℕ). parse_lines s.at s.place (lines_of (z ++ t))) (sym read.held) ∙ same-hold s'.held t;
+          whole = λ t none. ap (parse_lines s.at s.parsing) (held-lines t none read.missing) ∙ ap (λ (z : List ℕ). parse_lines s.at s.parsing (lines_of (z ++ t))) (sym read.held)
+              ∙ same-hold s'.held t;
           openly = λ unended t.
-              ap (λ (z : List ℕ). parse_open_lines s.at s.place (split_of (z ++ t)).whole (split_of (z ++ t)).rest) (no-feed-open unended read.missing)
-              ∙ ap (λ (k : ℕ). parse_open_lines k s.place (split_of (s'.held ++ t)).whole (split_of (s'.held ++ t)).rest) (sym read.at)
-              ∙ ap (λ (p : Parsing). parse_open_lines s'.at p (split_of (s'.held ++ t)).whole (split_of (s'.held ++ t)).rest) (sym read.place);
+              ap (λ (z : List ℕ). parse_open_lines s.at s.parsing (split_of (z ++ t)).whole (split_of (z ++ t)).rest) (no-feed-open unended read.missing)
+              ∙ ap (λ (k : ℕ). parse_open_lines k s.parsing (split_of (s'.held ++ t)).whole (split_of (s'.held ++ t)).rest) (sym read.at)
+              ∙ ap (λ (p : Parsing). parse_open_lines s'.at p (split_of (s'.held ++ t)).whole (split_of (s'.held ++ t)).rest) (sym read.parsing);
         };
         lines = (read.feed, feed-missing read.missing, subst P read.held (subst A (sym read.at) (passes-none s.at s'.held)));
         kept = λ e. absurd (true≢false (sym e ∙ open'));
@@ -301,7 +302,7 @@ module _ (left mid left' : Option (List ℕ)) (old s s' : ReaderModel) (bs bs' :
     last = bs';
     octets = refl;
     few = few;
-    none = call.goes.openly open' [] ∙ nothing-yet s.at s.place s.held s.ended clean short;
+    none = call.goes.openly open' [] ∙ nothing-yet s.at s.parsing s.held s.ended clean short;
     between = mid;
     mid = s;
     taken = call;
@@ -330,11 +331,11 @@ module _ (left mid left' : Option (List ℕ)) (old s s' : ReaderModel) (bs bs' :
   still-open : (x : ReaderModel) → x.ended ≡ false → x.held ≡ s.held → length s.held ≤ 4096 → HasNoWholeLine x
   still-open x ended held short =
       let clean' = ap has_no_feed held ∙ clean in
-      (ended, nothing-yet x.at x.place x.held x.ended clean' (omega (arith, ap length held, short)), clean')
+      (ended, nothing-yet x.at x.parsing x.held x.ended clean' (omega (arith, ap length held, short)), clean')
 
-  quiet-call : (x : ReaderModel) → bs' ≡ [] → Consumes mid left' bs' → x.at ≡ s.at → x.place ≡ s.place → x.held ≡ s.held → x.ended ≡ false → s.reads ≤ x.reads
+  quiet-call : (x : ReaderModel) → bs' ≡ [] → Consumes mid left' bs' → x.at ≡ s.at → x.parsing ≡ s.parsing → x.held ≡ s.held → x.ended ≡ false → s.reads ≤ x.reads
       → ReadsLines left left' old x [] (bs ++ bs')
-  quiet-call x none read at place held ended order =
+  quiet-call x none read at parsing held ended order =
       call-then left mid left' old s x [] [] bs bs' call (open-call mid left' s x [] bs' none read (grind (arith, nat_tests, common_steps)) open' ended order)
 
   pub fill-fault : (f : ReadFault) → FillsBuffer mid left' s s' (Err f) bs' → ReturnsNextDocument left left' old s' (Err f)
@@ -347,7 +348,7 @@ module _ (left mid left' : Option (List ℕ)) (old s s' : ReaderModel) (bs bs' :
           held = same-held x read.feed none (no-feed x read.feed unended read.missing) read.held
 
           quiet : (f : RunFault) → s.reads ≤ x.reads → ReadsLines left left' old (stopped x (Run f)) [] (bs ++ bs')
-          quiet f = quiet-call (stopped x (Run f)) none read.fills.read read.at read.place held unended
+          quiet f = quiet-call (stopped x (Run f)) none read.fills.read read.at read.parsing held unended
 
           keeps : (f : RunFault) → s.reads ≤ x.reads → KeepsUnread old (stopped x (Run f)) (bs ++ bs')
           keeps f order = call-keeps left left' old (stopped x (Run f)) [] (bs ++ bs') (quiet f order)

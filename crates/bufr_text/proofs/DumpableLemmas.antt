@@ -84,14 +84,12 @@ module _ (spec : FieldSpec) (good : IsSpec spec) where
   number_value raw narrow h = let p : 2 ^ spec.width ≤ 2 ^ 63 = pow_mono narrow in (grind (arith, nat_tests, common_steps, p, good.reference), good.scale)
 
   kind_value : (k : Kind) (m : Bool) (c : Content) → HasWidth k spec.width → FitsKind k m spec.width c → IsValue (shown spec c)
-  kind_value kind.Character m (number raw) w h = absurd h
   kind_value kind.Character m (text octets) w h = (octets_are octets h.1, omega (arith, h.0, w.1))
   kind_value kind.Character m missing w h = tt
-  kind_value kind.Character m (reference v) w h = absurd h
+  kind_value kind.Character m c w h = absurd h
   kind_value k m (number raw) w h = number_value raw w.1 (top_below m spec.width raw h)
-  kind_value k m (text octets) w h = absurd h
   kind_value k m missing w h = tt
-  kind_value k m (reference v) w h = absurd h
+  kind_value k m c w h = absurd h
 
   numeric_most : (k : Kind) → HasWidth k spec.width → k ≡ kind.Numeric → spec.width ≤ 63
   numeric_most kind.Character h e = absurd cc

@@ -237,9 +237,7 @@ module _ {D C E : Type 0} (filler : Filler D C E) where
 
       by : (n : Next) → ((t : Taken) → (course []).turns ≤ turns_filled filler (λ results. course (t ∷ results)) ds) → (course []).turns ≤ (pass_at filler course (d ∷ ds) n).turns
       by (take_next spec) h = at_field spec (filler.fills spec d) h
-      by at_end h = omega arith
-      by (refused why) h = omega arith
-      by astray h = omega arith
+      by n h = omega arith
 
   -- where a walk comes to the last turn, its turns are all
   pub last_turns : (course : Course) (items : List TakenField) (ds : List D) (n : Next) (all : ℕ) → all ≡ turns_filled filler (course_after course items) ds → (course (answers_of items)).next ≡ n
@@ -660,14 +658,12 @@ end_is_last end many next mid e = subst (λ n. IsLast (packed_filler end many) n
 
 -- nor is anything taken at a fault
 packed_fault_is_last : (end : ℕ) (many : Bool) (next : Next) (mid : PackedOutModel) (f : DraftFault) → IsFaultHere next mid f → IsLast (packed_filler end many) next (rows_left mid)
-packed_fault_is_last end many (take_next spec) mid f h = by (longest mid.subsets - mid.place)
+packed_fault_is_last end many (take_next spec) mid f h = by (longest mid.subsets - mid.index)
   where
-    by : (k : ℕ) → IsLast (packed_filler end many) (take_next spec) (rows k mid.place mid.subsets)
+    by : (k : ℕ) → IsLast (packed_filler end many) (take_next spec) (rows k mid.index mid.subsets)
     by zero = tt
     by (suc k) = (f, h)
-packed_fault_is_last end many at_end mid f h = tt
-packed_fault_is_last end many (refused r) mid f h = tt
-packed_fault_is_last end many astray mid f h = tt
+packed_fault_is_last end many n mid f h = tt
 
 -- a walk to the end makes all turns
 walk_makes_all : (course : Course) (ss : List Subset) (start : PackedOutModel) (c : ℕ) (mid : PackedOutModel) (c' : ℕ) → start ≡ new_packed_out ss → 1 ≤ length ss → c ≡ 0
@@ -679,7 +675,7 @@ walk_makes_all course ss start c mid c' h1 h2 h3 h4 = grind (arith, nat_tests, c
 -- the data were written
 pub packed_written : (n : ℕ) (course : Course) (ss : List Subset) (start : PackedOutModel) (c : ℕ) (mid : PackedOutModel) (c' : ℕ) (octets : List ℕ) → start ≡ new_packed_out ss → 1 ≤ length ss
     → c ≡ 0 → Walked PackedFills course start c (Ok tt) mid c'
-    → all_at_end (cells_at mid.place mid.subsets) ≡ Ok tt → c' ≤ c + n * (length mid.bits - length start.bits) → AreOctetsOf octets mid.bits → IsData n true course ss octets c'
+    → all_at_end (cells_at mid.index mid.subsets) ≡ Ok tt → c' ≤ c + n * (length mid.bits - length start.bits) → AreOctetsOf octets mid.bits → IsData n true course ss octets c'
 packed_written n course ss start c mid c' octets at some z w e few o =
     let h = subst (λ x. Takes (oks PackedFills) course x w.0 mid) at w.1 in
     record {
@@ -693,7 +689,7 @@ packed_written n course ss start c mid c' octets at some z w e few o =
 -- an item is left over
 pub packed_over : (n : ℕ) (course : Course) (ss : List Subset) (start : PackedOutModel) (c : ℕ) (mid : PackedOutModel) (c' : ℕ) (e : DraftFault) (why : DocumentFault) → start ≡ new_packed_out ss
     → 1 ≤ length ss → c ≡ 0 → Walked PackedFills course start c (Ok tt) mid c'
-    → all_at_end (cells_at mid.place mid.subsets) ≡ Err e → why ≡ document_fault e
+    → all_at_end (cells_at mid.index mid.subsets) ≡ Err e → why ≡ document_fault e
     → c' ≤ c + n * (length mid.bits - length start.bits) → IsNoData n true course ss why c'
 packed_over n course ss start c mid c' e why at some z w fault results few =
     let h = subst (λ x. Takes (oks PackedFills) course x w.0 mid) at w.1 in
@@ -706,7 +702,7 @@ packed_over n course ss start c mid c' e why at some z w fault results few =
 
 -- what stopped a walk is the fault where it is, and leaves it there
 reported_here : (line : ℕ) (next : Next) (mid : PackedOutModel) (stop : WalkStop DraftFault) (s' : PackedOutModel) → StopsWalk PackedFills next mid stop s'
-    → line ≡ first_line_at s'.place s'.subsets → IfDraftFault (stop_fault line stop) (IsFaultHere next mid)
+    → line ≡ first_line_at s'.index s'.subsets → IfDraftFault (stop_fault line stop) (IsFaultHere next mid)
 reported_here line next mid stop s' h1 h2 = grind (arith, nat_tests, common_steps)
 
 packed_still : (next : Next) (mid : PackedOutModel) (stop : WalkStop DraftFault) (s' : PackedOutModel) → StopsWalk PackedFills next mid stop s' → s' ≡ mid
@@ -715,7 +711,7 @@ packed_still next mid stop s' h1 = grind (arith, nat_tests, common_steps)
 -- the walk stopped
 pub packed_stopped : (n : ℕ) (course : Course) (ss : List Subset) (start : PackedOutModel) (c : ℕ) (s' : PackedOutModel) (c' line : ℕ) (stop : WalkStop DraftFault) (why : DocumentFault)
     → AddsTurns course → start ≡ new_packed_out ss → 1 ≤ length ss → c ≡ 0 → Walked PackedFills course start c (Err stop) s' c'
-    → line ≡ first_line_at s'.place s'.subsets → why ≡ document_fault (stop_fault line stop) → c' ≤ c + n * (length s'.bits - length start.bits + 1)
+    → line ≡ first_line_at s'.index s'.subsets → why ≡ document_fault (stop_fault line stop) → c' ≤ c + n * (length s'.bits - length start.bits + 1)
     → IsNoData n true course ss why c'
 packed_stopped n course ss start c s' c' line stop why g at some z w l results few =
     let h = subst (λ x. Takes (oks PackedFills) course x w.0 w.1) at w.2 in

@@ -1,25 +1,22 @@
 -- The document of an accepted message is encoded in a form; a canonical one to the same octets.
-use Rattle.std.proofs.Common.{◌≡◌, ℕ, zero, suc, ◌+◌, ◌≤◌, Bool, true, false, List, [], ◌∷◌, ◌++◌, length, take, drop, map, Result, Ok, Err, refl, sym, ◌∙◌, ap, subst, arith, append_assoc, ◌⊎◌, inl, inr, ◌*◌, ◌/◌, nat_lt, if◌then◌else◌, flat_map, Vec, IfOk, IfErr}
+use Rattle.std.proofs.Common.{◌≡◌, ℕ, ◌+◌, ◌≤◌, Bool, true, false, List, [], ◌∷◌, ◌++◌, length, take, drop, map, Result, Ok, Err, refl, sym, ◌∙◌, ap, subst, arith, append_assoc, ◌⊎◌, inl, inr, ◌*◌, ◌/◌, nat_lt, if◌then◌else◌, flat_map, Vec, IfOk, IfErr}
 use Rattle.std.proofs.lemmas.Bool.Decides.{nat_tests}
 use Rattle.std.proofs.lemmas.List.{take-append-drop}
 use Rattle.bufr_bits.specs.Prelude.{bits_of, padding}
 use Rattle.bufr_tables.specs.Prelude.{Row, AreRows, Sequence, Tree, IsLegal, tables_of, Record}
-use Rattle.bufr_walk.specs.Prelude.{FieldSpec, IsSpec, Content, content_in, bits_for, FieldFault, found, plain_field, Course, next_item, Item, plain, packed, ReadsItems, ReadsPass, ReadsSubsets, IsPackedReading, after, apart, together, Values, IsReading, max_values, IsPlainReading, data_of, View, subsets_from, each_subset}
-use Rattle.bufr_fill.specs.Prelude.{IsMinusZero, content_of, plain_filler, plainly, written_item, Filler, fill, plain_data, ◌>>=◌, ItemRow, RowCell, rows, longest, are_many, packed_filler, packed_data, pack_across, packed_to, contents_here, first_line, packing, at_line, too_many_values, Subset, subsets_of, Draft, DraftEntry, AreDrafts, AreDumped, IsDumped, IsUnlike, IsTogetherOrNot}
+use Rattle.bufr_walk.specs.Prelude.{FieldSpec, IsSpec, Content, content_in, bits_for, found, plain_field, Course, next_item, Item, plain, ReadsItems, ReadsSubsets, IsPackedReading, after, apart, together, Values, IsReading, max_values, IsPlainReading, data_of, View, subsets_from, each_subset}
+use Rattle.bufr_fill.specs.Prelude.{IsMinusZero, rows, at_line, subsets_of, DraftEntry, IsUnlike, IsTogetherOrNot}
 use Rattle.bufr_fill.specs.declared.fault.ItemFault.{ItemFault}
-use Rattle.bufr_fill.proofs.FillSteps.{fill_end, plain_both}
-use Rattle.bufr_fill.proofs.PlainLaws.{AllSpecs, EachSpecs, draft_again, plain_read, same_draft, same_bits, IsDumpedAcross, HaveContents, join}
+use Rattle.bufr_fill.proofs.PlainLaws.{AllSpecs, EachSpecs, same_bits, item_bits}
 use Rattle.bufr_frame.specs.Prelude.{with_even_length, message_octets, message_size, max_octets, MessageParts, parts_of, sections_from, Sections, sections_of}
 use Rattle.bufr_frame.proofs.AgainLemmas.{not-too-long, written-again, fitting-writable}
 use Rattle.bufr_frame.proofs.LayoutLemmas.{even-least, written-even, length-evened, evened-bits, read-back}
 use Rattle.bufr_walk.proofs.NextField.{AreRead, table_read, next_field}
-use Rattle.bufr_fill.proofs.WholeLaws.{rows_dumped, template_apart, template_together, plain_template_again, packed_template_again}
-use Rattle.bufr_fill.proofs.GoodReads.{plain_specs, packed_specs}
-use Rattle.bufr_fill.proofs.PackedLaws.{packed_count}
-use Rattle.bufr_fill.proofs.FormLaws.{packed_rewritten}
+use Rattle.bufr_fill.proofs.WholeLaws.{packed_rows, reads_specs, template_apart, template_together, plain_template_again, packed_template_again}
+use Rattle.bufr_fill.proofs.GoodReads.{plain_specs}
+use Rattle.bufr_fill.proofs.FormLaws.{all_followed, plain_subsets, subsets_said, subset_bits, bits_or_none, row_bits, follow_reading}
 use Rattle.bufr_text.specs.Prelude.{subset_entries, document_of, lines_before, items_shown, IsAccepted, dump_items, HaveNoMinusZero, ArePacked, AreWritten, IsCanonical, IsEncodedAgain, HasReadingIn, IsForForm, IsFormed, IsFaultIn, EncodesForm, EncodesAgain, HasSameReading, data_bits, octets_of_bits, encoding_of, report_of_items, parts_as, compressed_as, message_of, encoding_in, IsDocumentRefusal, compressed_by, form_of_flag, compressed_in, Document, DocumentFault, Form}
 use Rattle.bufr_text.proofs.DumpableLemmas.{octets_are, sections_given}
-use Rattle.bufr_text.proofs.PushLemmas.{memory_alone}
 use Rattle.bufr_text.proofs.RoundTripLemmas.{all_apart, encoded_to, parts_back, parts_with, size_least, fills_as, bit_back, section2_back, padded, payload_bits, size_is, enough, suffix, encoded_again, as_written, data_refused, octets_small, framed, parts_of_document}
 use Rattle.std.specs.Global.{Global}
 use Rattle.bufr_bits.proofs.BitLemmas.{length-bits_of}
@@ -50,30 +47,13 @@ field_bits spec h1 bits mid c h2 h3 = grind (arith, nat_tests, common_steps, tak
 
 -- ---- the items of one subset
 
--- drafts are written to the bits that come before the rest
-record AreFilled {C D E : Type 0} (filler : Filler D C E) (course : Course) (ds : List D) (bits suffix : List Bool) : Type 0 where
-  out : List Bool
-  fills : fill filler course ds ≡ Ok out
-  splits : bits ≡ out ++ suffix
-
-items_filled : (line : ℕ) (course : Course) (items : List (Item Content)) (ds : List Draft) (bits suffix : List Bool) → AllSpecs items → AreDrafts IsDumped items ds
-    → ReadsPass plain course items bits suffix → HaveNoMinusZero items bits → AreFilled (plain_filler line) course ds bits suffix
-items_filled line course [] [] bits suffix specs drafts h plus = record { out = []; fills = fill_end (plain_filler line) course h.1; splits = h.0 }
-items_filled line course [] (d ∷ ds) bits suffix specs drafts h plus = absurd drafts
-items_filled line course (i ∷ items) [] bits suffix specs drafts h plus = absurd drafts
-items_filled line course (i ∷ items) (d ∷ ds) bits suffix specs drafts h plus =
-    let mid = h.0.0 in
-    let t = field_taken i.spec bits mid i.content h.0.2 in
-    let w = bits_for i.spec.width i.content in
-    let fits = (plain_read i.spec specs.0 bits mid i.content h.0.2).0 in
-    let here : (plain_filler line).fills i.spec d ≡ Ok (written_item i.content w) =
-    ap (plainly d.line i.spec) (ap (content_of i.spec) (same_draft i.spec i.content d drafts.0) ∙ draft_again i.spec specs.0 d.line i.content fits) in
-    let rest = items_filled line (after plain course i) items ds mid suffix specs.1 drafts.1 (h.0.3, h.1) (subst (HaveNoMinusZero items) t.suffix plus.1) in
-    record {
-      out = w ++ rest.out;
-      fills = join plain (plain_filler line) (λ spec c. refl) course i d ds w rest.out h.0.1 here rest.fills;
-      splits = field_bits i.spec specs.0 bits mid i.content t plus.0 ∙ ap (λ x. w ++ x) rest.splits ∙ sym (append_assoc w rest.out suffix);
-    }
+items_split : (course : Course) (items : List (Item Content)) (bits suffix : List Bool) → AllSpecs items → ReadsItems plain course items bits suffix → HaveNoMinusZero items bits
+    → bits ≡ flat_map item_bits items ++ suffix
+items_split course [] bits suffix specs h plus = h
+items_split course (i ∷ items) bits suffix specs h plus =
+    let t = field_taken i.spec bits h.0 i.content h.2 in
+    let rest = items_split (after plain course i) items h.0 suffix specs.1 h.3 (subst (HaveNoMinusZero items) t.suffix plus.1) in
+    field_bits i.spec specs.0 bits h.0 i.content t plus.0 ∙ ap (λ x. item_bits i ++ x) rest ∙ sym (append_assoc (item_bits i) (flat_map item_bits items) suffix)
 
 -- ---- subsets
 
@@ -84,97 +64,58 @@ first_zeros course (i ∷ a) b bits mid h plus =
     let rest = first_zeros (after plain course i) a b h.0 mid h.3 (subst (HaveNoMinusZero (a ++ b)) t.suffix plus.1) in
     ((plus.0, subst (HaveNoMinusZero a) (sym t.suffix) rest.0), rest.1)
 
-record AreAllFilled (r : Result (List Bool) DraftFault) (bits suffix : List Bool) : Type 0 where
+subsets_split : (course : Course) (subsets : List (List (Item Content))) (bits suffix : List Bool) → EachSpecs subsets → ReadsSubsets course subsets bits suffix
+    → HaveNoMinusZero (flat_map (λ x. x) subsets) bits → bits ≡ subset_bits subsets ++ suffix
+subsets_split course [] bits suffix specs h plus = h
+subsets_split course (items ∷ subsets) bits suffix specs h plus =
+    let zeros = first_zeros course items (flat_map (λ x. x) subsets) bits h.0 h.1.0 plus in
+    items_split course items bits h.0 specs.0 h.1.0 zeros.0
+    ∙ ap (λ x. flat_map item_bits items ++ x) (subsets_split course subsets h.0 suffix specs.1 h.2 zeros.1)
+    ∙ sym (append_assoc (flat_map item_bits items) (subset_bits subsets) suffix)
+
+-- ---- compressed data
+
+rows_split : (items : List (Item (List Content))) (bits suffix : List Bool) → ArePacked items bits suffix → bits ≡ flat_map row_bits items ++ suffix
+rows_split [] bits suffix c = c
+rows_split (i ∷ items) bits suffix c =
+    c.3 ∙ ap (λ w. w ++ c.1) (sym (ap bits_or_none c.2)) ∙ ap (λ x. row_bits i ++ x) (rows_split items c.1 suffix c.4) ∙ sym (append_assoc (row_bits i) (flat_map row_bits items) suffix)
+
+-- ---- the message
+
+-- the data are written to the bits that come before the rest
+record AreFilled (r : Result (List Bool) DraftFault) (bits suffix : List Bool) : Type 0 where
   out : List Bool
   fills : r ≡ Ok out
   splits : bits ≡ out ++ suffix
 
-subsets_filled : (course : Course) (subsets : List (List (Item Content))) (drafts : List Subset) (bits suffix : List Bool) → EachSpecs subsets → AreDumped subsets drafts
-    → ReadsSubsets course subsets bits suffix → HaveNoMinusZero (flat_map (λ x. x) subsets) bits → AreAllFilled (plain_data course drafts) bits suffix
-subsets_filled course [] [] bits suffix specs dumped h plus = record { out = []; fills = refl; splits = h }
-subsets_filled course [] (s ∷ ss) bits suffix specs dumped h plus = absurd dumped
-subsets_filled course (items ∷ subsets) [] bits suffix specs dumped h plus = absurd dumped
-subsets_filled course (items ∷ subsets) (s ∷ ss) bits suffix specs dumped h plus =
-    let mid = h.0 in
-    let zeros = first_zeros course items (flat_map (λ x. x) subsets) bits mid h.1.0 plus in
-    let first = items_filled s.end_line course items s.items bits mid specs.0 dumped.0 h.1 zeros.0 in
-    let rest = subsets_filled course subsets ss mid suffix specs.1 dumped.1 h.2 zeros.1 in
-    record {
-      out = first.out ++ rest.out;
-      fills = plain_both course s ss first.out rest.out first.fills rest.fills;
-      splits = first.splits ∙ ap (λ x. first.out ++ x) rest.splits ∙ sym (append_assoc first.out rest.out suffix);
-    }
-
--- ---- compressed data
-
--- what is packed is the packing of its contents
-packs_as : (spec : FieldSpec) (cs : List Content) (cells : List RowCell) (xs : List Content) (out : List Bool) (p : Result (List Bool) FieldFault) → packing spec xs ≡ p
-    → packed_to xs cells p ≡ Ok (written_item cs out) → packing spec cs ≡ Ok out
-packs_as spec cs cells xs out p h1 h2 = grind (arith, nat_tests, common_steps)
-
-packed_as : (spec : FieldSpec) (cs : List Content) (a : ItemRow) (out : List Bool) → pack_across spec a ≡ Ok (written_item cs out) → packing spec cs ≡ Ok out
-packed_as spec cs a out e = by (are_many a.place (length a.cells)) (contents_here spec a.cells) e
-  where
-    by : (b : Bool) (r : Result (List Content) DraftFault) → (if b then Err (at_line (first_line a.cells) (too_many_values spec.fxy)) else (r >>= λ xs. packed_to xs a.cells (packing spec xs)))
-        ≡ Ok (written_item cs out) → packing spec cs ≡ Ok out
-    by true r q = absurd cc
-    by false (Err why) q = absurd cc
-    by false (Ok xs) q = packs_as spec cs a.cells xs out (packing spec xs) refl q
-
-packed_filled : (n line : ℕ) (many : Bool) → 1 ≤ n → (course : Course) (items : List (Item (List Content))) (ds : List ItemRow) (bits suffix read left : List Bool) → AllSpecs items
-    → AreDrafts (IsDumpedAcross n) items ds
-    → ReadsPass (packed n) course items read left → ArePacked items bits suffix → AreFilled (packed_filler line many) course ds bits suffix
-packed_filled n line many some course [] [] bits suffix read left specs drafts h c = record { out = []; fills = fill_end (packed_filler line many) course h.1; splits = c }
-packed_filled n line many some course [] (d ∷ ds) bits suffix read left specs drafts h c = absurd drafts
-packed_filled n line many some course (i ∷ items) [] bits suffix read left specs drafts h c = absurd drafts
-packed_filled n line many some course (i ∷ items) (d ∷ ds) bits suffix read left specs drafts h c =
-    let r = packed_rewritten n line many some i d read h.0.0 specs.0 drafts.0 h.0.2 in
-    let same : c.0 ≡ r.out = let is = sym c.2 ∙ packed_as i.spec i.content d r.out r.fills in cc in
-    let here : (packed_filler line many).fills i.spec d ≡ Ok (written_item i.content c.0) = r.fills ∙ ap (λ x. Ok (written_item i.content x)) (sym same) in
-    let rest = packed_filled n line many some (after (packed n) course i) items ds c.1 suffix h.0.0 left specs.1 drafts.1 (h.0.3, h.1) c.4 in
-    record {
-      out = c.0 ++ rest.out;
-      fills = join (packed n) (packed_filler line many) (λ spec x. refl) course i d ds c.0 rest.out h.0.1 here rest.fills;
-      splits = c.3 ∙ ap (λ x. c.0 ++ x) rest.splits ∙ sym (append_assoc c.0 rest.out suffix);
-    }
-
-have_contents : (n : ℕ) (course : Course) (items : List (Item (List Content))) (bits suffix : List Bool) → AllSpecs items → ReadsItems (packed n) course items bits suffix → HaveContents n items
-have_contents n course [] bits suffix specs h = tt
-have_contents n course (i ∷ items) bits suffix specs h = (packed_count n i.spec specs.0 i.content bits h.0 h.2, have_contents n (after (packed n) course i) items h.0 suffix specs.1 h.3)
-
-all_packed : (n : ℕ) (course : Course) (items : List (Item (List Content))) (drafts : List Subset) (bits suffix : List Bool)
-    → ((n : ℕ) → ReadsItems (packed n) course items bits suffix → AllSpecs items) → AreDumped (subsets_from n 0 items) drafts → IsPackedReading n course items bits suffix → ArePacked items bits suffix
-    → AreAllFilled (packed_data course drafts) bits suffix
-all_packed zero course items [] bits suffix specs dumped h c = record { out = []; fills = refl; splits = h.1 }
-all_packed zero course items (s ∷ ss) bits suffix specs dumped h c = absurd dumped
-all_packed (suc n) course items [] bits suffix specs dumped h c = absurd dumped
-all_packed (suc n) course items (s ∷ ss) bits suffix specs dumped h c =
-    let good = specs (suc n) h.0.0 in
-    let rows_are = rows_dumped (suc n) items s ss (have_contents (suc n) course items bits suffix good h.0.0) dumped h.1 in
-    let many = are_many (longest (s ∷ ss)) (length (s ∷ ss)) in
-    let f = packed_filled (suc n) s.end_line many (omega arith) course items (rows (longest (s ∷ ss)) 0 (s ∷ ss)) bits suffix bits suffix good rows_are h.0 c in
-    record { out = f.out; fills = f.fills; splits = f.splits }
-
--- ---- the message
-
 data_filled : (table : List Row) (template : Tree) (s : Sections) (values : Values) (used at : ℕ) → AreRead table → IsLegal template
     → IsReading (next_item table template) (data_of s) values used → AreWritten values (bits_of s.payload) (drop used (bits_of s.payload))
-    → AreAllFilled (data_bits s.compressed (next_item table template) (subsets_of (subset_entries at (dump_items table s.subsets values)))) (bits_of s.payload) (drop used (bits_of s.payload))
+    → AreFilled (data_bits s.compressed (next_item table template) (subsets_of (subset_entries at (dump_items table s.subsets values)))) (bits_of s.payload) (drop used (bits_of s.payload))
 data_filled table template s (apart subsets) used at rows legal read writes =
     let course = next_item table template in
     let bits = bits_of s.payload in
     let drafts = subsets_of (subset_entries at (map (items_shown table) subsets)) in
-    let f = subsets_filled course subsets drafts bits (drop used bits) (plain_specs course subsets bits (drop used bits) (next_field table template rows legal) read.2.0) (all_apart table at subsets)
-    read.2.0 writes in
-    record { out = f.out; fills = fills_as s.compressed false course drafts f.out read.0 f.fills; splits = f.splits }
+    let specs = plain_specs course subsets bits (drop used bits) (next_field table template rows legal) read.2.0 in
+    let follow = (all_followed course subsets bits (drop used bits) specs read.2.0).follow in
+    let w = plain_subsets course subsets drafts follow (subsets_said course subsets drafts follow (all_apart table at subsets)) in
+    record {
+      out = subset_bits subsets;
+      fills = fills_as s.compressed false course drafts (subset_bits subsets) read.0 w.is;
+      splits = subsets_split course subsets bits (drop used bits) specs read.2.0 writes;
+    }
 data_filled table template s (together items) used at rows legal read writes =
     let course = next_item table template in
     let bits = bits_of s.payload in
-    let drafts = subsets_of (subset_entries at (map (items_shown table) (subsets_from s.subsets 0 items))) in
-    let dumped = all_apart table at (subsets_from s.subsets 0 items) in
-    let f = all_packed s.subsets course items drafts bits (drop used bits) (λ n r. packed_specs n course items bits (drop used bits) (next_field table template rows legal) r) dumped read.2
-    writes in
-    record { out = f.out; fills = fills_as s.compressed true course drafts f.out read.0 f.fills; splits = f.splits }
+    let subsets = subsets_from s.subsets 0 items in
+    let drafts = subsets_of (subset_entries at (map (items_shown table) subsets)) in
+    let specs = reads_specs s.subsets table template items bits (drop used bits) rows legal read.2 in
+    let said = subsets_said course subsets drafts (follow_reading s.subsets course items bits (drop used bits) specs read.2) (all_apart table at subsets) in
+    let w = packed_rows s.subsets course items drafts bits (drop used bits) specs said read.2 in
+    record {
+      out = flat_map row_bits items;
+      fills = fills_as s.compressed true course drafts (flat_map row_bits items) read.0 w.is;
+      splits = rows_split items bits (drop used bits) writes;
+    }
 
 within_data : (table : List Row) (template : Tree) (s : Sections) (values : Values) (used : ℕ) → IsReading (next_item table template) (data_of s) values used → used ≤ length (bits_of s.payload)
 within_data table template s (apart subsets) used h = h.1
@@ -417,6 +358,11 @@ pub form_so : (form : Form) (table : List Row) (s : Sections) (template : Tree) 
     → IsFormed form table s template values defined → EncodesForm form table s template values r
 form_so form table s template values defined (Ok octets) ok err h = subst (IsFormed form table s template values) ok h
 form_so form table s template values defined (Err why) ok err h = answered form table s template values defined why h err
+
+-- what is encoded is refused for nothing else
+pub memory_alone : (why : DocumentFault) (defined : Result (List ℕ) DocumentFault) (octets : List ℕ) → defined ≡ Ok octets → IsDocumentRefusal why defined → why ≡ fault.Memory
+memory_alone why defined octets is (inl out) = out
+memory_alone why defined octets is (inr refused) = let both : ◌≡◌ {A = Result (List ℕ) DocumentFault} (Ok octets) (Err why) = sym is ∙ refused in cc
 
 pub again_so : (table : List Row) (sequences : List Sequence) (m : List ℕ) (s : Sections) (template : Tree) (values : Values) (d : Document) (r : Result (Vec ℕ Global) DocumentFault)
     → IfOk r (λ octets. encoding_of table sequences d ≡ Ok octets.items) → IfErr r (λ why. IsDocumentRefusal why (encoding_of table sequences d))

@@ -2,7 +2,7 @@
 use Rattle.std.proofs.Common.{◌≡◌, ℕ, ◌+◌, List, [], ◌∷◌, ◌++◌, length, refl, ap, ◌∙◌, subst, sym, arith, zero, suc, ◌-◌, ◌*◌, ◌<◌, ◌≤◌, ◌==◌, nat_le, nat_lt, Bool, true, false, Option, Some, None, codes, if◌then◌else◌, length-append, cond, map, take, drop, get_or, ◌&&◌, not, IfSome, slice_index, option_map, position}
 use Rattle.std.specs.List.{AllByRecursion, position_from}
 use Rattle.bufr_fill.specs.Prelude.{Draft, DraftEntry, Holds, Ends, Subset, prepend_to_subset, subsets_of, DraftValue, number_token, text_form, missing_form, reference_token, draft, HasOctets, AllHaveOctets, AreOctets}
-use Rattle.bufr_text.specs.Prelude.{Document, read_line, edition_in, subsets_in, Between, Heading, BeforeSubsets, Filling, Stopped, LineEffect, Parsing, Turn, IsTurn, in_range, heading, before_subsets, filling, beginning, closing, with_entry, turn, are_in_range, head_from_values, IsHeaded, IsOctet, IsDescriptorWord, AreEnded, IsBare, HasLineGroups, EntryHasOctets, HasSubsets, IsParsing, without_space, upper_value, either_value, pair_value, onto_read, hex_read, fxy_read, descriptors_read, number_read, QuotedToken, Octet, quoting_of, quoted_on, quoted_read, is_number_octet, is_passed_after, prefix_while, suffix_while, Line, Passed, Opens, Header, Local1, Section2, Descriptors, Begins, Item, Closes, Wrong, keys, place_from, made, with_one_to, item_if_comment, number_value, value_read, valued, item_line, worded, line_of, leasts, mosts, is_named, lead_of, key_at}
+use Rattle.bufr_text.specs.Prelude.{Document, read_line, edition_in, subsets_in, Between, Heading, BeforeSubsets, Filling, Stopped, LineEffect, Parsing, Turn, IsTurn, in_range, heading, before_subsets, filling, beginning, closing, with_entry, turn, are_in_range, head_from_values, IsHeaded, IsOctet, IsDescriptorWord, AreEnded, IsBare, HasLineGroups, EntryHasOctets, HasSubsets, IsParsing, without_space, upper_value, either_value, pair_value, onto_read, hex_read, fxy_read, descriptors_read, number_read, QuotedToken, Octet, quoting_of, quoted_on, quoted_read, is_number_octet, is_passed_after, prefix_while, suffix_while, Line, Passed, Opens, Header, Local1, Section2, Descriptors, Begins, Item, Closes, Wrong, keys, index_from, made, with_one_to, item_if_comment, number_value, value_read, valued, item_line, worded, line_of, leasts, mosts, is_named, lead_of, key_at}
 use Rattle.bufr_text.specs.declared.document.LineGroup.{LineGroup}
 use Rattle.bufr_text.specs.declared.document.LineGroup.TheVariants as group
 use Rattle.std.specs.Str.{bytes_eq}
@@ -192,8 +192,8 @@ worded-sound word rest =
     (if-line (bytes_eq word (codes "subset")) _ _ (made-always (λ text. made Begins (number_read text)) (without_space rest) (λ text. made-always Begins (number_read text) (λ n. tt)))
     (if-line (bytes_eq word (codes "R")) _ _ (made-always (item_line (number_value reference_token)) (without_space rest) (λ text. item-line-sound (number_value reference_token) text reference-sound))
     (if-line (bytes_eq word (codes "end")) _ _ (if-line (length rest == 0) Closes Wrong tt tt)
-    (made-always (λ place. made (λ text. made (Header place) (number_read text)) (without_space rest)) (place_from 0 word keys) (λ place.
-    made-always (λ text. made (Header place) (number_read text)) (without_space rest) (λ text. made-always (Header place) (number_read text) (λ n. tt))))))))))
+    (made-always (λ index. made (λ text. made (Header index) (number_read text)) (without_space rest)) (index_from 0 word keys) (λ index.
+    made-always (λ text. made (Header index) (number_read text)) (without_space rest) (λ text. made-always (Header index) (number_read text) (λ n. tt))))))))))
 
 line-sound : (line : List ℕ) → IsSound (line_of line)
 unfolding line_of
@@ -314,8 +314,8 @@ ranges-again (x ∷ xs) v h g =
     let same : length (x ∷ xs) ≡ 0 + length (x ∷ xs) = omega arith in
     ranges-more x 0 (x ∷ xs) v h (ap (λ (n : ℕ). in_range x n v) (sym same) ∙ g)
 
-pub later : (at : ℕ) (place : Parsing) → IsParsing at place → IsParsing (at + 1) place
-later at place h1 = grind (arith, nat_tests, common_steps)
+pub later : (at : ℕ) (parsing : Parsing) → IsParsing at parsing → IsParsing (at + 1) parsing
+later at parsing h1 = grind (arith, nat_tests, common_steps)
 
 if-so : (at : ℕ) (b : Bool) (x y : Turn) → (b ≡ true → IsTurn at x) → (b ≡ false → IsTurn at y) → IsTurn at (if b then x else y)
 if-so at true x y p q = p refl
@@ -404,7 +404,7 @@ filling-so at subset d Closes sound h lines few written (ended, is, has) =
 filling-so at subset d line sound h lines few written has = tt
 
 -- what holds before a line holds after it
-pub turn-holds : (at : ℕ) (place : Parsing) (line : Line) → 0 < at → IsSound line → IsParsing at place → IsTurn (at + 1) (turn at place line)
+pub turn-holds : (at : ℕ) (parsing : Parsing) (line : Line) → 0 < at → IsSound line → IsParsing at parsing → IsTurn (at + 1) (turn at parsing line)
 unfolding turn
 turn-holds at (Between, d) Passed some sound s = s
 turn-holds at (Between, d) Opens some sound s = (omega arith, refl, omega arith, record { local1 = refl; section2 = refl; descriptors = refl; entries = refl })
@@ -415,7 +415,7 @@ turn-holds at (BeforeSubsets part, d) line some sound s = before_subsets-so at p
 turn-holds at (Filling subset, d) Passed some sound s = later at (Filling subset, d) s
 turn-holds at (Filling subset, d) line some sound s = filling-so at subset d line sound s.0 s.1 s.2 s.3 s.4
 turn-holds at (Stopped, d) line some sound s = absurd s
-turn-holds at place line some sound s = tt
+turn-holds at parsing line some sound s = tt
 
 -- ---- The table of the keys of the header, beside its definition.
 
@@ -423,10 +423,10 @@ turn-holds at place line some sound s = tt
 named : (key : List ℕ) (name : List ℕ) → is_named (lead_of key) name ≡ bytes_eq name key
 named key name = grind (arith, nat_tests, common_steps)
 
--- the place of a key is that of what is before its value
+-- the index of a key is that of what is before its value
 module _ {Row : Type 0} (lead : Row → List ℕ) (name : List ℕ) where
-  places : (at : ℕ) (rows : List Row) (ks : List (List ℕ)) → map lead rows ≡ map lead_of ks → position_from (λ row. is_named (lead row) name) at rows ≡ place_from at name ks
-  unfolding place_from
+  places : (at : ℕ) (rows : List Row) (ks : List (List ℕ)) → map lead rows ≡ map lead_of ks → position_from (λ row. is_named (lead row) name) at rows ≡ index_from at name ks
+  unfolding index_from
   places at [] [] same = refl
   places at [] (k ∷ ks) same = cc
   places at (row ∷ rows) [] same = cc
@@ -437,8 +437,8 @@ module _ {Row : Type 0} (lead : Row → List ℕ) (name : List ℕ) where
       ap (λ (b : Bool). cond b (Some at) rest) (ap (λ (l : List ℕ). is_named l name) here ∙ named k name)
       ∙ ap (λ (o : Option ℕ). cond (bytes_eq name k) (Some at) o) (places (at + 1) rows ks there)
 
-  pub place-is : (rows : List Row) → map lead rows ≡ map lead_of keys → position (λ row. is_named (lead row) name) rows ≡ place_from 0 name keys
-  place-is rows same = position_from-zero (λ row. is_named (lead row) name) rows ∙ places 0 rows keys same
+  pub key_index-is : (rows : List Row) → map lead rows ≡ map lead_of keys → position (λ row. is_named (lead row) name) rows ≡ index_from 0 name keys
+  key_index-is rows same = position_from-zero (λ row. is_named (lead row) name) rows ∙ places 0 rows keys same
 
 -- what is before a value has the key's name and a space after its first octet
 module _ {Row : Type 0} (lead : Row → List ℕ) where

@@ -10,8 +10,10 @@ mod EncodingExamples
 mod Examples
 pub mod HeaderLemmas
 pub mod LawLemmas
+pub mod DumpTextLemmas
 mod NormalExamples
 pub mod NormalLemmas
 pub mod PushLemmas
+pub mod NumberLemmas
 pub mod ReaderLemmas
 pub mod EncodeLemmas

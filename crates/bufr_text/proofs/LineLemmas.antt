@@ -7,7 +7,7 @@ use Rattle.bufr_tables.specs.Prelude.{fxy_of, fxy_text, f_of, x_of, y_of, f_in, 
 use Rattle.std.specs.Fmt.{decimal}
 use Rattle.std.proofs.lemmas.Fmt.{decimal_is_IsNumeral_wide, length-decimal-le_wide}
 use Rattle.bufr_bits.proofs.DecimalLemmas.{own, and_first, and_second, all_digits-take, all_digits-drop, zeros_digits}
-use Rattle.bufr_text.specs.Prelude.{prefix_while, suffix_while, hex_digit, upper_value, either_value, pair_value, hex_pair, hex_text, hex_read, fxy_read, descriptors_text, descriptors_read, number_read, is_unescaped, escaped, quoted, octet_onto, quoted_read, is_number_octet, without_prefix, is_hashed, is_passed_after, runs_after, IsOctet, IsDescriptorWord, local1_line, section2_line, descriptors_line, subset_line, comment_text, dump_value_of, form_text, item_text, IsValue, IsComment, IsItem, text_of_lines, Opens, Header, Local1, Section2, Descriptors, Begins, Item, Closes, key_at, keys, made, place_from, number_value, value_read, worded, line_of, Line, lines_of}
+use Rattle.bufr_text.specs.Prelude.{prefix_while, suffix_while, hex_digit, upper_value, either_value, pair_value, hex_pair, hex_text, hex_read, fxy_read, descriptors_text, descriptors_read, number_read, is_unescaped, escaped, quoted, octet_onto, quoted_read, is_number_octet, without_prefix, is_hashed, is_passed_after, runs_after, IsOctet, IsDescriptorWord, local1_line, section2_line, descriptors_line, subset_line, comment_text, dump_value_of, form_text, item_text, IsValue, IsComment, IsItem, text_of_lines, Opens, Header, Local1, Section2, Descriptors, Begins, Item, Closes, key_at, keys, made, index_from, number_value, value_read, worded, line_of, Line, lines_of}
 use Rattle.std.proofs.lemmas.List.{length-replicate, take-append-drop}
 use Rattle.std.proofs.lemmas.List.Folds.{list_all-append}
 use Rattle.bufr_bits.specs.Prelude.{decimal_text_of, unsigned_text, pointed}
@@ -235,7 +235,7 @@ end-says = refl
 
 -- header lines
 pub key-says : (k : ℕ) (rest : List ℕ) → k < 20 → line_of (key_at k ++ 32 ∷ rest) ≡ made (Header k) (number_read rest)
-unfolding line_of worded prefix_while suffix_while without_prefix place_from keys
+unfolding line_of worded prefix_while suffix_while without_prefix index_from keys
 key-says k rest h1 = grind (arith, nat_tests, common_steps)
 
 suffix_is : (word text rest : List ℕ) → without_prefix word text ≡ Some rest → text ≡ word ++ rest

@@ -22,11 +22,11 @@ use Rattle.bufr_text.proofs.FormLemmas.{plain_reading, packed_reading}
 use Rattle.bufr_text.proofs.HeaderLemmas.{headed-fits, subsets-few, header-widest}
 use Rattle.bufr_frame.specs.declared.section1.Head.{Head}
 use Rattle.bufr_fill.proofs.PlainLaws.{normal_dumped, said_fxy}
-use Rattle.bufr_fill.proofs.FormLaws.{Follows, AllFollow, subset_count}
-use Rattle.bufr_fill.proofs.WholeLaws.{subsets_said, plain_follows, packed_follows, plain_said_alike, packed_said_alike}
+use Rattle.bufr_fill.proofs.FormLaws.{Follows, AllFollow, subset_count, subsets_said}
+use Rattle.bufr_fill.proofs.WholeLaws.{plain_follows, packed_follows, plain_said_alike, packed_said_alike}
 use Rattle.bufr_text.specs.declared.fault.DocumentFault.TheVariants as fault
 use Rattle.bufr_text.specs.declared.encode.Form.TheVariants.{AsWritten, Plain, Compressed}
-use Rattle.bufr_text.proofs.LawLemmas.{one-document}
+use Rattle.bufr_text.proofs.DumpTextLemmas.{one-document}
 use Rattle.bufr_walk.specs.Reading as reading
 use Rattle.std.proofs.lemmas.Grind.{common_steps}
 
@@ -37,9 +37,8 @@ same_ok a b e = cc
 
 pub said_length : (subsets : List (List (Item Content))) (drafts : List Subset) → AreSaid subsets drafts → length subsets ≡ length drafts
 said_length [] [] h = refl
-said_length [] (s ∷ ss) h = absurd h
-said_length (items ∷ subsets) [] h = absurd h
 said_length (items ∷ subsets) (s ∷ ss) h = ap suc (said_length subsets ss h.1)
+said_length subsets ss h = absurd h
 
 section2_octets : (b : Bool) (octets : List ℕ) → AllByRecursion IsOctet octets → AllByRecursion IsOctet (unwrap_or (if b then Some octets else None) [])
 section2_octets true octets h = h
@@ -144,28 +143,26 @@ line_is table spec d c h1 = grind (arith, nat_tests, common_steps, said_fxy, nor
 items_are : (table : List Row) (course : Course) (items : List (reading.Item Content)) (ds : List Draft) → Follows course items → AreDrafts IsSaid items ds
     → normal_items table course ds ≡ map item_text (items_shown table items)
 items_are table course [] [] f said = refl
-items_are table course [] (d ∷ ds) f said = absurd said
-items_are table course (i ∷ items) [] f said = absurd said
 items_are table course (i ∷ items) (d ∷ ds) f said =
     ap (λ n. line_and table n d (λ t. normal_items table (λ results. course (t ∷ results)) ds)) f.0
     ∙ ap (λ r. normal_line table i.spec d ∷ normal_items table (λ results. course (draft_answer i.spec r ∷ results)) ds) said.0
     ∙ ap (λ x. x ∷ normal_items table (after plain course i) ds) (line_is table i.spec d i.content said.0)
     ∙ ap (λ xs. item_text (view_of table i.spec i.content) ∷ xs) (items_are table (after plain course i) items ds f.3 said.1)
+items_are table course items ds f said = absurd said
 
 pub subsets_are : (table : List Row) (course : Course) (n : ℕ) (subsets : List (List (reading.Item Content))) (drafts : List Subset) → AllFollow course subsets → AreSaid subsets drafts
     → normal_subsets table course n drafts ≡ subset_lines n (map (items_shown table) subsets)
 unfolding subset_lines
 subsets_are table course n [] [] f said = refl
-subsets_are table course n [] (s ∷ ss) f said = absurd said
-subsets_are table course n (items ∷ subsets) [] f said = absurd said
 subsets_are table course n (items ∷ subsets) (s ∷ ss) f said =
     ap (λ xs. subset_line n ∷ (xs ++ normal_subsets table course (n + 1) ss)) (items_are table course items s.items f.0 said.0)
     ∙ ap (λ xs. subset_line n ∷ (map item_text (items_shown table items) ++ xs)) (subsets_are table course (n + 1) subsets ss f.1 said.1)
+subsets_are table course n subsets ss f said = absurd said
 
 -- ---- the header
 
--- so many values, from a place on
-abbrev values_from : (count place : ℕ) → List ℕ → List ℕ
+-- so many values, from a index on
+abbrev values_from : (count index : ℕ) → List ℕ → List ℕ
 values_from zero k xs = []
 values_from (suc n) k xs = slice_index xs k ∷ values_from n (suc k) xs
 
@@ -291,11 +288,11 @@ module _ (form : Form) (records : List Record) (table : List Row) (sequences : L
     by_flag : (b c : Bool) (xs ys : List Subset) → b ≡ c → data_bits c course xs ≡ data_bits c course ys → data_bits b course xs ≡ data_bits b course ys
     by_flag b c xs ys e g = subst (λ x. data_bits x course xs ≡ data_bits x course ys) (sym e) g
 
-    are_again : (values : Values) (used place : ℕ) → IsReading course (data_of h.sections) values used
-        → AreAgain values (subsets_of (subset_entries place (dump_items table h.sections.subsets values)))
-    are_again (apart subsets) used place read =
-        let drafts = subsets_of (subset_entries place (map (items_shown table) subsets)) in
-        let dumped = all_apart table place subsets in
+    are_again : (values : Values) (used at : ℕ) → IsReading course (data_of h.sections) values used
+        → AreAgain values (subsets_of (subset_entries at (dump_items table h.sections.subsets values)))
+    are_again (apart subsets) used at read =
+        let drafts = subsets_of (subset_entries at (map (items_shown table) subsets)) in
+        let dumped = all_apart table at subsets in
         let said = subsets_said course subsets drafts (plain_follows records table h.template rows legal subsets bits (drop used bits) read.2.0) dumped in
         record {
           count = sym (said_length subsets drafts said) ∙ read.2.1;
@@ -303,10 +300,10 @@ module _ (form : Form) (records : List Record) (table : List Row) (sequences : L
           alike = λ others count is. by_flag h.sections.compressed false others drafts read.0
               (plain_said_alike records table h.template subsets others drafts bits (drop used bits) rows legal read.2.0 is said);
         }
-    are_again (together items) used place read =
-        let drafts = subsets_of (subset_entries place (map (items_shown table) (subsets_from h.sections.subsets 0 items))) in
+    are_again (together items) used at read =
+        let drafts = subsets_of (subset_entries at (map (items_shown table) (subsets_from h.sections.subsets 0 items))) in
         let each = subsets_from h.sections.subsets 0 items in
-        let said = subsets_said course each drafts (packed_follows records table h.template rows legal h.sections.subsets items bits (drop used bits) read.2) (all_apart table place each) in
+        let said = subsets_said course each drafts (packed_follows records table h.template rows legal h.sections.subsets items bits (drop used bits) read.2) (all_apart table at each) in
         let count = subset_count _ h.sections.subsets items drafts said in
         record {
           count = count;

@@ -17,8 +17,8 @@ use Rattle.bufr_text.specs.declared.fault.ReadFault.TheVariants as fault
 -- the first line feed, or there is none
 abbrev pub FeedAt : List ℕ → Option ℕ → Type 0
 FeedAt held None = has_no_feed held ≡ true
-FeedAt held (Some place) = (place < length held) × (has_no_feed (take place held) ≡ true)
-    × (held ≡ take place held ++ 10 ∷ drop (place + 1) held)
+FeedAt held (Some parsing) = (parsing < length held) × (has_no_feed (take parsing held) ≡ true)
+    × (held ≡ take parsing held ++ 10 ∷ drop (parsing + 1) held)
 
 -- what the end comes to, where no line is held
 abbrev pub HandlesEnd : ReaderModel → ReaderModel → Result (Option Document) ReadFault → Type 0
@@ -70,13 +70,14 @@ line-split (c ∷ line) t h =
     (line-split line t (and_second (not (c == 10)) (has_no_feed line) h))
 
 abbrev openly-from : ℕ → Parsing → Split → List ParseResult
-openly-from at place s = parse_open_lines at place s.whole s.rest
+openly-from at parsing s = parse_open_lines at parsing s.whole s.rest
 
-pub takes-line : (at : ℕ) (place : Parsing) (line rest : List ℕ) (ended : Bool) → has_no_feed line ≡ true
-    → let here = turn at place (read_line line) in
-    ContinuesParse (record { at = at; place = place; held = line ++ 10 ∷ rest; ended = ended }) (record { at = at + 1; place = parsing_after here; held = rest; ended = ended }) (reported_at at here)
+pub takes-line : (at : ℕ) (parsing : Parsing) (line rest : List ℕ) (ended : Bool) → has_no_feed line ≡ true
+    → let here = turn at parsing (read_line line) in
+    ContinuesParse (record { at = at; parsing = parsing; held = line ++ 10 ∷ rest; ended = ended }) (record { at = at + 1; parsing = parsing_after here; held = rest; ended = ended })
+    (reported_at at here)
 unfolding parse_lines parse_open_lines
-takes-line at place line rest ended h1 = grind (arith, nat_tests, common_steps, append_assoc, line-held, line-split)
+takes-line at parsing line rest ended h1 = grind (arith, nat_tests, common_steps, append_assoc, line-held, line-split)
 
 still-open : (b c : Bool) → (b ≡ true → c ≡ true) → c ≡ false → b ≡ false
 still-open true c kept unended = sym (kept refl) ∙ unended
@@ -112,10 +113,10 @@ abbrev pub Reads : ParserState → Type 0
 Reads Stopped = ⊥
 Reads other = Unit {0}
 
-pub wrong-faults : (at : ℕ) (place : Parsing) → Reads place.0 → turn at place Wrong ≡ (Refuses NotAllowed, place.1)
+pub wrong-faults : (at : ℕ) (parsing : Parsing) → Reads parsing.0 → turn at parsing Wrong ≡ (Refuses NotAllowed, parsing.1)
 unfolding turn
 wrong-faults at (Stopped, d) r = absurd r
-wrong-faults at place r = refl
+wrong-faults at parsing r = refl
 
 -- the first line or the rest is too long
 LongSplit : List ℕ → Split → Type 0
@@ -143,21 +144,21 @@ long-split (c ∷ d ∷ held) t h some =
     subst (LongSplit (c ∷ d ∷ held)) (sym (split-octet c ((d ∷ held) ++ t) (split_of ((d ∷ held) ++ t)) (no-feed-first c (and_first (not (c == 10)) (has_no_feed (d ∷ held)) h)) refl))
     (long-onto c (d ∷ held) (split_of ((d ∷ held) ++ t)) rest)
 
-openly-long : (at : ℕ) (place : Parsing) (held : List ℕ) (s : Split) → Reads place.0 → 4096 < length held → LongSplit held s → openly-from at place s ≡ Refused at NotAllowed ∷ []
+openly-long : (at : ℕ) (parsing : Parsing) (held : List ℕ) (s : Split) → Reads parsing.0 → 4096 < length held → LongSplit held s → openly-from at parsing s ≡ Refused at NotAllowed ∷ []
 unfolding LongSplit parse_open_lines
-openly-long at place held s h1 h2 h3 = grind (arith, nat_tests, common_steps, LongSplit, length-append, wrong-faults, stopped-reports-openly)
+openly-long at parsing held s h1 h2 h3 = grind (arith, nat_tests, common_steps, LongSplit, length-append, wrong-faults, stopped-reports-openly)
 
-pub refuses-long : (at : ℕ) (place : Parsing) (held : List ℕ) (ended : Bool) → Reads place.0 → has_no_feed held ≡ true → 4096 < length held
-    → ContinuesParse (record { at = at; place = place; held = held; ended = ended }) (record { at = at; place = (Stopped, place.1); held = held; ended = ended }) (Refused at NotAllowed ∷ [])
+pub refuses-long : (at : ℕ) (parsing : Parsing) (held : List ℕ) (ended : Bool) → Reads parsing.0 → has_no_feed held ≡ true → 4096 < length held
+    → ContinuesParse (record { at = at; parsing = parsing; held = held; ended = ended }) (record { at = at; parsing = (Stopped, parsing.1); held = held; ended = ended }) (Refused at NotAllowed ∷ [])
 unfolding parse_lines
-refuses-long at place held ended r h long = record {
+refuses-long at parsing held ended r h long = record {
   openly = λ unended t. grind (arith, nat_tests, common_steps, openly-long, long-split, stopped-reports-openly);
   whole = λ t none.
       let (more, rest, e) = long-first held t h (omega (arith, long)) in
       let over : nat_lt 4096 (length (held ++ more)) ≡ true = grind (arith, nat_tests, length-append held more, long) in
-      ap (parse_lines at place) e
-      ∙ rw (over, wrong-faults at place r) (ap (λ (z : List ParseResult). Refused at NotAllowed ∷ z) (stopped-reports (at + 1) place.1 rest))
-      ∙ ap (λ (z : List ParseResult). Refused at NotAllowed ∷ z) (sym (stopped-reports at place.1 (lines_of (held ++ t))));
+      ap (parse_lines at parsing) e
+      ∙ rw (over, wrong-faults at parsing r) (ap (λ (z : List ParseResult). Refused at NotAllowed ∷ z) (stopped-reports (at + 1) parsing.1 rest))
+      ∙ ap (λ (z : List ParseResult). Refused at NotAllowed ∷ z) (sym (stopped-reports at parsing.1 (lines_of (held ++ t))));
 }
 
 -- at the end the last line may lack its line feed
@@ -168,10 +169,10 @@ one-line (c ∷ []) h some = rw (no-feed-first c (and_first (not (c == 10)) true
 one-line (c ∷ d ∷ held) h some =
     rw (no-feed-first c (and_first (not (c == 10)) (has_no_feed (d ∷ held)) h)) (ap (prepend_to_line c) (one-line (d ∷ held) (and_second (not (c == 10)) (has_no_feed (d ∷ held)) h) (omega arith)))
 
-pub ends-inside : (at : ℕ) (place : Parsing)
-    → ContinuesParse (record { at = at; place = place; held = []; ended = true }) (record { at = at; place = (Stopped, place.1); held = []; ended = true }) (reported_at_end at place.0)
+pub ends-inside : (at : ℕ) (parsing : Parsing)
+    → ContinuesParse (record { at = at; parsing = parsing; held = []; ended = true }) (record { at = at; parsing = (Stopped, parsing.1); held = []; ended = true }) (reported_at_end at parsing.0)
 unfolding parse_lines lines_of
-ends-inside at place = grind (arith, nat_tests, common_steps)
+ends-inside at parsing = grind (arith, nat_tests, common_steps)
 
 -- where no whole line is held and the rest is short, nothing is reported before the end is known
 rest-alone : (held : List ℕ) → has_no_feed held ≡ true → split_of held ≡ record { whole = []; rest = held }
@@ -180,10 +181,10 @@ rest-alone [] h = refl
 rest-alone (c ∷ held) h = split-octet c held (record { whole = []; rest = held }) (no-feed-first c (and_first (not (c == 10)) (has_no_feed held) h))
     (rest-alone held (and_second (not (c == 10)) (has_no_feed held) h))
 
-pub nothing-yet : (at : ℕ) (place : Parsing) (held : List ℕ) (ended : Bool) → has_no_feed held ≡ true → length held ≤ 4096
-    → parse_open (record { at = at; place = place; held = held; ended = ended }) [] ≡ []
+pub nothing-yet : (at : ℕ) (parsing : Parsing) (held : List ℕ) (ended : Bool) → has_no_feed held ≡ true → length held ≤ 4096
+    → parse_open (record { at = at; parsing = parsing; held = held; ended = ended }) [] ≡ []
 unfolding parse_open_lines
-nothing-yet at place held ended h1 h2 = grind (arith, nat_tests, common_steps, append-nil, rest-alone)
+nothing-yet at parsing held ended h1 h2 = grind (arith, nat_tests, common_steps, append-nil, rest-alone)
 
 -- ---- The first line feed.
 
@@ -279,15 +280,15 @@ prefix-more : (x results all : List ParseResult) → IsPrefix results all → Is
 prefix-more x results all (more, e) = (more, ap (λ (z : List ParseResult). x ++ z) e ∙ sym (append_assoc x results more))
 
 -- a rest that is short reports nothing yet, one that is long is refused either way
-rest-prefix : (at : ℕ) (place : Parsing) (rest t : List ℕ) (b : Bool) → nat_lt 4096 (length rest) ≡ b → Reads place.0 → has_no_feed rest ≡ true
-    → IsPrefix (parse_open_lines at place [] rest) (parse_lines at place (lines_of (rest ++ t)))
+rest-prefix : (at : ℕ) (parsing : Parsing) (rest t : List ℕ) (b : Bool) → nat_lt 4096 (length rest) ≡ b → Reads parsing.0 → has_no_feed rest ≡ true
+    → IsPrefix (parse_open_lines at parsing [] rest) (parse_lines at parsing (lines_of (rest ++ t)))
 unfolding parse_open_lines
-rest-prefix at place rest t true h r clean =
+rest-prefix at parsing rest t true h r clean =
     let long : 4096 < length rest = grind (arith, nat_tests, h) in
-    (parse_lines at (Stopped, place.1) (lines_of (rest ++ t)), rw (h, wrong-faults at place r) ((refuses-long at place rest false r clean long).whole t (λ e. absurd cc)))
-rest-prefix at place rest t false h r clean = (parse_lines at place (lines_of (rest ++ t)), rw h refl)
+    (parse_lines at (Stopped, parsing.1) (lines_of (rest ++ t)), rw (h, wrong-faults at parsing r) ((refuses-long at parsing rest false r clean long).whole t (λ e. absurd cc)))
+rest-prefix at parsing rest t false h r clean = (parse_lines at parsing (lines_of (rest ++ t)), rw h refl)
 
-any-prefix : (at : ℕ) (place : Parsing) (rest t : List ℕ) → has_no_feed rest ≡ true → IsPrefix (parse_open_lines at place [] rest) (parse_lines at place (lines_of (rest ++ t)))
+any-prefix : (at : ℕ) (parsing : Parsing) (rest t : List ℕ) → has_no_feed rest ≡ true → IsPrefix (parse_open_lines at parsing [] rest) (parse_lines at parsing (lines_of (rest ++ t)))
 any-prefix at (Between, d) rest t clean = rest-prefix at (Between, d) rest t (nat_lt 4096 (length rest)) refl tt clean
 any-prefix at (Heading, d) rest t clean = rest-prefix at (Heading, d) rest t (nat_lt 4096 (length rest)) refl tt clean
 any-prefix at (BeforeSubsets part, d) rest t clean = rest-prefix at (BeforeSubsets part, d) rest t (nat_lt 4096 (length rest)) refl tt clean
@@ -297,12 +298,12 @@ any-prefix at (Stopped, d) rest t clean = (
   ap (λ (z : List ParseResult). z ++ parse_lines at (Stopped, d) (lines_of (rest ++ t))) (sym (stopped-reports-openly at d [] rest)),
 )
 
-lines-prefix : (lines : List (List ℕ)) (at : ℕ) (place : Parsing) (rest t : List ℕ) → has_no_feed rest ≡ true
-    → IsPrefix (parse_open_lines at place lines rest) (parse_lines at place (lines ++ lines_of (rest ++ t)))
+lines-prefix : (lines : List (List ℕ)) (at : ℕ) (parsing : Parsing) (rest t : List ℕ) → has_no_feed rest ≡ true
+    → IsPrefix (parse_open_lines at parsing lines rest) (parse_lines at parsing (lines ++ lines_of (rest ++ t)))
 unfolding parse_lines parse_open_lines
-lines-prefix [] at place rest t clean = any-prefix at place rest t clean
-lines-prefix (line ∷ lines) at place rest t clean =
-    prefix-more (reported_at at (turn at place (read_line line))) _ _ (lines-prefix lines (at + 1) (parsing_after (turn at place (read_line line))) rest t clean)
+lines-prefix [] at parsing rest t clean = any-prefix at parsing rest t clean
+lines-prefix (line ∷ lines) at parsing rest t clean =
+    prefix-more (reported_at at (turn at parsing (read_line line))) _ _ (lines-prefix lines (at + 1) (parsing_after (turn at parsing (read_line line))) rest t clean)
 
 -- the documents that are reported while the end is not known stay the first ones, whatever comes
 -- after
@@ -368,12 +369,12 @@ IsByEnd line (Continues state, d) = Unit {0}
 IsByEnd line (Completes, d) = line ≡ Closes
 IsByEnd line (Refuses fault, d) = Unit {0}
 
-turn-end : (at : ℕ) (place : Parsing) (line : Line) → IsByEnd line (turn at place line)
+turn-end : (at : ℕ) (parsing : Parsing) (line : Line) → IsByEnd line (turn at parsing line)
 unfolding turn
-turn-end at place line = grind (arith, nat_tests, common_steps)
+turn-end at parsing line = grind (arith, nat_tests, common_steps)
 
-completes-end : (at : ℕ) (place : Parsing) (line : Line) (effect : LineEffect) (d : Document) → effect ≡ Completes → (effect, d) ≡ turn at place line → line ≡ Closes
-completes-end at place line effect d is e = subst (IsByEnd line) (sym e ∙ ap (λ (x : LineEffect). (x, d)) is) (turn-end at place line)
+completes-end : (at : ℕ) (parsing : Parsing) (line : Line) (effect : LineEffect) (d : Document) → effect ≡ Completes → (effect, d) ≡ turn at parsing line → line ≡ Closes
+completes-end at parsing line effect d is e = subst (IsByEnd line) (sym e ∙ ap (λ (x : LineEffect). (x, d)) is) (turn-end at parsing line)
 
 -- ---- Lines that are taken one after another.
 
@@ -523,7 +524,7 @@ wants-at old new held from n is feed more = record {
 -- ---- What the steps of a reader of dump texts do.
 
 abbrev pub reader : (at : ℕ) → Parsing → List ℕ → Bool → Option ReadFault → ℕ → ReaderModel
-reader at place held ended fault reads = record { at = at; place = place; held = held; ended = ended; fault = fault; reads = reads }
+reader at parsing held ended fault reads = record { at = at; parsing = parsing; held = held; ended = ended; fault = fault; reads = reads }
 
 -- what lines report that were taken
 pub takes-reports : (old new : Progress) (f f' : Option ReadFault) (held : List ℕ) (len : ℕ) (ended : Bool) (reads : ℕ) (effect : LineEffect) (p : Parsing)
@@ -574,17 +575,17 @@ reported-inside Between at reads inside = absurd (inside refl)
 reported-inside Stopped at reads inside = absurd reads
 reported-inside state at reads inside = refl
 
-pub done-between : (s : ReaderModel) → s.place.0 ≡ Between → s.held ≡ [] → parse (position_of s) [] ≡ []
+pub done-between : (s : ReaderModel) → s.parsing.0 ≡ Between → s.held ≡ [] → parse (position_of s) [] ≡ []
 unfolding parse_lines lines_of
-done-between s place held =
-    ap (λ (z : List ℕ). parse_lines s.at s.place (lines_of (z ++ []))) held ∙ ap (λ (p : ParserState). reported_at_end s.at p) place
+done-between s parsing held =
+    ap (λ (z : List ℕ). parse_lines s.at s.parsing (lines_of (z ++ []))) held ∙ ap (λ (p : ParserState). reported_at_end s.at p) parsing
 
-pub end-reports : (s : ReaderModel) → s.ended ≡ true → s.held ≡ [] → reported_at_end s.at s.place.0 ≡ Refused s.at NotAllowed ∷ []
+pub end-reports : (s : ReaderModel) → s.ended ≡ true → s.held ≡ [] → reported_at_end s.at s.parsing.0 ≡ Refused s.at NotAllowed ∷ []
     → ParsesHeldLines s (stopped s (fault.Line s.at NotAllowed)) (Refused s.at NotAllowed ∷ [])
 end-reports s h1 h2 h3 = grind (arith, nat_tests, common_steps, ends-inside, passes-none)
 
 -- the end inside of a document stops the reading
-pub end-inside : (s s' : ReaderModel) (line : ℕ) (f : ReadFault) → s.ended ≡ true → s.held ≡ [] → reported_at_end s.at s.place.0 ≡ Refused s.at NotAllowed ∷ [] → line ≡ s.at
+pub end-inside : (s s' : ReaderModel) (line : ℕ) (f : ReadFault) → s.ended ≡ true → s.held ≡ [] → reported_at_end s.at s.parsing.0 ≡ Refused s.at NotAllowed ∷ [] → line ≡ s.at
     → s' ≡ stopped s (fault.Line line NotAllowed) → f ≡ fault.Line line NotAllowed → HandlesEnd s s' (Err f)
 end-inside s s' line f ended held reports at new is =
     let F : ReadFault → Type 0 = λ f. HandlesEnd s s' (Err f) in
@@ -593,7 +594,7 @@ end-inside s s' line f ended held reports at new is =
     subst F (sym is) (subst N (sym new) (subst K (sym at) (end-reports s ended held reports, refl, refl, refl)))
 
 -- where lines are taken no fault was met
-pub parsing-reads : (at : ℕ) (place : Parsing) → IsParsing at place → Reads place.0
+pub parsing-reads : (at : ℕ) (parsing : Parsing) → IsParsing at parsing → Reads parsing.0
 parsing-reads at (Between, d) is = tt
 parsing-reads at (Heading, d) is = tt
 parsing-reads at (BeforeSubsets part, d) is = tt
@@ -601,9 +602,9 @@ parsing-reads at (Filling subset, d) is = tt
 parsing-reads at (Stopped, d) is = is
 
 -- a line that is too long
-pub long-reports : (s : ReaderModel) → Reads s.place.0 → has_no_feed s.held ≡ true → 4096 < length s.held
+pub long-reports : (s : ReaderModel) → Reads s.parsing.0 → has_no_feed s.held ≡ true → 4096 < length s.held
     → ParsesHeldLines s (stopped s (fault.Line s.at NotAllowed)) (Refused s.at NotAllowed ∷ [])
-long-reports s reads clean long = record { goes = refuses-long s.at s.place s.held s.ended reads clean long; passes = passes-none s.at s.held }
+long-reports s reads clean long = record { goes = refuses-long s.at s.parsing s.held s.ended reads clean long; passes = passes-none s.at s.held }
 
 -- a reader that read
 pub progress-read : (d : Progress) (held held' reads : ℕ) → IsProgress d held reads → held' ≤ held + 4096 → IsProgress d held' (reads + 1)
@@ -627,11 +628,11 @@ end-few at (BeforeSubsets part) = omega arith
 end-few at (Filling subset) = omega arith
 end-few at Stopped = omega arith
 
-pub spelled-few : (lines : List (List ℕ)) (at : ℕ) (place : Parsing) → length (parse_lines at place lines) ≤ length lines + 1
+pub spelled-few : (lines : List (List ℕ)) (at : ℕ) (parsing : Parsing) → length (parse_lines at parsing lines) ≤ length lines + 1
 unfolding parse_lines
-spelled-few [] at place = end-few at place.0
-spelled-few (line ∷ more) at place =
-    let here = turn at place (read_line line) in
+spelled-few [] at parsing = end-few at parsing.0
+spelled-few (line ∷ more) at parsing =
+    let here = turn at parsing (read_line line) in
     omega (arith, reported-few at here, spelled-few more (at + 1) (parsing_after here), length-append (reported_at at here) (parse_lines (at + 1) (parsing_after here) more))
 
 -- what closes the goals of single functions

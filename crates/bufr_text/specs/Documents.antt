@@ -229,7 +229,7 @@ open_documents_of text = parse_open_lines 1 between (split_of text).whole (split
 
 -- ---- What the header of a document says, in the words of a message. (a choice of this project)
 
--- the value of a key, by its place
+-- the value of a key, by its index
 abbrev pub key_value : Document → (key : ℕ) → ℕ
 key_value d key = slice_index d.header key
 

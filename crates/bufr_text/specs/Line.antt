@@ -172,7 +172,7 @@ is_passed_after (c ∷ more) = (c == 32) && is_hashed more
 
 -- ---- What a line says, apart from where it is.
 
--- what a line says; `Header` has the place of its key, `Wrong` is no line of a document
+-- what a line says; `Header` has the index of its key, `Wrong` is no line of a document
 pub data Line : Type 0 where
   Passed : Line
   Opens : Line
@@ -195,9 +195,9 @@ keys =
     ∷ codes "minute" ∷ codes "second" ∷ codes "observed" ∷ codes "compressed"
     ∷ codes "optional" ∷ codes "subsets" ∷ []
 
--- the key at a place
-abbrev pub key_at : (place : ℕ) → List ℕ
-key_at place = get_or keys place []
+-- the key at an index
+abbrev pub key_at : (index : ℕ) → List ℕ
+key_at index = get_or keys index []
 
 -- the least value of each key, and the greatest by edition
 -- rule: reading-header-ranges
@@ -207,11 +207,11 @@ leasts = 3 ∷ replicate 19 0
 unfoldable pub mosts : (edition : ℕ) → List ℕ
 mosts edition = 4 ∷ greatest_values edition ++ 1 ∷ 1 ∷ 1 ∷ 65535 ∷ []
 
--- the place of a key of this name, where the first of these keys has place `at`
-unfoldable pub place_from : (at : ℕ) → (name : List ℕ) → List (List ℕ) → Option ℕ
-place_from at name [] = None
-place_from at name (key ∷ more) =
-    if bytes_eq name key then Some at else place_from (at + 1) name more
+-- the index of a key of this name, where the first of these keys has index `at`
+unfoldable pub index_from : (at : ℕ) → (name : List ℕ) → List (List ℕ) → Option ℕ
+index_from at name [] = None
+index_from at name (key ∷ more) =
+    if bytes_eq name key then Some at else index_from (at + 1) name more
 
 -- a line that what was read makes, or none
 abbrev pub made : {X : Type 0} → (X → Line) → Option X → Line
@@ -267,8 +267,8 @@ worded word rest =
     else if bytes_eq word (codes "R")
     then made (item_line (number_value reference_token)) (without_space rest)
     else if bytes_eq word (codes "end") then (if length rest == 0 then Closes else Wrong)
-    else made (λ place. made (λ text. made (Header place) (number_read text)) (without_space rest))
-    (place_from 0 word keys)
+    else made (λ index. made (λ text. made (Header index) (number_read text)) (without_space rest))
+    (index_from 0 word keys)
 
 abbrev pub is_no_space : ℕ → Bool
 is_no_space c = not (c == 32)
@@ -305,7 +305,7 @@ Unhexes text out None = hex_read text ≡ None
 Unhexes text out (Some count) =
     (2 * count ≡ length text) × (count ≤ length out) × (hex_read text ≡ Some (take count out))
 
--- the octets of the text come first, and what is after the closing quote begins at a place; or
+-- the octets of the text come first, and what is after the closing quote begins at an index; or
 -- there is none
 abbrev pub Unquotes : (text out : List ℕ) → Option (ℕ × ℕ) → Type 0
 Unquotes text out None = quoted_read 0 text ≡ None

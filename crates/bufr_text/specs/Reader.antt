@@ -36,18 +36,18 @@ has_no_feed octets = list_all (λ c. not (c == 10)) octets
 -- holds, whether the end was reached
 pub record ReaderPosition : Type 0 where
   pub at : ℕ
-  pub place : Parsing
+  pub parsing : Parsing
   pub held : List ℕ
   pub ended : Bool
 
 -- what the held octets and these spell, to the end of these
 abbrev pub parse : ReaderPosition → List ℕ → List ParseResult
-parse s t = parse_lines s.at s.place (lines_of (s.held ++ t))
+parse s t = parse_lines s.at s.parsing (lines_of (s.held ++ t))
 
 -- what the held octets and these spell, where more may come after them
 abbrev pub parse_open : ReaderPosition → List ℕ → List ParseResult
 parse_open s t =
-    parse_open_lines s.at s.place (split_of (s.held ++ t)).whole (split_of (s.held ++ t)).rest
+    parse_open_lines s.at s.parsing (split_of (s.held ++ t)).whole (split_of (s.held ++ t)).rest
 
 -- The held octets spell what was reported and then what is still held, whatever comes after; after
 -- the end nothing does.
@@ -78,7 +78,7 @@ pub record ReaderModel : Type 0 where
   -- the number of the next line
   pub at : ℕ
   -- where the reading is, with the document as far as it was read
-  pub place : Parsing
+  pub parsing : Parsing
   -- the octets that were read and not yet taken as lines
   pub held : List ℕ
   -- whether the end was reached
@@ -90,14 +90,15 @@ pub record ReaderModel : Type 0 where
 
 -- a reader that has read nothing
 abbrev pub new_reader : ReaderModel
-new_reader = record { at = 1; place = between; held = []; ended = false; fault = None; reads = 0 }
+new_reader = record { at = 1; parsing = between; held = []; ended = false; fault = None; reads = 0 }
 
 abbrev pub position_of : ReaderModel → ReaderPosition
-position_of s = record { at = s.at; place = s.place; held = s.held; ended = s.ended }
+position_of s = record { at = s.at; parsing = s.parsing; held = s.held; ended = s.ended }
 
 -- the position of a reader with more octets after those that it holds
 abbrev pub position_after : ReaderModel → List ℕ → ReaderPosition
-position_after s bs = record { at = s.at; place = s.place; held = s.held ++ bs; ended = s.ended }
+position_after s bs =
+    record { at = s.at; parsing = s.parsing; held = s.held ++ bs; ended = s.ended }
 
 -- what an answer reports
 abbrev pub parse_results : Result (Option Document) ReadFault → List ParseResult
@@ -187,7 +188,7 @@ pub record AddsNext (s : ReaderModel) : Type 0 where
   pub rest : List ℕ
   pub held : s.held ≡ line ++ 10 ∷ rest
   pub single : has_no_feed line ≡ true
-  pub adds_to : adds s.place.0 (read_line line) ≡ true
+  pub adds_to : adds s.parsing.0 (read_line line) ≡ true
 
 -- what a call reads and reports; where memory was wanted it reports nothing, and says no more of
 -- what it holds; it is wanted only where a line was held or the end was not reached; after the

@@ -99,7 +99,7 @@ parsing_of progress = (progress.state, progress.parts)
 
 abbrev pub position_with : (at : ℕ) → Parsing → List ℕ → Bool → ReaderPosition
 position_with at parsing held ended =
-    record { at = at; place = parsing; held = held; ended = ended }
+    record { at = at; parsing = parsing; held = held; ended = ended }
 
 -- The lines before an offset were taken, and the last of them did this.
 pub record TakesLines (old new : Progress) (held : List ℕ) (offset : ℕ)
@@ -202,14 +202,14 @@ pub record ReadsMoreText (left left' : Option (List ℕ)) (old new : ReaderModel
   pub fed : new.ended ≡ true → feed ≡ [] → old.held ≡ []
   pub held : new.held ≡ (old.held ++ bs) ++ feed
   pub at : new.at ≡ old.at
-  pub place : new.place ≡ old.place
+  pub parsing : new.parsing ≡ old.parsing
   pub fault : new.fault ≡ None
 
 -- a reader that a fault stopped; after a refused line nothing more is reported
 abbrev pub stopped : ReaderModel → ReadFault → ReaderModel
 stopped s (Run fault) = record s { fault = Some (Run fault) }
 stopped s (Line line fault) =
-    record s { fault = Some (Line line fault); place = (Stopped, s.place.1) }
+    record s { fault = Some (Line line fault); parsing = (Stopped, s.parsing.1) }
 
 -- one read, or why none is made
 abbrev pub FillsBuffer : (left left' : Option (List ℕ)) → ReaderModel → ReaderModel

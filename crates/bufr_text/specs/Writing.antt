@@ -37,7 +37,7 @@ abbrev pub CountsWrites : {X : Type 0} → (failures failures' empty empty' : �
 CountsWrites failures failures' empty empty' (Ok x) = Stays failures failures' empty empty'
 CountsWrites failures failures' empty empty' (Err fault) = Fails failures failures' empty empty'
 
--- a text was put into octets, after those before a place; where there was no room nothing is known
+-- a text was put into octets, after those before an index; where there was no room nothing is known
 abbrev pub Puts : (old : List ℕ) (at : ℕ) (text new : List ℕ) → Option ℕ → Type 0
 Puts old at text new result =
     IfSome result (λ end. (end ≤ length new) × (take end new ≡ take at old ++ text))

@@ -6,7 +6,7 @@ ghost use Rattle.bufr_text.specs.Prelude.{subsets_in, beginning, closing, turn, 
 
 use crate::fault::TextLineFault;
 use crate::header::{MOST_WORDS, in_range};
-use crate::line::{MAX_LINE, ahead, decimal_item, missing_item, read_line, suffix};
+use crate::line::{MAX_LINE, decimal_item, missing_item, prefix, read_line, suffix};
 use bufr_fill::{DraftItem, DraftValue, Entries};
 use bufr_frame::Head;
 use bufr_tables::Fxy;
@@ -116,7 +116,7 @@ impl Document {
     /// The value of a key that has one octet; none has more in edition 3.
     #[tactic(auto, using(crate::proofs::HeaderLemmas::octet_steps))]
     fn octet(&self, key: usize) -> u8
-        requires place { key < 20 }
+        requires key { key < 20 }
         requires few { slice_index (mosts 4) key ≤ 255 }
         ensures { result ≡ slice_index self.now.header key }
     {
@@ -436,7 +436,7 @@ pub(crate) fn take_lines(
     let mut words = [0; MOST_WORDS];
     let mut from = 0;
     while let Some(length) = memchr(b'\n', suffix(held, from)) {
-        let line = ahead(suffix(held, from), length);
+        let line = prefix(suffix(held, from), length);
         let effect = take_line(progress, line, octets, &mut words)?;
         progress.at += 1;
         from += length + 1;

@@ -45,7 +45,7 @@ impl Model for DumpReader {
 
     ghost view = { λ f. record {
       at = f.progress.at;
-      place = parsing_of f.progress;
+      parsing = parsing_of f.progress;
       held = f.input.held;
       ended = f.input.ended;
       fault = f.fault;

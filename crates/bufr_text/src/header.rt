@@ -1,8 +1,8 @@
 //! The twenty keys of the header of a dump text, and the descriptors of a line.
 ghost use Rattle.std.specs.Prelude.{◌≡◌, ◌<◌, ◌++◌, [], ◌∷◌, length, map, position, true, IfSome, ◌+◌, ◌*◌, ◌≤◌, option_map};
-ghost use Rattle.bufr_text.specs.Prelude.{in_range, is_named, lead_of, key_at, keys, leasts, mosts, place_from, Describes, fxy_read};
+ghost use Rattle.bufr_text.specs.Prelude.{in_range, is_named, lead_of, key_at, keys, leasts, mosts, index_from, Describes, fxy_read};
 
-use crate::line::{ahead, is, suffix};
+use crate::line::{is, prefix, suffix};
 use bufr_tables::Fxy;
 
 /// What is before a key's value, its least value, and its greatest in editions 3 and 4.
@@ -53,28 +53,28 @@ fn is_named(lead: &[u8], name: &[u8]) -> bool
     }
 }
 
-/// The place of the first key of this name.
+/// The index of the first key of this name.
 fn position(keys: &[Key], name: &[u8]) -> Option<usize>
     ensures { result ≡ position (λ key. is_named key.0.now name.now) keys.now }
 {
     keys.iter().position(|key| is_named(key.0, name))
 }
 
-/// The name of the key at a place, and the space after it.
-pub(crate) fn word_at(place: usize) -> Option<&'static [u8]>
-    ensures few { IfSome result (λ _. place < 20) }
-    ensures word { IfSome result (λ word. word.now ≡ key_at place ++ 32 ∷ []) }
+/// The name of the key at an index, and the space after it.
+pub(crate) fn word_at(index: usize) -> Option<&'static [u8]>
+    ensures few { IfSome result (λ _. index < 20) }
+    ensures word { IfSome result (λ word. word.now ≡ key_at index ++ 32 ∷ []) }
 {
-    match keys().get(place)?.0 {
+    match keys().get(index)?.0 {
         [_, word @ ..] => Some(word),
         [] => None,
     }
 }
 
-/// The place of a key of this name.
-pub(crate) fn place(name: &[u8]) -> Option<usize>
-    ensures value { result ≡ place_from 0 name.now keys }
-    ensures few { IfSome result (λ place. place < 20) }
+/// The index of a key of this name.
+pub(crate) fn key_index(name: &[u8]) -> Option<usize>
+    ensures value { result ≡ index_from 0 name.now keys }
+    ensures few { IfSome result (λ index. index < 20) }
 {
     position(keys(), name)
 }
@@ -107,7 +107,7 @@ pub(crate) fn fxy_prefix<'a>(text: &'a [u8]) -> Option<(u16, &'a [u8])>
     if text.len() < 6 {
         return None;
     }
-    let fxy = Fxy::read(ahead(text, 6))?;
+    let fxy = Fxy::read(prefix(text, 6))?;
     Some((fxy.word(), suffix(text, 6)))
 }
 
@@ -127,7 +127,7 @@ pub(crate) fn describe(text: &[u8], out: &mut [u16]) -> Option<usize>
         if next.len() < SPACED || next[0] != b' ' {
             return None;
         }
-        let fxy = Fxy::read(ahead(suffix(next, 1), 6))?;
+        let fxy = Fxy::read(prefix(suffix(next, 1), 6))?;
         out[count] = fxy.word();
         count += 1;
     }

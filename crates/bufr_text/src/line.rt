@@ -6,7 +6,7 @@ ghost use Rattle.bufr_bits.specs.Prelude.{short_text};
 ghost use Rattle.bufr_fill.specs.Prelude.{number_token, reference_token, missing_form, form_in};
 
 use crate::document::ParsedLine;
-use crate::header::{MOST_WORDS, describe, fxy_prefix, place, word_at};
+use crate::header::{MOST_WORDS, describe, fxy_prefix, key_index, word_at};
 use bufr_bits::ShortDecimal;
 use bufr_fill::DraftValue;
 use bufr_tables::Fxy;
@@ -26,7 +26,7 @@ fn octets_after<'a>(rest: &[u8], scratch: &'a mut [u8]) -> Option<&'a [u8]>
     if count == 0 || count > 32 {
         return None;
     }
-    Some(ahead(scratch, count))
+    Some(prefix(scratch, count))
 }
 
 /// What a line says that begins with this word.
@@ -66,7 +66,7 @@ fn worded<'a>(
     if is(word, b"end") {
         return rest.is_empty().then_some(ParsedLine::Closes);
     }
-    let key = place(word)?;
+    let key = key_index(word)?;
     let value = number(without_space(rest)?)?;
     Some(ParsedLine::Header { key, value })
 }
@@ -99,7 +99,7 @@ fn line_said<'a>(
         return Some(ParsedLine::Header { key: next, value });
     }
     let len = memchr(b' ', line).unwrap_or(line.len());
-    worded(ahead(line, len), suffix(line, len), octets, words)
+    worded(prefix(line, len), suffix(line, len), octets, words)
 }
 
 /// What a line says; octets and descriptors that it writes are put into `octets` and `words`.
@@ -158,7 +158,7 @@ fn is_number_octet(octet: u8) -> bool
 // rule: reading-number
 fn token(text: &[u8]) -> usize
     ensures within { result ≤ length text.now }
-    ensures ahead { take result text.now ≡ prefix_while is_number_octet text.now }
+    ensures prefix { take result text.now ≡ prefix_while is_number_octet text.now }
     ensures suffix_while { drop result text.now ≡ suffix_while is_number_octet text.now }
 {
     let mut at = 0;
@@ -178,10 +178,10 @@ fn value<'a>(text: &'a [u8], scratch: &'a mut [u8]) -> Option<(DraftValue<'a>, &
     if first == b'"' {
         let text = suffix(text, 1);
         let (count, at) = decode_quoted(text, scratch)?;
-        Some((DraftValue::Text(ahead(scratch, count)), suffix(text, at)))
+        Some((DraftValue::Text(prefix(scratch, count)), suffix(text, at)))
     } else if is_number_octet(first) {
         let count = token(text);
-        Some((DraftValue::Number(ahead(text, count)), suffix(text, count)))
+        Some((DraftValue::Number(prefix(text, count)), suffix(text, count)))
     } else {
         let rest = without_prefix(text, b"MISSING")?;
         Some((DraftValue::Missing, rest))
@@ -231,7 +231,7 @@ pub(crate) fn decimal_item(line: &[u8]) -> Option<(Fxy, ShortDecimal)>
     if !is_passed_after(rest) {
         return None;
     }
-    Some((Fxy::read(ahead(line, 6))?, number))
+    Some((Fxy::read(prefix(line, 6))?, number))
 }
 
 /// The descriptor of an item line whose value is missing, as half of the items of reports are.
@@ -247,7 +247,7 @@ pub(crate) fn missing_item(line: &[u8]) -> Option<Fxy>
     if !is_passed_after(rest) {
         return None;
     }
-    Fxy::read(ahead(line, 6))
+    Fxy::read(prefix(line, 6))
 }
 
 /// What an item line says that begins with a descriptor.
@@ -279,7 +279,7 @@ pub(crate) fn reference<'a>(text: &'a [u8]) -> Option<ParsedLine<'a>>
     if !is_passed_after(suffix(rest, count)) {
         return None;
     }
-    let form = DraftValue::Reference(ahead(rest, count));
+    let form = DraftValue::Reference(prefix(rest, count));
     Some(ParsedLine::Item { fxy, form })
 }
 
@@ -377,10 +377,8 @@ fn either_value(octet: u8) -> Option<u8>
     ensures few { IfSome result (λ n. n < 16) }
 {
     match octet {
-        b'0'..=b'9' => Some(octet - b'0'),
-        b'A'..=b'F' => Some(octet - b'A' + 10),
         b'a'..=b'f' => Some(octet - b'a' + 10),
-        _ => None,
+        _ => upper_value(octet),
     }
 }
 
@@ -400,27 +398,27 @@ pub(crate) fn decode_hex(text: &[u8], out: &mut [u8]) -> Option<usize>
     (2 * count == text.len()).then_some(count)
 }
 
-/// The octet at a place, or 0 after the end.
-pub(crate) fn octet_at(text: &[u8], place: usize) -> u8
-    ensures { result ≡ slice_index text.now place }
+/// The octet at an index, or 0 after the end.
+pub(crate) fn octet_at(text: &[u8], index: usize) -> u8
+    ensures { result ≡ slice_index text.now index }
 {
-    if place < text.len() { text[place] } else { 0 }
+    if index < text.len() { text[index] } else { 0 }
 }
 
-/// The octets before a place.
-pub(crate) fn ahead<'a>(text: &'a [u8], place: usize) -> &'a [u8]
-    requires { place ≤ length text.now }
-    ensures { result.now ≡ take place text.now }
+/// The octets before an index.
+pub(crate) fn prefix<'a>(text: &'a [u8], index: usize) -> &'a [u8]
+    requires { index ≤ length text.now }
+    ensures { result.now ≡ take index text.now }
 {
-    &text[..place]
+    &text[..index]
 }
 
-/// What is after a place.
-pub(crate) fn suffix<'a>(text: &'a [u8], place: usize) -> &'a [u8]
-    requires { place ≤ length text.now }
-    ensures { result.now ≡ drop place text.now }
+/// What is after an index.
+pub(crate) fn suffix<'a>(text: &'a [u8], index: usize) -> &'a [u8]
+    requires { index ≤ length text.now }
+    ensures { result.now ≡ drop index text.now }
 {
-    &text[place..]
+    &text[index..]
 }
 
 /// What is after a word.

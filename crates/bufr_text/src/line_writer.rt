@@ -89,7 +89,7 @@ fn hex_digit(n: u8) -> u8
 }
 
 /// Copies the octets at the start that need no escape, as far as there is room. Returns how many.
-#[tactic(auto, using(crate::proofs::PushLemmas::run_steps))]
+#[tactic(auto, using(crate::proofs::NumberLemmas::run_steps))]
 #[inline(always)]
 fn fill_run(octets: &[u8], free: &mut [u8]) -> usize
     ensures within { result ≤ length octets.now }

@@ -1,5 +1,5 @@
 //! Numbers, put into free octets where there is room.
-#![tactic(auto, using(crate::proofs::PushLemmas::number_steps))]
+#![tactic(auto, using(crate::proofs::NumberLemmas::number_steps))]
 
 ghost use Rattle.std.specs.Prelude.{◌≡◌, ◌≤◌, ◌<◌, ◌+◌, ◌/◌, ◌%◌, ◌++◌, [], ◌∷◌, decimal, take, ◌==◌, codes};
 ghost use Rattle.bufr_bits.specs.Prelude.{decimal_text_of, pointed, unsigned_text};
@@ -39,7 +39,7 @@ pub(crate) fn pair(value: u64) -> (u8, u8)
     (PAIRS[from], PAIRS[from + 1])
 }
 
-/// Puts octets from `at` on. Returns the place after them, or `None` where there is no room.
+/// Puts octets from `at` on. Returns the index after them, or `None` where there is no room.
 #[inline(always)]
 pub(crate) fn put<const N: usize>(octets: [u8; N], free: &mut [u8], at: usize) -> Option<usize>
     ensures { Puts free.old at octets.entry free.new result }

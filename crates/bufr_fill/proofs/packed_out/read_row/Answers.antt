@@ -9,33 +9,33 @@ pub returns-in_err-content : goal.returns-in_err-content
 returns-in_err-content c =
     let passed = err_from_is_err_and c.from_residual.result c.from_residual.ensures.1 in
     let row = c.args.row in
-    let many = count_cells row.place row.entries.now row.ends.now c.args.row.ends_are in
-    let cells = cells_at row.place (subsets_of row.entries.now) in
+    let many = count_cells row.index row.entries.now row.ends.now c.args.row.ends_are in
+    let cells = cells_at row.index (subsets_of row.entries.now) in
     rw (passed.1 ∙ ap Err passed.2)
-    (gather_fault (c.args.spec.now.width / 8) c.args.spec.now cells c.loop-subset.subset c.loop-subset.drawn.items (entry_with c.find-entry.result.0 c.find-entry.result.1.now)
+    (gather_fault (c.args.spec.now.width / 8) c.args.spec.now cells c.loop-subset.subset c.loop-subset.contents.items (entry_with c.find-entry.result.0 c.find-entry.result.1.now)
     c.loop-subset.invariant.gathered (omega (arith, c.loop-subset-test.true, many)) c.find-entry.ensures
     c.in_err-content.field-0.0 c.in_err-content.ensures.is)
 
 pub loop-subset-preserved : goal.loop-subset-preserved
 loop-subset-preserved c =
     let row = c.args.row in
-    let cells = cells_at row.place (subsets_of row.entries.now) in
-    let many = count_cells row.place row.entries.now row.ends.now c.args.row.ends_are in
+    let cells = cells_at row.index (subsets_of row.entries.now) in
+    let many = count_cells row.index row.entries.now row.ends.now c.args.row.ends_are in
     record {
       gathered = subst (IsGathering (c.args.spec.now.width / 8) c.args.spec.now cells (c.loop-subset.subset + 1)) (sym c.in-Ok.ensures.items)
-          (gather_more (c.args.spec.now.width / 8) c.args.spec.now cells c.loop-subset.subset c.loop-subset.drawn.items (entry_with c.find-entry.result.0 c.find-entry.result.1.now)
+          (gather_more (c.args.spec.now.width / 8) c.args.spec.now cells c.loop-subset.subset c.loop-subset.contents.items (entry_with c.find-entry.result.0 c.find-entry.result.1.now)
           c.loop-subset.invariant.gathered (omega (arith, c.loop-subset-test.true, many)) c.find-entry.ensures
-          c.in_ok-content.content c.in_ok-content.ensures.is c.in_ok-content.ensures.drawn);
-      range = subst (IsRangeOf c.with-range.result) (sym c.in-Ok.ensures.items) (c.with-range.ensures c.loop-subset.drawn.items c.loop-subset.invariant.range);
+          c.in_ok-content.content c.in_ok-content.ensures.is c.in_ok-content.ensures.content);
+      range = subst (IsRangeOf c.with-range.result) (sym c.in-Ok.ensures.items) (c.with-range.ensures c.loop-subset.contents.items c.loop-subset.invariant.range);
     }
 
 pub returns : goal.returns
 returns c =
     let row = c.args.row in
-    let cells = cells_at row.place (subsets_of row.entries.now) in
-    let many = count_cells row.place row.entries.now row.ends.now c.args.row.ends_are in
+    let cells = cells_at row.index (subsets_of row.entries.now) in
+    let many = count_cells row.index row.entries.now row.ends.now c.args.row.ends_are in
     let done = c.loop-subset.invariant.gathered in (
-      gathered (c.args.spec.now.width / 8) c.args.spec.now cells c.loop-subset.subset c.loop-subset.drawn.items done (omega (arith, c.loop-subset-test.false, many)),
+      gathered (c.args.spec.now.width / 8) c.args.spec.now cells c.loop-subset.subset c.loop-subset.contents.items done (omega (arith, c.loop-subset-test.false, many)),
       done.all,
       omega (arith, done.many, c.loop-subset.auto.subset-end, c.loop-subset-test.false, many),
       c.loop-subset.invariant.range,

@@ -1,4 +1,4 @@
-use Rattle.bufr_text.proofs.LawLemmas.{one-document, text-spells}
+use Rattle.bufr_text.proofs.DumpTextLemmas.{one-document, text-spells}
 use Rattle.bufr_text.proofs.laws.dump_text_spells_its_document.Goals as goal
 
 pub returns : goal.returns

@@ -1,3 +1,4 @@
+use Rattle.bufr_text.proofs.FormLemmas.{memory_alone}
 use Rattle.bufr_tables.proofs.SoundLemmas.{tree_fine}
 use Rattle.std.proofs.Common.{ℕ}
 use Rattle.bufr_tables.specs.Prelude.{tables_of}
@@ -5,8 +6,7 @@ use Rattle.bufr_text.specs.Prelude.{dump_items, IsEncodedAgain, document_of}
 use Rattle.bufr_text.proofs.DumpableLemmas.{dumpable}
 use Rattle.bufr_walk.proofs.NextField.{table_read}
 use Rattle.bufr_text.proofs.RoundTripLemmas.{encoded_again}
-use Rattle.bufr_text.proofs.LawLemmas.{one-document}
-use Rattle.bufr_text.proofs.PushLemmas.{memory_alone}
+use Rattle.bufr_text.proofs.DumpTextLemmas.{one-document}
 use Rattle.bufr_text.proofs.laws.dumped_messages_are_encoded_again.Goals as goal
 
 pub returns : goal.returns

@@ -13,4 +13,4 @@ returns c =
     (rw c.suffix.ensures at c.in_ok-text.ensures.value)
     (rw c.suffix-rest.ensures (value-decimal c.in_ok-text.text.now _ c.in_ok-number.count found.some found.within found.text found.octets (rw c.suffix-rest.ensures at stop)))
     (sym c.is_passed_after.ensures ∙ c.if-not-is_passed_after.false)
-    (rw c.ahead.ensures at c.in_ok-read.ensures)
+    (rw c.prefix-2.ensures at c.in_ok-read.ensures)

@@ -1,4 +1,4 @@
-use Rattle.bufr_text.proofs.PushLemmas.{unescaped_below}
+use Rattle.bufr_text.proofs.NumberLemmas.{unescaped_below}
 use Rattle.bufr_text.proofs.line.is_unescaped.Goals as goal
 
 pub returns : goal.returns

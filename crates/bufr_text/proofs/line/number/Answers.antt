@@ -1,5 +1,5 @@
 use Rattle.std.proofs.Common.{sym, ◌∙◌}
-use Rattle.bufr_text.proofs.PushLemmas.{number-on}
+use Rattle.bufr_text.proofs.NumberLemmas.{number-on}
 use Rattle.bufr_text.proofs.line.number.Goals as goal
 
 pub loop-octet-preserved : goal.loop-octet-preserved

@@ -1,4 +1,4 @@
-use Rattle.bufr_text.proofs.PushLemmas.{IsNumberTo}
+use Rattle.bufr_text.proofs.NumberLemmas.{IsNumberTo}
 use Rattle.bufr_text.proofs.line.number.Given as goal
 
 abbrev pub invariant-loop-octet : goal.invariant-loop-octet

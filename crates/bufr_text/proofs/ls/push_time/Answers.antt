@@ -1,5 +1,6 @@
 use Rattle.std.proofs.Common.{arith, refl}
-use Rattle.bufr_text.proofs.PushLemmas.{◌⨾◌, nothing_pushed, padded_two, padded_four, retold}
+use Rattle.bufr_text.proofs.PushLemmas.{◌⨾◌, nothing_pushed, retold}
+use Rattle.bufr_text.proofs.NumberLemmas.{padded_two, padded_four}
 use Rattle.bufr_text.proofs.ls.push_time.Goals as goal
 
 pub returns : goal.returns

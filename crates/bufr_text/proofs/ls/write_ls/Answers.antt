@@ -1,5 +1,6 @@
 use Rattle.std.proofs.Common.{◌∙◌, ap, length, refl, rules}
-use Rattle.bufr_text.proofs.PushLemmas.{all_written, line-pushed, flag_digit, ◌⨾◌, retold, is_some-map}
+use Rattle.bufr_text.proofs.PushLemmas.{all_written, line-pushed, ◌⨾◌, retold, is_some-map}
+use Rattle.bufr_text.proofs.NumberLemmas.{flag_digit}
 use Rattle.bufr_text.proofs.ls.write_ls.Goals as goal
 
 pub returns-clause-writes : goal.returns-clause-writes

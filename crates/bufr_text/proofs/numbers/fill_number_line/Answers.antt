@@ -1,7 +1,8 @@
 use Rattle.std.proofs.Common.{◌∙◌, Some, ap, append-nil, rules, sym, take, to_z, to_z-of_z, w16}
 use Rattle.bufr_bits.specs.Prelude.{sign_of, unsigned_text}
 use Rattle.bufr_text.specs.Prelude.{Puts}
-use Rattle.bufr_text.proofs.PushLemmas.{number_steps, sign-below, sign-none, puts_from, puts_retold, unsigned_places, unsigned_whole}
+use Rattle.bufr_text.proofs.PushLemmas.{puts_from, puts_retold}
+use Rattle.bufr_text.proofs.NumberLemmas.{number_steps, sign-below, sign-none, unsigned_places, unsigned_whole}
 use Rattle.bufr_text.proofs.numbers.fill_number_line.Goals.{then-number-lt0+in_ok-at-2, else-number-lt0, then-scale-eq0+then-size-lt10000+in_ok-at-3, else-scale-eq0+then-scale-eq1+then-size-lt100000+in_ok-at-4, else-scale-eq0+else-scale-eq1+then-scale-eq2+then-size-lt1000000+in_ok-at-5, else-scale-eq0+else-scale-eq1+else-scale-eq2+in_ok-at-6}
 use Rattle.bufr_text.proofs.numbers.fill_number_line.Goals as goal
 

@@ -7,29 +7,29 @@ use Rattle.bufr_fill.proofs.RowLemmas.{many_fault, put_fault}
 use Rattle.bufr_fill.proofs.packed_out.PackedOutFields.take.Goals as goal
 
 abbrev with_bits : List Subset → ℕ → List Bool → PackedOutModel
-with_bits subsets place bits = record { subsets = subsets; place = place; bits = bits }
+with_bits subsets index bits = record { subsets = subsets; index = index; bits = bits }
 
 -- the room that one more item takes
-room_for : (old new item : List Bool) (place count : ℕ) → new ≡ old ++ item → length old ≤ 2550 * (place * count) → length item ≤ 2046 + 504 * count → 1 ≤ count
-    → length new ≤ 2550 * ((place + 1) * count)
-room_for old new item place count e room few some = omega (arith, ap length e, length-append old item)
+room_for : (old new item : List Bool) (index count : ℕ) → new ≡ old ++ item → length old ≤ 2550 * (index * count) → length item ≤ 2046 + 504 * count → 1 ≤ count
+    → length new ≤ 2550 * ((index + 1) * count)
+room_for old new item index count e room few some = omega (arith, ap length e, length-append old item)
 
-pub put_drawn-requires-clause-room : goal.put_drawn-requires-clause-room
-put_drawn-requires-clause-room c =
+pub pack_row-requires-clause-room : goal.pack_row-requires-clause-room
+pack_row-requires-clause-room c =
     omega (arith, c.self.invariant.room, c.self.invariant.values, c.self.invariant.few, ends_few 0 c.self.inside.entries.now, ap length c.self.invariant.ends_are, ap length c.deref.ensures.value)
 
-pub put_drawn-requires-clause-many : goal.put_drawn-requires-clause-many
-put_drawn-requires-clause-many c =
+pub pack_row-requires-clause-many : goal.pack_row-requires-clause-many
+pack_row-requires-clause-many c =
     let d = c.self.inside in
-    omega (arith, ap length c.deref-2.ensures.value, ap length c.deref.ensures.value, c.in_ok-range.ensures.2, count_cells d.place d.entries.now d.ends.items c.self.invariant.ends_are)
+    omega (arith, ap length c.deref-2.ensures.value, ap length c.deref.ensures.value, c.in_ok-range.ensures.2, count_cells d.index d.entries.now d.ends.items c.self.invariant.ends_are)
 
 pub returns-then-row-gt-MAX_VALUES-clause-step : goal.returns-then-row-gt-MAX_VALUES-clause-step
 returns-then-row-gt-MAX_VALUES-clause-step c =
     let d = c.self.inside in
-    let many : length c.deref.result.now ≡ length (cells_at d.place (subsets_of d.entries.now)) =
-    ap length c.deref.ensures.value ∙ sym (count_cells d.place d.entries.now d.ends.items c.self.invariant.ends_are) in (
-      subst (λ (s : PackedOutModel). pack_across c.args.spec.now (item_row s.place s.subsets) ≡ Err (at_line c.first_line.result (too_many_values c.fxy.result))) c.self.view_is
-          (many_fault c.args.spec.now d.place (subsets_of d.entries.now) (subst (λ n. max_values < (d.place + 1) * n) many c.if-row-gt-MAX_VALUES.true)
+    let many : length c.deref.result.now ≡ length (cells_at d.index (subsets_of d.entries.now)) =
+    ap length c.deref.ensures.value ∙ sym (count_cells d.index d.entries.now d.ends.items c.self.invariant.ends_are) in (
+      subst (λ (s : PackedOutModel). pack_across c.args.spec.now (item_row s.index s.subsets) ≡ Err (at_line c.first_line.result (too_many_values c.fxy.result))) c.self.view_is
+          (many_fault c.args.spec.now d.index (subsets_of d.entries.now) (subst (λ n. max_values < (d.index + 1) * n) many c.if-row-gt-MAX_VALUES.true)
           ∙ ap (λ n. Err (at_line n (too_many_values c.args.spec.now.fxy))) (sym c.first_line.ensures)
           ∙ ap (λ f. Err (at_line c.first_line.result (too_many_values f))) (sym c.fxy.ensures)),
       refl,
@@ -39,12 +39,12 @@ pub returns-in_err-range-clause-step : goal.returns-in_err-range-clause-step
 returns-in_err-range-clause-step c =
     let d = c.self.inside in
     let passed = err_from_is_err_and c.from_residual.result c.from_residual.ensures.1 in
-    let many : length c.deref.result.now ≡ length (cells_at d.place (subsets_of d.entries.now)) =
-    ap length c.deref.ensures.value ∙ sym (count_cells d.place d.entries.now d.ends.items c.self.invariant.ends_are) in
-    let few = subst (λ n. (d.place + 1) * n ≤ max_values) many c.if-row-gt-MAX_VALUES.false in
+    let many : length c.deref.result.now ≡ length (cells_at d.index (subsets_of d.entries.now)) =
+    ap length c.deref.ensures.value ∙ sym (count_cells d.index d.entries.now d.ends.items c.self.invariant.ends_are) in
+    let few = subst (λ n. (d.index + 1) * n ≤ max_values) many c.if-row-gt-MAX_VALUES.false in
     let why = c.in_err-range.field-0.0 in
     rw (passed.1 ∙ ap Err passed.2) (
-      subst (λ (s : PackedOutModel). IfDraftFault why (λ f. pack_across c.args.spec.now (item_row s.place s.subsets) ≡ Err f)) c.self.view_is
-          (put_fault c.args.spec.now d.place (subsets_of d.entries.now) few why c.in_err-range.ensures),
+      subst (λ (s : PackedOutModel). IfDraftFault why (λ f. pack_across c.args.spec.now (item_row s.index s.subsets) ≡ Err f)) c.self.view_is
+          (put_fault c.args.spec.now d.index (subsets_of d.entries.now) few why c.in_err-range.ensures),
       c.self.view_is,
     )

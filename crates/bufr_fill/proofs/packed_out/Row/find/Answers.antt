@@ -1,6 +1,6 @@
 use Rattle.std.proofs.Common.{sym, ap, ◌∙◌, ◌≡◌, ◌≤◌, ◌-◌, ◌^◌, rules, arith, slice_get}
 use Rattle.bufr_fill.specs.Prelude.{entry_with}
-use Rattle.bufr_fill.proofs.EntryLemmas.{begin_of, begin_more, end_within, none_there, found_entry}
+use Rattle.bufr_fill.proofs.EntryLemmas.{begin_of, begin_more, end_within, found_entry}
 use Rattle.bufr_fill.proofs.packed_out.Row.find.Goals as goal
 use Rattle.bufr_fill.proofs.packed_out.Row.find.Goals.{then-subset-eq0, else-subset-eq0}
 
@@ -17,14 +17,8 @@ overflow_add-start-2 c =
     ] in
     omega (arith, few, c.args.self.near)
 
-pub unreachable-requires : goal.unreachable-requires
-unreachable-requires c =
-    omega (
-      arith,
-      none_there c.args.self.entries.now c.min.result c.in-None.ensures,
-      c.min.ensures,
-      end_within c.args.self.entries.now c.args.self.ends.now c.args.subset c.args.self.ends_are c.requires,
-    )
+pub entry_at-requires : goal.entry_at-requires
+entry_at-requires c = omega (arith, c.min.ensures, end_within c.args.self.entries.now c.args.self.ends.now c.args.subset c.args.self.ends_are c.requires)
 
 pub returns : goal.returns
 returns c =
@@ -34,6 +28,6 @@ returns c =
       | then-subset-eq0 w ↦ w.start-is ∙ ap (begin_of 0 ends) (sym w.if-subset-eq0.true)
       | else-subset-eq0 w ↦ search (rules, begin_more)
     ] in
-    found_entry c.args.self.place c.args.subset c.args.self.entries.now c.args.self.ends.now 0 c.if-subset-eq0.start (entry_with c.in-Some.found.0 c.in-Some.found.1.now) c.args.self.ends_are
+    found_entry c.args.self.index c.args.subset c.args.self.entries.now c.args.self.ends.now 0 c.if-subset-eq0.start (entry_with c.entry_at.result.0 c.entry_at.result.1.now) c.args.self.ends_are
     c.requires begin
-    (ap (slice_get c.args.self.entries.now) (sym c.min.ensures) ∙ sym c.in-Some.ensures)
+    (ap (slice_get c.args.self.entries.now) (sym c.min.ensures) ∙ sym c.entry_at.ensures)

@@ -7,10 +7,10 @@ pub returns-in-Some : goal.returns-in-Some
 returns-in-Some c =
     let d = c.self.inside in
     let octets = c.in-Some.field-0-1.now in
-    sym (ap line_at (left_there d.entries.now d.place d.out.bits c.args.self.now (entry_with c.in-Some.entry octets) c.self.view_is c.in-Some.ensures)
-    ∙ line-with c.in-Some.entry octets (drop (d.place + 1) d.entries.now))
+    sym (ap line_at (left_there d.entries.now d.index d.out.bits c.args.self.now (entry_with c.in-Some.entry octets) c.self.view_is c.in-Some.ensures)
+    ∙ line-with c.in-Some.entry octets (drop (d.index + 1) d.entries.now))
 
 pub returns-in-None : goal.returns-in-None
 returns-in-None c =
     let d = c.self.inside in
-    sym (ap line_at (left_none d.entries.now d.place d.out.bits c.args.self.now c.self.view_is c.in-None.ensures))
+    sym (ap line_at (left_none d.entries.now d.index d.out.bits c.args.self.now c.self.view_is c.in-None.ensures))

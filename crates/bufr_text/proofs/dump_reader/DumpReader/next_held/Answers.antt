@@ -43,7 +43,7 @@ returns-then-ended c =
     let held = ends-none v.input.held (c.self-2.invariant.2 ended) (ap (λ x. has_no_feed x.held) is ∙ went.2) in
     let none = sym (ap (λ s. s.fault) c.self.view_is) ∙ none-unless c.self.inside.fault c.in_default.not-Some in
     let progress = c.self-2.invariant.3 (ap (λ x. x.fault) is ∙ went.1) in
-    let R : ReaderModel → Type 0 = λ x. reported_at_end x.at x.place.0 ≡ Refused x.at NotAllowed ∷ [] in
+    let R : ReaderModel → Type 0 = λ x. reported_at_end x.at x.parsing.0 ≡ Refused x.at NotAllowed ∷ [] in
     let reports = subst R is (reported-inside v.progress.state v.progress.at (parsing-reads v.progress.at (parsing_of v.progress) progress.holds) c.in_default-state.not-Between) in
     let end = end-inside s c.stop.new.self v.progress.at c.stop.result (sym (ap (λ x. x.ended) is) ∙ ended) (sym (ap (λ x. x.held) is) ∙ held) reports (ap (λ x. x.at) is) c.stop.ensures.new
     c.stop.ensures.value in
@@ -70,7 +70,7 @@ returns-then-held-gt-MAX_LINE-clause-gives c = λ sound left mid first bs before
     let call = call-takes left mid first c.args.self.now s bs [] before went.0 c.take_held.ensures.ended c.take_held.ensures.reads in
     let waits = waits-same left first c.args.self.now s bs bs waited c.take_held.ensures.reads refl in
     let progress = c.self-2.invariant.3 (ap (λ x. x.fault) is ∙ went.1) in
-    let R : ReaderModel → Type 0 = λ x. Reads x.place.0 in
+    let R : ReaderModel → Type 0 = λ x. Reads x.parsing.0 in
     let long : 4096 < length s.held = omega (arith, c.if-held-gt-MAX_LINE.true, ap length c.held.ensures, ap (λ s. length s.held) is) in
     let reports = long-reports s (subst R is (parsing-reads v.progress.at (parsing_of v.progress) progress.holds)) went.2 long in
     let stop = c.stop-then-held-gt-MAX_LINE in

@@ -1,4 +1,5 @@
-use Rattle.bufr_text.proofs.PushLemmas.{so_far_on, so_far_end, hex_next, hex_none}
+use Rattle.bufr_text.proofs.PushLemmas.{so_far_on, so_far_end}
+use Rattle.bufr_text.proofs.NumberLemmas.{hex_next, hex_none}
 use Rattle.bufr_text.proofs.line_writer.LineWriter.push_hex.Goals as goal
 
 pub loop-octet-preserved : goal.loop-octet-preserved

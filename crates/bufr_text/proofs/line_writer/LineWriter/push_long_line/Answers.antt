@@ -1,6 +1,7 @@
 use Rattle.std.proofs.Common.{rules}
 use Rattle.bufr_bits.specs.Prelude.{decimal_text_of}
-use Rattle.bufr_text.proofs.PushLemmas.{◌⨾◌, retold, parts_same}
+use Rattle.bufr_text.proofs.PushLemmas.{◌⨾◌, retold}
+use Rattle.bufr_text.proofs.NumberLemmas.{parts_same}
 use Rattle.bufr_text.proofs.line_writer.LineWriter.push_long_line.Goals as goal
 
 pub returns : goal.returns

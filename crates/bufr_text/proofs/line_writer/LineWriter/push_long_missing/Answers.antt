@@ -1,5 +1,6 @@
 use Rattle.std.proofs.Common.{codes, refl}
-use Rattle.bufr_text.proofs.PushLemmas.{◌⨾◌, retold, parts_same}
+use Rattle.bufr_text.proofs.PushLemmas.{◌⨾◌, retold}
+use Rattle.bufr_text.proofs.NumberLemmas.{parts_same}
 use Rattle.bufr_text.proofs.line_writer.LineWriter.push_long_missing.Goals as goal
 
 pub returns : goal.returns

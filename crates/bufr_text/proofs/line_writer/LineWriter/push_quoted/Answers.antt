@@ -1,7 +1,8 @@
 use Rattle.std.proofs.Common.{◌∙◌, ◌++◌, ap, arith, sym, take}
 use Rattle.std.proofs.lemmas.Bool.Decides.{nat_tests}
 use Rattle.bufr_text.specs.Prelude.{quoted}
-use Rattle.bufr_text.proofs.PushLemmas.{quoted_end, quoted_step, so_far_on, so_far_last}
+use Rattle.bufr_text.proofs.PushLemmas.{so_far_on, so_far_last}
+use Rattle.bufr_text.proofs.NumberLemmas.{quoted_end, quoted_step}
 use Rattle.bufr_text.proofs.line_writer.LineWriter.push_quoted.Goals as goal
 use Rattle.std.proofs.lemmas.Grind.{common_steps}
 

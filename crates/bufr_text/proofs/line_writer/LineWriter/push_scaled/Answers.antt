@@ -2,7 +2,8 @@ use Rattle.std.proofs.Common.{◌≡◌, ◌∙◌, ◌==◌, ap, refl, arith, f
 use Rattle.std.proofs.lemmas.Bool.Decides.{nat_tests}
 use Rattle.bufr_bits.specs.Prelude.{pointed, sign_of, unsigned_text, decimal_text_of}
 use Rattle.bufr_text.specs.Prelude.{Pushes, LineModel}
-use Rattle.bufr_text.proofs.PushLemmas.{◌⨾◌, retold, pointed_few, pointed_many, unsigned_pointed, unsigned_plain, signed_text, sign-below, sign-none}
+use Rattle.bufr_text.proofs.PushLemmas.{◌⨾◌, retold}
+use Rattle.bufr_text.proofs.NumberLemmas.{pointed_few, pointed_many, unsigned_pointed, unsigned_plain, signed_text, sign-below, sign-none}
 use Rattle.bufr_text.proofs.line_writer.LineWriter.push_scaled.Given.{Over}
 use Rattle.bufr_text.proofs.line_writer.LineWriter.push_scaled.Goals.{After-push, else-size-eq0, then-size-eq0, then-value-lt0, else-value-lt0}
 use Rattle.bufr_text.proofs.line_writer.LineWriter.push_scaled.Goals as goal

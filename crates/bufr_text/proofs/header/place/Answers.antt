@@ -1,7 +1,0 @@
-use Rattle.std.proofs.Common.{◌∙◌}
-use Rattle.bufr_text.proofs.HeaderLemmas.{place-is}
-use Rattle.bufr_text.proofs.header.place.Goals as goal
-
-pub returns-clause-value : goal.returns-clause-value
-returns-clause-value c =
-    c.position.ensures ∙ place-is (λ key. key.0.now) c.args.name.now c.keys.result.now c.keys.ensures.leads
