@@ -1,4 +1,5 @@
 -- The bits that are written of drafts read as the contents of the drafts.
+use Rattle.std.proofs.lemmas.List.{drop_all}
 use Rattle.std.proofs.Common.{◌≡◌, ℕ, zero, suc, ◌+◌, ◌*◌, ◌≤◌, Bool, true, false, List, [], ◌∷◌, ◌++◌, length, drop, Option, Some, None, Result, Ok, Err, refl, sym, ◌∙◌, ap, subst, arith, append_assoc, slice_get, if◌then◌else◌}
 use Rattle.bufr_fill.proofs.FieldLemmas.{same_ok}
 use Rattle.bufr_fill.proofs.EntryLemmas.{length-cells}
@@ -222,12 +223,6 @@ draft_next spec c (d ∷ ds) (suc p) h =
     let q : suc (p + 1) ≡ suc p + 1 = omega arith in
     (r.0, r.1 ∙ ap (λ k. r.0 ∷ drop k (d ∷ ds)) q, r.2)
 
-drop_none : {A : Type 0} (n : ℕ) (xs : List A) → length xs ≤ n → drop n xs ≡ []
-drop_none zero [] h = refl
-drop_none (suc n) [] h = refl
-drop_none zero (x ∷ xs) h = absurd (omega (arith, h))
-drop_none (suc n) (x ∷ xs) h = drop_none n xs (omega (arith, h))
-
 abbrev RowsSaid : ℕ → List (Item (List Content)) → List ItemRow → Type 0
 RowsSaid j [] [] = Unit {0}
 RowsSaid j [] (a ∷ more) = ⊥
@@ -241,7 +236,7 @@ rows_said n items more h = absurd h
 
 first_subset : (j count from : ℕ) (s : Subset) (ss : List Subset) (items : List (Item (List Content))) → RowsSaid j items (rows count from (s ∷ ss)) → length s.items ≤ from + count
     → AreDrafts IsSaid (items_of_subset j items) (drop from s.items)
-first_subset j zero from s ss [] h l = subst (AreDrafts IsSaid []) (sym (drop_none from s.items (omega (arith, l)))) tt
+first_subset j zero from s ss [] h l = subst (AreDrafts IsSaid []) (sym (drop_all from s.items (omega (arith, l)))) tt
 first_subset j zero from s ss (i ∷ items) h l = absurd h
 first_subset j (suc count) from s ss [] h l = absurd h
 first_subset j (suc count) from s ss (i ∷ items) h l =

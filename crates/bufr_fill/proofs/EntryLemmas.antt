@@ -92,14 +92,14 @@ begin_after from (e ∷ ends) (suc s) d h = begin_after (suc e) ends s d (omega 
 pub begin_more : (ends : List ℕ) (s : ℕ) (d : ℕ) → 1 ≤ s → s < length ends → begin_of 0 ends s ≡ get_or ends (s - 1) d + 1
 begin_more ends s d some h = grind (arith, common_steps, begin_after, next)
 
+pub length-prepended : (d : Draft) (ss : List Subset) → length (prepend_to_subset d ss) ≡ length ss
+length-prepended d [] = refl
+length-prepended d (s ∷ ss) = refl
+
 pub length-subsets : (from : ℕ) (xs : List DraftEntry) → length (subsets_of xs) ≡ length (ends_of from xs)
 length-subsets from [] = refl
 length-subsets from (Ends line ∷ more) = ap suc (length-subsets (from + 1) more)
-length-subsets from (Holds d ∷ more) = length-onto d (subsets_of more) ∙ length-subsets (from + 1) more
-  where
-    length-onto : (d : Draft) (ss : List Subset) → length (prepend_to_subset d ss) ≡ length ss
-    length-onto d [] = refl
-    length-onto d (s ∷ ss) = refl
+length-subsets from (Holds d ∷ more) = length-prepended d (subsets_of more) ∙ length-subsets (from + 1) more
 
 -- the entry of a subset at an index
 pub record IsSubsetEnd (index s from : ℕ) (xs : List DraftEntry) (ends : List ℕ) (e : ℕ) (c : RowCell) : Type 0 where
@@ -156,11 +156,6 @@ end_small from (Holds d ∷ more) s z h = omega (arith, end_small (from + 1) mor
 end_small from (Ends line ∷ more) zero z h = omega arith
 end_small from (Ends line ∷ more) (suc s) z h = omega (arith, end_small (from + 1) more s z (omega (arith, h)))
 
-pub get_there : {X : Type 0} (xs : List X) (s : ℕ) (z : X) → s < length xs → slice_get xs s ≡ Some (get_or xs s z)
-get_there [] s z h = absurd (omega (arith, h))
-get_there (x ∷ xs) zero z h = refl
-get_there (x ∷ xs) (suc s) z h = get_there xs s z (omega (arith, h))
-
 -- where the code finds none, there is none
 pub none_there : {X : Type 0} (xs : List X) (s : ℕ) → None ≡ slice_get xs s → length xs ≤ s
 none_there [] s h = omega arith
@@ -189,7 +184,7 @@ end_within xs ends s e h = omega (arith, ap (λ l. get_or l s 0) e, end_small 0 
 pub found_entry : (index s : ℕ) (xs : List DraftEntry) (ends : List ℕ) (z : ℕ) (begin : ℕ) (e : DraftEntry) → ends ≡ ends_of 0 xs → s < length ends → begin ≡ begin_of 0 ends s
     → slice_get xs (min (get_or ends s z) (begin + index)) ≡ Some e
     → (c : RowCell) → slice_get (cells_at index (subsets_of xs)) s ≡ Some c → e ≡ entry_or_end c.draft c.end_line
-found_entry index s xs ends z begin e is h b found c cell = grind (arith, common_steps, slice_get, get_there, entry_there)
+found_entry index s xs ends z begin e is h b found c cell = grind (arith, common_steps, slice_get, slice_get-get_or, entry_there)
 
 pub ends_few : (from : ℕ) (xs : List DraftEntry) → length (ends_of from xs) ≤ length xs
 ends_few from [] = omega arith

@@ -301,8 +301,3 @@ answer_count spec c n e h = ap taken.Count h ∙ sym (ap (λ r. answer_by_role r
 
 pub answer_reference : (spec : FieldSpec) (c : Content) (v : ℤ) → spec.role ≡ role.Reference → v ≡ reference_in c → taken.Reference v ≡ answer_of spec c
 answer_reference spec c v e h = ap taken.Reference h ∙ sym (ap (λ r. answer_by_role r c) e)
-
--- a number is written in at most 63 bits
-pub content_narrow : (m : Bool) (w raw : ℕ) → raw < raw_limit m w → raw < 2 ^ w
-content_narrow true w raw h = omega (arith, h)
-content_narrow false w raw h = h

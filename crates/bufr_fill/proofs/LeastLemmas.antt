@@ -9,7 +9,7 @@ use Rattle.std.proofs.lemmas.Slice.Eq.{bytes_eq-Decides}
 use Rattle.std.proofs.lemmas.Bool.Decides.{Decides-int_eq}
 use Rattle.bufr_fill.specs.Prelude.{raw_limit, spaced, padded_content, same, are_same, smaller, lowest, first_from, has_bits, least_k, increment_bits, packed_bits, numbers_over, packed_by, has_octets, octet_bits, packed_texts, FitsNumber, FieldContent, AreContentsOf, padded_contents, spread, least_from, AreShort, trimmed, need, most_need, over_of, number_or, least_number}
 use Rattle.std.specs.List.{list_all, flat_map, AllByRecursion}
-use Rattle.std.proofs.lemmas.List.{length-append}
+use Rattle.std.proofs.lemmas.List.{length-append, take_all}
 use Rattle.bufr_bits.specs.Prelude.{bits_in}
 use Rattle.bufr_tables.specs.Prelude.{is_character}
 use Rattle.bufr_fill.specs.declared.field_value.FieldContent.TheVariants as field_content
@@ -341,12 +341,6 @@ take_prefix (suc n) (o ∷ os) r h = ap (λ xs. o ∷ xs) (take_prefix n os r (o
 need_spaced : (count : ℕ) (os : List ℕ) → need (spaced count os) ≡ need os
 need_spaced count os = grind (arith, common_steps, trimmed_spaced, take_prefix, trimmed_within)
 
-take_all : (os : List ℕ) (n : ℕ) → length os ≤ n → take n os ≡ os
-take_all [] zero h = refl
-take_all [] (suc n) h = refl
-take_all (o ∷ os) zero h = absurd (omega (arith, h))
-take_all (o ∷ os) (suc n) h = ap (λ xs. o ∷ xs) (take_all os n (omega (arith, h)))
-
 -- the field has the octets that determine a text
 need_room : (count : ℕ) (os : List ℕ) → (length os ≤ count) × (list_all (λ octet. octet == 255) (spaced count os) ≡ false) → need os ≤ count
 need_room count os h = by (full (take (trimmed os) os)) refl
@@ -355,7 +349,7 @@ need_room count os h = by (full (take (trimmed os) os)) refl
     none e f =
         let all : length os ≤ trimmed os = omega (arith, e, h.0) in
         let no : count - length os ≡ 0 = omega (arith, e, trimmed_within os) in
-        true_false (full (spaced count os)) (ap (λ n. full (os ++ replicate n 32)) no ∙ ap full (append_none os ∙ sym (take_all os (trimmed os) all)) ∙ f) h.1
+        true_false (full (spaced count os)) (ap (λ n. full (os ++ replicate n 32)) no ∙ ap full (append_none os ∙ sym (take_all (trimmed os) os all)) ∙ f) h.1
       where
         append_none : (xs : List ℕ) → xs ++ [] ≡ xs
         append_none [] = refl

@@ -6,7 +6,7 @@ use Rattle.std.proofs.Math.Bool.{and_assoc}
 use Rattle.std.specs.List.{flat_map, list_all}
 use Rattle.std.proofs.Math.Nat.{mul-le-mul_right}
 use Rattle.std.proofs.Math.Seq.{drop-cons}
-use Rattle.std.proofs.lemmas.List.{append-nil, take-replicate, length-append}
+use Rattle.std.proofs.lemmas.List.{append-nil, take-replicate, length-append, drop_all}
 use Rattle.bufr_bits.specs.Prelude.{bits_of}
 use Rattle.std.specs.Str.{bytes_eq}
 use Rattle.bufr_fill.specs.Prelude.{spaced, Taken, Role, FieldContent, padded_content, IsContentOf, raw_limit, AreContentsOf, padded_contents, need_of, most_need, FitsIncrement, AreShort, least_from, entry_or_end, entry_here, and_end, all_at_end, IsPutWithin, trimmed, same, are_same, first_from, packing, packed_bits, packed_by, packed_unlike, RowCell, content_here, contents_here, first_unlike, unlike_line, cell_line, line_in, first_line, ◌>>=◌, item_row, cells_at, packed_to, pack_across, written_item, Draft, DraftEntry, Holds, Ends, Subset, DraftFault, at_line, item_too_many, too_many_values, IfDraftFault, is_end}
@@ -52,19 +52,13 @@ other_references a b h = by (same (reference a) (reference b)) refl
 pub at_next : {X : Type 0} (xs : List X) (i : ℕ) (x : X) → i < length xs → x ≡ get_or xs i x → drop i xs ≡ x ∷ drop (i + 1) xs
 at_next xs i x h e = drop-cons xs i x h ∙ ap (λ y. y ∷ drop (suc i) xs) (sym e) ∙ ap (λ j. x ∷ drop j xs) (sym (add-one i))
 
-drop_all : {X : Type 0} (xs : List X) (n : ℕ) → length xs ≤ n → drop n xs ≡ []
-drop_all [] zero h = refl
-drop_all [] (suc n) h = refl
-drop_all (x ∷ xs) zero h = absurd (omega (arith, h))
-drop_all (x ∷ xs) (suc n) h = drop_all xs n (omega (arith, h))
-
 -- the octets needed so far, and by those that are left
 pub need_more : (ds : List FieldContent) (i : ℕ) (d : FieldContent) (most one : ℕ) → i < length ds → d ≡ get_or ds i d → max most (most_need (drop i ds)) ≡ most_need ds → one ≡ need_of d
     → max (max one most) (most_need (drop (i + 1) ds)) ≡ most_need ds
 need_more ds i d most one h e inv is = omega (arith, ap most_need (at_next ds i d h e), inv, is)
 
 pub need_done : (ds : List FieldContent) (i most : ℕ) → 1 ≤ most → length ds ≤ i → max most (most_need (drop i ds)) ≡ most_need ds → most ≡ most_need ds
-need_done ds i most some h inv = omega (arith, some, ap most_need (drop_all ds i h), inv)
+need_done ds i most some h inv = omega (arith, some, ap most_need (drop_all i ds h), inv)
 
 -- the first k that passes
 first_here : (p : ℕ → Bool) (fuel k : ℕ) → 1 ≤ fuel → p k ≡ true → first_from p fuel k ≡ k
@@ -121,7 +115,7 @@ flat_more f count old now new ds i z h inv is = grind (arith, common_steps, flat
 
 pub flat_done : (f : Content → List Bool) (count : ℕ) (old now : List Bool) (ds : List FieldContent) (i : ℕ) → length ds ≤ i
     → now ++ flat_map f (padded_contents count (drop i ds)) ≡ old ++ flat_map f (padded_contents count ds) → now ≡ old ++ flat_map f (padded_contents count ds)
-flat_done f count old now ds i h inv = sym (append-nil now) ∙ ap (λ xs. now ++ flat_map f (padded_contents count xs)) (sym (drop_all ds i h)) ∙ inv
+flat_done f count old now ds i h inv = sym (append-nil now) ∙ ap (λ xs. now ++ flat_map f (padded_contents count xs)) (sym (drop_all i ds h)) ∙ inv
 
 -- n numbers of k bits, of which i were put: there is room for the next, and for those after it
 pub room_next : (n i k room next : ℕ) → n * k ≤ room + i * k → room ≤ next + k → n * k ≤ next + (i + 1) * k
@@ -143,7 +137,7 @@ alike_not count c ds i d h e inv is = inv ∙ ap (λ xs. are_same c (padded_cont
 
 pub alike_done : (count : ℕ) (c : Content) (ds : List FieldContent) (i : ℕ) → length ds ≤ i → are_same c (padded_contents count ds) ≡ are_same c (padded_contents count (drop i ds))
     → are_same c (padded_contents count ds) ≡ true
-alike_done count c ds i h inv = inv ∙ ap (λ xs. are_same c (padded_contents count xs)) (drop_all ds i h)
+alike_done count c ds i h inv = inv ∙ ap (λ xs. are_same c (padded_contents count xs)) (drop_all i ds h)
 
 -- octets of zeros
 zeros_are : (n : ℕ) → bits_of (replicate n 0) ≡ replicate (8 * n) false
@@ -223,7 +217,7 @@ module _ (count : ℕ) (spec : FieldSpec) (cells : List RowCell) (j : ℕ) (ds :
 
 pub gathered : (count : ℕ) (spec : FieldSpec) (cells : List RowCell) (j : ℕ) (ds : List FieldContent) → IsGathering count spec cells j ds → length cells ≤ j
     → contents_here spec cells ≡ Ok (padded_contents count ds)
-gathered count spec cells j ds inv h = inv.so ∙ ap (λ cs. with_contents_before (padded_contents count ds) (contents_here spec cs)) (drop_all cells j h) ∙ ap Ok (append-nil (padded_contents count ds))
+gathered count spec cells j ds inv h = inv.so ∙ ap (λ cs. with_contents_before (padded_contents count ds) (contents_here spec cs)) (drop_all j cells h) ∙ ap Ok (append-nil (padded_contents count ds))
 
 -- whether all subsets end
 pub end_item : (cells : List RowCell) (j : ℕ) (e : DraftEntry) → j < length cells → ((c : RowCell) → slice_get cells j ≡ Some c → e ≡ entry_or_end c.draft c.end_line) → is_end e ≡ false
@@ -251,7 +245,7 @@ end_more cells j (Ends line) h here is inv = by (cell_at cells j h)
     by k = inv ∙ ap all_at_end k.left ∙ ends k.cell.draft k.cell.end_line (sym (here k.cell k.is)) (all_at_end (drop (j + 1) cells))
 
 pub end_done : (cells : List RowCell) (j : ℕ) → length cells ≤ j → all_at_end cells ≡ all_at_end (drop j cells) → all_at_end cells ≡ Ok tt
-end_done cells j h inv = inv ∙ ap all_at_end (drop_all cells j h)
+end_done cells j h inv = inv ∙ ap all_at_end (drop_all j cells h)
 
 -- the first subset's line
 pub first_is : (cells : List RowCell) (n : ℕ) → 0 < length cells → ((c : RowCell) → slice_get cells 0 ≡ Some c → n ≡ cell_line c) → n ≡ first_line cells

@@ -201,7 +201,7 @@ pub(crate) fn put_full(out: &mut BitWriter, count: usize)
 
 /// Writes the content of a field, in the field's bits.
 #[inline(always)]
-#[tactic(auto, using(crate::proofs::FieldLemmas::content_narrow, crate::proofs::FieldLemmas::spaced_prefix, crate::proofs::FieldLemmas::eighths_ones, crate::proofs::FieldLemmas::ones_bits, crate::proofs::FieldLemmas::negative_bits, crate::proofs::FieldLemmas::positive_bits))]
+#[tactic(auto, using(crate::proofs::FieldLemmas::top_below, crate::proofs::FieldLemmas::spaced_prefix, crate::proofs::FieldLemmas::eighths_ones, crate::proofs::FieldLemmas::ones_bits, crate::proofs::FieldLemmas::negative_bits, crate::proofs::FieldLemmas::positive_bits))]
 // rule: writes-plus-zero
 pub(crate) fn put_content(out: &mut BitWriter, content: FieldContent<'_>, spec: &Spec)
     requires content { IsContentOf spec.now content }
@@ -229,7 +229,7 @@ pub(crate) fn put_content(out: &mut BitWriter, content: FieldContent<'_>, spec: 
 
 /// Makes room for the content of a field, and writes it in the field's bits.
 #[inline(always)]
-#[tactic(auto, using(crate::proofs::FieldLemmas::content_narrow))]
+#[tactic(auto, using(crate::proofs::FieldLemmas::top_below))]
 pub(crate) fn push_content(
     out: &mut BitWriter,
     content: FieldContent<'_>,

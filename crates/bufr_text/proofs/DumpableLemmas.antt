@@ -56,7 +56,7 @@ pub record AreGiven (s : Sections) : Type 0 where
   pub descriptors : AllByRecursion IsDescriptorWord s.descriptors
   pub few : s.subsets < 65536
 
-optional_octets : (b : Bool) (octets : List ℕ) → AllByRecursion IsOctet octets → AllByRecursion IsOctet (unwrap_or (if b then Some octets else None) [])
+pub optional_octets : (b : Bool) (octets : List ℕ) → AllByRecursion IsOctet octets → AllByRecursion IsOctet (unwrap_or (if b then Some octets else None) [])
 optional_octets true octets h = h
 optional_octets false octets h = tt
 

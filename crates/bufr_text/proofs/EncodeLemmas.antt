@@ -2,7 +2,7 @@
 use Rattle.std.proofs.Common.{inl, inr, ◌≡◌, ◌+◌, ℕ, suc, Bool, List, [], ◌∷◌, ◌++◌, length, length-append, Option, Some, None, Result, Ok, Err, refl, sym, ◌∙◌, ap, subst, arith, ◌<◌, get_or, true, false, ◌≤◌, zero, ◌-◌, ◌*◌, append_assoc, if◌then◌else◌}
 use Rattle.bufr_walk.specs.declared.spec.Taken.{Taken}
 use Rattle.bufr_walk.specs.Prelude.{FieldSpec, octets_in, Course, Next, take_next, at_end, astray, refused, NextTurn, asked, operated, ahead, counts_of, next_item, Turns, finish, open_end, group, pass_end, factor_turn, element_turn, operator_turn, Rest, passes, unroll, TakenField, Takes, course_after, ticked, answers_of, oks, StopsWalk, Walked, element_spec, factor_spec, inserted_spec, OperatorModel, after_operator, after_field}
-use Rattle.bufr_fill.specs.Prelude.{IfDraftFault, at_line, Draft, DraftEntry, Holds, Ends, Subset, subset, prepend_to_subset, subsets_of, WrittenItem, Filler, fill_pass, bits_written, bits_or, fill, with_bits_before, Writing, pass_writing, writing_then, bits_of_writing, plainly, plain_filler, plain_writing, plain_data, packed_writing, cells_at, rows, longest, are_many, packed_filler, packed_data, AreOctets, PlainOutModel, PlainFills, IsFaultNext, after_end, line_at, items_left, end_left, ends_of, PackedOutModel, new_packed_out, PackedFills, IsFaultHere, all_at_end, first_line_at, rows_left}
+use Rattle.bufr_fill.specs.Prelude.{IfDraftFault, at_line, DraftEntry, Holds, Ends, Subset, subset, prepend_to_subset, subsets_of, WrittenItem, Filler, fill_pass, bits_written, bits_or, fill, with_bits_before, Writing, pass_writing, writing_then, bits_of_writing, plainly, plain_filler, plain_writing, plain_data, packed_writing, cells_at, rows, longest, are_many, packed_filler, packed_data, AreOctets, PlainOutModel, PlainFills, IsFaultNext, after_end, line_at, items_left, end_left, ends_of, PackedOutModel, new_packed_out, PackedFills, IsFaultHere, all_at_end, first_line_at, rows_left}
 use Rattle.bufr_fill.specs.declared.fault.DraftFault.{DraftFault}
 use Rattle.bufr_fill.proofs.FillSteps.{pass_at, pass_with, pass_more, fill_end}
 use Rattle.bufr_fill.proofs.WalkLemmas.{HasFilled, after_answers, fills, walk_of_items, fault_as_defined}
@@ -17,7 +17,7 @@ use Rattle.bufr_walk.specs.declared.spec.TurnRefusal.{TurnRefusal}
 use Rattle.std.proofs.lemmas.List.{append-nil}
 use Rattle.bufr_walk.specs.declared.walker.WalkStop.{WalkStop}
 use Rattle.bufr_walk.proofs.ShownLemmas.{ticked_more}
-use Rattle.bufr_fill.proofs.EntryLemmas.{length-subsets}
+use Rattle.bufr_fill.proofs.EntryLemmas.{length-subsets, length-prepended}
 use Rattle.bufr_fill.proofs.PackedWalks.{stays, written_as_defined, fault_as_defined as packed_fault_as_defined, fills as packed_fills}
 use Rattle.bufr_fill.specs.declared.fault.DraftFault.TheVariants as draft_fault
 use Rattle.bufr_text.specs.declared.fault.DocumentFault.TheVariants as document
@@ -317,10 +317,6 @@ record Keeps (s s' : PlainOutModel) : Type 0 where
   end : end_left s'.left ≡ end_left s.left
   count : length (subsets_of s'.left) ≡ length (subsets_of s.left)
 
-onto_same : (d : Draft) (ss : List Subset) → length (prepend_to_subset d ss) ≡ length ss
-onto_same d [] = refl
-onto_same d (s ∷ ss) = refl
-
 keeps : (course : Course) (s : PlainOutModel) (items : List TakenField) (s' : PlainOutModel) → Takes (oks PlainFills) course s items s' → Keeps s s'
 keeps course s [] s' h = record {
   suffix = ap (λ (p : PlainOutModel). left_after p.left) h;
@@ -332,7 +328,7 @@ keeps course s (i ∷ items) s' h =
     record {
       suffix = k.suffix ∙ sym (ap left_after h.2.here);
       end = k.end ∙ sym (ap end_left h.2.here);
-      count = k.count ∙ sym (ap (λ x. length (subsets_of x)) h.2.here ∙ onto_same h.2.draft (subsets_of h.0.left));
+      count = k.count ∙ sym (ap (λ x. length (subsets_of x)) h.2.here ∙ length-prepended h.2.draft (subsets_of h.0.left));
     }
 
 counts : (end : ℕ) (course : Course) (s : PlainOutModel) (items : List TakenField) (s' : PlainOutModel) → Takes (oks PlainFills) course s items s'
@@ -477,7 +473,7 @@ pub record PlainSoFar (places : ℕ) (course : Course) (all : List Subset) (done
 cut : (left : List DraftEntry) → 1 ≤ length (subsets_of left) → subsets_of left ≡ subset (items_left left) (end_left left) ∷ subsets_of (left_after left)
 cut [] h = absurd (omega (arith, h))
 cut (Ends line ∷ more) h = refl
-cut (Holds d ∷ more) h = ap (prepend_to_subset d) (cut more (omega (arith, h, onto_same d (subsets_of more))))
+cut (Holds d ∷ more) h = ap (prepend_to_subset d) (cut more (omega (arith, h, length-prepended d (subsets_of more))))
 
 pub none_written : (n : ℕ) (course : Course) (all : List DraftEntry) (s : PlainOutModel) (steps : ℕ) → s.left ≡ all → s.bits ≡ [] → steps ≡ 0
     → PlainSoFar n course (subsets_of all) 0 s.left s.bits steps

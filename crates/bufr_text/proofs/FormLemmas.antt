@@ -1,4 +1,5 @@
 -- The document of an accepted message is encoded in a form; a canonical one to the same octets.
+use Rattle.std.proofs.lemmas.Bool.{ltb-false}
 use Rattle.std.proofs.Common.{◌≡◌, ℕ, ◌+◌, ◌≤◌, Bool, true, false, List, [], ◌∷◌, ◌++◌, length, take, drop, map, Result, Ok, Err, refl, sym, ◌∙◌, ap, subst, arith, append_assoc, ◌⊎◌, inl, inr, ◌*◌, ◌/◌, nat_lt, if◌then◌else◌, flat_map, Vec, IfOk, IfErr}
 use Rattle.std.proofs.lemmas.Bool.Decides.{nat_tests}
 use Rattle.std.proofs.lemmas.List.{take-append-drop}
@@ -240,9 +241,6 @@ parts_back_as : (form : Form) (at : ℕ) (s : Sections) (items : List (List View
 unfolding parts_for
 parts_back_as form at s items payload = λ j. parts_of s.local1 (section2_back s.section2 j) s.descriptors s.subsets (bit_back s.observed j) (compressed_by form (bit_back s.compressed j)) payload
 
-within : (a b : ℕ) → nat_lt a b ≡ false → b ≤ a
-within a b h = grind (arith, nat_tests)
-
 bits_few : (m : List ℕ) (s : Sections) → sections_of m ≡ Ok s → length m ≤ max_octets → length (bits_of s.payload) ≤ max_values
 bits_few m s e few =
     let edition = s.head.edition in
@@ -304,7 +302,7 @@ module _ (form : Form) (table : List Row) (sequences : List Sequence) (m : List 
 
       by : (b : Bool) → nat_lt max_octets (message_size s.head.edition parts) ≡ b → IsFormed form table s template values (if b then Err (fault.TooLong at) else Ok (message_octets s.head parts))
       by true e = long
-      by false e = has_reading f (within max_octets (message_size s.head.edition parts) e)
+      by false e = has_reading f (ltb-false max_octets (message_size s.head.edition parts) e)
 
 -- an item is at fault
 not_written : (table : List Row) (sequences : List Sequence) (m : List ℕ) (s : Sections) (template : Tree) (values : Values) (used at : ℕ) → IsAccepted table sequences m s template values used

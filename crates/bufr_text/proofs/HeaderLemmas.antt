@@ -1,4 +1,6 @@
 -- What a line says is of octets; the values of a header; the state after each line.
+use Rattle.bufr_text.proofs.LineLemmas.{both}
+use Rattle.bufr_fill.proofs.EntryLemmas.{length-prepended}
 use Rattle.std.proofs.Common.{◌≡◌, ℕ, ◌+◌, List, [], ◌∷◌, ◌++◌, length, refl, ap, ◌∙◌, subst, sym, arith, zero, suc, ◌-◌, ◌*◌, ◌<◌, ◌≤◌, ◌==◌, nat_le, nat_lt, Bool, true, false, Option, Some, None, codes, if◌then◌else◌, length-append, cond, map, take, drop, get_or, ◌&&◌, not, IfSome, slice_index, option_map, position}
 use Rattle.std.specs.List.{AllByRecursion, position_from}
 use Rattle.bufr_fill.specs.Prelude.{Draft, DraftEntry, Holds, Ends, Subset, prepend_to_subset, subsets_of, DraftValue, number_token, text_form, missing_form, reference_token, draft, HasOctets, AllHaveOctets, AreOctets}
@@ -33,19 +35,15 @@ pub all-more : {X : Type 0} (P : X → Type 0) (a b : List X) → AllByRecursion
 all-more P [] b x y = y
 all-more P (first ∷ a) b x y = (x.0, all-more P a b x.1 y)
 
-onto-length : (item : Draft) (ss : List Subset) → length (prepend_to_subset item ss) ≡ length ss
-onto-length item [] = refl
-onto-length item (s ∷ ss) = refl
-
 -- an item ends no subset, and an end ends one
 pub item-ends-none : (es : List DraftEntry) (item : Draft) → length (subsets_of (es ++ Holds item ∷ [])) ≡ length (subsets_of es)
 item-ends-none [] item = refl
-item-ends-none (Holds first ∷ es) item = onto-length first (subsets_of (es ++ Holds item ∷ [])) ∙ item-ends-none es item ∙ sym (onto-length first (subsets_of es))
+item-ends-none (Holds first ∷ es) item = length-prepended first (subsets_of (es ++ Holds item ∷ [])) ∙ item-ends-none es item ∙ sym (length-prepended first (subsets_of es))
 item-ends-none (Ends line ∷ es) item = omega (arith, item-ends-none es item)
 
 pub end-ends-one : (es : List DraftEntry) (at : ℕ) → length (subsets_of (es ++ Ends at ∷ [])) ≡ length (subsets_of es) + 1
 end-ends-one [] at = refl
-end-ends-one (Holds first ∷ es) at = onto-length first (subsets_of (es ++ Ends at ∷ [])) ∙ end-ends-one es at ∙ ap (λ (n : ℕ). n + 1) (sym (onto-length first (subsets_of es)))
+end-ends-one (Holds first ∷ es) at = length-prepended first (subsets_of (es ++ Ends at ∷ [])) ∙ end-ends-one es at ∙ ap (λ (n : ℕ). n + 1) (sym (length-prepended first (subsets_of es)))
 end-ends-one (Ends line ∷ es) at = omega (arith, end-ends-one es at)
 
 pub ends-last : (es : List DraftEntry) (at : ℕ) → AreEnded (es ++ Ends at ∷ [])
@@ -202,9 +200,6 @@ line-sound line = grind (arith, nat_tests, common_steps, if-line, item-line-soun
 pub said-sound : (line : List ℕ) → IsSound (read_line line)
 said-sound line = if-line (nat_lt 4096 (length line)) Wrong (line_of line) tt (line-sound line)
 
-both : (a b : Bool) → a ≡ true → b ≡ true → (a && b) ≡ true
-both a b h k = rw (h, k) refl
-
 -- a value is at most the greatest of its key
 below : (a b c : ℕ) → (nat_le a b && nat_le b c) ≡ true → b ≤ c
 below a b c h = let le : nat_le b c ≡ true = and_second (nat_le a b) (nat_le b c) h in grind (arith, nat_tests, le)
@@ -353,7 +348,7 @@ same-number a b n h = let is : (a == b) ≡ true = and_first (a == b) (nat_le a 
 beginning-so : (at read subset : ℕ) (d : Document) → IsHeaded d → length d.entries < at + 1 → HasLineGroups d → HasSubsets read d → IsTurn (at + 1) (beginning read d subset, d)
 beginning-so at read subset d h1 h2 h3 h4 = grind (arith, nat_tests, common_steps, if-effect, subset-few, subsets-few, same-number)
 
-equal : (a b : ℕ) → (a == b) ≡ true → a ≡ b
+pub equal : (a b : ℕ) → (a == b) ≡ true → a ≡ b
 equal a b e = grind (arith, nat_tests, e)
 
 closing-so : (at read : ℕ) (d : Document) → IsHeaded d → length d.entries ≤ at → HasLineGroups d → HasSubsets read d → AreEnded d.entries → IsTurn (at + 1) (closing read d, d)

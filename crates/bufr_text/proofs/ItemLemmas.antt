@@ -5,7 +5,7 @@ use Rattle.std.specs.List.{list_all}
 use Rattle.std.specs.Str.{bytes_eq}
 use Rattle.std.proofs.lemmas.Bool.Decides.{nat_tests}
 use Rattle.std.proofs.lemmas.Grind.{common_steps}
-use Rattle.std.proofs.lemmas.List.{drop_all}
+use Rattle.std.proofs.lemmas.List.{drop_all, drop-drop}
 use Rattle.bufr_bits.proofs.DecimalLemmas.{and_first, and_second}
 use Rattle.bufr_tables.specs.Prelude.{fxy_of, is_fxy, f_in, x_in, y_in}
 use Rattle.bufr_text.specs.Prelude.{prefix_while, suffix_while, without_space, without_prefix, fxy_read, is_number_octet, is_hashed, is_passed_after, hex_read, onto_read, descriptors_read, either_value, pair_value, QuotedToken, Closed, Octet, Nothing, is_unescaped, upper_value, says_pair, escape_of, quoting_of, octet_onto, quoted_on, quoted_read, Describes, Unhexes, Unquotes, value_read, number_value, Passed, Item, Local1, Section2, made, with_one_to, item_line, worded, line_of, is_no_space, Descriptors, Wrong}
@@ -83,9 +83,6 @@ word-absent (w ∷ word) (c ∷ text) h =
 -- tokens
 one-on : (text : List ℕ) (at : ℕ) → at < length text → drop at text ≡ slice_index text at ∷ drop (at + 1) text
 one-on text at h = grind (arith, common_steps)
-
-one-taken : (text : List ℕ) (at : ℕ) → at < length text → take (at + 1) text ≡ take at text ++ slice_index text at ∷ []
-one-taken text at h = grind (arith, common_steps)
 
 pub token-on : (text : List ℕ) (at : ℕ) → IsTokenTo text at → at < length text → is_number_octet (slice_index text at) ≡ true → IsTokenTo text (at + 1)
 unfolding prefix_while suffix_while
@@ -315,9 +312,6 @@ section2-worded word rest a b d = rw (a, b, d) refl
 
 -- ---- How the reading of the descriptors of a line goes on.
 
-drop-on : (a b : ℕ) (s : List ℕ) → drop a (drop b s) ≡ drop (b + a) s
-drop-on a b s = grind (arith, common_steps)
-
 one-set : (out : List ℕ) (count word : ℕ) → count < length out → take (count + 1) (slice_set out count word) ≡ take count out ++ word ∷ []
 one-set out count word h = grind (arith, common_steps)
 
@@ -375,7 +369,7 @@ module _ (text out : List ℕ) (count : ℕ) (is : IsDescribing text out count) 
         room = omega (arith, is.room, length-set out count word);
         read = is.read
             ∙ ap (option_map (λ more. take count out ++ more)) (fxy-on t word long e f)
-            ∙ ap (λ (s : List ℕ). option_map (λ more. take count out ++ more) (onto_read (Some word) (descriptors_read s))) (drop-on 7 (7 * count) text)
+            ∙ ap (λ (s : List ℕ). option_map (λ more. take count out ++ more) (onto_read (Some word) (descriptors_read s))) (drop-drop 7 (7 * count) text)
             ∙ onto-more (take count out) word (descriptors_read (drop (7 * count + 7) text))
             ∙ ap (λ (s : List ℕ). option_map (λ more. s ++ more) (descriptors_read (drop (7 * count + 7) text))) (sym (one-set out count word (omega (arith, is.room, is.short, long, long'))))
             ∙ ap (λ (k : ℕ). option_map (λ more. take (count + 1) (slice_set out count word) ++ more) (descriptors_read (drop k text))) next;
@@ -549,7 +543,7 @@ unquoting-says text out count at octet written is h e =
       within = w.1;
       room = omega (arith, is.room, length-set out count octet);
       read = is.read ∙ ap (octets_onto (take count out)) (says-on (drop at text) octet written e (left-some text at h)
-          ∙ ap (λ (t : List ℕ). octet_onto octet (quoted_read 0 t)) (drop-on written at text))
+          ∙ ap (λ (t : List ℕ). octet_onto octet (quoted_read 0 t)) (drop-drop written at text))
           ∙ onto-one-more (take count out) octet (quoted_read 0 (drop (at + written) text))
           ∙ ap (λ (t : List ℕ). octets_onto t (quoted_read 0 (drop (at + written) text))) (sym (one-set out count octet (omega (arith, is.few, is.room, h))));
     }
@@ -558,7 +552,7 @@ pub unquoting-closed : (text out : List ℕ) (count at : ℕ) → IsUnquoting te
 unquoting-closed text out count at is h e = (
   omega (arith, is.few, is.room, h),
   omega arith,
-  is.read ∙ ap (octets_onto (take count out)) (closed-on (drop at text) e (left-some text at h) ∙ ap (λ (t : List ℕ). Some ([], t)) (drop-on 1 at text))
+  is.read ∙ ap (octets_onto (take count out)) (closed-on (drop at text) e (left-some text at h) ∙ ap (λ (t : List ℕ). Some ([], t)) (drop-drop 1 at text))
       ∙ ap (λ (t : List ℕ). Some (t, drop (at + 1) text)) (append-nil (take count out)),
 )
 

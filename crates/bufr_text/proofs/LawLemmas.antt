@@ -9,7 +9,7 @@ use Rattle.bufr_text.specs.Prelude.{Document, edition_in, optional_in, subsets_i
 use Rattle.bufr_text.proofs.ReaderLemmas.{stopped-reports}
 use Rattle.bufr_text.specs.declared.document.LineGroup.{LineGroup}
 use Rattle.bufr_text.specs.declared.document.LineGroup.TheVariants as group
-use Rattle.bufr_text.proofs.HeaderLemmas.{turn-holds, all-more, said-sound, with_value, with_local1, with_section2, with_descriptors}
+use Rattle.bufr_text.proofs.HeaderLemmas.{turn-holds, all-more, said-sound, with_value, with_local1, with_section2, with_descriptors, equal}
 use Rattle.std.proofs.lemmas.Grind.{common_steps}
 
 abbrev says : List NumberedLine → List Line
@@ -143,9 +143,6 @@ if-effect : (own : List NumberedLine) (b : Bool) (x y : LineEffect) (d : Documen
     → IsOpenAfter (if b then x else y, d) own
 if-effect own true x y d p q = p refl
 if-effect own false x y d p q = q refl
-
-equal : (a b : ℕ) → (a == b) ≡ true → a ≡ b
-equal a b e = grind (arith, nat_tests, e)
 
 not-false : (b : Bool) → not b ≡ false → b ≡ true
 not-false true e = refl

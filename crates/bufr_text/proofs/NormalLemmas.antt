@@ -1,6 +1,6 @@
 -- What a document is encoded to says what the document says, in one spelling.
+use Rattle.std.proofs.lemmas.Bool.{ltb-false}
 use Rattle.std.proofs.Common.{◌≡◌, ℕ, ◌+◌, ◌/◌, ◌≤◌, suc, Bool, true, false, List, [], ◌∷◌, ◌++◌, length, Some, None, Result, Ok, Err, refl, sym, ◌∙◌, ap, subst, arith, append_assoc, zero, map, take, drop, ◌==◌, nat_lt, unwrap_or, if◌then◌else◌, codes, is_some, slice_index}
-use Rattle.std.specs.List.{AllByRecursion}
 use Rattle.std.proofs.lemmas.Bool.Decides.{nat_tests}
 use Rattle.bufr_bits.specs.Prelude.{bits_of, padding}
 use Rattle.bufr_tables.specs.declared.fault.TemplateFault.{TemplateFault}
@@ -13,9 +13,9 @@ use Rattle.bufr_walk.specs.Prelude.{Content, FieldSpec, next_item, Course, Value
 use Rattle.bufr_fill.specs.Prelude.{Subset, subsets_of, Draft, AllHaveOctets, AreSaid, IsSaid, AreDrafts, content_of}
 use Rattle.bufr_fill.specs.declared.fault.DraftFault.{DraftFault}
 use Rattle.bufr_fill.proofs.BackLaws.{plain_template_back, packed_template_back}
-use Rattle.bufr_fill.proofs.FieldLemmas.{octets_in-are}
-use Rattle.bufr_text.specs.Prelude.{mosts, Form, Document, optional_in, head_from_values, Complete, documents_of, key_value, compressed_in, section2_in, ◌>>=◌, report_of_template, report_of_items, data_bits, octets_of_bits, parts_as, compressed_as, message_of, encoding_in, DocumentFault, encoding_of, IsOctet, bit, header_lines, local1_line, section2_line, descriptors_line, head_lines, item_text, subset_line, subset_lines, text_of_lines, dump_text_of, subset_entries, lines_before, document_of, IsProper, header_as, normal_head, normal_line, draft_answer, line_and, normal_items, normal_subsets, normal, AreValuesOf, IsReadAs, runs_of, items_shown, dump_items}
-use Rattle.bufr_text.proofs.DumpableLemmas.{octets_are, dumpable}
+use Rattle.bufr_fill.proofs.FieldLemmas.{octets_in-are, same_ok}
+use Rattle.bufr_text.specs.Prelude.{mosts, Form, Document, optional_in, head_from_values, Complete, documents_of, key_value, compressed_in, section2_in, ◌>>=◌, report_of_template, report_of_items, data_bits, octets_of_bits, parts_as, compressed_as, message_of, encoding_in, DocumentFault, encoding_of, bit, header_lines, local1_line, section2_line, descriptors_line, head_lines, item_text, subset_line, subset_lines, text_of_lines, dump_text_of, subset_entries, lines_before, document_of, IsProper, header_as, normal_head, normal_line, draft_answer, line_and, normal_items, normal_subsets, normal, AreValuesOf, IsReadAs, runs_of, items_shown, dump_items}
+use Rattle.bufr_text.proofs.DumpableLemmas.{octets_are, dumpable, optional_octets}
 use Rattle.bufr_walk.proofs.NextField.{table_read}
 use Rattle.bufr_text.proofs.RoundTripLemmas.{padded, payload_bits, size_is, octets_small, framed, same_form, all_apart, bit_back, parts_back, parts_with, parts_of_document}
 use Rattle.bufr_text.proofs.FormLemmas.{plain_reading, packed_reading}
@@ -32,17 +32,10 @@ use Rattle.std.proofs.lemmas.Grind.{common_steps}
 
 -- ---- The message of a document that was encoded is accepted, and says what the document says.
 
-same_ok : {A E : Type 0} (a b : A) → ◌≡◌ {A = Result A E} (Ok a) (Ok b) → a ≡ b
-same_ok a b e = cc
-
 pub said_length : (subsets : List (List (Item Content))) (drafts : List Subset) → AreSaid subsets drafts → length subsets ≡ length drafts
 said_length [] [] h = refl
 said_length (items ∷ subsets) (s ∷ ss) h = ap suc (said_length subsets ss h.1)
 said_length subsets ss h = absurd h
-
-section2_octets : (b : Bool) (octets : List ℕ) → AllByRecursion IsOctet octets → AllByRecursion IsOctet (unwrap_or (if b then Some octets else None) [])
-section2_octets true octets h = h
-section2_octets false octets h = tt
 
 module _ (records : List Record) (table : List Row) (template : Tree) (rows : AreRows records table) (legal : IsLegal template) (drafts : List Subset) (out : List Bool)
     (texts : AllHaveOctets drafts) where
@@ -87,7 +80,7 @@ module _ (form : Form) (records : List Record) (table : List Row) (sequences : L
         values = f.values;
         used = length bits;
         accepted = record {
-          octets = octets_small head parts fits proper.local1 (section2_octets (optional_in d == 1) d.section2 proper.section2) proper.descriptors (subsets-few d proper.headed)
+          octets = octets_small head parts fits proper.local1 (optional_octets (optional_in d == 1) d.section2 proper.section2) proper.descriptors (subsets-few d proper.headed)
               (octets_are payload (octets_in-are ((length bits + 7) / 8) (bits ++ padding (length bits)) (padded bits))) few;
           few = omega (arith, few, long);
           sections = back;
@@ -106,9 +99,6 @@ module _ (form : Form) (records : List Record) (table : List Row) (sequences : L
         said = f.said;
       }
 
-  at_most : (a b : ℕ) → nat_lt a b ≡ false → b ≤ a
-  at_most a b h = grind (arith, nat_tests)
-
   by_size : (template : Tree) (bits : List Bool) → tree_of (tables_of table sequences) d.descriptors ≡ Ok template → data_in template ≡ Ok bits → (b : Bool)
       → nat_lt max_octets (message_size (head_from_values d).edition (parts_as (compressed_as form d) d (octets_of_bits bits))) ≡ b
       → (if b then Err (fault.TooLong d.line) else Ok (message_octets (head_from_values d) (parts_as (compressed_as form d) d (octets_of_bits bits)))) ≡ Ok octets
@@ -116,7 +106,7 @@ module _ (form : Form) (records : List Record) (table : List Row) (sequences : L
   by_size template bits expands fills true p e = absurd cc
   by_size template bits expands fills false p e =
       subst (IsReadAs form table sequences d) (same_ok (message_octets (head_from_values d) (parts_as (compressed_as form d) d (octets_of_bits bits))) octets e)
-      (made template bits expands fills (at_most max_octets (message_size (head_from_values d).edition (parts_as (compressed_as form d) d (octets_of_bits bits))) p))
+      (made template bits expands fills (ltb-false max_octets (message_size (head_from_values d).edition (parts_as (compressed_as form d) d (octets_of_bits bits))) p))
 
   by_bits : (template : Tree) → tree_of (tables_of table sequences) d.descriptors ≡ Ok template → (r : Result (List Bool) DraftFault) → data_in template ≡ r
       → (report_of_items r >>= λ b. message_of d.line (head_from_values d) (parts_as (compressed_as form d) d (octets_of_bits b))) ≡ Ok octets → IsReadAs form table sequences d octets

@@ -183,7 +183,7 @@ parts_same start start' comment comment' text text' a b c = ap (λ l. l ++ (text
 digit-of : (c : ℕ) → is_ascii_digit c ≡ true → digits_value 10 (c ∷ []) ≡ c - 48
 digit-of c h = grind (arith, nat_tests)
 
-one-taken : (text : List ℕ) (at : ℕ) → at < length text → take (at + 1) text ≡ take at text ++ slice_index text at ∷ []
+pub one-taken : (text : List ℕ) (at : ℕ) → at < length text → take (at + 1) text ≡ take at text ++ slice_index text at ∷ []
 one-taken text at h = grind (arith, common_steps)
 
 value-on : (text : List ℕ) (at : ℕ) → at < length text → is_ascii_digit (slice_index text at) ≡ true

@@ -1,11 +1,12 @@
 -- How a reading goes on, line feed by line feed, and what the calls of a reader do.
+use Rattle.bufr_text.proofs.LineLemmas.{both}
 use Rattle.std.proofs.Common.{◌≡◌, ℕ, ◌+◌, ◌<◌, ◌≤◌, ◌==◌, nat_lt, not, Bool, true, false, List, [], ◌∷◌, ◌++◌, length, refl, sym, ap, ◌∙◌, arith, append_assoc, append-nil, length-append, subst, if◌then◌else◌, ◌⊎◌, inl, inr, zero, suc, ◌&&◌, take, drop, Option, Some, None, ◌-◌, length-drop, Result, Ok, Err, OnErr, slice_index}
 use Rattle.std.proofs.lemmas.Bool.Decides.{nat_tests}
 use Rattle.bufr_bits.proofs.DecimalLemmas.{and_first, and_second}
 use Rattle.bufr_text.specs.Prelude.{blank, Line, Passed, Item, Closes, Wrong, line_of, ParserState, Between, Heading, BeforeSubsets, Filling, Stopped, LineEffect, Continues, Completes, Refuses, Parsing, Turn, between, ParseResult, Refused, NotAllowed, turn, read_line, parse_lines, parsing_after, reported_at, reported_at_end, lines_of, prepend_to_line, Split, onto_split, split_of, parse_open_lines, documents_of, open_documents_of, Document, with_entry, has_no_feed, ReaderPosition, parse, parse_open, ContinuesParse, ReaderModel, KeepsUnread, IsMissingFeed, ReadsLines, TakesWholeLines, position_of, parsing_of, IsParsing, IsTurn, position_with, TakesLines, IsTaking, WantsAt, adds, ends_by_feed, IsProgress, IsReader, ParsesHeldLines, WantsHere, stopped, text_of_lines, ReadFault}
 use Rattle.std.proofs.lemmas.Bool.{true≢false}
 use Rattle.memchr.specs.Find.{IsFirstByte, is_byte}
-use Rattle.std.proofs.lemmas.List.{take_at}
+use Rattle.std.proofs.lemmas.List.{take_at, drop-drop}
 use Rattle.bufr_fill.specs.Prelude.{DraftValue, DraftEntry, draft, Holds}
 use Rattle.std.specs.List.{AllByRecursion}
 use Rattle.std.proofs.lemmas.Grind.{common_steps, flat_map-append}
@@ -187,9 +188,6 @@ unfolding parse_open_lines
 nothing-yet at parsing held ended h1 h2 = grind (arith, nat_tests, common_steps, append-nil, rest-alone)
 
 -- ---- The first line feed.
-
-both : (a b : Bool) → a ≡ true → b ≡ true → (a && b) ≡ true
-both a b h k = rw (h, k) refl
 
 no-feed : (c : ℕ) → ((c == 10) ≡ true → ⊥) → not (c == 10) ≡ true
 no-feed c h1 = grind (arith, nat_tests, common_steps)
@@ -395,14 +393,11 @@ item-taken old p line entries subset fxy form same inside short says more =
     (ap (λ es. record old.parts { entries = es }) (subst E same more))) in
     subst T (sym same) here
 
-drop-on : (a b : ℕ) (s : List ℕ) → drop a (drop b s) ≡ drop (b + a) s
-drop-on a b s = grind (arith, common_steps)
-
 -- a line is taken
 line-taken : (new : Progress) (held : List ℕ) (from n : ℕ) (t : Turn) (ended : Bool) → FeedAt (drop from held) (Some n)
     → t ≡ turn new.at (parsing_of new) (read_line (take n (drop from held)))
     → ContinuesParse (position_with new.at (parsing_of new) (drop from held) ended) (position_with (new.at + 1) (parsing_after t) (drop (from + (n + 1)) held) ended) (reported_at new.at t)
-line-taken new held from n t ended h1 h2 = grind (arith, nat_tests, common_steps, before, takes-line, drop-on)
+line-taken new held from n t ended h1 h2 = grind (arith, nat_tests, common_steps, before, takes-line, drop-drop)
 
 pub all-append : (P : List ℕ → Type 0) (a b : List (List ℕ)) → AllByRecursion P a → AllByRecursion P b → AllByRecursion P (a ++ b)
 all-append P [] b x y = y
@@ -427,7 +422,7 @@ passes-line at at' held rest line more p clean e = record {
 
 passes-feed : (at at' : ℕ) (held : List ℕ) (from n : ℕ) → TakesWholeLines at held at' (drop from held) → FeedAt (drop from held) (Some n)
     → TakesWholeLines at held (at' + 1) (drop (from + (n + 1)) held)
-passes-feed at at' held from n h1 h2 = grind (arith, nat_tests, common_steps, drop-on, passes-line)
+passes-feed at at' held from n h1 h2 = grind (arith, nat_tests, common_steps, drop-drop, passes-line)
 
 -- what holds after a line
 holds-after : (new : Progress) (t : Turn) (line : List ℕ) → IsParsing new.at (parsing_of new) → 0 < new.at → t ≡ turn new.at (parsing_of new) (read_line line) → IsTurn (new.at + 1) t
@@ -479,7 +474,7 @@ taking-ends old new held from n effect last is feed at ends e =
         line = new.at;
         last = take n (drop from held);
         prefix = (let P : List ℕ → Type 0 = λ t. TakesWholeLines old.at held new.at (take n (drop from held) ++ 10 ∷ t) in let Q : List ℕ
-            → Type 0 = λ t. TakesWholeLines old.at held new.at t in subst P (drop-on (n + 1) from held) (subst Q feed.2 is.passes));
+            → Type 0 = λ t. TakesWholeLines old.at held new.at t in subst P (drop-drop (n + 1) from held) (subst Q feed.2 is.passes));
         single = feed.1;
         closes = completes-end new.at (parsing_of new) (read_line (take n (drop from held))) effect last.parts whole e;
         counted = at;
