@@ -6,7 +6,7 @@ use crate::runs::Command::{Dump, Encode};
 use crate::runs::{Task, run_whole};
 use crate::support::{Runtime, assert_same, ok, repeated};
 use bufr_text::{Form, encode_by};
-use bufr_walk::{Steps, TemplateCache};
+use bufr_walk::{SpecCache, Steps, TemplateCache};
 
 /// More lists than are kept.
 const LISTS: u16 = 140;
@@ -61,4 +61,14 @@ fn encodes_many_lists_of_descriptors(rt: HostRuntime) {
         assert_kept(&rt, &mut templates, list_of(&rt, index % LISTS).as_str());
     }
     assert_same(&rt, &templates.others(), &127, &"lists");
+}
+
+#[test]
+fn has_room_for_some_cells(rt: HostRuntime) {
+    let task = Task::new(&rt, Encode);
+    let mut specs = SpecCache::new(rt.alloc(), &task.b);
+    for (cells, room) in [(0, 0), (3, 3), (1024, 1024), (1025, 1024), (0, 0)] {
+        ok(&rt, specs.reset(cells));
+        assert_same(&rt, &specs.cells(), &room, &cells);
+    }
 }

@@ -1,5 +1,5 @@
 //! The specs of a template's cells, kept from one reading to the next.
-ghost use Rattle.std.specs.Prelude.{◌≡◌, ◌<◌, ◌^◌, IfSome};
+ghost use Rattle.std.specs.Prelude.{◌≡◌, ◌<◌, ◌≤◌, ◌^◌, IfSome};
 ghost use Rattle.bufr_walk.specs.Prelude.{IsSpecBy};
 
 use crate::spec::{Role, Spec};
@@ -70,6 +70,13 @@ impl<'a> SpecCache<'a> {
     #[inline(always)]
     pub fn allocator(&self) -> Global {
         self.alloc
+    }
+
+    /// For how many cells of a template there is room.
+    pub fn cells(&self) -> usize
+        ensures few { result ≤ 1024 }
+    {
+        self.entries.len()
     }
 
     /// Drops all specs, and makes room for those of a template of this number of cells: for at most
