@@ -32,24 +32,24 @@ pub(crate) struct ItemLocation {
 
 /// Makes room for one more item and one more field, by 64 at once.
 #[inline(always)]
-fn make_room(places: &mut Vec<ItemLocation>, specs: &mut Vec<Spec>) -> Result<(), DataFault>
-    requires places { room_for (vec_len places.old) ≤ vec_capacity places.old }
-    requires specs { vec_len specs.old + room_left (vec_len places.old) ≤ vec_capacity specs.old }
-    ensures same_places { places.new.items ≡ places.old.items }
+fn make_room(locations: &mut Vec<ItemLocation>, specs: &mut Vec<Spec>) -> Result<(), DataFault>
+    requires locations { room_for (vec_len locations.old) ≤ vec_capacity locations.old }
+    requires specs { vec_len specs.old + room_left (vec_len locations.old) ≤ vec_capacity specs.old }
+    ensures same_locations { locations.new.items ≡ locations.old.items }
     ensures same_specs { specs.new.items ≡ specs.old.items }
-    ensures places { OnOk result (room_for (vec_len places.old + 1) ≤ vec_capacity places.new) }
-    ensures specs { OnOk result (vec_len specs.old + room_left (vec_len places.old + 1) + 1
+    ensures locations { OnOk result (room_for (vec_len locations.old + 1) ≤ vec_capacity locations.new) }
+    ensures specs { OnOk result (vec_len specs.old + room_left (vec_len locations.old + 1) + 1
         ≤ vec_capacity specs.new) }
-    ensures least_places { room_for (vec_len places.old) ≤ vec_capacity places.new }
-    ensures least_specs { vec_len specs.old + room_left (vec_len places.old)
+    ensures least_locations { room_for (vec_len locations.old) ≤ vec_capacity locations.new }
+    ensures least_specs { vec_len specs.old + room_left (vec_len locations.old)
         ≤ vec_capacity specs.new }
     ensures fault { IfErr result (λ e. e ≡ wrong.Memory) }
-    ensures full { OnErr result (vec_len places.old % items_at_once ≡ 0) }
+    ensures full { OnErr result (vec_len locations.old % items_at_once ≡ 0) }
 {
-    if places.len() % ITEMS_AT_ONCE != 0 {
+    if locations.len() % ITEMS_AT_ONCE != 0 {
         return Ok(());
     }
-    match places.reserve(ITEMS_AT_ONCE) {
+    match locations.reserve(ITEMS_AT_ONCE) {
         Ok(()) => {}
         Err(_) => return Err(DataFault::Memory),
     }
@@ -61,7 +61,7 @@ fn make_room(places: &mut Vec<ItemLocation>, specs: &mut Vec<Spec>) -> Result<()
 
 /// The index of a field among others: the guess, if it is there, else that after all others.
 #[inline(always)]
-fn place_of(specs: &mut Vec<Spec>, guess: u32, spec: &Spec) -> u32
+fn index_of(specs: &mut Vec<Spec>, guess: u32, spec: &Spec) -> u32
     requires few { vec_len specs.old < 2 ^ 32 }
     requires room { vec_len specs.old + 1 ≤ vec_capacity specs.old }
     ensures put { IsPut specs.old.items spec.now result specs.new.items }
@@ -74,12 +74,12 @@ fn place_of(specs: &mut Vec<Spec>, guess: u32, spec: &Spec) -> u32
             return guess;
         }
     }
-    let place = specs.len() as u32;
+    let index = specs.len() as u32;
     match specs.push(*spec) {
         Ok(()) => {}
         Err(_) => unreachable!(),
     }
-    place
+    index
 }
 
 /// The items that are kept: the location of each, and their fields in the order in which they came.
@@ -87,7 +87,7 @@ fn place_of(specs: &mut Vec<Spec>, guess: u32, spec: &Spec) -> u32
 #[derive(Drop)]
 pub(crate) struct ItemIndex {
     specs: Vec<Spec>,
-    places: Vec<ItemLocation>,
+    locations: Vec<ItemLocation>,
 }
 
 impl Model for ItemIndex {
@@ -98,10 +98,10 @@ impl Model for ItemIndex {
 
     ghost use Rattle.bufr_walk.specs.Readers.{indexed_items, IsKeptBy};
 
-    ghost view = { λ k. indexed_items k.specs.items k.places.items };
+    ghost view = { λ k. indexed_items k.specs.items k.locations.items };
 
-    ghost invariant = { λ k. IsKeptBy k.specs.items k.places.items (vec_capacity k.specs)
-        (vec_capacity k.places) };
+    ghost invariant = { λ k. IsKeptBy k.specs.items k.locations.items (vec_capacity k.specs)
+        (vec_capacity k.locations) };
 }
 
 impl ItemIndex {
@@ -111,7 +111,7 @@ impl ItemIndex {
     {
         ItemIndex {
             specs: Vec::new(alloc),
-            places: Vec::new(alloc),
+            locations: Vec::new(alloc),
         }
     }
 
@@ -120,21 +120,21 @@ impl ItemIndex {
     pub(crate) fn len(&self) -> usize
         ensures { result ≡ length self.now }
     {
-        self.places.len()
+        self.locations.len()
     }
 
     /// The item of an index.
     #[inline(always)]
-    pub(crate) fn item(&self, place: usize) -> IndexedItem
-        requires { place < length self.now }
-        ensures { result ≡ get_or self.now place result }
+    pub(crate) fn item(&self, index: usize) -> IndexedItem
+        requires { index < length self.now }
+        ensures { result ≡ get_or self.now index result }
     {
-        let place = self.places[place];
+        let location = self.locations[index];
         IndexedItem {
-            spec: self.specs[place.spec as usize],
-            at: place.at,
-            base: place.base,
-            step: place.step,
+            spec: self.specs[location.spec as usize],
+            at: location.at,
+            base: location.base,
+            step: location.step,
         }
     }
 
@@ -147,15 +147,15 @@ impl ItemIndex {
         ensures fault { IfErr result (λ e. e ≡ wrong.Memory) }
         ensures full { OnErr result (length self.old % items_at_once ≡ 0) }
     {
-        make_room(&mut self.places, &mut self.specs)?;
-        let spec = place_of(&mut self.specs, guess, &item.spec);
-        let place = ItemLocation {
+        make_room(&mut self.locations, &mut self.specs)?;
+        let spec = index_of(&mut self.specs, guess, &item.spec);
+        let location = ItemLocation {
             at: item.at,
             base: item.base,
             spec,
             step: item.step,
         };
-        match self.places.push(place) {
+        match self.locations.push(location) {
             Ok(()) => Ok(spec),
             Err(_) => unreachable!(),
         }

@@ -67,10 +67,10 @@ impl<'a> Slot<'a> {
     }
 }
 
-/// The place of the first of the slots that has this list of descriptors.
-fn place_of(slots: &[Slot<'_>], descriptors: &[Fxy]) -> Option<usize>
-    ensures inside { IfSome result (λ place. place < length slots.now) }
-    ensures there { IfSome result (λ place. (slot : Slot) → slot ≡ get_or slots.now place slot
+/// The index of the first of the slots that has this list of descriptors.
+fn index_of(slots: &[Slot<'_>], descriptors: &[Fxy]) -> Option<usize>
+    ensures inside { IfSome result (λ index. index < length slots.now) }
+    ensures there { IfSome result (λ index. (slot : Slot) → slot ≡ get_or slots.now index slot
         → slot.templates.list ≡ descriptors.now) }
     ensures none { IfNone result (All (λ slot. slot.templates.list ≢ descriptors.now) slots.now) }
 {
@@ -166,7 +166,7 @@ impl<'a> TemplateCache<'a> {
         if self.last.templates.is_selected(descriptors) {
             return Ok(());
         }
-        if let Some(index) = place_of(&self.others, descriptors) {
+        if let Some(index) = index_of(&self.others, descriptors) {
             if self.last.may_stay() {
                 mem::swap(&mut self.last, &mut self.others[index]);
             } else {

@@ -4,7 +4,7 @@ use Rattle.bufr_tables.specs.contracts.table_b.Kind as kind
 use Rattle.bufr_walk.specs.contracts.spec.Role as role
 use Rattle.bufr_walk.specs.Prelude.{HasSpecAt}
 use Rattle.bufr_walk.proofs.PackedReading.{same_field, fits_there}
-use Rattle.bufr_walk.proofs.item_index.place_of.Goals as goal
+use Rattle.bufr_walk.proofs.item_index.index_of.Goals as goal
 
 pub returns-then-eq-clause-put : goal.returns-then-eq-clause-put
 returns-then-eq-clause-put c =
