@@ -6,16 +6,16 @@ use Rattle.bufr_text.specs.Prelude.{ParseResult, Complete, Refused, LineModel, P
 use Rattle.bufr_text.specs.declared.fault.ReadFault.{ReadFault}
 use Rattle.bufr_text.specs.declared.fault.ReadFault.TheVariants as read
 use Rattle.bufr_text.proofs.PushLemmas.{retold, joined_then}
-use Rattle.bufr_cli.specs.Prelude.{line_of_read_fault, refused_line, place_texts}
+use Rattle.bufr_cli.specs.Prelude.{line_of_read_fault, refused_line, prefix_texts}
 
 -- one text
 pub one_text : {a b : LineModel} {text : List ℕ} → Pushes a text b → Pushes a (joined (text ∷ [])) b
 one_text {text = text} pushes = retold pushes (sym (append-nil text))
 
--- a line by its place, its text and its line feed
-pub line_pushed : {a b c d : LineModel} (word : List ℕ) (place number : ℕ) (text : List (List ℕ)) → Pushes a (joined (place_texts word place number)) b → Pushes b (joined text) c → Pushes c (codes "\n") d
-    → Pushes a (joined (place_texts word place number ++ (text ++ codes "\n" ∷ []))) d
-line_pushed word place number text first second third = joined_then (place_texts word place number) (text ++ codes "\n" ∷ []) first (joined_then text (codes "\n" ∷ []) second third)
+-- a line by its position, its text and its line feed
+pub line_pushed : {a b c d : LineModel} (word : List ℕ) (position number : ℕ) (text : List (List ℕ)) → Pushes a (joined (prefix_texts word position number)) b → Pushes b (joined text) c → Pushes c (codes "\n") d
+    → Pushes a (joined (prefix_texts word position number ++ (text ++ codes "\n" ∷ []))) d
+line_pushed word position number text first second third = joined_then (prefix_texts word position number) (text ++ codes "\n" ∷ []) first (joined_then text (codes "\n" ∷ []) second third)
 
 -- the line of the first result of a text
 abbrev first_line : List ParseResult → List ℕ

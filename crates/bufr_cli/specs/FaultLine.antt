@@ -19,21 +19,21 @@ stream_report (stream.Section fault) = section_report fault
 stream_report (stream.Template fault) = template_report fault.now
 stream_report (stream.Data fault) = data_report fault.now
 
--- the beginning of a line: a word, the place that it counts, and the fault's number
-abbrev pub place_texts : (word : List ℕ) (place number : ℕ) → List (List ℕ)
-place_texts word place number =
-    word ∷ decimal place ∷ codes ": " ∷ decimal number ∷ codes " " ∷ []
+-- the beginning of a line: a word, the position that it counts, and the fault's number
+abbrev pub prefix_texts : (word : List ℕ) (position number : ℕ) → List (List ℕ)
+prefix_texts word position number =
+    word ∷ decimal position ∷ codes ": " ∷ decimal number ∷ codes " " ∷ []
 
 -- the line of a fault at the offset of `BUFR`: its number and its text
 -- rule: stream-fault-line
 abbrev pub fault_line : (offset : ℕ) → (report : ℕ × List (List ℕ)) → List ℕ
 fault_line offset report =
-    joined (place_texts (codes "offset ") offset report.0 ++ (report.1 ++ codes "\n" ∷ []))
+    joined (prefix_texts (codes "offset ") offset report.0 ++ (report.1 ++ codes "\n" ∷ []))
 
 -- the line of a fault at a line of the text, from 1: its number and its text
 abbrev pub document_line : (line : ℕ) → (report : ℕ × List (List ℕ)) → List ℕ
 document_line line report =
-    joined (place_texts (codes "line ") line report.0 ++ (report.1 ++ codes "\n" ∷ []))
+    joined (prefix_texts (codes "line ") line report.0 ++ (report.1 ++ codes "\n" ∷ []))
 
 -- a line that is refused
 -- rule: fault-lines-of-reading

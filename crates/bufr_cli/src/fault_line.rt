@@ -6,7 +6,7 @@ ghost use Rattle.bufr_walk.specs.Prelude.{data_report, spot_text};
 ghost use Rattle.bufr_fill.specs.Prelude.{expected_text, item_report};
 ghost use Rattle.bufr_text.specs.declared.fault.TextLineFault.{TextLineFault};
 ghost use Rattle.bufr_text.specs.Prelude.{line_report, Refused, parse_results, Pushes, Writes, joined};
-ghost use Rattle.bufr_cli.specs.Prelude.{fault_line, stream_report, place_texts, document_line, line_of_read_fault, refusal_line, refused_line, OnlyWrites, writer_of};
+ghost use Rattle.bufr_cli.specs.Prelude.{fault_line, stream_report, prefix_texts, document_line, line_of_read_fault, refusal_line, refused_line, OnlyWrites, writer_of};
 
 use bufr_bits::Sink;
 use bufr_fill::{Expected, ItemFault, WalkRefusal};
@@ -40,13 +40,13 @@ fn push_number<E: Sink>(line: &mut LineWriter<'_, '_, E>, number: u8)
     line.push(b" ");
 }
 
-/// Pushes the beginning of a fault line: a word, the place that it counts, and the fault's number.
+/// Pushes the beginning of a fault line: a word, the position that it counts, and the fault's number.
 #[inline(always)]
 // rule: stream-fault-line
-fn push_place<E: Sink>(line: &mut LineWriter<'_, '_, E>, word: &[u8], place: u64, number: u8)
-    ensures { Pushes line.old (joined (place_texts word.now place number)) line.new }
+fn push_prefix<E: Sink>(line: &mut LineWriter<'_, '_, E>, word: &[u8], position: u64, number: u8)
+    ensures { Pushes line.old (joined (prefix_texts word.now position number)) line.new }
 {
-    line.push_named(word, place);
+    line.push_named(word, position);
     push_number(line, number);
 }
 
@@ -199,10 +199,10 @@ pub(crate) fn write_fault<E: Sink>(
 }
 
 /// Pushes a fault line: the line of the text, from 1, the fault's number and its text.
-fn push_line<E: Sink>(line: &mut LineWriter<'_, '_, E>, place: u64, number: u8, text: &[u8])
-    ensures { Pushes line.old (document_line place (number, text.now ∷ [])) line.new }
+fn push_line<E: Sink>(line: &mut LineWriter<'_, '_, E>, position: u64, number: u8, text: &[u8])
+    ensures { Pushes line.old (document_line position (number, text.now ∷ [])) line.new }
 {
-    push_place(line, b"line ", place, number);
+    push_prefix(line, b"line ", position, number);
     line.push(text);
     line.push(b"\n");
 }
@@ -247,19 +247,19 @@ fn push_document_fault<E: Sink>(line: &mut LineWriter<'_, '_, E>, fault: Documen
 {
     let number = fault.number();
     match &fault {
-        DocumentFault::Item(place, why) => {
-            push_place(line, b"line ", *place, number);
+        DocumentFault::Item(position, why) => {
+            push_prefix(line, b"line ", *position, number);
             push_item_fault(line, why);
             line.push(b"\n");
         }
-        DocumentFault::Template(place, why) => {
-            push_place(line, b"line ", *place, number);
+        DocumentFault::Template(position, why) => {
+            push_prefix(line, b"line ", *position, number);
             line.push_named(b"template ", u64::from(why.number()));
             line.push(b" ");
             push_template_fault(line, why);
             line.push(b"\n");
         }
-        DocumentFault::TooLong(place) => push_line(line, *place, number, b"too long"),
+        DocumentFault::TooLong(position) => push_line(line, *position, number, b"too long"),
         DocumentFault::Memory => {}
     }
 }
@@ -298,7 +298,7 @@ fn push_read_fault<E: Sink>(line: &mut LineWriter<'_, '_, E>, fault: ReadFault)
     ensures { Pushes line.old (line_of_read_fault fault) line.new }
 {
     match fault {
-        ReadFault::Line(place, why) => push_line(line, place, why.number(), text_of(why)),
+        ReadFault::Line(position, why) => push_line(line, position, why.number(), text_of(why)),
         ReadFault::Run(_) => {}
     }
 }
