@@ -7,7 +7,7 @@ use Rattle.std.proofs.lemmas.Bool.{true≢false, cases_Bool}
 use Rattle.std.proofs.lemmas.List.{take-append-drop, get_or-take, get_or-drop}
 use Rattle.bufr_frame.specs.declared.fault.SectionFault.{SectionFault}
 use Rattle.bufr_frame.specs.declared.fault.SectionFault.TheVariants.{SectionShort, SectionPast}
-use Rattle.bufr_frame.specs.Prelude.{u24_at, u16_at, words, three_octets, two_octets, octets_of_words, is_edition, first_least, head_size, head_of, head_by_edition, flags_of, octet_at, head_3, head_4, octets_3, octets_4, values_of, greatest_values, Sections, sections_of, section_end, parts, edition_of, has_section2, is_long_edition_3, parts_if_end_matches, IsPlain, section2_begins, section3_begins, section4_begins, parts_in, message_size, message_octets, section0_octets, section1_octets, section2_octets, section2_size, section3_octets, section4_octets, head_octets, data_flags, even_size, with_even_length, max_extra_octets, max_octets, IsFitting, is_writable, Head}
+use Rattle.bufr_frame.specs.Prelude.{u24_at, u16_at, words, three_octets, two_octets, octets_of_words, is_edition, min_section_1, head_size, head_of, head_by_edition, flags_of, octet_at, head_3, head_4, octets_3, octets_4, values_of, greatest_values, Sections, sections_of, section_end, parts, edition_of, has_section2, is_long_edition_3, parts_if_end_matches, IsPlain, section2_begins, section3_begins, section4_begins, parts_in, message_size, message_octets, section0_octets, section1_octets, section2_octets, section2_size, section3_octets, section4_octets, head_octets, data_flags, even_size, with_even_length, max_extra_octets, max_octets, IsFitting, is_writable, Head}
 use Rattle.bufr_bits.specs.Prelude.{◌>>=◌}
 use Rattle.bufr_frame.proofs.LayoutLemmas.{length-octets_of_words, even-3, length-words}
 use Rattle.std.proofs.lemmas.List.Elements.{All-take, All-drop}
@@ -57,7 +57,7 @@ pub record Ended (m : List ℕ) (s : Sections) : Type 0 where
   pub p3 : ℕ
   pub p4 : ℕ
   pub edition : is_edition (edition_of m) ≡ true
-  pub first : EndsAt m (first_least (edition_of m)) 8 p1
+  pub first : EndsAt m (min_section_1 (edition_of m)) 8 p1
   pub second : has_section2 m ≡ true → EndsAt m 4 p1 p2
   pub no_second : has_section2 m ≡ false → p2 ≡ p1
   pub third : EndsAt m 7 p2 p3
@@ -74,7 +74,7 @@ pub sections-ended : (m : List ℕ) (s : Sections) → sections_of m ≡ Ok s �
 unfolding sections_of
 sections-ended m s is =
     let e = unless-ok (is_edition (edition_of m)) _ _ s is in
-    let one' = then-ok (section_end m 1 (first_least (edition_of m)) 8) _ s e.1 in
+    let one' = then-ok (section_end m 1 (min_section_1 (edition_of m)) 8) _ s e.1 in
     let two' = then-ok (if has_section2 m then section_end m 2 4 one'.0 else Ok one'.0) _ s one'.2 in
     let three' = then-ok (section_end m 3 7 two'.0) _ s two'.2 in
     let four = then-ok (section_end m 4 4 three'.0) _ s three'.2 in
@@ -86,7 +86,7 @@ sections-ended m s is =
       p3 = three'.0;
       p4 = four.0;
       edition = e.0;
-      first = section-ended m 1 (first_least (edition_of m)) 8 one'.0 one'.1;
+      first = section-ended m 1 (min_section_1 (edition_of m)) 8 one'.0 one'.1;
       second = second.0;
       no_second = second.1;
       third = section-ended m 3 7 two'.0 three'.0 three'.1;
@@ -307,29 +307,29 @@ module _ (m : List ℕ) (small : All (λ octet. octet < 256) m) where
   head-back-3 b long is reserved =
       head-written-3 b ∙ ap written-3 (flag-back b (get_or m 15 0) is (small 15 0 (omega arith)) reserved) ∙ sym octets-written-3
 
-  head-back : (b : Bool) → is_edition (edition_of m) ≡ true → 8 + first_least (edition_of m) ≤ length m → has_section2 m ≡ b → flags_of m % 128 ≡ 0
+  head-back : (b : Bool) → is_edition (edition_of m) ≡ true → 8 + min_section_1 (edition_of m) ≤ length m → has_section2 m ≡ b → flags_of m % 128 ≡ 0
       → head_octets (head_of m) b ≡ octets_from (head_size (edition_of m)) 11 m
   unfolding head_by_edition head_size
   head-back b known long is reserved =
       let flags = if b then 128 else 0 in
       let F : ℕ → ℕ = λ n. octet_at m (if n == 3 then 8 else 10) in
       let H : ℕ → Head = λ n. record (if n == 3 then head_3 m else head_4 m) { edition = edition_of m } in
-      let P : ℕ → Type 0 = λ n. 8 + first_least n ≤ length m → nat_le 128 (F n) ≡ b → F n % 128 ≡ 0
+      let P : ℕ → Type 0 = λ n. 8 + min_section_1 n ≤ length m → nat_le 128 (F n) ≡ b → F n % 128 ≡ 0
       → (if n == 3 then octets_3 (H n) flags else octets_4 (H n) flags) ≡ octets_from (head_size n) 11 m in
       edition-cases (edition_of m) known
       (λ e. subst P (sym e) (head-back-3 b) long is reserved)
       (λ e. subst P (sym e) (head-back-4 b) long is reserved)
 
-  first-back : (b : Bool) (p : ℕ) → is_edition (edition_of m) ≡ true → 8 + first_least (edition_of m) ≤ p → p ≤ length m → p ≡ 8 + u24_at m 8 → has_section2 m ≡ b → flags_of m % 128 ≡ 0
-      → section1_octets (head_of m) (slice_range m (8 + first_least (edition_of m)) p) b ≡ slice_range m 8 p
+  first-back : (b : Bool) (p : ℕ) → is_edition (edition_of m) ≡ true → 8 + min_section_1 (edition_of m) ≤ p → p ≤ length m → p ≡ 8 + u24_at m 8 → has_section2 m ≡ b → flags_of m % 128 ≡ 0
+      → section1_octets (head_of m) (slice_range m (8 + min_section_1 (edition_of m)) p) b ≡ slice_range m 8 p
   first-back b p known fits within long is reserved =
       let k = head_size (edition_of m) in
-      let from = 8 + first_least (edition_of m) in
+      let from = 8 + min_section_1 (edition_of m) in
       let x = slice_range m from p in
-      let n : first_least (edition_of m) + length x ≡ u24_at m 8 = omega (arith, slice-long m from p within, long) in
+      let n : min_section_1 (edition_of m) + length x ≡ u24_at m 8 = omega (arith, slice-long m from p within, long) in
       let width : from - 11 ≡ k = omega arith in
       let part : slice_range m 11 from ≡ octets_from k 11 m = ap (λ j. take j (drop 11 m)) width ∙ slice-octets k 11 m (omega arith) in
-      ap (λ l. l ++ head_octets (head_of m) b ++ x) (length-back 8 (first_least (edition_of m) + length x) (omega arith) n ∙ sym (three-at m 8))
+      ap (λ l. l ++ head_octets (head_of m) b ++ x) (length-back 8 (min_section_1 (edition_of m) + length x) (omega arith) n ∙ sym (three-at m 8))
       ∙ ap (λ l. octets_from 3 8 m ++ l ++ x) (head-back b known (omega arith) is reserved)
       ∙ ap (λ l. l ++ octets_from k 11 m ++ x) (sym (slice-octets 3 8 m (omega arith)))
       ∙ ap (λ l. take 3 (drop 8 m) ++ l ++ x) (sym part)
@@ -466,7 +466,7 @@ module _ (m : List ℕ) (plain : IsPlain m) (s : Sections) (e : Ended m s) where
       let t3 = section3_octets c3 (u16_at m (e.p2 + 4)) (data_flags (nat_le 128 (get_or m (e.p2 + 6) 0)) (nat_le 64 (get_or m (e.p2 + 6) 0 % 128))) in
       let t4 = section4_octets (with_even_length (edition_of m) 4 (slice_range m (e.p3 + 4) e.p4)) in
       let t2 = section2_octets (if b then Some (slice_range m (e.p1 + 4) e.p2) else None) in
-      let t1 : Bool → List ℕ = λ x. section1_octets (head_of m) (slice_range m (8 + first_least (edition_of m)) e.p1) x in
+      let t1 : Bool → List ℕ = λ x. section1_octets (head_of m) (slice_range m (8 + min_section_1 (edition_of m)) e.p1) x in
       let back : t1 (is_some (if b then Some (slice_range m (e.p1 + 4) e.p2) else None)) ++ (t2 ++ (t3 ++ (t4 ++ codes "7777"))) ≡ drop 8 m =
       ap (λ x. t1 x ++ (t2 ++ (t3 ++ (t4 ++ codes "7777")))) h
       ∙ ap (λ l. l ++ (t2 ++ (t3 ++ (t4 ++ codes "7777")))) s1

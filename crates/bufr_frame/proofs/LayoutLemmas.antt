@@ -1,14 +1,14 @@
 -- A message that was written, section by section, read again.
 use Rattle.std.proofs.lemmas.Grind.{common_steps}
 use Rattle.std.proofs.Common.{◌≡◌, ◌==◌, ◌-◌, ℕ, true, false, List, Ok, length, refl, eq-eqb, ◌∙◌, ◌+◌, ◌*◌, ◌/◌, ◌%◌, ◌≤◌, Bool, [], ◌∷◌, ◌++◌, ap, sym, subst, arith, Option, Some, None, get_or, codes, append_assoc, length-append, Err, append-nil, zero, suc, ◌<◌, slice_get, if◌then◌else◌, nat_lt, nat_le, is_some, slice_range, ◌&&◌, ◌||◌, Result, OnOk, option_map}
-use Rattle.bufr_frame.specs.Prelude.{is_edition, first_least, head_size, head_by_edition, flags_of, octets_3, octets_4, head_octets, sections_of, section_end, parts, edition_of, has_section2, is_long_edition_3, head_of, Sections, is_padded, u24_at, u16_at, words, three_octets, two_octets, octets_of_words, MessageParts, message_octets, message_size, section0_octets, section1_octets, section2_octets, section2_size, section3_octets, section4_octets, data_flags, sections_from, head_octets, even_size, with_even_length, with_pad_octet, is_writable, size_from, parts_of, Head}
+use Rattle.bufr_frame.specs.Prelude.{is_edition, min_section_1, head_size, head_by_edition, flags_of, octets_3, octets_4, head_octets, sections_of, section_end, parts, edition_of, has_section2, is_long_edition_3, head_of, Sections, is_padded, u24_at, u16_at, words, three_octets, two_octets, octets_of_words, MessageParts, message_octets, message_size, section0_octets, section1_octets, section2_octets, section2_size, section3_octets, section4_octets, data_flags, sections_from, head_octets, even_size, with_even_length, with_pad_octet, is_writable, size_from, parts_of, Head}
 use Rattle.std.proofs.lemmas.Bool.Decides.{nat_tests}
 use Rattle.bufr_bits.specs.Prelude.{bits_of, bits_of_octet}
 
 -- ---- The sections of a message, one after another.
 
 -- where the steps go well, these are the sections
-pub sections-are : (m : List ℕ) (p1 p2 p3 p4 : ℕ) → is_edition (edition_of m) ≡ true → section_end m 1 (first_least (edition_of m)) 8 ≡ Ok p1
+pub sections-are : (m : List ℕ) (p1 p2 p3 p4 : ℕ) → is_edition (edition_of m) ≡ true → section_end m 1 (min_section_1 (edition_of m)) 8 ≡ Ok p1
     → (if has_section2 m then section_end m 2 4 p1 else Ok p1) ≡ Ok p2
     → section_end m 3 7 p2 ≡ Ok p3 → section_end m 4 4 p3 ≡ Ok p4 → p4 ≡ length m - 4 → is_long_edition_3 m p2 p3 p4 ≡ false → sections_of m ≡ Ok (parts m p1 p2 p3 p4)
 unfolding sections_of
@@ -69,7 +69,7 @@ even-stays edition n = by (edition == 3) (n % 2 == 1) refl
         ap (λ k. k == 1) even
 
 -- section 1 after its length
-length-head : (h : Head) (optional : Bool) → 3 + length (head_octets h optional) ≡ first_least h.edition
+length-head : (h : Head) (optional : Bool) → 3 + length (head_octets h optional) ≡ min_section_1 h.edition
 unfolding head_size
 length-head h optional = by (h.edition == 3)
   where
@@ -206,7 +206,7 @@ make-same : (h h' : Head) (l l' : List ℕ) (o o' : Option (List ℕ)) (d d' : L
     → h ≡ h' → l ≡ l' → o ≡ o' → d ≡ d' → n ≡ n' → b ≡ b' → c ≡ c' → p ≡ p' → s ≡ s' → make h l o d n b c p s ≡ make h' l' o' d' n' b' c' p' s'
 make-same h h' l l' o o' d d' n n' b b' c c' p p' s s' e1 e2 e3 e4 e5 e6 e7 e8 e9 = cc
 
-parts-make : (m : List ℕ) (p1 p2 p3 p4 : ℕ) → parts m p1 p2 p3 p4 ≡ make (head_of m) (slice_range m (8 + first_least (edition_of m)) p1)
+parts-make : (m : List ℕ) (p1 p2 p3 p4 : ℕ) → parts m p1 p2 p3 p4 ≡ make (head_of m) (slice_range m (8 + min_section_1 (edition_of m)) p1)
     (if has_section2 m then Some (slice_range m (p1 + 4) p2) else None)
     (words (slice_range m (p2 + 7) p3)) (u16_at m (p2 + 4)) (nat_le 128 (get_or m (p2 + 6) 0)) (nat_le 64 (get_or m (p2 + 6) 0 % 128)) (slice_range m (p3 + 4) p4) (length m)
 unfolding make
@@ -242,7 +242,7 @@ read-back h p writable =
     let at2 : m ≡ f2 ++ (s2 ++ (s3 ++ (s4 ++ end))) = sym (append_assoc s0 s1 (s2 ++ (s3 ++ (s4 ++ end)))) in
     let at3 : m ≡ f3 ++ (s3 ++ (s4 ++ end)) = at2 ∙ sym (append_assoc f2 s2 (s3 ++ (s4 ++ end))) in
     let at4 : m ≡ f4 ++ (s4 ++ end) = at3 ∙ sym (append_assoc f3 s3 (s4 ++ end)) in
-    let least = first_least edition in
+    let least = min_section_1 edition in
     let ho = head_octets h (is_some p.section2) in
     let lh = length-head h (is_some p.section2) in
     let n1 = least + length p.local1 in
@@ -265,7 +265,7 @@ read-back h p writable =
     let known : is_edition (edition_of m) ≡ true = writable-edition h writable in
     let has : has_section2 m ≡ is_some p.section2 = ap (nat_le 128) (flags-back h (is_some p.section2) (message_size edition p) n1 p.local1 (s2 ++ (s3 ++ (s4 ++ end))) writable)
     ∙ flag-test (is_some p.section2) in
-    let e1 : section_end m 1 (first_least (edition_of m)) 8 ≡ Ok p1 =
+    let e1 : section_end m 1 (min_section_1 (edition_of m)) 8 ≡ Ok p1 =
     section-at m s0 ((ho ++ p.local1) ++ (s2 ++ (s3 ++ (s4 ++ end)))) 1 least 8 n1 (ap (λ l. s0 ++ l) (first-split n1 ho p.local1 (s2 ++ (s3 ++ (s4 ++ end))))) refl (omega arith) (omega arith)
     (omega (arith, lm)) in
     let e2 = second-at m f2 (s3 ++ (s4 ++ end)) p.section2 p1 at2 k2 has (omega (arith, lm)) in

@@ -2,7 +2,7 @@
 -- lengths are the least, reserved bits zero, is this project's choice) Cited by public contracts.
 use Rattle.std.specs.Prelude.{◌≡◌, ℕ, ◌≤◌, ◌+◌, ◌*◌, ◌==◌, nat_le, ◌&&◌, ◌||◌, Bool, true, List, [], ◌∷◌, ◌++◌, Option, Some, None, length, codes, is_some, slice_index, if◌then◌else◌}
 use Rattle.bufr_frame.specs.Octets.{three_octets, two_octets, octets_of_words}
-use Rattle.bufr_frame.specs.Section1.{is_edition, first_least, octets_3, octets_4, values_of, greatest_values}
+use Rattle.bufr_frame.specs.Section1.{is_edition, min_section_1, octets_3, octets_4, values_of, greatest_values}
 use Rattle.bufr_frame.specs.Sections.{Sections, is_padded}
 use Rattle.bufr_frame.specs.declared.section1.Head.{Head}
 
@@ -53,7 +53,7 @@ with_even_length edition prefix octets = with_pad_octet (is_padded edition (pref
 -- how many octets a message has, section by section
 abbrev pub size_from : (edition local1 : ℕ) → Option (List ℕ) → (descriptors payload : ℕ) → ℕ
 size_from edition local1 section2 descriptors payload =
-    8 + (first_least edition + local1) + section2_size section2
+    8 + (min_section_1 edition + local1) + section2_size section2
     + even_size edition (7 + 2 * descriptors) + even_size edition (4 + payload) + 4
 
 -- how many octets a message of these parts has
@@ -99,7 +99,7 @@ head_octets h optional =
 -- rule: sections-1-and-2-as-given
 abbrev pub section1_octets : Head → List ℕ → (optional : Bool) → List ℕ
 section1_octets h local1 optional =
-    three_octets (first_least h.edition + length local1) ++ head_octets h optional ++ local1
+    three_octets (min_section_1 h.edition + length local1) ++ head_octets h optional ++ local1
 
 -- section 4: its length, a reserved octet, the payload
 -- rule: section-4

@@ -27,8 +27,8 @@ head_size edition = if edition == 3 then 14 else 19
 
 -- how many octets section 1 has without those for local use: the three of its length, and these
 -- rule: local-use, length-under-least
-abbrev pub first_least : (edition : ℕ) → ℕ
-first_least edition = 3 + head_size edition
+abbrev pub min_section_1 : (edition : ℕ) → ℕ
+min_section_1 edition = 3 + head_size edition
 
 -- the flags of section 1
 abbrev pub flags_of : List ℕ → ℕ

@@ -5,7 +5,7 @@
 use Rattle.std.specs.Prelude.{ℕ, ◌+◌, ◌-◌, ◌%◌, ◌==◌, ◌&&◌, ◌||◌, Bool, not, nat_lt, nat_le, List, Option, Some, None, Result, Ok, Err, length, slice_index, slice_range, if◌then◌else◌, ◌≡◌, ◌<◌, true, All, take, drop, codes}
 use Rattle.bufr_bits.specs.Prelude.{◌>>=◌}
 use Rattle.bufr_frame.specs.Octets.{u24_at, u16_at, words}
-use Rattle.bufr_frame.specs.Section1.{is_edition, edition_of, first_least, flags_of, head_of}
+use Rattle.bufr_frame.specs.Section1.{is_edition, edition_of, min_section_1, flags_of, head_of}
 use Rattle.bufr_frame.specs.declared.section1.Head.{Head}
 use Rattle.bufr_frame.specs.declared.fault.SectionFault.{SectionFault}
 use Rattle.bufr_frame.specs.declared.fault.SectionFault.TheVariants.{Edition, SectionShort, SectionPast, SectionsEnd, Edition3Long}
@@ -50,7 +50,7 @@ has_section2 m = nat_le 128 (flags_of m)
 abbrev pub parts : List ℕ → (p1 p2 p3 p4 : ℕ) → Sections
 parts m p1 p2 p3 p4 = record {
   head = head_of m;
-  local1 = slice_range m (8 + first_least (edition_of m)) p1;
+  local1 = slice_range m (8 + min_section_1 (edition_of m)) p1;
   section2 = if has_section2 m then Some (slice_range m (p1 + 4) p2) else None;
   descriptors = words (slice_range m (p2 + 7) p3);
   subsets = u16_at m (p2 + 4);
@@ -79,7 +79,7 @@ parts_if_end_matches m p1 p2 p3 p4 =
 -- rule: edition-first, sections-in-order
 unfoldable pub sections_of : List ℕ → Result Sections SectionFault
 sections_of m = if not (is_edition (edition_of m)) then Err (Edition (edition_of m)) else do
-  p1 ← section_end m 1 (first_least (edition_of m)) 8
+  p1 ← section_end m 1 (min_section_1 (edition_of m)) 8
   p2 ← (if has_section2 m then section_end m 2 4 p1 else Ok p1)
   p3 ← section_end m 3 7 p2
   p4 ← section_end m 4 4 p3

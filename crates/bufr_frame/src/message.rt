@@ -1,7 +1,7 @@
 //! A message divided into its sections. (WMO-No. 306, Volume I.2, FM 94)
 ghost use Rattle.std.specs.Prelude.{◌≡◌, ◌≤◌, ◌+◌, length, IsTrue, Some, None, slice_range, if◌then◌else◌, ◌<◌, ◌*◌, ◌^◌, ◌-◌, Ok, IfOk, slice_get, ◌↔◌, []};
 ghost use Rattle.std.specs.Option.{option_map};
-ghost use Rattle.bufr_frame.specs.Section1.{edition_of, first_least, head_of};
+ghost use Rattle.bufr_frame.specs.Section1.{edition_of, min_section_1, head_of};
 ghost use Rattle.bufr_frame.specs.Sections.{has_section2, section_end, sections_of, Sections};
 ghost use Rattle.bufr_frame.specs.Octets.{words_left, words};
 ghost use Rattle.bufr_bits.specs.Prelude.{octets_of};
@@ -10,7 +10,7 @@ ghost use Rattle.std.specs.Iterator.{YieldsFirst, item_count};
 use crate::fault::SectionFault;
 use crate::octets::{u16_at, u24_at};
 use crate::section1::{
-    Head, SECTION_0, SECTION_2, SECTION_3, SECTION_4, SECTION_5, is_padded, section_1,
+    Head, SECTION_0, SECTION_2, SECTION_3, SECTION_4, SECTION_5, is_padded, min_section_1,
 };
 use bufr_bits::BitSlice;
 use std::marker::Model;
@@ -66,7 +66,7 @@ impl<'a> Model for Message<'a> {
 #[inline(always)]
 fn head_at(m: &[u8]) -> Head
     requires long { 8 ≤ length m.now }
-    requires first { 8 + first_least (edition_of m.now) ≤ length m.now }
+    requires first { 8 + min_section_1 (edition_of m.now) ≤ length m.now }
     ensures { result ≡ head_of m.now }
 {
     if m[7] == 3 {
@@ -149,7 +149,7 @@ impl<'a> Message<'a> {
         if edition != 3 && edition != 4 {
             return Err(SectionFault::Edition(edition));
         }
-        let first = section_end_at(octets, 1, section_1(edition), SECTION_0)?;
+        let first = section_end_at(octets, 1, min_section_1(edition), SECTION_0)?;
         let second = second_end(octets, first)?;
         let third = section_end_at(octets, 3, SECTION_3, second)?;
         let fourth = section_end_at(octets, 4, SECTION_4, third)?;
@@ -164,7 +164,7 @@ impl<'a> Message<'a> {
         Ok(Message {
             octets,
             head: head_at(octets),
-            local1: &octets[SECTION_0 + section_1(edition)..first],
+            local1: &octets[SECTION_0 + min_section_1(edition)..first],
             section2: section2_of(octets, first, second),
             descriptors: &octets[second + SECTION_3..third],
             subsets: u16_at(octets, second + 4),

@@ -1,7 +1,7 @@
 //! The values of section 1, and the least octets of each section. (WMO-No. 306, Volume I.2, FM 94)
 ghost use Rattle.std.specs.Prelude.{◌≡◌, ◌≤◌, ◌<◌, ◌-◌, ◌^◌};
 ghost use Rattle.bufr_frame.specs.Layout.{even_size};
-ghost use Rattle.bufr_frame.specs.Section1.{first_least};
+ghost use Rattle.bufr_frame.specs.Section1.{min_section_1};
 ghost use Rattle.bufr_frame.specs.Sections.{is_padded};
 
 /// The edition (octet 8 of section 0) and the values of section 1 of a message, unchanged.
@@ -51,8 +51,8 @@ pub(crate) const SECTION_0: usize = 8;
 /// Section 1 of an edition, without octets for local use.
 #[tactic(auto, unfolding(crate::specs::Section1::head_size))]
 // rule: length-under-least
-pub(crate) fn section_1(edition: u8) -> usize
-    ensures value { result ≡ first_least edition }
+pub(crate) fn min_section_1(edition: u8) -> usize
+    ensures value { result ≡ min_section_1 edition }
     ensures least { 17 ≤ result }
 {
     if edition == 3 { 17 } else { 22 }

@@ -6,7 +6,7 @@ ghost use Rattle.bufr_frame.specs.Prelude.{three_octets, octets_of_words, sectio
 use crate::fault::WriteFault;
 use crate::octets::{high_octet, low_octet};
 use crate::section1::{
-    Head, SECTION_0, SECTION_2, SECTION_3, SECTION_4, SECTION_5, even_len, is_padded, section_1,
+    Head, SECTION_0, SECTION_2, SECTION_3, SECTION_4, SECTION_5, even_len, is_padded, min_section_1,
 };
 use std::alloc::{AllocError, Global};
 
@@ -34,7 +34,7 @@ fn size_of(
     };
     let third = even_len(edition, SECTION_3 + 2 * descriptors.len());
     let fourth = even_len(edition, SECTION_4 + payload.len());
-    let size = (SECTION_0 + SECTION_5 + section_1(edition))
+    let size = (SECTION_0 + SECTION_5 + min_section_1(edition))
         .saturating_add(local1.len())
         .saturating_add(second)
         .saturating_add(third)
@@ -233,7 +233,7 @@ pub fn write_message(
     octets.extend_from_slice(b"BUFR")?;
     push_three(&mut octets, size)?;
     octets.extend_from_slice(&[head.edition])?;
-    push_three(&mut octets, section_1(head.edition) + local1.len())?;
+    push_three(&mut octets, min_section_1(head.edition) + local1.len())?;
     push_head(&mut octets, head, section2.is_some())?;
     octets.extend_from_slice(local1)?;
     push_section2(&mut octets, section2)?;

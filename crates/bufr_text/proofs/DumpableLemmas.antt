@@ -9,7 +9,7 @@ use Rattle.bufr_walk.specs.Prelude.{FieldSpec, IsSpec, HasWidth, HasRole, Conten
 use Rattle.bufr_text.specs.Prelude.{IsDescriptorWord, IsOctet, IsValue, IsComment, IsItem, IsDumpable, IsAccepted, items_shown, dump_items}
 use Rattle.std.proofs.lemmas.List.{length-map}
 use Rattle.bufr_bits.specs.Prelude.{bits_of}
-use Rattle.bufr_frame.specs.Prelude.{u16_at, words, Sections, sections_of, parts, edition_of, head_of, has_section2, IsFitting, first_least}
+use Rattle.bufr_frame.specs.Prelude.{u16_at, words, Sections, sections_of, parts, edition_of, head_of, has_section2, IsFitting, min_section_1}
 use Rattle.bufr_frame.proofs.AgainLemmas.{sections-ended, heads-fit}
 use Rattle.bufr_walk.specs.declared.spec.Role.{Role}
 use Rattle.bufr_fill.specs.Prelude.{AreOctets, FitsKind, FitsRole, Fits, AllFit}
@@ -63,7 +63,7 @@ optional_octets false octets h = tt
 parts_given : (m : List ℕ) (p1 p2 p3 p4 : ℕ) → AllByRecursion IsOctet m → IsFitting (head_of m) → AreGiven (parts m p1 p2 p3 p4)
 parts_given m p1 p2 p3 p4 h head = record {
   head = head;
-  local1 = all_range m (8 + first_least (edition_of m)) p1 h;
+  local1 = all_range m (8 + min_section_1 (edition_of m)) p1 h;
   section2 = optional_octets (has_section2 m) (slice_range m (p1 + 4) p2) (all_range m (p1 + 4) p2 h);
   descriptors = all_words (slice_range m (p2 + 7) p3) (all_range m (p2 + 7) p3 h);
   few = word_at m (p2 + 4) h;

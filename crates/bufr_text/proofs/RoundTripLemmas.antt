@@ -8,7 +8,7 @@ use Rattle.bufr_walk.specs.Prelude.{FieldSpec, Content, shown, Course, next_item
 use Rattle.bufr_text.specs.Prelude.{IsDescriptorWord, items_shown, IsOctet, bit, dump_value_of, item_entries, subset_entries, document_of, dump_text_of, lines_before, IsAccepted, dump_items, extra_octets, SaySame, HasSameReading, IsEncodedAgain, Document, head_from_values, compressed_in, ◌>>=◌, report_of_template, report_of_items, data_bits, octets_of_bits, message_of, encoding_in, encoding_of, compressed_as, parts_as, AreOctetsOf, IsData, IsDocumentRefusal, Form, WritesForm, DocumentFault}
 use Rattle.std.proofs.lemmas.List.{take_at, drop_at, length-replicate}
 use Rattle.bufr_bits.specs.Prelude.{bits_of, padding}
-use Rattle.bufr_frame.specs.Prelude.{three_octets, octets_of_words, u24_at, Sections, sections_of, edition_of, section3_begins, section4_begins, IsFitting, MessageParts, even_size, with_even_length, message_octets, message_size, max_octets, section0_octets, section1_octets, section2_octets, section3_octets, section4_octets, data_flags, head_octets, max_extra_octets, parts_in, parts_of, sections_from, first_least, FrameAt, has_word_at, stated_length, classify, stream_event, candidate_len, scan_from}
+use Rattle.bufr_frame.specs.Prelude.{three_octets, octets_of_words, u24_at, Sections, sections_of, edition_of, section3_begins, section4_begins, IsFitting, MessageParts, even_size, with_even_length, message_octets, message_size, max_octets, section0_octets, section1_octets, section2_octets, section3_octets, section4_octets, data_flags, head_octets, max_extra_octets, parts_in, parts_of, sections_from, min_section_1, FrameAt, has_word_at, stated_length, classify, stream_event, candidate_len, scan_from}
 use Rattle.bufr_frame.proofs.AgainLemmas.{sections-ended, edition-cases, head-small, least-when-even, no-longer, not-too-long, fitting-writable}
 use Rattle.bufr_fill.specs.Prelude.{IsDumped, AreDrafts, AreDumped, Draft, draft, DraftEntry, Ends, Subset, subset, prepend_to_subset, subsets_of}
 use Rattle.bufr_fill.proofs.FieldLemmas.{octet_bits_again, octets_in-are, length-octets_in}
@@ -76,7 +76,7 @@ pub octets_small : (h : Head) (p : MessageParts) → IsFitting h → AllByRecurs
 octets_small h p head local1 section2 descriptors subsets payload few =
     let e = h.edition in
     let n = message_size e p in
-    let least = first_least e in
+    let least = min_section_1 e in
     let words = octets_of_words p.descriptors in
     let third = with_even_length e 7 words in
     let fourth = with_even_length e 4 p.payload in

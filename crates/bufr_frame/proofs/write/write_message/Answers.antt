@@ -1,7 +1,7 @@
 use Rattle.std.proofs.lemmas.Grind.{common_steps}
 use Rattle.std.proofs.Common.{ℕ, List, length, Bool, true, false, arith, ◌+◌, ◌*◌, ◌≡◌, ◌∙◌, ◌++◌, [], ◌∷◌, ap, codes, is_some, option_map}
 use mir.Val.{bool_byte}
-use Rattle.bufr_frame.specs.Prelude.{sections_of, MessageParts, parts_of, message_size, three_octets, first_least, head_octets, section0_octets, section1_octets, section2_octets, section3_octets, section4_octets, data_flags, with_even_length, with_pad_octet, octets_of_words}
+use Rattle.bufr_frame.specs.Prelude.{sections_of, MessageParts, parts_of, message_size, three_octets, min_section_1, head_octets, section0_octets, section1_octets, section2_octets, section3_octets, section4_octets, data_flags, with_even_length, with_pad_octet, octets_of_words}
 use Rattle.bufr_frame.proofs.LayoutLemmas.{read-back, six-parts, is_some-map}
 use Rattle.bufr_frame.proofs.write.write_message.Goals as goal
 
@@ -27,8 +27,8 @@ returns-clause-layout c =
     c.extend_from_slice-2.new.self.items c.extend_from_slice-3.new.self.items c.push_section2.new.octets.items c.push_section3.new.octets.items c.push_plain.new.octets.items
     c.extend_from_slice-4.new.self.items
     (c.in_ok-extend_from_slice-2.ensures.items ∙ ap (λ l. l ++ h.edition ∷ []) (c.in_ok-push_three.ensures ∙ ap (λ l. l ++ three_octets c.in-Some.size) (c.in_ok-extend_from_slice.ensures.items ∙ ap (λ l. l ++ codes "BUFR") c.in_ok-octets.ensures.items)) ∙ ap (λ n. section0_octets n h.edition) size)
-    (first-section c.extend_from_slice-2.new.self.items (three_octets (first_least h.edition + length p.local1)) (head_octets h (is_some p.section2)) p.local1 _ _ _
-    (c.in_ok-push_three-2.ensures ∙ ap (λ n. c.extend_from_slice-2.new.self.items ++ three_octets (n + length p.local1)) c.section_1.ensures.value)
+    (first-section c.extend_from_slice-2.new.self.items (three_octets (min_section_1 h.edition + length p.local1)) (head_octets h (is_some p.section2)) p.local1 _ _ _
+    (c.in_ok-push_three-2.ensures ∙ ap (λ n. c.extend_from_slice-2.new.self.items ++ three_octets (n + length p.local1)) c.min_section_1.ensures.value)
     (c.in_ok-push_head.ensures ∙ ap (λ b. c.push_three-2.new.octets.items ++ head_octets h b) optional) c.in_ok-extend_from_slice-3.ensures.items)
     c.in_ok-push_section2.ensures
     (c.in_ok-push_section3.ensures ∙ ap (λ n. c.push_section2.new.octets.items ++ section3_octets (with_even_length h.edition 7 (octets_of_words p.descriptors)) p.subsets n) flags)
