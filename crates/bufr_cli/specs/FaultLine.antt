@@ -19,7 +19,7 @@ stream_report (stream.Section fault) = section_report fault
 stream_report (stream.Template fault) = template_report fault.now
 stream_report (stream.Data fault) = data_report fault.now
 
--- the beginning of a line: a word, the position that it counts, and the fault's number
+-- the prefix of a line: a word, the position that it counts, and the fault's number
 abbrev pub prefix_texts : (word : List ℕ) (position number : ℕ) → List (List ℕ)
 prefix_texts word position number =
     word ∷ decimal position ∷ codes ": " ∷ decimal number ∷ codes " " ∷ []

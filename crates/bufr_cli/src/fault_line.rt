@@ -40,7 +40,7 @@ fn push_number<E: Sink>(line: &mut LineWriter<'_, '_, E>, number: u8)
     line.push(b" ");
 }
 
-/// Pushes the beginning of a fault line: a word, the position that it counts, and the fault's number.
+/// Pushes the prefix of a fault line: a word, the position that it counts, and the number.
 #[inline(always)]
 // rule: stream-fault-line
 fn push_prefix<E: Sink>(line: &mut LineWriter<'_, '_, E>, word: &[u8], position: u64, number: u8)

@@ -34,10 +34,12 @@ pub(crate) struct ItemLocation {
 #[inline(always)]
 fn make_room(locations: &mut Vec<ItemLocation>, specs: &mut Vec<Spec>) -> Result<(), DataFault>
     requires locations { room_for (vec_len locations.old) ≤ vec_capacity locations.old }
-    requires specs { vec_len specs.old + room_left (vec_len locations.old) ≤ vec_capacity specs.old }
+    requires specs { vec_len specs.old + room_left (vec_len locations.old)
+        ≤ vec_capacity specs.old }
     ensures same_locations { locations.new.items ≡ locations.old.items }
     ensures same_specs { specs.new.items ≡ specs.old.items }
-    ensures locations { OnOk result (room_for (vec_len locations.old + 1) ≤ vec_capacity locations.new) }
+    ensures locations { OnOk result (room_for (vec_len locations.old + 1)
+        ≤ vec_capacity locations.new) }
     ensures specs { OnOk result (vec_len specs.old + room_left (vec_len locations.old + 1) + 1
         ≤ vec_capacity specs.new) }
     ensures least_locations { room_for (vec_len locations.old) ≤ vec_capacity locations.new }
