@@ -1,9 +1,9 @@
 -- Worked examples of compressed data, computed from the definitions.
-use Rattle.std.proofs.Common.{◌≡◌, ◌*◌, ◌+◌, true, false, [], ◌∷◌, Some, None, pos, negsuc, refl, nat_lt, List}
+use Rattle.std.proofs.Common.{◌≡◌, ◌*◌, ◌+◌, ◌++◌, ap, arith, ℕ, zero, suc, true, false, [], ◌∷◌, Some, None, pos, negsuc, refl, nat_lt, List}
 use Rattle.bufr_tables.specs.Prelude.{bare, element, operator, delayed}
 use Rattle.bufr_walk.specs.declared.spec.TurnRefusal.TheVariants as refusal
 use Rattle.bufr_walk.specs.declared.spec.Taken.TheVariants as taken
-use Rattle.bufr_walk.specs.Prelude.{Content, next_item, shown_number, shown_text, shown_missing, shown_reference, data_end, increment, packed, max_values, Passing, EndsPass, Place, Stop, reading, place_at, would_be_many}
+use Rattle.bufr_walk.specs.Prelude.{Content, next_item, shown_number, shown_text, shown_missing, shown_reference, data_end, increment, packed, max_values, Passing, EndsPass, Place, Stop, reading, place_at, would_be_many, PackedValues, items_between, IsSameInAll, range_calls, packed_calls, packed_values, IsPackedOf, read_by, data_in, unsigned_field, number, timed, item_call, subset_call, view, count_in, Item}
 use Rattle.bufr_walk.specs.declared.walker.WalkStop.TheVariants as stops
 use Rattle.bufr_walk.specs.declared.fault.DataFault.TheVariants as wrong
 use Rattle.bufr_walk.proofs.ExampleTables.{fxy, table, done, walk_fault, field_fault, together, gives}
@@ -178,3 +178,41 @@ just_not_too_many :
     (nat_lt max_values (4096 * 32768) ≡ false)
     × (nat_lt max_values (4096 * 32768 + 1) ≡ true)
 just_not_too_many = (refl, refl)
+
+-- ---- Compressed data as they are shown.
+
+-- an item that is the same in two subsets, and one that is not
+abbrev two_items : PackedValues
+two_items = record {
+  table = [];
+  subsets = 2;
+  items = record { spec = unsigned_field 257 7; content = number 1 ∷ number 1 ∷ [] } ∷ record { spec = unsigned_field 258 7; content = number 2 ∷ number 3 ∷ [] } ∷ [];
+}
+
+-- Fails where an index counts from 1, or where the item before the second index is left out.
+between_indices : (items_between two_items 1 1 2 ≡ record { spec = unsigned_field 258 7; content = number 3 } ∷ []) × (items_between two_items 1 1 1 ≡ [])
+between_indices = (refl, refl)
+
+-- fails where one subset alone decides
+alike_or_not : IsSameInAll two_items 0 × (IsSameInAll two_items 1 → ⊥)
+alike_or_not = (alike, λ h. other (h 1 (omega arith)))
+  where
+    alike : IsSameInAll two_items 0
+    alike zero below = refl
+    alike (suc zero) below = refl
+    alike (suc (suc j)) below = absurd (omega (arith, below))
+
+    counts : List (Item Content) → ℕ
+    counts [] = 0
+    counts (i ∷ items) = count_in i.content
+
+    other : items_between two_items 1 1 2 ≡ items_between two_items 0 1 2 → ⊥
+    other e = let same : 3 ≡ 2 = ap counts e in omega (arith, same)
+
+calls_of_two : (range_calls two_items 1 0 2 ≡ timed 0 (item_call (view 257 None (shown_number (pos 1) (pos 0)))) ∷ timed 0 (item_call (view 258 None (shown_number (pos 3) (pos 0)))) ∷ [])
+    × (packed_calls two_items ≡ timed 0 (subset_call 1) ∷ range_calls two_items 0 0 2 ++ timed 0 (subset_call 2) ∷ range_calls two_items 1 0 2)
+calls_of_two = (refl, refl)
+
+-- of no subset nothing is kept, and nothing was read
+packed_of_none : IsPackedOf (packed_values [] [] 0 []) (read_by [] bare (data_in true 0 []) 0 0)
+packed_of_none = record { table = refl; subsets = refl; values = refl }

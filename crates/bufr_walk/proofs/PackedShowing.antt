@@ -1,11 +1,11 @@
 -- Compressed data shown from what a reading keeps.
 use Rattle.std.proofs.lemmas.Grind.{common_steps}
-use Rattle.std.proofs.Common.{◌≡◌, ℕ, ◌+◌, ◌-◌, ◌*◌, ◌<◌, ◌≤◌, Bool, true, false, List, ◌++◌, length, take, drop, replicate, sym, ◌∙◌, ap, arith, zero, suc, get_or, set, Result, Ok, Err, [], ◌∷◌, inl, inr, refl, subst, add-one, append_assoc, if◌then◌else◌, ◌/◌}
-use Rattle.std.proofs.lemmas.List.{drop-drop, append-nil, take_more_set, replicate-append-replicate}
+use Rattle.std.proofs.Common.{◌≡◌, ℕ, ◌+◌, ◌-◌, ◌*◌, ◌<◌, ◌≤◌, Bool, true, false, List, ◌++◌, length, take, drop, replicate, sym, ◌∙◌, ap, arith, zero, suc, get_or, set, length-take-le, Result, Ok, Err, [], ◌∷◌, inl, inr, refl, subst, add-one, append_assoc, if◌then◌else◌, ◌/◌}
+use Rattle.std.proofs.lemmas.List.{drop-drop, drop_all, get_or-take, take_all, append-nil, take_more_set, replicate-append-replicate}
 use Rattle.bufr_bits.specs.Prelude.{bits_of, are_all_ones}
 use Rattle.bufr_tables.specs.Prelude.{is_character, Row}
-use Rattle.bufr_walk.specs.Prelude.{IndexedItem, octets_in, text, missing, shown_text, shown_missing, shown, Content, padded_text, FieldSpec, content_kept, call_kept, IsStoredReading, KeepsValues, held_of, fits_at, items_at, ShowFault, Sofar, Call, Timed, timed, Shows, subset_call, calls_for, turns_for, Item, Values, apart, together, items_kept, Read, item_calls, turns_after, turns_in, subset_calls, subsets_from, items_of_subset, without_turns, plain}
-use Rattle.bufr_walk.proofs.PackedLemmas.{kept_parts, text_content, text_within}
+use Rattle.bufr_walk.specs.Prelude.{IndexedItem, PackedValues, packed_values, range_calls, packed_calls, IsPackedOf, IsReading, course_of, content_at, item_at, item_call, view_of, octets_in, text, missing, shown_text, shown_missing, shown, Content, padded_text, FieldSpec, content_kept, call_kept, IsStoredReading, KeepsValues, held_of, fits_at, items_at, ShowFault, Sofar, Call, Timed, timed, Shows, subset_call, calls_for, turns_for, Item, Values, apart, together, items_kept, Read, item_calls, turns_after, turns_in, subset_calls, subsets_from, items_of_subset, without_turns, plain}
+use Rattle.bufr_walk.proofs.PackedLemmas.{base_content, kept_parts, text_content, text_within}
 use Rattle.bufr_walk.proofs.PlainLemmas.{bits_length, octets_prefix}
 use Rattle.std.specs.List.{list_all}
 use Rattle.std.proofs.Math.Seq.{drop-cons}
@@ -45,24 +45,20 @@ base_within octets n e h = let p = kept_parts (bits_of octets) n e h in omega (a
 -- ---- Calls that show compressed data, joined.
 
 module _ {S E : Type 0} (sees : S → Call → Result (Unit {0}) E → S → Type 0) where
-  all_on : (s : S) (a b : List Timed) (s1 : S) (turns : ℕ) (r : Result (Unit {0}) (ShowFault E)) (s' : S) (steps : ℕ) → Shows sees s a 0 (Ok tt) s1 0 → Shows sees s1 b turns r s' steps
+  pub all_on : (s : S) (a b : List Timed) (s1 : S) (turns : ℕ) (r : Result (Unit {0}) (ShowFault E)) (s' : S) (steps : ℕ) → Shows sees s a 0 (Ok tt) s1 0 → Shows sees s1 b turns r s' steps
       → Shows sees s (a ++ b) turns r s' steps
   all_on s [] b s1 turns r s' steps h w = subst (λ x. Shows sees x b turns r s' steps) h.0 w
   all_on s (t ∷ a) b s1 turns (Ok u) s' steps h w = (h.0, h.1, all_on h.0 a b s1 turns (Ok u) s' steps h.2 w)
   all_on s (t ∷ a) b s1 turns (Err e) s' steps h w = inr (h.0, h.1, all_on h.0 a b s1 turns (Err e) s' steps h.2 w)
 
   -- several calls
-  sofar_all : (s s1 : S) (a b : List Timed) → Shows sees s a 0 (Ok tt) s1 0 → Sofar sees s (a ++ b) s1 b
+  pub sofar_all : (s s1 : S) (a b : List Timed) → Shows sees s a 0 (Ok tt) s1 0 → Sofar sees s (a ++ b) s1 b
   sofar_all s s1 a b h = record { on = λ turns r s' steps w. all_on s a b s1 turns r s' steps h w }
 
   -- several calls, the last of them refused
   pub shows_before : (s s1 : S) (a b : List Timed) (e : ShowFault E) → Shows sees s a 0 (Err e) s1 0 → Shows sees s (a ++ b) 0 (Err e) s1 0
   shows_before s s1 [] b e h = absurd h
   shows_before s s1 (t ∷ a) b e h = elim h as (λ _. Shows sees s (t ∷ a ++ b) 0 (Err e) s1 0) [ inl x ↦ inl x | inr y ↦ inr (y.0, y.1, shows_before y.0 s1 a b e y.2) ]
-
--- the calls for the items of one subset
-abbrev pub calls_of_subset : List Row → ℕ → List (Item (List Content)) → List Timed
-calls_of_subset table j items = item_calls table 0 without_turns (items_of_subset j items)
 
 pub no_turns : (items : List (Item Content)) → turns_after plain without_turns items ≡ 0
 no_turns [] = refl
@@ -73,26 +69,55 @@ no_turns_in [] = refl
 no_turns_in (items ∷ subsets) = omega (arith, no_turns items, no_turns_in subsets)
 
 -- the next of some items
-next_entry : (kept : List IndexedItem) (i : ℕ) (k : IndexedItem) → i < length kept → get_or kept i k ≡ k → drop i kept ≡ k ∷ drop (i + 1) kept
-next_entry kept i k h e = drop-cons kept i k h ∙ ap (λ x. x ∷ drop (suc i) kept) e ∙ ap (λ j. k ∷ drop j kept) (sym (add-one i))
+next_entry : {X : Type 0} (xs : List X) (i : ℕ) (x : X) → i < length xs → get_or xs i x ≡ x → drop i xs ≡ x ∷ drop (i + 1) xs
+next_entry xs i x h e = drop-cons xs i x h ∙ ap (λ y. y ∷ drop (suc i) xs) e ∙ ap (λ j. x ∷ drop j xs) (sym (add-one i))
 
-pub next_call : (table : List Row) (bits : List Bool) (n j : ℕ) (kept : List IndexedItem) (i : ℕ) (k : IndexedItem) → i < length kept → k ≡ get_or kept i k
-    → calls_of_subset table j (items_at bits n (drop i kept)) ≡ timed 0 (call_kept table bits n k j) ∷ calls_of_subset table j (items_at bits n (drop (i + 1) kept))
-next_call table bits n j kept i k h e = ap (λ ks. calls_of_subset table j (items_at bits n ks)) (next_entry kept i k h (sym e))
+-- the next of those before an index
+next_between : {X : Type 0} (xs : List X) (i to : ℕ) (x : X) → i < to → to ≤ length xs → x ≡ get_or xs i x → drop i (take to xs) ≡ x ∷ drop (i + 1) (take to xs)
+next_between xs i to x below within e = next_entry (take to xs) i x (omega (arith, below, length-take-le to xs within)) (get_or-take to xs i x below ∙ sym e)
+
+-- the entries from an index on fit, and that of the index
+pub fit_from : (bits : List Bool) (n i : ℕ) (kept : List IndexedItem) → list_all (fits_at bits n) kept ≡ true → list_all (fits_at bits n) (drop i kept) ≡ true
+fit_from bits n zero [] w = w
+fit_from bits n zero (k ∷ kept) w = w
+fit_from bits n (suc i) [] w = w
+fit_from bits n (suc i) (k ∷ kept) w = fit_from bits n i kept (and_second (fits_at bits n k) (list_all (fits_at bits n) kept) w)
 
 pub fit_here : (bits : List Bool) (n : ℕ) (kept : List IndexedItem) (i : ℕ) (k : IndexedItem) → i < length kept → k ≡ get_or kept i k → list_all (fits_at bits n) (drop i kept) ≡ true
     → fits_at bits n k ≡ true
 fit_here bits n kept i k h e w = and_first (fits_at bits n k) (list_all (fits_at bits n) (drop (i + 1) kept)) (subst (λ ks. list_all (fits_at bits n) ks ≡ true) (next_entry kept i k h (sym e)) w)
 
--- there is an item at an index, and one only
+-- there is an entry at an index, and its item is at that index
 pub item_there : (kept : List IndexedItem) (i : ℕ) → i < length kept → (k : IndexedItem) × (k ≡ get_or kept i k)
 item_there [] i h = absurd (omega (arith, h))
 item_there (k ∷ kept) zero h = (k, refl)
 item_there (k ∷ kept) (suc i) h = item_there kept i (omega (arith, h))
 
-pub fit_after : (bits : List Bool) (n : ℕ) (kept : List IndexedItem) (i : ℕ) (k : IndexedItem) → i < length kept → k ≡ get_or kept i k → list_all (fits_at bits n) (drop i kept) ≡ true
-    → list_all (fits_at bits n) (drop (i + 1) kept) ≡ true
-fit_after bits n kept i k h e w = and_second (fits_at bits n k) (list_all (fits_at bits n) (drop (i + 1) kept)) (subst (λ ks. list_all (fits_at bits n) ks ≡ true) (next_entry kept i k h (sym e)) w)
+pub item_of_entry : (bits : List Bool) (n : ℕ) (kept : List IndexedItem) (i : ℕ) (k : IndexedItem) → i < length kept → k ≡ get_or kept i k
+    → item_at bits n k ≡ get_or (items_at bits n kept) i (item_at bits n k)
+item_of_entry bits n [] i k h e = absurd (omega (arith, h))
+item_of_entry bits n (x ∷ kept) zero k h e = ap (item_at bits n) e
+item_of_entry bits n (x ∷ kept) (suc i) k h e = item_of_entry bits n kept i k (omega (arith, h)) e
+
+pub length-items_at : (bits : List Bool) (n : ℕ) (entries : List IndexedItem) → length entries ≡ length (items_at bits n entries)
+length-items_at bits n [] = refl
+length-items_at bits n (e ∷ entries) = ap suc (length-items_at bits n entries)
+
+-- an item of each entry
+pub entry_there : (table : List Row) (bits : List Bool) (n : ℕ) (kept : List IndexedItem) (p : PackedValues) (i : ℕ) → packed_values table bits n kept ≡ p → i < length p.items → i < length kept
+entry_there table bits n kept p i e h = omega (arith, length-items_at bits n kept, ap (λ q. length q.items) e, h)
+
+-- an item without increments has one content in all subsets
+pub alike_entry : (bits : List Bool) (n : ℕ) (kept : List IndexedItem) (i j : ℕ) (k : IndexedItem) → list_all (fits_at bits n) kept ≡ true → i < length kept → k ≡ get_or kept i k → k.step ≡ 0
+    → j < n → items_of_subset j (drop i (take (i + 1) (items_at bits n kept))) ≡ items_of_subset 0 (drop i (take (i + 1) (items_at bits n kept)))
+alike_entry bits n kept i j k fit h e none below =
+    let items = items_at bits n kept in
+    let fits : fits_at bits n k ≡ true = fit_here bits n kept i k h e (fit_from bits n i kept fit) in
+    let long : i + 1 ≤ length items = omega (arith, h, length-items_at bits n kept) in
+    let is : drop i (take (i + 1) items) ≡ item_at bits n k ∷ [] = next_between items i (i + 1) (item_at bits n k) (omega arith) long (item_of_entry bits n kept i k h e)
+    ∙ ap (λ l. item_at bits n k ∷ l) (drop_all (i + 1) (take (i + 1) items) (omega (arith, length-take-le (i + 1) items long))) in
+    let same : content_kept bits n k j ≡ content_kept bits n k 0 = base_content bits n k j fits none below ∙ sym (base_content bits n k 0 fits none (omega (arith, below))) in
+    ap (items_of_subset j) is ∙ ap (λ c. items_of_subset 0 (record { spec = k.spec; content = c ∷ [] } ∷ [])) same ∙ ap (items_of_subset 0) (sym is)
 
 -- spaces after a text
 pub pad_none : (xs : List ℕ) (n : ℕ) → xs ≡ xs ++ replicate (n - n) 32
@@ -108,74 +133,120 @@ pad_more octets prefix place from h order e =
 
 -- ---- Subsets of compressed data that are shown one after another.
 
-module _ {S E : Type 0} (sees : S → Call → Result (Unit {0}) E → S → Type 0) (table : List Row) (bits : List Bool) (n : ℕ) (kept : List IndexedItem) (j : ℕ) where
-  -- the call of one subset for an entry
-  abbrev pub call_at : IndexedItem → Call
-  call_at k = call_kept table bits n k j
+module _ {S E : Type 0} (sees : S → Call → Result (Unit {0}) E → S → Type 0) (p : PackedValues) (j to : ℕ) where
+  -- the call of one subset for an item
+  abbrev pub call_of_item : Item (List Content) → Call
+  call_of_item item = item_call (view_of p.table item.spec (content_at j item.content))
 
-  -- the calls from an entry on
-  abbrev pub calls_from : ℕ → List Timed
-  calls_from i = calls_of_subset table j (items_at bits n (drop i kept))
+  -- the calls from an index on are those for its item and from the next on
+  next_calls : (i : ℕ) (item : Item (List Content)) → i < to → to ≤ length p.items → item ≡ get_or p.items i item → range_calls p j i to ≡ timed 0 (call_of_item item) ∷ range_calls p j (i + 1) to
+  next_calls i item below within e = ap (λ items. item_calls p.table 0 without_turns (items_of_subset j items)) (next_between p.items i to item below within e)
 
-  -- one entry more
-  pub items_go : (s s1 s2 : S) (i : ℕ) (k : IndexedItem) → i < length kept → k ≡ get_or kept i k → Sofar sees s (calls_from 0) s1 (calls_from i) → sees s1 (call_at k) (Ok tt) s2
-      → Sofar sees s (calls_from 0) s2 (calls_from (i + 1))
-  items_go s s1 s2 i k h e so call =
-      let so_far : Sofar sees s (calls_from 0) s1 (timed 0 (call_at k) ∷ calls_from (i + 1)) = subst (Sofar sees s (calls_from 0) s1) (next_call table bits n j kept i k h e) so in
-      sofar_then sees s s1 s2 _ _ _ so_far (sofar_call sees s1 s2 (timed 0 (call_at k)) (calls_from (i + 1)) call)
+  -- one item more
+  pub items_go : (s s1 s2 : S) (from i : ℕ) (item : Item (List Content)) → i < to → to ≤ length p.items → item ≡ get_or p.items i item
+      → Sofar sees s (range_calls p j from to) s1 (range_calls p j i to)
+      → sees s1 (call_of_item item) (Ok tt) s2 → Sofar sees s (range_calls p j from to) s2 (range_calls p j (i + 1) to)
+  items_go s s1 s2 from i item below within e so call =
+      let so_far : Sofar sees s (range_calls p j from to) s1 (timed 0 (call_of_item item) ∷ range_calls p j (i + 1) to) =
+      subst (Sofar sees s (range_calls p j from to) s1) (next_calls i item below within e) so in
+      sofar_then sees s s1 s2 _ _ _ so_far (sofar_call sees s1 s2 (timed 0 (call_of_item item)) (range_calls p j (i + 1) to) call)
 
-  -- an entry whose call is refused
-  pub items_end : (s s1 s2 : S) (i : ℕ) (k : IndexedItem) (f : E) → i < length kept → k ≡ get_or kept i k → Sofar sees s (calls_from 0) s1 (calls_from i) → sees s1 (call_at k) (Err f) s2
-      → Shows sees s (calls_from 0) 0 (Err (fault.Visitor f)) s2 0
-  items_end s s1 s2 i k f h e so call =
-      let so_far : Sofar sees s (calls_from 0) s1 (timed 0 (call_at k) ∷ calls_from (i + 1)) = subst (Sofar sees s (calls_from 0) s1) (next_call table bits n j kept i k h e) so in
+  -- an item whose call is refused
+  pub items_end : (s s1 s2 : S) (from i : ℕ) (item : Item (List Content)) (f : E) → i < to → to ≤ length p.items → item ≡ get_or p.items i item
+      → Sofar sees s (range_calls p j from to) s1 (range_calls p j i to) → sees s1 (call_of_item item) (Err f) s2 → Shows sees s (range_calls p j from to) 0 (Err (fault.Visitor f)) s2 0
+  items_end s s1 s2 from i item f below within e so call =
+      let so_far : Sofar sees s (range_calls p j from to) s1 (timed 0 (call_of_item item) ∷ range_calls p j (i + 1) to) =
+      subst (Sofar sees s (range_calls p j from to) s1) (next_calls i item below within e) so in
       so_far.on 0 (Err (fault.Visitor f)) s2 0 (inl (call, refl))
 
-module _ {S E : Type 0} (sees : S → Call → Result (Unit {0}) E → S → Type 0) (table : List Row) (n : ℕ) (items : List (Item (List Content))) where
+  -- no item is left
+  pub items_done : (s s1 : S) (from i : ℕ) → to ≤ i → to ≤ length p.items → Sofar sees s (range_calls p j from to) s1 (range_calls p j i to) → Shows sees s (range_calls p j from to) 0 (Ok tt) s1 0
+  items_done s s1 from i end within so =
+      let none : drop i (take to p.items) ≡ [] = drop_all i (take to p.items) (omega (arith, end, length-take-le to p.items within)) in
+      let so_far : Sofar sees s (range_calls p j from to) s1 [] = subst (Sofar sees s (range_calls p j from to) s1) (ap (λ items. item_calls p.table 0 without_turns (items_of_subset j items)) none)
+      so in
+      so_far.on 0 (Ok tt) s1 0 (refl, refl)
+
+-- the same of the entries that are kept
+module _ {S E : Type 0} (sees : S → Call → Result (Unit {0}) E → S → Type 0) (table : List Row) (bits : List Bool) (n : ℕ) (kept : List IndexedItem) (p : PackedValues) (j to from i : ℕ)
+    (s s1 s2 : S) where
+  abbrev Goes : Result (Unit {0}) E → PackedValues → Type 0
+  Goes (Ok x) q = Sofar sees s (range_calls q j from to) s2 (range_calls q j (i + 1) to)
+  Goes (Err f) q = Shows sees s (range_calls q j from to) 0 (Err (fault.Visitor f)) s2 0
+
+  pub entry_goes : (r : Result (Unit {0}) E) → packed_values table bits n kept ≡ p → i < to → to ≤ length p.items → Sofar sees s (range_calls p j from to) s1 (range_calls p j i to)
+      → ((k : IndexedItem) → k ≡ get_or kept i k → sees s1 (call_kept table bits n k j) r s2) → Goes r p
+  entry_goes r is below within so call = subst P is (λ w z. by r call w z) within so
+    where
+      P : PackedValues → Type 0
+      P q = to ≤ length q.items → Sofar sees s (range_calls q j from to) s1 (range_calls q j i to) → Goes r q
+
+      there : (k : IndexedItem) × (k ≡ get_or kept i k)
+      there = item_there kept i (entry_there table bits n kept p i is (omega (arith, below, within)))
+
+      at : item_at bits n there.0 ≡ get_or (items_at bits n kept) i (item_at bits n there.0)
+      at = item_of_entry bits n kept i there.0 (entry_there table bits n kept p i is (omega (arith, below, within))) there.1
+
+      by : (r : Result (Unit {0}) E) → ((k : IndexedItem) → k ≡ get_or kept i k → sees s1 (call_kept table bits n k j) r s2) → to ≤ length (items_at bits n kept)
+          → Sofar sees s (range_calls (packed_values table bits n kept) j from to) s1 (range_calls (packed_values table bits n kept) j i to) → Goes r (packed_values table bits n kept)
+      by (Ok x) call w z = items_go sees (packed_values table bits n kept) j to s s1 s2 from i (item_at bits n there.0) below w at z (call there.0 there.1)
+      by (Err f) call w z = items_end sees (packed_values table bits n kept) j to s s1 s2 from i (item_at bits n there.0) f below w at z (call there.0 there.1)
+
+-- all items of a subset
+pub range_of_all : (p : PackedValues) (j : ℕ) → range_calls p j 0 (length p.items) ≡ item_calls p.table 0 without_turns (items_of_subset j p.items)
+range_of_all p j = ap (λ items. item_calls p.table 0 without_turns (items_of_subset j items)) (from_first (take (length p.items) p.items) ∙ take_all (length p.items) p.items (omega arith))
+  where
+    from_first : (items : List (Item (List Content))) → drop 0 items ≡ items
+    from_first [] = refl
+    from_first (item ∷ items) = refl
+
+module _ {S E : Type 0} (sees : S → Call → Result (Unit {0}) E → S → Type 0) (p : PackedValues) where
   -- the calls of a subset
   abbrev pub subset_at : ℕ → List Timed
-  subset_at j = timed 0 (subset_call (j + 1)) ∷ calls_of_subset table j items
+  subset_at j = timed 0 (subset_call (j + 1)) ∷ range_calls p j 0 (length p.items)
 
   -- the calls of so many subsets, from one on
   abbrev calls_on : (left j number : ℕ) → List Timed
-  calls_on left j number = subset_calls table without_turns 0 number (subsets_from left j items)
+  calls_on left j number = subset_calls p.table without_turns 0 number (subsets_from left j p.items)
 
   -- the calls from a subset on
   abbrev pub subsets_left : ℕ → List Timed
-  subsets_left j = calls_on (n - j) j (j + 1)
+  subsets_left j = calls_on (p.subsets - j) j (j + 1)
 
-  -- all calls
-  abbrev pub all_calls : List Timed
-  all_calls = calls_on n 0 1
+  pub subsets_start : (s : S) → Sofar sees s (packed_calls p) s (subsets_left 0)
+  subsets_start s = let all : p.subsets ≡ p.subsets - 0 = omega arith in subst (λ x. Sofar sees s (packed_calls p) s x) (ap (λ left. calls_on left 0 1) all) (sofar_self sees s (packed_calls p))
 
-  pub subsets_start : (s : S) → Sofar sees s all_calls s (subsets_left 0)
-  subsets_start s = let all : n ≡ n - 0 = omega arith in subst (λ x. Sofar sees s all_calls s x) (ap (λ left. calls_on left 0 1) all) (sofar_self sees s all_calls)
-
-  next_subset : (j : ℕ) → j < n → subsets_left j ≡ subset_at j ++ subsets_left (j + 1)
+  next_subset : (j : ℕ) → j < p.subsets → subsets_left j ≡ subset_at j ++ subsets_left (j + 1)
   next_subset j h =
-      let more : n - j ≡ suc (n - (j + 1)) = omega (arith, h) in
+      let more : p.subsets - j ≡ suc (p.subsets - (j + 1)) = omega (arith, h) in
       let next : suc j ≡ j + 1 = omega arith in
-      let none : 0 + turns_after plain without_turns (items_of_subset j items) ≡ 0 = omega (arith, no_turns (items_of_subset j items)) in
+      let none : 0 + turns_after plain without_turns (items_of_subset j p.items) ≡ 0 = omega (arith, no_turns (items_of_subset j p.items)) in
       ap (λ left. calls_on left j (j + 1)) more
-      ∙ ap (λ turns. subset_at j ++ subset_calls table without_turns turns (j + 1 + 1) (subsets_from (n - (j + 1)) (suc j) items)) none
-      ∙ ap (λ k. subset_at j ++ calls_on (n - (j + 1)) k (j + 1 + 1)) next
+      ∙ ap (λ calls. timed 0 (subset_call (j + 1)) ∷ calls
+      ++ subset_calls p.table without_turns (0 + turns_after plain without_turns (items_of_subset j p.items)) (j + 1 + 1) (subsets_from (p.subsets - (j + 1)) (suc j) p.items)) (sym (range_of_all p j))
+      ∙ ap (λ turns. subset_at j ++ subset_calls p.table without_turns turns (j + 1 + 1) (subsets_from (p.subsets - (j + 1)) (suc j) p.items)) none
+      ∙ ap (λ k. subset_at j ++ calls_on (p.subsets - (j + 1)) k (j + 1 + 1)) next
 
   -- one subset more
-  pub subsets_go : (s s1 s2 : S) (j : ℕ) → j < n → Sofar sees s all_calls s1 (subsets_left j) → Shows sees s1 (subset_at j) 0 (Ok tt) s2 0 → Sofar sees s all_calls s2 (subsets_left (j + 1))
+  pub subsets_go : (s s1 s2 : S) (j : ℕ) → j < p.subsets → Sofar sees s (packed_calls p) s1 (subsets_left j) → Shows sees s1 (subset_at j) 0 (Ok tt) s2 0
+      → Sofar sees s (packed_calls p) s2 (subsets_left (j + 1))
   subsets_go s s1 s2 j h so shows =
-      let so_far : Sofar sees s all_calls s1 (subset_at j ++ subsets_left (j + 1)) = subst (Sofar sees s all_calls s1) (next_subset j h) so in
+      let so_far : Sofar sees s (packed_calls p) s1 (subset_at j ++ subsets_left (j + 1)) = subst (Sofar sees s (packed_calls p) s1) (next_subset j h) so in
       sofar_then sees s s1 s2 _ _ _ so_far (sofar_all sees s1 s2 (subset_at j) (subsets_left (j + 1)) shows)
 
-  pub subsets_end : (s s1 s2 : S) (j : ℕ) (e : ShowFault E) → j < n → Sofar sees s all_calls s1 (subsets_left j) → Shows sees s1 (subset_at j) 0 (Err e) s2 0 → Shows sees s all_calls 0 (Err e) s2 0
+  pub subsets_end : (s s1 s2 : S) (j : ℕ) (e : ShowFault E) → j < p.subsets → Sofar sees s (packed_calls p) s1 (subsets_left j) → Shows sees s1 (subset_at j) 0 (Err e) s2 0
+      → Shows sees s (packed_calls p) 0 (Err e) s2 0
   subsets_end s s1 s2 j e h so shows =
-      let so_far : Sofar sees s all_calls s1 (subset_at j ++ subsets_left (j + 1)) = subst (Sofar sees s all_calls s1) (next_subset j h) so in
+      let so_far : Sofar sees s (packed_calls p) s1 (subset_at j ++ subsets_left (j + 1)) = subst (Sofar sees s (packed_calls p) s1) (next_subset j h) so in
       so_far.on 0 (Err e) s2 0 (shows_before sees s1 s2 (subset_at j) (subsets_left (j + 1)) e shows)
 
-  pub subsets_done : (s s1 : S) (j : ℕ) → n ≤ j → Sofar sees s all_calls s1 (subsets_left j) → Shows sees s all_calls 0 (Ok tt) s1 0
+  pub subsets_done : (s s1 : S) (j : ℕ) → p.subsets ≤ j → Sofar sees s (packed_calls p) s1 (subsets_left j) → Shows sees s (packed_calls p) 0 (Ok tt) s1 0
   subsets_done s s1 j h so =
-      let none : n - j ≡ 0 = omega (arith, h) in
-      let so_far : Sofar sees s all_calls s1 [] = subst (Sofar sees s all_calls s1) (ap (λ left. calls_on left j (j + 1)) none) so in
+      let none : p.subsets - j ≡ 0 = omega (arith, h) in
+      let so_far : Sofar sees s (packed_calls p) s1 [] = subst (Sofar sees s (packed_calls p) s1) (ap (λ left. calls_on left j (j + 1)) none) so in
       so_far.on 0 (Ok tt) s1 0 (refl, refl)
+
+-- ---- What a reading keeps, as its users see it.
 
 -- the entries that are kept are at their locations
 pub entries_fit : (r : Read) (entries : List IndexedItem) → IsStoredReading r (kept.Together entries) → list_all (fits_at r.source.bits r.source.subsets) entries ≡ true
@@ -185,22 +256,40 @@ entries_fit r entries h = by (values_read r) h.keeps
     by (apart xs) k = absurd k
     by (together xs) k = k.1
 
-pub packed_shown : {V E : Type 0} (sees : V → Call → Result (Unit {0}) E → V → Type 0) (r : Read) (entries : List IndexedItem) (items : List IndexedItem) (v v' : V)
-    (result : Result (Unit {0}) (ShowFault E)) (steps : ℕ) → IsStoredReading r (kept.Together entries) → items ≡ entries → steps ≡ 0
-    → Shows sees v (all_calls sees r.table r.source.subsets (items_at r.source.bits r.source.subsets items)) 0 result v' 0
-    → Shows sees v (calls_of r) (turns_shown r) result v' steps
-packed_shown sees r entries items v v' result steps h are none shows = subst (λ n. Shows sees v (calls_of r) (turns_shown r) result v' n) (sym none) (by (values_read r) h.keeps)
+-- their items are those that were read
+pub packed_of : (r : Read) (entries : List IndexedItem) → IsStoredReading r (kept.Together entries)
+    → IsPackedOf (packed_values r.table r.source.bits r.source.subsets entries) r
+packed_of r entries h = record { table = refl; subsets = refl; values = by (values_read r) h.keeps }
   where
-    by : (held : Values) → KeepsValues (kept.Together entries) r.source held → Shows sees v (calls_for r held) (turns_for r held) result v' 0
-    by (apart all) k = absurd k
-    by (together held) k = subst (λ turns. Shows sees v (calls_for r (together held)) turns result v' 0) (sym (no_turns_in (subsets_from r.source.subsets 0 held)))
-        (subst (λ is. Shows sees v (all_calls sees r.table r.source.subsets is) 0 result v' 0) (ap (items_at r.source.bits r.source.subsets) are ∙ k.0) shows)
+    by : (v : Values) → KeepsValues (kept.Together entries) r.source v → v ≡ together (items_at r.source.bits r.source.subsets entries)
+    by (apart xs) k = absurd k
+    by (together xs) k = ap together (sym k.0)
+
+-- entries are kept of compressed data alone
+abbrev are_together : StoredItems → Bool
+are_together kept.Apart = false
+are_together (kept.Together entries) = true
+
+pub compressed_kept : (r : Read) (k : StoredItems) → IsStoredReading r k → are_together k ≡ r.source.compressed
+compressed_kept r k h = by k (values_read r) h.keeps h.reading
+  where
+    by : (k : StoredItems) (v : Values) → KeepsValues k r.source v → IsReading (course_of r) r.source v r.bits → are_together k ≡ r.source.compressed
+    by kept.Apart (apart xs) w reading = sym reading.0
+    by kept.Apart (together xs) w reading = absurd w
+    by (kept.Together entries) (apart xs) w reading = absurd w
+    by (kept.Together entries) (together xs) w reading = sym reading.0
+
+-- the calls that show a reading of compressed data
+pub packed_shown : {V E : Type 0} (sees : V → Call → Result (Unit {0}) E → V → Type 0) (p : PackedValues) (r : Read) (v v' : V) (result : Result (Unit {0}) (ShowFault E)) (steps : ℕ) → IsPackedOf p r
+    → steps ≡ 0 → Shows sees v (packed_calls p) 0 result v' 0 → Shows sees v (calls_of r) (turns_shown r) result v' steps
+packed_shown sees p r v v' result steps h are shows =
+    let calls : packed_calls p ≡ calls_of r = ap (λ t. subset_calls t without_turns 0 1 (subsets_from p.subsets 0 p.items)) h.table
+    ∙ ap (λ n. subset_calls r.table without_turns 0 1 (subsets_from n 0 p.items)) h.subsets ∙ ap (calls_for r) (sym h.values) in
+    let turns : 0 ≡ turns_shown r = sym (no_turns_in (subsets_from r.source.subsets 0 p.items)) ∙ ap (turns_for r) (sym h.values) in
+    subst (λ n. Shows sees v (calls_of r) (turns_shown r) result v' n) (sym are)
+    (subst (λ n. Shows sees v (calls_of r) n result v' 0) turns (subst (λ cs. Shows sees v cs 0 result v' 0) calls shows))
 
 -- each item of compressed data is kept, and nothing of other data
-length-items_at : (bits : List Bool) (n : ℕ) (entries : List IndexedItem) → length entries ≡ length (items_at bits n entries)
-length-items_at bits n [] = refl
-length-items_at bits n (e ∷ entries) = ap suc (length-items_at bits n entries)
-
 pub all_kept : (r : Read) (k : StoredItems) → IsStoredReading r k → held_of k ≡ items_kept (values_read r)
 all_kept r k h = by k (values_read r) h.keeps
   where

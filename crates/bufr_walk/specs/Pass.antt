@@ -9,7 +9,7 @@ use Rattle.bufr_walk.specs.Course.{stop_by, Course, Next, take_next, at_end, ast
 use Rattle.bufr_walk.specs.declared.fault.WalkFault.TheVariants as fault
 use Rattle.bufr_walk.specs.declared.fault.DataFault.TheVariants as wrong
 use Rattle.bufr_walk.specs.declared.walker.WalkStop.TheVariants as stops
-use Rattle.bufr_walk.specs.Reading.{DataCoding, plain, packed, would_be_many, Data, Stop, wrong_of, WalkFault, fault_at, Item, Values, apart, together, Read, course_of, Timed, calls_for, turns_for, next_after, turns_after, items_at_once, ReadsItems}
+use Rattle.bufr_walk.specs.Reading.{DataCoding, plain, packed, would_be_many, Data, Stop, wrong_of, WalkFault, fault_at, Item, Values, apart, together, Read, course_of, Timed, calls_for, turns_for, PackedValues, next_after, turns_after, items_at_once, ReadsItems}
 use Rattle.bufr_walk.specs.declared.spec.Role.TheVariants as role
 use Rattle.bufr_tables.specs.Prelude.{Row, Tree}
 
@@ -222,6 +222,12 @@ calls_of r = calls_for r (values_read r)
 
 abbrev pub turns_shown : Read → ℕ
 turns_shown r = turns_for r (values_read r)
+
+-- what was read are these items of compressed data
+pub record IsPackedOf (p : PackedValues) (r : Read) : Type 0 where
+  pub table : p.table ≡ r.table
+  pub subsets : p.subsets ≡ r.source.subsets
+  pub values : values_read r ≡ together p.items
 
 -- ---- The same item by item: each is what comes next, read where the one before ended.
 

@@ -3,7 +3,7 @@
 -- Cited by public contracts.
 use Rattle.std.specs.Prelude.{ℕ, ◌≡◌, ◌≤◌, ◌+◌, Bool, List, drop, Result, Ok, Err, ◌++◌, ◌<◌, ◌*◌, ◌%◌, ◌==◌, ◌&&◌, ◌||◌, true, false, [], ◌∷◌, length, take, ◌/◌, ◌-◌, map, get_or}
 use Rattle.bufr_walk.specs.Content.{Taken, FieldSpec, Content, answer_of, plain_field, found, data_end, FieldFault, FieldRead, packed_field, answer_first}
-use Rattle.bufr_walk.specs.Reading.{wrong_of, Item, plain, turns_after, ReadsPass, Read, course_of, max_values, items_at_once, Data, Values, apart, together, IsReading, ShowFault, Call, item_call, view_of, Timed, item_calls, Shows, content_at}
+use Rattle.bufr_walk.specs.Reading.{wrong_of, Item, plain, turns_after, ReadsPass, Read, course_of, max_values, items_at_once, Data, Values, apart, together, IsReading, ShowFault, Call, item_call, view_of, Timed, item_calls, Shows, content_at, PackedValues}
 use Rattle.bufr_walk.specs.Pass.{reading_of, values_read}
 use Rattle.bufr_walk.specs.Course.{Course, ticked}
 use Rattle.std.proofs.Common.{ap}
@@ -173,6 +173,12 @@ abbrev pub fits_at : (bits : List Bool) (subsets : ℕ) → IndexedItem → Bool
 fits_at bits n e =
     was_found (packed_field n e.spec (drop e.at bits))
     && ((e.step == number_of (take 6 (drop (e.at + e.spec.width) bits))) && has_base bits e)
+
+-- compressed data with these entries, as they are shown
+abbrev pub packed_values : List Row → (bits : List Bool) (subsets : ℕ) → List IndexedItem
+    → PackedValues
+packed_values table bits n kept =
+    record { table = table; subsets = n; items = items_at bits n kept }
 
 -- the reader with these entries
 abbrev pub packed_view : (bits : List Bool) (at subsets : ℕ) → List IndexedItem → PackedCursor

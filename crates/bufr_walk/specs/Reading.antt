@@ -2,7 +2,7 @@
 -- read; and the calls of a visitor that show a reading. (WMO-No. 306, Volume I.2, FM 94: sections 3
 -- and 4; the order of the faults at one item is a choice of this project)
 -- Cited by public contracts.
-use Rattle.std.specs.Prelude.{ℕ, zero, suc, ◌≡◌, ◌+◌, ◌*◌, ◌≤◌, Bool, true, false, List, [], ◌∷◌, length, drop, Result, Ok, ◌⊎◌, nat_lt, Option, None, Err, codes, decimal, if◌then◌else◌, ◌++◌, option_map}
+use Rattle.std.specs.Prelude.{ℕ, zero, suc, ◌≡◌, ◌+◌, ◌*◌, ◌≤◌, Bool, true, false, List, [], ◌∷◌, length, drop, take, ◌<◌, Result, Ok, ◌⊎◌, nat_lt, Option, None, Err, codes, decimal, if◌then◌else◌, ◌++◌, option_map}
 use Rattle.bufr_walk.specs.Content.{Taken, FieldSpec, Content, answer_of, FieldFault, FieldRead, found, plain_field, data_end, increment, unequal_factor, packed_field, answer_first, ShownValue, shown, missing, shown_number, shown_text, shown_missing, shown_reference}
 use Rattle.bufr_walk.specs.Course.{Course, Next, take_next, at_end, next_item, ticked}
 use Rattle.bufr_walk.specs.declared.fault.DataFault.{DataFault}
@@ -295,6 +295,29 @@ subset_calls table course before number (items ∷ subsets) =
 -- compressed data are shown without a walk, so in no turns
 abbrev pub without_turns : Course
 without_turns answers = record { turns = 0; next = at_end }
+
+-- compressed data as they are shown: the table, how many subsets, and the items of all
+pub record PackedValues : Type 0 where
+  pub table : List Row
+  pub subsets : ℕ
+  pub items : List (Item (List Content))
+
+-- the items of one subset from one index to before another
+abbrev pub items_between : PackedValues → (subset from to : ℕ) → List (Item Content)
+items_between p j from to = items_of_subset j (drop from (take to p.items))
+
+-- the item of an index is the same in all subsets
+abbrev pub IsSameInAll : PackedValues → (index : ℕ) → Type 0
+IsSameInAll p i = (j : ℕ) → j < p.subsets
+    → items_between p j i (i + 1) ≡ items_between p 0 i (i + 1)
+
+-- the calls for the items of one subset from one index to before another
+abbrev pub range_calls : PackedValues → (subset from to : ℕ) → List Timed
+range_calls p j from to = item_calls p.table 0 without_turns (items_between p j from to)
+
+-- the calls that show all subsets
+abbrev pub packed_calls : PackedValues → List Timed
+packed_calls p = subset_calls p.table without_turns 0 1 (subsets_from p.subsets 0 p.items)
 
 -- the walk of a showing
 abbrev pub walk_shown : Read → Values → Course

@@ -2,7 +2,7 @@
 ghost use Rattle.std.specs.Prelude.{unwrap_or, option_map, ◌≡◌, ◌≤◌, ◌<◌, ◌+◌, ◌*◌, ◌^◌, false, true, length, IfSome, ◌-◌, ◌/◌, ◌++◌, drop, MatchResult, IfOk, ◌==◌, ◌&&◌, take, get_or, replicate};
 ghost use Rattle.bufr_bits.specs.Prelude.{bits_at, number_of, bits_of, octets_of};
 ghost use Rattle.bufr_tables.specs.Prelude.{is_character};
-ghost use Rattle.bufr_walk.specs.Prelude.{stays_within, all_equal, are_number_increments_valid, IsSeen, IsUnseen, call_kept, content_kept, items_at, fits_at, IsFor, is_reference, increment_bits_of, missing, number, shown, seen_value, Shows, IndexedItem, new_packed_in, PackedTakes, refuses_packed, item_calls, subset_calls, items_of_subset, subsets_from, without_turns};
+ghost use Rattle.bufr_walk.specs.Prelude.{stays_within, all_equal, are_number_increments_valid, IsSeen, IsUnseen, call_kept, content_kept, items_at, fits_at, IsFor, is_reference, increment_bits_of, missing, number, shown, seen_value, Shows, IndexedItem, new_packed_in, PackedTakes, refuses_packed, IsSameInAll, range_calls, packed_calls};
 ghost use Rattle.std.specs.List.{list_all};
 ghost use Rattle.std.proofs.Common.{arith, ap};
 
@@ -413,47 +413,99 @@ fn show_item<V: Visitor>(
     show_other(pack, kept, place, subset, visitor)
 }
 
-/// Shows the items of one subset, counted from 0.
-fn show_items<V: Visitor>(
-    pack: &PackedData<'_>,
-    kept: &ItemIndex,
-    subset: u16,
-    visitor: &mut V,
-) -> Result<(), ShowFault<V::Fault>>
-    requires fit { list_all (fits_at (bits_of (octets_of pack.now.bits)) pack.now.subsets) kept.now
-        ≡ true }
-    requires subset { subset < pack.now.subsets }
-    ensures { Shows V.sees visitor.old (item_calls pack.now.table.now 0 without_turns
-        (items_of_subset subset (items_at (bits_of (octets_of pack.now.bits)) pack.now.subsets
-        kept.now))) 0 result visitor.new 0 }
-{
-    'items: for place in 0..kept.len() {
-        match show_item(pack, kept, place, subset, visitor) {
-            Ok(()) => {}
-            Err(fault) => return Err(ShowFault::Visitor(fault)),
-        }
-    }
-    Ok(())
+/// The items of compressed data, each once for all subsets, as [`Reading::packed`] lends them.
+///
+/// [`Reading::packed`]: crate::Reading::packed
+#[derive(Drop)]
+pub struct PackedItems<'r, 'a> {
+    pub(crate) data: PackedData<'a>,
+    pub(crate) kept: &'r ItemIndex,
 }
 
-/// Shows each subset, and its items.
-#[tactic(auto, using(crate::proofs::PackedShowing::subsets_start, crate::proofs::PackedShowing::subsets_done))]
-pub(crate) fn show_packed<V: Visitor>(
-    pack: &PackedData<'_>,
-    kept: &ItemIndex,
-    visitor: &mut V,
-) -> Result<(), ShowFault<V::Fault>>
-    requires { list_all (fits_at (bits_of (octets_of pack.now.bits)) pack.now.subsets) kept.now
-        ≡ true }
-    ensures { Shows V.sees visitor.old (subset_calls pack.now.table.now without_turns 0 1
-        (subsets_from pack.now.subsets 0 (items_at (bits_of (octets_of pack.now.bits))
-        pack.now.subsets kept.now))) 0 result visitor.new 0 }
-{
-    'subsets: for subset in 0..pack.subsets {
-        match visitor.subset(subset + 1) {
-            Ok(()) => show_items(pack, kept, subset, visitor)?,
-            Err(fault) => return Err(ShowFault::Visitor(fault)),
-        }
+impl<'r, 'a> Model for PackedItems<'r, 'a> {
+    ghost use Rattle.std.specs.Prelude.{◌≡◌, true};
+    ghost use Rattle.std.specs.List.{list_all};
+    ghost use Rattle.bufr_bits.specs.Prelude.{bits_of, octets_of};
+    ghost use Rattle.bufr_walk.specs.Reading.{PackedValues};
+    ghost use Rattle.bufr_walk.specs.Readers.{fits_at, packed_values};
+
+    ghost Value = { PackedValues };
+
+    ghost view = { λ p. packed_values p.data.table.now (bits_of (octets_of p.data.bits))
+        p.data.subsets p.kept.now };
+
+    ghost invariant = { λ p. list_all (fits_at (bits_of (octets_of p.data.bits)) p.data.subsets)
+        p.kept.now ≡ true };
+}
+
+impl<'r, 'a> PackedItems<'r, 'a> {
+    /// How many items each subset has.
+    #[inline(always)]
+    pub fn len(&self) -> usize
+        ensures { result ≡ length self.now.items }
+    {
+        self.kept.len()
     }
-    Ok(())
+
+    /// How many subsets there are.
+    #[inline(always)]
+    pub fn subsets(&self) -> u16
+        ensures { result ≡ self.now.subsets }
+    {
+        self.data.subsets
+    }
+
+    /// Whether the item of an index has no increments, and so is the same in all subsets.
+    #[inline(always)]
+    // rule: compressed-equal
+    pub fn is_alike(&self, index: usize) -> bool
+        requires { index < length self.now.items }
+        ensures { result ≡ true → IsSameInAll self.now index }
+    {
+        self.kept.item(index).step == 0
+    }
+
+    /// Shows the items of one subset, counted from 0, from one index to before another.
+    ///
+    /// # Errors
+    ///
+    /// [`ShowFault::Visitor`] with the visitor's fault.
+    #[inline(always)]
+    pub fn show<V: Visitor>(
+        &self,
+        from: usize,
+        to: usize,
+        subset: u16,
+        visitor: &mut V,
+    ) -> Result<(), ShowFault<V::Fault>>
+        requires order { from ≤ to }
+        requires within { to ≤ length self.now.items }
+        requires subset { subset < self.now.subsets }
+        ensures { Shows V.sees visitor.old (range_calls self.now subset from to) 0 result
+            visitor.new 0 }
+    {
+        'items: for place in from..to {
+            match show_item(&self.data, self.kept, place, subset, visitor) {
+                Ok(()) => {}
+                Err(fault) => return Err(ShowFault::Visitor(fault)),
+            }
+        }
+        Ok(())
+    }
+
+    /// Shows each subset, and its items.
+    #[tactic(auto, using(crate::proofs::PackedShowing::subsets_start, crate::proofs::PackedShowing::subsets_done))]
+    #[inline(always)]
+    pub(crate) fn show_all<V: Visitor>(&self, visitor: &mut V) -> Result<(), ShowFault<V::Fault>>
+        ensures { Shows V.sees visitor.old (packed_calls self.now) 0 result visitor.new 0 }
+    {
+        let len = self.len();
+        'subsets: for subset in 0..self.subsets() {
+            match visitor.subset(subset + 1) {
+                Ok(()) => self.show(0, len, subset, visitor)?,
+                Err(fault) => return Err(ShowFault::Visitor(fault)),
+            }
+        }
+        Ok(())
+    }
 }

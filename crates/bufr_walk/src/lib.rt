@@ -20,7 +20,7 @@ mod spec_cache;
 mod visitor;
 mod walker;
 
-pub use compressed::{MAX_VALUES, PackedIn};
+pub use compressed::{MAX_VALUES, PackedIn, PackedItems};
 pub use fault::{DEFINING, DataFault, ShowFault, Spot, TOO_MANY_VALUES, WIDTH, WalkFault};
 pub use lists::TemplateCache;
 pub use plain::PlainIn;

@@ -1,9 +1,9 @@
 //! The reading of a message's data.
-ghost use Rattle.std.specs.Prelude.{◌≡◌, ◌≤◌, ◌+◌, ◌*◌, length, IfOk, IfErr, false};
+ghost use Rattle.std.specs.Prelude.{◌≡◌, ◌≤◌, ◌+◌, ◌*◌, length, IfOk, IfErr, IfSome, is_some, false};
 ghost use Rattle.bufr_tables.specs.Prelude.{places};
-ghost use Rattle.bufr_walk.specs.Prelude.{next_item, bits_before, data_of, AnswersReading, calls_of, turns_shown, items_called, Shows, values_read, items_kept, max_values};
+ghost use Rattle.bufr_walk.specs.Prelude.{next_item, bits_before, data_of, AnswersReading, calls_of, turns_shown, items_called, Shows, values_read, items_kept, max_values, IsPackedOf};
 
-use crate::compressed::{PackedData, PackedIn, show_packed};
+use crate::compressed::{PackedData, PackedIn, PackedItems};
 use crate::fault::{ShowFault, WalkFault, fault_at};
 use crate::item_index::ItemIndex;
 use crate::plain::{PlainData, read_plain, show_plain};
@@ -190,6 +190,26 @@ impl<'a> Reading<'a> {
         }
     }
 
+    /// The items of compressed data, each once for all subsets; `None` where the data are not
+    /// compressed.
+    #[inline(always)]
+    pub fn packed(&self) -> Option<PackedItems<'_, 'a>>
+        ensures some { is_some result ≡ self.now.source.compressed }
+        ensures items { IfSome result (λ p. IsPackedOf p self.now) }
+    {
+        match &self.kept {
+            StoredItems::Apart => None,
+            StoredItems::Together(kept) => {
+                let data = PackedData {
+                    bits: self.bits,
+                    subsets: self.subsets,
+                    table: self.table,
+                };
+                Some(PackedItems { data, kept })
+            }
+        }
+    }
+
     /// Shows each subset and its items to a visitor, in the order of the data, and stops at its
     /// first fault. Sets `steps` to the steps of the showing, 0 where the data are compressed. At
     /// most 134,217,728 items are shown. There are at most as many steps as the template has places
@@ -220,7 +240,7 @@ impl<'a> Reading<'a> {
     /// # Errors
     ///
     /// Those of [`Reading::show`].
-    #[tactic(auto, using(crate::proofs::PlainLemmas::readable_of, crate::proofs::PackedShowing::entries_fit, crate::proofs::PackedShowing::packed_shown, crate::proofs::ShownLemmas::apart_shown))]
+    #[tactic(auto, using(crate::proofs::PlainLemmas::readable_of, crate::proofs::PackedShowing::packed_shown, crate::proofs::ShownLemmas::apart_shown))]
     pub fn show_by<V: Visitor>(
         &self,
         cache: &mut SpecCache<'_>,
@@ -237,23 +257,14 @@ impl<'a> Reading<'a> {
         // For the proof alone: what a template ensures of its groups bounds the steps.
         let _ = self.template.cells();
         *steps = Steps::new();
-        match &self.kept {
-            StoredItems::Apart => {
-                let data = PlainData {
-                    bits: self.bits,
-                    subsets: self.subsets,
-                    template: self.template,
-                };
-                show_plain(&data, cache, visitor, steps)
-            }
-            StoredItems::Together(items) => {
-                let data = PackedData {
-                    bits: self.bits,
-                    subsets: self.subsets,
-                    table: self.table,
-                };
-                show_packed(&data, items, visitor)
-            }
+        if let Some(items) = self.packed() {
+            return items.show_all(visitor);
         }
+        let data = PlainData {
+            bits: self.bits,
+            subsets: self.subsets,
+            template: self.template,
+        };
+        show_plain(&data, cache, visitor, steps)
     }
 }
