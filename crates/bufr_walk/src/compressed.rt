@@ -58,14 +58,14 @@ fn are_number_increments_valid(
     if base.number + ((1 << k) - 1) <= (1 << width) - 1 {
         return true;
     }
-    let mut place = at + (u64::from(width) + 6);
+    let mut increment_at = at + (u64::from(width) + 6);
     for subset in 0..subsets {
-        let increment = number_at(bits, place, k);
+        let increment = number_at(bits, increment_at, k);
         let stays = stays_within(spec, base.number, k, increment);
         if !stays {
             return false;
         }
-        place += u64::from(k);
+        increment_at += u64::from(k);
     }
     true
 }
@@ -76,13 +76,13 @@ fn are_equal(bits: &BitSlice<'_>, at: u64, subsets: u16, k: u32, first: u64) -> 
     requires within { at + subsets * k ≤ 8 * length (octets_of bits.now) }
     ensures { result ≡ all_equal k subsets first (drop at (bits_of (octets_of bits.now))) }
 {
-    let mut place = at;
+    let mut increment_at = at;
     for subset in 0..subsets {
-        let increment = number_at(bits, place, k);
+        let increment = number_at(bits, increment_at, k);
         if increment != first {
             return false;
         }
-        place += u64::from(k);
+        increment_at += u64::from(k);
     }
     true
 }
@@ -245,16 +245,16 @@ impl<'a> Fields for PackedIn<'a> {
             base: seen.base,
             step: seen.step,
         };
-        let place = self.kept.keep(self.next, item)?;
-        self.next = place.saturating_add(1);
+        let index = self.kept.keep(self.next, item)?;
+        self.next = index.saturating_add(1);
         self.at = seen.end;
         Ok(seen.answer)
     }
 
-    fn look_at(&mut self, place: u32) {
+    fn look_at(&mut self, index: u32) {
         // For the proof alone: with a field used, the reader's invariant is known.
         let _ = &self.bits;
-        self.next = place;
+        self.next = index;
     }
 
     fn last_place(&self) -> Option<u32> {
@@ -296,8 +296,8 @@ fn number_of(pack: &PackedData<'_>, item: &IndexedItem, subset: u16) -> Option<u
         return Some(item.base);
     }
     let k = u32::from(item.step);
-    let place = item.at + (u64::from(width) + 6) + u64::from(subset) * u64::from(k);
-    let increment = number_at(&pack.bits, place, k);
+    let increment_at = item.at + (u64::from(width) + 6) + u64::from(subset) * u64::from(k);
+    let increment = number_at(&pack.bits, increment_at, k);
     let sum = item.base + increment;
     if !may_be_missing {
         return Some(sum);
@@ -316,8 +316,8 @@ fn pad(text: &mut [u8; 255], from: usize, count: usize)
     requires order { from ≤ count }
     ensures { take count text.new ≡ take from text.old ++ replicate (count - from) 32 }
 {
-    'spaces: for place in from..count {
-        text[place] = b' ';
+    'spaces: for index in from..count {
+        text[index] = b' ';
     }
 }
 
@@ -345,13 +345,13 @@ fn value_of<'a: 't, 't>(
     }
     let width = item.spec.width();
     let k = u32::from(item.step);
-    let place = item.at + (u64::from(width) + 6) + u64::from(subset) * u64::from(8 * k);
-    let missing = ones_at(&pack.bits, place, 8 * k);
+    let increment_at = item.at + (u64::from(width) + 6) + u64::from(subset) * u64::from(8 * k);
+    let missing = ones_at(&pack.bits, increment_at, 8 * k);
     if missing {
         return Value::Missing;
     }
     let count = (width / 8) as usize;
-    copy_octets(&pack.bits, place, k as usize, text);
+    copy_octets(&pack.bits, increment_at, k as usize, text);
     pad(text, k as usize, count);
     Value::Text(&text[..count])
 }
@@ -361,19 +361,19 @@ fn value_of<'a: 't, 't>(
 fn show_other<V: Visitor>(
     pack: &PackedData<'_>,
     kept: &ItemIndex,
-    place: usize,
+    index: usize,
     subset: u16,
     visitor: &mut V,
 ) -> Result<(), V::Fault>
-    requires place { place < length kept.now }
+    requires index { index < length kept.now }
     requires fit { list_all (fits_at (bits_of (octets_of pack.now.bits)) pack.now.subsets)
-        (drop place kept.now) ≡ true }
+        (drop index kept.now) ≡ true }
     requires subset { subset < pack.now.subsets }
-    ensures { (item : IndexedItem) → item ≡ get_or kept.now place item → V.sees visitor.old
+    ensures { (item : IndexedItem) → item ≡ get_or kept.now index item → V.sees visitor.old
         (call_kept pack.now.table.now (bits_of (octets_of pack.now.bits)) pack.now.subsets item
         subset) result visitor.new }
 {
-    let item = kept.item(place);
+    let item = kept.item(index);
     let mut text = [0u8; 255];
     let value = value_of(pack, &item, subset, &mut text);
     show_value(pack.table, &item.spec, value, visitor)
@@ -384,19 +384,19 @@ fn show_other<V: Visitor>(
 fn show_item<V: Visitor>(
     pack: &PackedData<'_>,
     kept: &ItemIndex,
-    place: usize,
+    index: usize,
     subset: u16,
     visitor: &mut V,
 ) -> Result<(), V::Fault>
-    requires place { place < length kept.now }
+    requires index { index < length kept.now }
     requires fit { list_all (fits_at (bits_of (octets_of pack.now.bits)) pack.now.subsets)
-        (drop place kept.now) ≡ true }
+        (drop index kept.now) ≡ true }
     requires subset { subset < pack.now.subsets }
-    ensures { (item : IndexedItem) → item ≡ get_or kept.now place item → V.sees visitor.old
+    ensures { (item : IndexedItem) → item ≡ get_or kept.now index item → V.sees visitor.old
         (call_kept pack.now.table.now (bits_of (octets_of pack.now.bits)) pack.now.subsets item
         subset) result visitor.new }
 {
-    let item = kept.item(place);
+    let item = kept.item(index);
     let fxy = item.spec.fxy();
     if item.spec.is_plain()
         && let Some(entry) = pack.table.get(fxy)
@@ -410,7 +410,7 @@ fn show_item<V: Visitor>(
             value: plain_number(&item.spec, raw),
         });
     }
-    show_other(pack, kept, place, subset, visitor)
+    show_other(pack, kept, index, subset, visitor)
 }
 
 /// The items of compressed data, each once for all subsets, as [`Reading::packed`] lends them.
@@ -484,8 +484,8 @@ impl<'r, 'a> PackedItems<'r, 'a> {
         ensures { Shows V.sees visitor.old (range_calls self.now subset from to) 0 result
             visitor.new 0 }
     {
-        'items: for place in from..to {
-            match show_item(&self.data, self.kept, place, subset, visitor) {
+        'items: for index in from..to {
+            match show_item(&self.data, self.kept, index, subset, visitor) {
                 Ok(()) => {}
                 Err(fault) => return Err(ShowFault::Visitor(fault)),
             }

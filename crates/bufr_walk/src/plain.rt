@@ -123,8 +123,8 @@ pub(crate) fn copy_octets(bits: &BitSlice<'_>, at: u64, count: usize, text: &mut
         text[copied + 3] = (word % 256) as u8;
         copied += 4;
     }
-    'octets: for place in copied..count {
-        text[place] = bits.number(at + 8 * place as u64, 8) as u8;
+    'octets: for index in copied..count {
+        text[index] = bits.number(at + 8 * index as u64, 8) as u8;
     }
 }
 

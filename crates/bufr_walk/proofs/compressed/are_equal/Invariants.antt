@@ -5,6 +5,6 @@ use Rattle.bufr_walk.proofs.compressed.are_equal.Given as goal
 
 abbrev pub invariant-loop-subset : goal.invariant-loop-subset
 invariant-loop-subset l = record {
-  place : l.place ≡ l.at + l.subset * l.k;
-  sofar : all_equal l.k l.subsets l.first (drop l.at (bits_of (octets_of l.bits))) ≡ all_equal l.k (l.subsets - l.subset) l.first (drop l.place (bits_of (octets_of l.bits)));
+  increment_at : l.increment_at ≡ l.at + l.subset * l.k;
+  sofar : all_equal l.k l.subsets l.first (drop l.at (bits_of (octets_of l.bits))) ≡ all_equal l.k (l.subsets - l.subset) l.first (drop l.increment_at (bits_of (octets_of l.bits)));
 }

@@ -33,7 +33,7 @@ returns-then-not-stays c =
     ] in
     let past : all_within spec.may_be_missing spec.width c.raw_at-base.result.number c.args.k c.args.subsets suffix ≡ false =
     fails_next (λ i. stays_within spec.may_be_missing spec.width c.raw_at-base.result.number c.args.k (number_of i)) (c.args.subsets - c.loop-subset.subset)
-    (c.args.subsets - (c.loop-subset.subset + 1)) c.args.k c.loop-subset.place (bits_of octets) _ (omega arith) c.loop-subset.invariant.sofar
+    (c.args.subsets - (c.loop-subset.subset + 1)) c.args.k c.loop-subset.increment_at (bits_of octets) _ (omega arith) c.loop-subset.invariant.sofar
     (stays_here spec.may_be_missing spec.width c.raw_at-base.result.number c.args.k _ _ _ _ c.number_at-increment.ensures.value c.stays_within-stays.ensures c.if-not-stays.true) in
     let is : c.raw_at-base.result.number ≡ number_of base = c.raw_at-base.ensures.number ∙ ap (λ w. number_of (bits_at octets c.args.at w)) c.width-width.ensures.value in
     sym (ap (λ b. b || all_within spec.may_be_missing spec.width (number_of base) c.args.k c.args.subsets suffix) none
@@ -41,9 +41,9 @@ returns-then-not-stays c =
 
 pub loop-subset-preserved : goal.loop-subset-preserved
 loop-subset-preserved c = record {
-  place = omega arith;
+  increment_at = omega arith;
   sofar = passes_next (λ i. stays_within c.args.spec.now.may_be_missing c.args.spec.now.width c.raw_at-base.result.number c.args.k (number_of i)) (c.args.subsets - c.loop-subset.subset)
-      (c.args.subsets - (c.loop-subset.subset + 1)) c.args.k c.loop-subset.place _ (bits_of (octets_of c.args.bits.now)) _ (omega arith) (omega arith) c.loop-subset.invariant.sofar
+      (c.args.subsets - (c.loop-subset.subset + 1)) c.args.k c.loop-subset.increment_at _ (bits_of (octets_of c.args.bits.now)) _ (omega arith) (omega arith) c.loop-subset.invariant.sofar
       (stays_here c.args.spec.now.may_be_missing c.args.spec.now.width c.raw_at-base.result.number c.args.k _ _ _ _ c.number_at-increment.ensures.value c.stays_within-stays.ensures
       c.if-not-stays.false);
 }

@@ -36,14 +36,14 @@ returns-then-item-eq0-clause-value c =
 pub returns-then-item-eq0-clause-below : goal.returns-then-item-eq0-clause-below
 returns-then-item-eq0-clause-below c = (kept_number (octets_of c.args.pack.now.bits) c.args.pack.now.subsets c.args.item.now c.requires.fits c.requires.number).1
 
-pub overflow_add-place-2 : goal.overflow_add-place-2
-overflow_add-place-2 c =
+pub overflow_add-increment_at-2 : goal.overflow_add-increment_at-2
+overflow_add-increment_at-2 c =
     let room = number_within (bits_of (octets_of c.args.pack.now.bits)) c.args.pack.now.subsets c.args.item.now c.args.subset c.requires.fits (omega (arith, c.if-item-eq0.false)) c.requires.subset
     c.requires.number in
     omega (arith, room, bits_length (octets_of c.args.pack.now.bits), c.from.ensures, c.width-width.ensures.value)
 
-pub overflow_add-place-3 : goal.overflow_add-place-3
-overflow_add-place-3 c =
+pub overflow_add-increment_at-3 : goal.overflow_add-increment_at-3
+overflow_add-increment_at-3 c =
     omega (
       arith,
       reach (octets_of c.args.pack.now.bits) c.args.pack.now.subsets c.args.item.now c.args.subset _ _ _ _ c.requires.fits (omega (arith, c.if-item-eq0.false)) c.requires.subset

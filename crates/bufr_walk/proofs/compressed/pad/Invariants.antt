@@ -2,4 +2,4 @@ use Rattle.std.proofs.Common.{◌≡◌, ◌-◌, ◌++◌, take, replicate}
 use Rattle.bufr_walk.proofs.compressed.pad.Given as goal
 
 abbrev pub invariant-spaces : goal.invariant-spaces
-invariant-spaces l = take l.place l.text ≡ take l.from l.fn.text ++ replicate (l.place - l.from) 32
+invariant-spaces l = take l.index l.text ≡ take l.from l.fn.text ++ replicate (l.index - l.from) 32

@@ -5,7 +5,7 @@ use Rattle.bufr_walk.proofs.compressed.show_item.Goals as goal
 
 pub number_of-requires-clause-fits : goal.number_of-requires-clause-fits
 number_of-requires-clause-fits g c =
-    fit_here (bits_of (octets_of c.args.pack.now.bits)) c.args.pack.now.subsets c.args.kept.now c.args.place c.item-item.result c.requires.place c.item-item.ensures c.requires.fit
+    fit_here (bits_of (octets_of c.args.pack.now.bits)) c.args.pack.now.subsets c.args.kept.now c.args.index c.item-item.result c.requires.index c.item-item.ensures c.requires.fit
 
 pub plain_number-requires-clause-below : goal.plain_number-requires-clause-below
 plain_number-requires-clause-below g c =

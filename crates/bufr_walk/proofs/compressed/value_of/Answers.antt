@@ -24,14 +24,14 @@ reach octets n e j wide subset eight k h some below c ew es e8 ek =
     let there : subset * eight ≡ j * (8 * e.step) = ap (λ x. x * eight) es ∙ ap (λ x. j * x) (e8 ∙ ap (λ x. 8 * x) ek) in
     (omega (arith, room, one, there, ew, ek), omega (arith, there, ew))
 
-pub overflow_add-place-2 : goal.overflow_add-place-2
-overflow_add-place-2 c =
+pub overflow_add-increment_at-2 : goal.overflow_add-increment_at-2
+overflow_add-increment_at-2 c =
     let room = span_within (octets_of c.args.pack.now.bits) c.args.pack.now.subsets c.args.item.now c.args.subset c.requires.fits (omega (arith, c.if-item-eq0.false)) c.requires.subset
     (sym c.is_text.ensures ∙ c.if-not-is_text.false) in
     omega (arith, room, c.from-2.ensures, c.width-width.ensures.value)
 
-pub overflow_add-place-3 : goal.overflow_add-place-3
-overflow_add-place-3 c =
+pub overflow_add-increment_at-3 : goal.overflow_add-increment_at-3
+overflow_add-increment_at-3 c =
     let r = reach (octets_of c.args.pack.now.bits) c.args.pack.now.subsets c.args.item.now c.args.subset _ _ _ _ c.requires.fits (omega (arith, c.if-item-eq0.false)) c.requires.subset
     (sym c.is_text.ensures ∙ c.if-not-is_text.false) (c.from-2.ensures ∙ c.width-width.ensures.value) c.from-3.ensures c.from-4.ensures c.from-k.ensures in
     omega (arith, r.0)

@@ -6,7 +6,7 @@ use Rattle.bufr_walk.proofs.plain.copy_octets.Goals as goal
 
 pub octets-preserved : goal.octets-preserved
 octets-preserved c =
-    octet_put (bits_of (octets_of c.args.bits.now)) c.args.at c.octets.place _ c.octets.text (omega (arith, c.octets-test.true, c.requires.few)) c.octets.invariant c.number.ensures.value
+    octet_put (bits_of (octets_of c.args.bits.now)) c.args.at c.octets.index _ c.octets.text (omega (arith, c.octets-test.true, c.requires.few)) c.octets.invariant c.number.ensures.value
 
 pub fours-preserved : goal.fours-preserved
 fours-preserved c =

@@ -21,11 +21,11 @@ returns-in_err-seen-clause-step c =
     rw (p.1, p.2) (fault_here c.args.self.now c.args.spec.now (bits_of (octets_of c.self.inside.bits)) c.self.inside.at c.self.inside.subsets c.self.inside.kept _ (sym c.self.view_is) few
     c.in_err-seen.ensures.seen)
 
-pub returns-in_err-place-clause-step : goal.returns-in_err-place-clause-step
-returns-in_err-place-clause-step c =
-    let p = err_from_is_err_and c.from_residual-in_err-place.result c.from_residual-in_err-place.ensures.1 in
+pub returns-in_err-index-clause-step : goal.returns-in_err-index-clause-step
+returns-in_err-index-clause-step c =
+    let p = err_from_is_err_and c.from_residual-in_err-index.result c.from_residual-in_err-index.ensures.1 in
     rw (p.1, p.2) (no_room c.args.self.now c.args.spec.now (bits_of (octets_of c.self.inside.bits)) c.self.inside.at c.self.inside.subsets c.self.inside.kept c.keep.new.self _ c.self.view_is
-    c.in_err-place.ensures.same c.in_err-place.ensures.fault c.in_err-place.ensures.full)
+    c.in_err-index.ensures.same c.in_err-index.ensures.fault c.in_err-index.ensures.full)
 
 pub returns-clause-step : goal.returns-clause-step
 returns-clause-step c =
@@ -33,4 +33,4 @@ returns-clause-step c =
     let entry : IndexedItem = record { spec = c.args.spec.now; at = c.self.inside.at; base = c.in_ok-seen.seen.base; step = c.in_ok-seen.seen.step } in
     let few = few_here bits c.self.inside.subsets c.self.inside.kept c.len.result c.from.result (omega arith) c.from.ensures c.if-items-from-gt-MAX_VALUES.false in
     subst (λ s. IsPackedTaken s c.args.spec.now c.in_ok-seen.seen.answer (packed_view bits c.in_ok-seen.seen.end c.self.inside.subsets c.keep.new.self)) c.self.view_is
-    (takes_one bits c.self.inside.at c.self.inside.subsets c.self.inside.kept c.keep.new.self entry c.in_ok-seen.seen refl few c.in_ok-seen.ensures.seen c.in_ok-place.ensures.kept)
+    (takes_one bits c.self.inside.at c.self.inside.subsets c.self.inside.kept c.keep.new.self entry c.in_ok-seen.seen refl few c.in_ok-seen.ensures.seen c.in_ok-index.ensures.kept)
