@@ -17,8 +17,7 @@ use Rattle.bufr_fill.proofs.FieldLemmas.{octets_in-are, same_ok}
 use Rattle.bufr_text.specs.Prelude.{mosts, Form, Document, optional_in, head_from_values, Complete, documents_of, key_value, compressed_in, section2_in, ◌>>=◌, report_of_template, report_of_items, data_bits, octets_of_bits, parts_as, compressed_as, message_of, encoding_in, DocumentFault, encoding_of, bit, header_lines, local1_line, section2_line, descriptors_line, head_lines, item_text, subset_line, subset_lines, text_of_lines, dump_text_of, subset_entries, lines_before, document_of, IsProper, header_as, normal_head, normal_line, draft_answer, line_and, normal_items, normal_subsets, normal, AreValuesOf, IsReadAs, runs_of, items_shown, dump_items}
 use Rattle.bufr_text.proofs.DumpableLemmas.{octets_are, dumpable, optional_octets}
 use Rattle.bufr_walk.proofs.NextField.{table_read}
-use Rattle.bufr_text.proofs.RoundTripLemmas.{padded, payload_bits, size_is, octets_small, framed, same_form, all_apart, bit_back, parts_back, parts_with, parts_of_document}
-use Rattle.bufr_text.proofs.FormLemmas.{plain_reading, packed_reading}
+use Rattle.bufr_text.proofs.RoundTripLemmas.{padded, payload_bits, size_is, octets_small, framed, same_form, all_apart, bit_back, parts_back, parts_with, parts_of_document, plain_reading, packed_reading}
 use Rattle.bufr_text.proofs.HeaderLemmas.{headed-fits, subsets-few, header-widest}
 use Rattle.bufr_frame.specs.declared.section1.Head.{Head}
 use Rattle.bufr_fill.proofs.PlainLaws.{normal_dumped, said_fxy}

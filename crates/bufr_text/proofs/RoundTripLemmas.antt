@@ -4,7 +4,7 @@ use Rattle.std.specs.List.{AllByRecursion}
 use Rattle.std.proofs.lemmas.Bool.Decides.{nat_tests}
 use Rattle.bufr_tables.specs.Prelude.{Row, IsLegal, tree_of, tables_of, Tree, Sequence, places}
 use Rattle.bufr_walk.proofs.NextField.{AreRead}
-use Rattle.bufr_walk.specs.Prelude.{FieldSpec, Content, shown, Course, next_item, data_of, Item, ReadsSubsets, IsPackedReading, IsReading, Values, apart, together, View, subsets_from}
+use Rattle.bufr_walk.specs.Prelude.{FieldSpec, Content, shown, Course, next_item, data_of, Item, IsPackedReading, IsReading, Values, apart, together, View, subsets_from, IsPlainReading}
 use Rattle.bufr_text.specs.Prelude.{IsDescriptorWord, items_shown, IsOctet, bit, dump_value_of, item_entries, subset_entries, document_of, dump_text_of, lines_before, IsAccepted, dump_items, extra_octets, SaySame, HasSameReading, IsEncodedAgain, Document, head_from_values, compressed_in, ◌>>=◌, report_of_template, report_of_items, data_bits, octets_of_bits, message_of, encoding_in, encoding_of, compressed_as, parts_as, AreOctetsOf, IsData, IsDocumentRefusal, Form, WritesForm, DocumentFault}
 use Rattle.std.proofs.lemmas.List.{take_at, drop_at, length-replicate}
 use Rattle.bufr_bits.specs.Prelude.{bits_of, padding}
@@ -259,6 +259,17 @@ suffix out more bits e = ap (drop (length out)) e ∙ drop_at out more (length o
 pub fills_as : (b c : Bool) (course : Course) (drafts : List Subset) (out : List Bool) → b ≡ c → data_bits c course drafts ≡ Ok out → data_bits b course drafts ≡ Ok out
 fills_as b c course drafts out e h = ap (λ x. data_bits x course drafts) e ∙ h
 
+-- how the bits that are written are read
+pub plain_reading : (course : Course) (subsets : List (List (reading.Item Content))) (n : ℕ) (out : List Bool) → ((more : List Bool) → IsPlainReading n course subsets (out ++ more) more)
+    → (octets : List ℕ) (more : List Bool) → bits_of octets ≡ out ++ more
+    → IsReading course (record { compressed = false; subsets = n; bits = bits_of octets }) (apart subsets) (length out)
+plain_reading course subsets n out h1 octets more h2 = grind (arith, nat_tests, common_steps)
+
+pub packed_reading : (course : Course) (items : List (reading.Item (List Content))) (n : ℕ) (out : List Bool) → ((more : List Bool) → IsPackedReading n course items (out ++ more) more)
+    → (octets : List ℕ) (more : List Bool) → bits_of octets ≡ out ++ more
+    → IsReading course (record { compressed = true; subsets = n; bits = bits_of octets }) (together items) (length out)
+packed_reading course items n out h1 octets more h2 = grind (arith, nat_tests, common_steps)
+
 filled : (table : List Row) (template : Tree) (s : Sections) (values : Values) (used at : ℕ) → AreRead table → IsLegal template
     → IsReading (next_item table template) (data_of s) values used → IsFilled table template s values (subset_entries at (dump_items table s.subsets values))
 filled table template s (apart subsets) used at rows legal read =
@@ -269,15 +280,7 @@ filled table template s (apart subsets) used at rows legal read =
       out = w.out;
       fills = fills_as s.compressed false course (subsets_of entries) w.out read.0 w.is;
       short = omega (arith, w.short);
-      read = λ octets tail e. (
-        read.0,
-        enough w.out tail (bits_of octets) e,
-        (
-          subst (λ b. ReadsSubsets course subsets b (drop (length w.out) (bits_of octets))) (sym e)
-              (subst (λ b. ReadsSubsets course subsets (w.out ++ tail) b) (sym (suffix w.out tail (bits_of octets) e)) (w.again tail)),
-          read.2.1,
-        ),
-      );
+      read = λ octets tail e. let r = plain_reading course subsets s.subsets w.out (λ more. (w.again more, read.2.1)) octets tail e in (read.0, r.1, r.2);
     }
 filled table template s (together items) used at rows legal read =
     let course = next_item table template in
@@ -288,12 +291,7 @@ filled table template s (together items) used at rows legal read =
       out = w.out;
       fills = fills_as s.compressed true course (subsets_of entries) w.out read.0 w.is;
       short = omega (arith, w.short);
-      read = λ octets tail e. (
-        read.0,
-        enough w.out tail (bits_of octets) e,
-        subst (λ b. IsPackedReading s.subsets course items b (drop (length w.out) (bits_of octets))) (sym e)
-            (subst (λ b. IsPackedReading s.subsets course items (w.out ++ tail) b) (sym (suffix w.out tail (bits_of octets) e)) (w.again tail)),
-      );
+      read = λ octets tail e. let r = packed_reading course items s.subsets w.out w.again octets tail e in (read.0, r.1, r.2);
     }
 
 -- ---- the message
