@@ -1,7 +1,7 @@
 //! Documents encoded: their messages, their faults and the steps of the walk.
 
-use crate::messages::{HEAD, PACKED, PLAIN, message_of_hex, text_of};
-use crate::runs::Command::{Encode, EncodeIn};
+use crate::messages::{HEAD, PACKED, PLAIN, dump_of, message_of_hex, text_of};
+use crate::runs::Command::{Dump, Encode, EncodeIn};
 use crate::runs::{Command, Task, accepted, assert_run, refused, run_whole};
 use crate::support::{Runtime, assert_same, assert_that, ok, some};
 use crate::text_tests::{dumped, with_head};
@@ -308,6 +308,31 @@ fn dumps_what_was_written_by_hand(rt: HostRuntime) {
     let want = with_head(&rt, AS_DUMPED);
     assert_same(&rt, &text.taken(), &want.as_bytes(), &"text");
     assert_same(&rt, &octets_for(&rt, text.taken()), &octets, &"octets");
+}
+
+/// Compressed messages: subsets, descriptors and items. A | separates subsets, a ; their items.
+#[rattlefmt::skip]
+const ALIKE: &[(u16, &str, &str)] = &[
+    (3, "001001 012101", "001001 10;012101 MISSING|001001 10;012101 MISSING|001001 10;012101 MISSING"),
+    (3, "001001 012101 020003 001001", "001001 11;012101 288.15;020003 7;001001 9|001001 11;012101 MISSING;020003 7;001001 9|001001 11;012101 290.00;020003 7;001001 9"),
+    (2, "012101 001001 020003", "012101 288.15;001001 12;020003 1|012101 288.16;001001 12;020003 2"),
+    (2, "001001 001001", "001001 1;001001 2|001001 3;001001 4"),
+    (1, "001001 012101", "001001 13;012101 288.15"),
+];
+
+/// Each subset has the lines that all have alike, at their places, and none of the message before.
+#[test]
+fn dumps_what_subsets_have_alike(rt: HostRuntime) {
+    let (mut text, mut dump) = (String::new(rt.alloc()), String::new(rt.alloc()));
+    for (subsets, descriptors, items) in ALIKE {
+        let written = text_of(&rt, *subsets, PACKED, descriptors, items);
+        let dumped = dump_of(&rt, *subsets, PACKED, descriptors, items);
+        ok(&rt, text.push_str(written.as_str()));
+        ok(&rt, dump.push_str(dumped.as_str()));
+    }
+    let encoded = run_whole(&rt, Encode, text.as_bytes());
+    let run = accepted(Dump, "alike", encoded.output(), dump.as_bytes());
+    assert_run(&rt, run.counting(5, 0));
 }
 
 fn assert_fault(rt: &impl Runtime, fault: DocumentFault, number: u8, line: Option<u64>) {

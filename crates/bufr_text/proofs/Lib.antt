@@ -1,4 +1,6 @@
 mod AcceptedExamples
+mod AlikeExamples
+pub mod AlikeLemmas
 pub mod CallLemmas
 pub mod FormLemmas
 pub mod LineLemmas

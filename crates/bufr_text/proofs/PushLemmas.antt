@@ -202,7 +202,7 @@ abbrev pub calls_text : List Timed → List ℕ
 calls_text calls = flat_map (λ t. call_line t.call ++ 10 ∷ []) calls
 
 -- the items of a subset
-items-text : (table : List Row) (before : ℕ) (course : Course) (items : List (Item Content))
+pub items-text : (table : List Row) (before : ℕ) (course : Course) (items : List (Item Content))
     → calls_text (item_calls table before course items) ≡ text_of_lines (map item_text (items_shown table items))
 items-text table before course [] = refl
 items-text table before course (i ∷ items) =

@@ -6,6 +6,8 @@ pub mod Documents
 pub mod Dump
 -- what a writer gains, what a text does to a writer of lines, and what a dump leaves on it
 pub mod Writing
+-- private: the lines that all subsets of compressed data have alike
+pub mod Alike
 -- what a reader of dump texts does, call by call, and its faults
 pub mod Reader
 -- what the lines of a document are, in order, and the one spelling that a dump has

@@ -5,6 +5,7 @@ pub use Rattle.bufr_text.specs.Dump.{joined, flag, zero_padded, counts_texts, ls
 unfoldable pub use Rattle.bufr_text.specs.Dump.{header_lines, subset_lines, item_entries, subset_entries}
 pub use Rattle.bufr_text.specs.Reader.{NeedsLine, GivesHeldDocument, has_no_feed, ReaderPosition, ContinuesParse, TakesWholeLines, TakesEndLine, ReaderModel, position_of, position_after, IsMissingFeed, ReadsLines, EndsAtEndLine, parse, parse_open, new_reader, HasNoMoreLines, KeepsUnread, ReadsOnlyIfNoLine, ReturnsNextDocument, HasNoWholeLine, unfed, parse_results, ReadsDocument, LeavesReader, failures_by, line_report, number_of_read_fault}
 pub use Rattle.bufr_text.specs.Writing.{MovesPrefix, Writes, GrowsByPrefix, CountsWrites, LineModel, Moves, MovesOn, StaysFailed, PushesFrom, Pushes, Puts, Stays, Fails, CountsFaults, MakesSteps, StepsWithin, WritesPrefix, call_line, PushesCall}
+pub use Rattle.bufr_text.specs.Alike.{item_lines, lines_between, PushesAlike, IsStretch, AreStretches, AreGathered}
 unfoldable pub use Rattle.bufr_text.specs.Line.{leasts, mosts}
 pub use Rattle.bufr_text.specs.Documents.{most_entries, Document, edition_in, optional_in, subsets_in, Parsing, between, Turn, may_be_local1, may_be_section2, in_range, heading, beginning, closing, with_entry, read_line, parsing_after, reported_at, reported_at_end, documents_of, blank, Complete, compressed_in, ParseResult, Refused, open_documents_of, head_from_values, IsHeaded, key_value, section2_in, prepend_to_line, Split, onto_split, before_subsets, filling, are_in_range, adds}
 unfoldable pub use Rattle.bufr_text.specs.Documents.{turn, parse_lines, lines_of, parse_open_lines, split_of}

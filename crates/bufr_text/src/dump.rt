@@ -1,17 +1,18 @@
 //! The text that dumps a message: the lines before its subsets, and a line for each item.
-ghost use Rattle.std.specs.Prelude.{◌≡◌, ◌++◌, [], ◌∷◌, drop, map, take, unwrap_or, ◌≤◌, ◌*◌};
+ghost use Rattle.std.specs.Prelude.{◌≡◌, ◌++◌, [], ◌∷◌, drop, map, take, unwrap_or, ◌≤◌, ◌*◌, OnOk};
 ghost use Rattle.bufr_frame.specs.Prelude.{words_left};
-ghost use Rattle.bufr_text.specs.Prelude.{descriptors_line, head_lines, text_of_lines, dump_value_of, form_text, item_text, dump_text_of, dump_items, descriptors_text, hex_text, runs_of, Pushes, CountsFaults, MakesSteps, WritesPrefix, PushesCall};
+ghost use Rattle.bufr_text.specs.Prelude.{descriptors_line, head_lines, text_of_lines, dump_value_of, form_text, item_text, dump_text_of, dump_items, descriptors_text, hex_text, runs_of, Pushes, CountsFaults, MakesSteps, WritesPrefix, PushesCall, AreGathered};
 ghost use Rattle.bufr_tables.specs.Prelude.{fxy_text, places};
 ghost use Rattle.bufr_walk.specs.Prelude.{seen, seen_value, calls_of, turns_shown, values_read, data_of};
 
+use crate::alike::{AlikeLines, TEXT};
 use crate::header::KEYS;
 use crate::line_writer::{LineWriter, PAGE};
 use bufr_bits::Sink;
 use bufr_frame::{Message, RunFault, Words};
 use bufr_tables::{Entry, Fxy, TableB};
 use bufr_walk::{ItemView, Reading, ShowFault, SpecCache, Steps, Value, Visitor};
-use std::alloc::Global;
+use std::alloc::{AllocError, Global};
 
 /// How many octets a line holds at most.
 const OCTETS: usize = 32;
@@ -168,11 +169,8 @@ fn push_any_item<W: Sink>(
     }
 }
 
-/// Room for a line. It has at most 2,061 octets: a text of 4 * 255, a name and a unit of 512 each.
-const LINE: usize = 2_560;
-
-/// What dumps by one table keep from message to message: the specs that are cached, and a block of
-/// memory in which lines are gathered.
+/// What dumps by one table keep from message to message: the specs that are cached, and memory in
+/// which lines are gathered.
 ///
 /// ```
 /// let mut memory = DumpMemory::new(alloc, &table_b);
@@ -186,6 +184,8 @@ pub struct DumpMemory<'t> {
     pub specs: SpecCache<'t>,
     /// Empty until the first dump.
     block: Vec<u8>,
+    /// The lines that the subsets of the last message had alike.
+    alike: AlikeLines,
 }
 
 impl<'t> DumpMemory<'t> {
@@ -197,7 +197,20 @@ impl<'t> DumpMemory<'t> {
             alloc,
             specs: SpecCache::new(alloc, table),
             block: Vec::new(alloc),
+            alike: AlikeLines::new(alloc),
         }
+    }
+
+    /// Makes room for lines, and gathers those that the subsets of a reading have alike.
+    fn prepare(&mut self, reading: &Reading<'_>) -> Result<(), AllocError>
+        ensures same { self.new.specs ≡ self.old.specs }
+        ensures gathered { OnOk result (AreGathered reading.now self.new.alike.text.items
+            self.new.alike.stretches.items) }
+    {
+        self.block.resize(PAGE + TEXT, 0)?;
+        let (first, _) = self.block.as_mut_slice().split_at_mut(TEXT);
+        self.alike.gather(reading, first);
+        Ok(())
     }
 }
 
@@ -305,10 +318,13 @@ pub fn write_dump_by<W: Sink>(
     ensures bounded { steps.new ≤ places reading.now.template * reading.now.bits }
 {
     *steps = Steps::new();
-    memory.block.resize(PAGE + LINE, 0)?;
+    memory.prepare(reading)?;
     let mut lines = LineWriter::new(memory.block.as_mut_slice(), w);
     push_head_lines(&mut lines, message);
-    match reading.show_by(&mut memory.specs, &mut lines, steps) {
+    match memory
+        .alike
+        .show(reading, &mut memory.specs, &mut lines, steps)
+    {
         Ok(()) => {
             lines.push(b"end\n");
             lines.hand_on();

@@ -2,6 +2,7 @@
 //! reading.
 #![tactic(auto)]
 
+mod alike;
 mod document;
 mod dump;
 mod dump_reader;

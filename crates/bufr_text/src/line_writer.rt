@@ -4,6 +4,7 @@ ghost use Rattle.bufr_bits.specs.Prelude.{decimal_text_of};
 ghost use Rattle.bufr_tables.specs.Prelude.{row_of_entry, row_comment, row_line_start};
 ghost use Rattle.bufr_text.specs.Prelude.{Pushes, Writes, CountsWrites, zero_padded, Puts, escaped, hex_digit, hex_text, is_unescaped, quoted};
 
+use crate::alike::NoSink;
 use crate::line::{is_unescaped, suffix};
 use crate::numbers::{fill_missing_line, fill_named, fill_number_line, put};
 use bufr_bits::Sink;
@@ -384,5 +385,16 @@ impl<'b, 'w, W: Sink> LineWriter<'b, 'w, W> {
         ensures sink { result.ghost_name ≡ self.entry.sink }
     {
         self.w
+    }
+}
+
+impl<'b, 'w> LineWriter<'b, 'w, NoSink> {
+    /// The octets that are held.
+    #[inline(always)]
+    pub(crate) fn held(&self) -> &[u8]
+        ensures held { result.now ≡ self.now.held }
+        ensures none { self.now.taken ≡ Some [] }
+    {
+        &self.octets[..self.len]
     }
 }

@@ -4,15 +4,15 @@ use Rattle.bufr_frame.specs.declared.fault.RunFault.TheVariants as run
 use Rattle.bufr_text.proofs.PushLemmas.{all-written-of, all-counted-of, left-whole, left-failed, left-first, no-steps}
 use Rattle.bufr_text.proofs.dump.write_dump_by.Goals as goal
 
-pub returns-in_err-resize-clause-steps : goal.returns-in_err-resize-clause-steps
-returns-in_err-resize-clause-steps g c =
+pub returns-in_err-prepare-clause-steps : goal.returns-in_err-prepare-clause-steps
+returns-in_err-prepare-clause-steps g c =
     let p = err_from_is_err_and c.from_residual.result c.from_residual.ensures.1 in
     rw (p.1, c.new.ensures) (no-steps c.args.reading.now)
 
 pub returns-in-Ok : goal.returns-in-Ok
 returns-in-Ok g c =
     let before = c.new-lines.ensures in
-    let left = left-whole c.args.message.now c.args.reading.now c.show_by.new.steps before.status before.held c.push_head_lines.ensures c.status-outcome.result c.in-Ok.ensures.shown c.push.ensures
+    let left = left-whole c.args.message.now c.args.reading.now c.show.new.steps before.status before.held c.push_head_lines.ensures c.status-outcome.result c.in-Ok.ensures.shown c.push.ensures
     c.hand_on.ensures.pushes c.hand_on.ensures.none c.status-outcome.ensures in
     record {
       same = search rules;
@@ -26,7 +26,7 @@ returns-in-Ok g c =
 pub returns-in-Err-Visitor : goal.returns-in-Err-Visitor
 returns-in-Err-Visitor g c =
     let before = c.new-lines.ensures in
-    let left = left-failed c.args.message.now c.args.reading.now c.show_by.new.steps before.status before.held c.push_head_lines.ensures c.in-Err-Visitor.fault _ c.in-Err-Visitor.field-0-is
+    let left = left-failed c.args.message.now c.args.reading.now c.show.new.steps before.status before.held c.push_head_lines.ensures c.in-Err-Visitor.fault _ c.in-Err-Visitor.field-0-is
     c.in-Err-Visitor.ensures.shown in
     record {
       same = search rules;
@@ -40,7 +40,7 @@ returns-in-Err-Visitor g c =
 pub returns-in_ok-first-in-Err-Memory : goal.returns-in_ok-first-in-Err-Memory
 returns-in_ok-first-in-Err-Memory g c =
     let before = c.new-lines.ensures in
-    let left = left-first c.args.message.now c.args.reading.now c.show_by.new.steps before.status before.held c.push_head_lines.ensures run.Memory (Err run.Memory) _ refl c.in-Err-Memory.field-0-is
+    let left = left-first c.args.message.now c.args.reading.now c.show.new.steps before.status before.held c.push_head_lines.ensures run.Memory (Err run.Memory) _ refl c.in-Err-Memory.field-0-is
     c.in-Err-Memory.ensures.shown (rw (sym c.status-first.ensures ∙ c.in_ok-first-in-Err-Memory.was) refl) in
     record {
       same = search rules;
@@ -55,7 +55,7 @@ pub returns-in_err-first-in-Err-Memory : goal.returns-in_err-first-in-Err-Memory
 returns-in_err-first-in-Err-Memory g c =
     let before = c.new-lines.ensures in
     let p = err_from_is_err_and c.from_residual-in_err-first-in-Err-Memory.result c.from_residual-in_err-first-in-Err-Memory.ensures.1 in
-    let left = left-first c.args.message.now c.args.reading.now c.show_by.new.steps before.status before.held c.push_head_lines.ensures c.in_err-first-in-Err-Memory.field-0.0
+    let left = left-first c.args.message.now c.args.reading.now c.show.new.steps before.status before.held c.push_head_lines.ensures c.in_err-first-in-Err-Memory.field-0.0
     c.from_residual-in_err-first-in-Err-Memory.result _ (p.1 ∙ ap Err p.2) c.in-Err-Memory.field-0-is c.in-Err-Memory.ensures.shown
     (rw (sym c.status-first.ensures ∙ c.in_err-first-in-Err-Memory.was) refl) in
     record {

@@ -1,0 +1,298 @@
+-- The lines that all subsets of compressed data have alike: made once, and pushed for each.
+use Rattle.std.proofs.Common.{◌≡◌, ◌≤◌, ◌<◌, ◌+◌, ◌-◌, ◌⊎◌, ℕ, zero, suc, List, [], ◌∷◌, ◌++◌, length, take, drop, Result, Ok, Err, Option, Some, inl, inr, refl, sym, ap, ◌∙◌, subst, arith, append_assoc, append-nil, length-append, length-take-le, get_or, add-one, Bool, true, if◌then◌else◌}
+use Rattle.std.specs.Io.KnownBytes.{Appends}
+use Rattle.std.proofs.lemmas.List.{drop_all}
+use Rattle.std.proofs.Math.Seq.{drop-cons, drop-append_seam, take-append_seam}
+use Rattle.bufr_frame.specs.declared.fault.RunFault.{RunFault}
+use Rattle.bufr_tables.specs.Prelude.{Row}
+use Rattle.bufr_walk.specs.declared.fault.ShowFault.{ShowFault}
+use Rattle.bufr_walk.specs.declared.fault.ShowFault.TheVariants as show
+use Rattle.bufr_walk.specs.Prelude.{Content, Item, Timed, timed, item_call, content_at, PackedValues, IsPackedOf, Read, together, IsSameInAll, Shows, Sofar, item_calls, items_between, items_of_subset, range_calls, without_turns, view_of}
+use Rattle.bufr_walk.proofs.PackedShowing.{items_done, shows_before, sofar_all}
+use Rattle.bufr_walk.proofs.ShownLemmas.{sofar_self, sofar_then}
+use Rattle.bufr_text.specs.Prelude.{LineModel, MovesOn, MovesPrefix, Moves, Pushes, PushesFrom, PushesCall, item_text, item_lines, lines_between, PushesAlike, AreStretches}
+use Rattle.bufr_text.specs.declared.alike.Stretch.{Stretch}
+use Rattle.bufr_text.proofs.PushLemmas.{◌⨾◌, calls-pushed, calls_text, holds_pushes, items-text, nothing_pushed, retold}
+
+-- ---- Items from one index to another, in parts.
+
+between : {X : Type 0} (xs : List X) (from mid to : ℕ) → from ≤ mid → mid ≤ to → drop from (take to xs) ≡ drop from (take mid xs) ++ drop mid (take to xs)
+between [] zero zero to a b = refl
+between [] zero (suc mid) (suc to) a b = refl
+between [] (suc from) (suc mid) (suc to) a b = refl
+between [] from (suc mid) zero a b = absurd (omega (arith, b))
+between [] (suc from) zero to a b = absurd (omega (arith, a))
+between (x ∷ xs) zero zero to a b = refl
+between (x ∷ xs) zero (suc mid) zero a b = absurd (omega (arith, b))
+between (x ∷ xs) zero (suc mid) (suc to) a b = ap (λ ys. x ∷ ys) (first xs to ∙ between xs 0 mid to (omega arith) (omega (arith, b)) ∙ ap (λ ys. ys ++ drop mid (take to xs)) (sym (first xs mid)))
+  where
+    first : {X : Type 0} (xs : List X) (n : ℕ) → take n xs ≡ drop 0 (take n xs)
+    first [] zero = refl
+    first [] (suc n) = refl
+    first (x ∷ xs) zero = refl
+    first (x ∷ xs) (suc n) = refl
+between (x ∷ xs) (suc from) zero to a b = absurd (omega (arith, a))
+between (x ∷ xs) (suc from) (suc mid) zero a b = absurd (omega (arith, b))
+between (x ∷ xs) (suc from) (suc mid) (suc to) a b = between xs from mid to (omega (arith, a)) (omega (arith, b))
+
+items-parts : (j : ℕ) (a b : List (Item (List Content))) → items_of_subset j (a ++ b) ≡ items_of_subset j a ++ items_of_subset j b
+items-parts j [] b = refl
+items-parts j (i ∷ a) b = ap (λ l. record { spec = i.spec; content = content_at j i.content } ∷ l) (items-parts j a b)
+
+calls-parts : (table : List Row) (a b : List (Item Content)) → item_calls table 0 without_turns (a ++ b) ≡ item_calls table 0 without_turns a ++ item_calls table 0 without_turns b
+calls-parts table [] b = refl
+calls-parts table (i ∷ a) b = ap (λ l. timed 0 (item_call (view_of table i.spec i.content)) ∷ l) (calls-parts table a b)
+
+lines-parts : (table : List Row) (a b : List (Item Content)) → item_lines table (a ++ b) ≡ item_lines table a ++ item_lines table b
+lines-parts table [] b = refl
+lines-parts table (i ∷ a) b =
+    let line : List ℕ = item_text (view_of table i.spec i.content) ++ 10 ∷ [] in ap (λ l. line ++ l) (lines-parts table a b) ∙ sym (append_assoc line (item_lines table a) (item_lines table b))
+
+module _ (p : PackedValues) (j from mid to : ℕ) (first : from ≤ mid) (last : mid ≤ to) where
+  items-at : items_between p j from to ≡ items_between p j from mid ++ items_between p j mid to
+  items-at = ap (items_of_subset j) (between p.items from mid to first last) ∙ items-parts j (drop from (take mid p.items)) (drop mid (take to p.items))
+
+  pub range-at : range_calls p j from to ≡ range_calls p j from mid ++ range_calls p j mid to
+  range-at = ap (item_calls p.table 0 without_turns) items-at ∙ calls-parts p.table (items_between p j from mid) (items_between p j mid to)
+
+  pub lines-at : lines_between p j from to ≡ lines_between p j from mid ++ lines_between p j mid to
+  lines-at = ap (item_lines p.table) items-at ∙ lines-parts p.table (items_between p j from mid) (items_between p j mid to)
+
+-- there are none before the index that they begin at
+pub lines-none : (p : PackedValues) (j from : ℕ) → from ≤ length p.items → lines_between p j from from ≡ []
+lines-none p j from within =
+    let none : drop from (take from p.items) ≡ [] = drop_all from (take from p.items) (omega (arith, length-take-le from p.items within)) in ap (λ items. item_lines p.table (items_of_subset j items))
+    none
+
+-- ---- Lines that were made before are pushed as the lines of calls.
+
+-- the writer with a text more in its block
+abbrev holding : LineModel → List ℕ → LineModel
+holding a text = record {
+  taken = a.taken;
+  failures = a.failures;
+  empty_writes = a.empty_writes;
+  failed_flushes = a.failed_flushes;
+  held = a.held ++ text;
+  status = a.status;
+  sink = a.sink;
+}
+
+-- what a push does where no write has failed
+moves-of : (a b : LineModel) (t : List ℕ) (q : Result Unit RunFault) → q ≡ Ok tt → PushesFrom q a t b → MovesOn a t b
+moves-of a b t (Ok x) is from = from
+moves-of a b t (Err f) is from = absurd (let no : Err f ≡ Ok tt = is in cc)
+
+pushes-of : (a b : LineModel) (t : List ℕ) (q : Result Unit RunFault) → q ≡ Ok tt → MovesOn a t b → PushesFrom q a t b
+pushes-of a b t (Ok x) is moves = moves
+pushes-of a b t (Err f) is moves = absurd (let no : Err f ≡ Ok tt = is in cc)
+
+prefix-of : (old new : Option (List ℕ)) (text held : List ℕ) (r : Result Unit RunFault) → r ≡ Ok tt → Moves old new text held r → MovesPrefix old new text held
+prefix-of old new text held (Ok x) is moves = moves
+prefix-of old new text held (Err f) is moves = absurd (let no : Err f ≡ Ok tt = is in cc)
+
+-- a text that is pushed is pushed in parts
+pushed-after : {a b : LineModel} (s t : List ℕ) → a.status ≡ Ok tt → Pushes a (s ++ t) b → Pushes (holding a s) t b
+pushed-after {a = a} {b = b} s t ok pushes =
+    let from = moves-of a b (s ++ t) a.status ok pushes.from in
+    let on : MovesOn (holding a s) t b = record { moves = subst (λ l. Moves a.taken b.taken l b.held b.status) (sym (append_assoc a.held s t)) from.moves; counts = from.counts } in
+    record { from = pushes-of (holding a s) b t a.status ok on; failed_flushes = pushes.failed_flushes; sink = pushes.sink }
+
+-- whether a write has failed, as a showing answers it
+abbrev answered : Result Unit RunFault → Result Unit (ShowFault RunFault)
+answered (Ok x) = Ok tt
+answered (Err f) = Err (show.Visitor f)
+
+made-on : (table : List Row) (i : Item Content) (items : List (Item Content)) (a b : LineModel) (r : Result Unit RunFault) → a.status ≡ Ok tt → Pushes a (item_lines table (i ∷ items)) b
+    → b.status ≡ r → Shows PushesCall a (item_calls table 0 without_turns (i ∷ items)) 0 (answered r) b 0
+made-on table i [] a b (Ok x) ok pushes is = (b, record { pushes = retold pushes (append-nil _); status = sym is }, (refl, refl))
+made-on table i [] a b (Err f) ok pushes is = inl (record { pushes = retold pushes (append-nil _); status = sym is }, refl)
+made-on table i (k ∷ items) a b (Ok x) ok pushes is =
+    let line : List ℕ = item_text (view_of table i.spec i.content) ++ 10 ∷ [] in (
+      holding a line,
+      record { pushes = holds_pushes refl refl refl refl refl refl refl; status = sym ok },
+      made-on table k items (holding a line) b (Ok x) ok (pushed-after line (item_lines table (k ∷ items)) ok pushes) is,
+    )
+made-on table i (k ∷ items) a b (Err f) ok pushes is =
+    let line : List ℕ = item_text (view_of table i.spec i.content) ++ 10 ∷ [] in inr (
+      holding a line,
+      record { pushes = holds_pushes refl refl refl refl refl refl refl; status = sym ok },
+      made-on table k items (holding a line) b (Err f) ok (pushed-after line (item_lines table (k ∷ items)) ok pushes) is,
+    )
+
+-- no lines are those of no items
+no-lines : (table : List Row) (i : Item Content) (items : List (Item Content)) → 1 ≤ length (item_lines table (i ∷ items))
+no-lines table i items =
+    let line : List ℕ = item_text (view_of table i.spec i.content) in
+    omega (arith, length-append (line ++ 10 ∷ []) (item_lines table items), length-append line (10 ∷ []))
+
+pub made-none : (text : List ℕ) (a : LineModel) → length text ≤ 0 → (table : List Row) (items : List (Item Content)) → text ≡ item_lines table items
+    → Shows PushesCall a (item_calls table 0 without_turns items) 0 (Ok tt) a 0
+made-none text a none table [] is = (refl, refl)
+made-none text a none table (i ∷ items) is = absurd (omega (arith, no-lines table i items, ap length is, none))
+
+pub made-shown : (text : List ℕ) (a b : LineModel) (r : Result Unit RunFault) → 1 ≤ length text → a.status ≡ Ok tt → Pushes a text b → b.status ≡ r → (table : List Row) (items : List (Item Content))
+    → text ≡ item_lines table items → Shows PushesCall a (item_calls table 0 without_turns items) 0 (answered r) b 0
+made-shown text a b r some ok pushes at table [] is = absurd (omega (arith, ap length is, some))
+made-shown text a b r some ok pushes at table (i ∷ items) is = made-on table i items a b r ok (retold pushes is) at
+
+-- after calls that were all made no write has failed
+pub shown-status : (a : LineModel) (calls : List Timed) (b : LineModel) → a.status ≡ Ok tt → Shows PushesCall a calls 0 (Ok tt) b 0 → b.status ≡ Ok tt
+shown-status a [] b ok (same, made) = subst (λ x. x.status ≡ Ok tt) (sym same) ok
+shown-status a (t ∷ calls) b ok (mid, one, more) = shown-status mid calls b (sym one.status) more
+
+-- ---- One subset, stretch by stretch.
+
+-- the calls of a subset up to some item, whose stretches are left
+pub record SubsetSoFar (p : PackedValues) (text : List ℕ) (j : ℕ) (a b : LineModel) (at : ℕ) (rest : List Stretch) : Type 0 where
+  pub index : ℕ
+  pub calls : Sofar PushesCall a (range_calls p j 0 (length p.items)) b (range_calls p j index (length p.items))
+  pub status : b.status ≡ Ok tt
+  pub left : AreStretches p text index at rest
+
+pub subset-first : (p : PackedValues) (text : List ℕ) (j : ℕ) (a : LineModel) (stretches : List Stretch) → a.status ≡ Ok tt → AreStretches p text 0 0 stretches → SubsetSoFar p text j a a 0 stretches
+subset-first p text j a stretches ok left = record { index = 0; calls = sofar_self PushesCall a (range_calls p j 0 (length p.items)); status = ok; left = left }
+
+module _ (p : PackedValues) (j from to : ℕ) (a b c : LineModel) (order : from ≤ to) (within : to ≤ length p.items)
+    (calls : Sofar PushesCall a (range_calls p j 0 (length p.items)) b (range_calls p j from (length p.items))) where
+  parted : Sofar PushesCall a (range_calls p j 0 (length p.items)) b (range_calls p j from to ++ range_calls p j to (length p.items))
+  parted = subst (Sofar PushesCall a (range_calls p j 0 (length p.items)) b) (range-at p j from to (length p.items) order within) calls
+
+  calls-go : Shows PushesCall b (range_calls p j from to) 0 (Ok tt) c 0 → Sofar PushesCall a (range_calls p j 0 (length p.items)) c (range_calls p j to (length p.items))
+  calls-go shows = sofar_then PushesCall a b c _ _ _ parted (sofar_all PushesCall b c (range_calls p j from to) (range_calls p j to (length p.items)) shows)
+
+  calls-stop : (e : ShowFault RunFault) → Shows PushesCall b (range_calls p j from to) 0 (Err e) c 0 → Shows PushesCall a (range_calls p j 0 (length p.items)) 0 (Err e) c 0
+  calls-stop e shows = parted.on 0 (Err e) c 0 (shows_before PushesCall b c (range_calls p j from to) (range_calls p j to (length p.items)) e shows)
+
+module _ (p : PackedValues) (text : List ℕ) (j : ℕ) (a b : LineModel) (at : ℕ) (s : Stretch) (more : List Stretch) (h : SubsetSoFar p text j a b at (s ∷ more)) where
+  pub stop-made : (c : LineModel) (e : ShowFault RunFault) → Shows PushesCall b (range_calls p j h.index s.from) 0 (Err e) c 0 → Shows PushesCall a (range_calls p j 0 (length p.items)) 0 (Err e) c 0
+  stop-made c e shows = calls-stop p j h.index s.from a b c h.left.0.first (omega (arith, h.left.0.order, h.left.0.within)) h.calls e shows
+
+  made-go : (c : LineModel) → Shows PushesCall b (range_calls p j h.index s.from) 0 (Ok tt) c 0 → Sofar PushesCall a (range_calls p j 0 (length p.items)) c (range_calls p j s.from (length p.items))
+  made-go c shows = calls-go p j h.index s.from a b c h.left.0.first (omega (arith, h.left.0.order, h.left.0.within)) h.calls shows
+
+  pub stop-items : (c d : LineModel) (e : ShowFault RunFault) → Shows PushesCall b (range_calls p j h.index s.from) 0 (Ok tt) c 0 → Shows PushesCall c (range_calls p j s.from s.to) 0 (Err e) d 0
+      → Shows PushesCall a (range_calls p j 0 (length p.items)) 0 (Err e) d 0
+  stop-items c d e made shows = calls-stop p j s.from s.to a c d h.left.0.order h.left.0.within (made-go c made) e shows
+
+  pub subset-go : (c d : LineModel) → Shows PushesCall b (range_calls p j h.index s.from) 0 (Ok tt) c 0 → Shows PushesCall c (range_calls p j s.from s.to) 0 (Ok tt) d 0
+      → SubsetSoFar p text j a d s.end more
+  subset-go c d made shows = record {
+    index = s.to;
+    calls = calls-go p j s.from s.to a c d h.left.0.order h.left.0.within (made-go c made) shows;
+    status = shown-status c (range_calls p j s.from s.to) d (shown-status b (range_calls p j h.index s.from) c h.status made) shows;
+    left = h.left.1;
+  }
+
+pub subset-done : (p : PackedValues) (text : List ℕ) (j : ℕ) (a b : LineModel) (at : ℕ) → SubsetSoFar p text j a b at [] → Shows PushesCall a (range_calls p j 0 (length p.items)) 0 (Ok tt) b 0
+subset-done p text j a b at h = items_done PushesCall p j (length p.items) a b 0 h.index h.left (omega arith) h.calls
+
+-- the next stretch
+pub next-stretch : (stretches : List Stretch) (i : ℕ) (s : Stretch) → i < length stretches → s ≡ get_or stretches i s → drop i stretches ≡ s ∷ drop (i + 1) stretches
+next-stretch stretches i s below is = drop-cons stretches i s below ∙ ap (λ x. x ∷ drop (suc i) stretches) (sym is) ∙ ap (λ k. s ∷ drop k stretches) (sym (add-one i))
+
+-- ---- The lines are gathered.
+
+-- where nothing is taken and no write has failed, the block holds the text
+pub held-grown : {a b : LineModel} {t : List ℕ} → a.taken ≡ Some [] → b.taken ≡ Some [] → a.status ≡ Ok tt → b.status ≡ Ok tt → Pushes a t b → b.held ≡ a.held ++ t
+held-grown {a = a} {b = b} {t = t} none none' ok ok' pushes =
+    let from = moves-of a b t a.status ok pushes.from in
+    let moves = prefix-of a.taken b.taken (a.held ++ t) b.held b.status ok' from.moves in
+    let gains : [] ≡ moves.prefix = subst (λ z. Appends (Some []) z moves.prefix) none' (subst (λ z. Appends z b.taken moves.prefix) none moves.gains) in
+    sym (moves.parts ∙ ap (λ l. l ++ b.held) (sym gains))
+
+-- one more item that all subsets have alike
+pub alike-more : (p : PackedValues) (from to : ℕ) (a b c : LineModel) → 0 < p.subsets → to < length p.items → PushesAlike p from to a b → IsSameInAll p to
+    → Shows PushesCall b (range_calls p 0 to (to + 1)) 0 (Ok tt) c 0 → PushesAlike p from (to + 1) a c
+alike-more p from to a b c some below h same shows =
+    let join = λ (j : ℕ). lines-at p j from to (to + 1) h.order (omega arith) in
+    let text : calls_text (range_calls p 0 to (to + 1)) ≡ lines_between p 0 to (to + 1) = items-text p.table 0 without_turns (items_between p 0 to (to + 1)) in
+    record {
+      order = omega (arith, h.order);
+      within = omega (arith, below);
+      pushes = retold (h.pushes ⨾ retold (calls-pushed b (range_calls p 0 to (to + 1)) 0 (Ok tt) c 0 shows) text) (sym (join 0));
+      status = shown-status b (range_calls p 0 to (to + 1)) c h.status shows;
+      alike = λ j less. join j ∙ ap (λ l. l ++ lines_between p j to (to + 1)) (h.alike j less) ∙ ap (λ l. lines_between p 0 from to ++ l) (ap (item_lines p.table) (same j less)) ∙ sym (join 0);
+    }
+
+pub alike-none : (p : PackedValues) (from : ℕ) (a : LineModel) → from ≤ length p.items → a.status ≡ Ok tt → PushesAlike p from from a a
+alike-none p from a within ok = record {
+  order = omega arith;
+  within = within;
+  pushes = retold nothing_pushed (sym (lines-none p 0 from within));
+  status = ok;
+  alike = λ j less. lines-none p j from within ∙ sym (lines-none p 0 from within);
+}
+
+-- what was gathered so far: stretches up to an item and the end of what is held
+pub record GatheredSoFar (p : PackedValues) (lines : LineModel) (index : ℕ) (stretches : List Stretch) : Type 0 where
+  pub taken : lines.taken ≡ Some []
+  pub status : lines.status ≡ Ok tt
+  pub within : index ≤ length p.items
+  pub few : (length stretches ≤ 1024) ⊎ ((length stretches ≤ 1025) × (length p.items ≤ index))
+  pub on : (more : List Stretch) (back : List ℕ) → AreStretches p (lines.held ++ back) index (length lines.held) more → AreStretches p (lines.held ++ back) 0 0 (stretches ++ more)
+
+pub gathered-first : (p : PackedValues) (lines : LineModel) (stretches : List Stretch) → lines.taken ≡ Some [] → lines.status ≡ Ok tt → lines.held ≡ [] → stretches ≡ []
+    → GatheredSoFar p lines 0 stretches
+gathered-first p lines stretches none ok empty is = record {
+  taken = none;
+  status = ok;
+  within = omega arith;
+  few = inl (omega (arith, ap length is));
+  on = λ more back left. rw is (subst (λ n. AreStretches p (lines.held ++ back) 0 n more) (ap length empty) left);
+}
+
+-- one stretch more
+pub gathered-more : (p : PackedValues) (a b : LineModel) (index from to : ℕ) (stretches : List Stretch) (s : Stretch) → GatheredSoFar p a index stretches → PushesAlike p index from a b
+    → b.taken ≡ Some []
+    → s ≡ record { end = length b.held; from = from; to = to } → from ≤ to → to ≤ length p.items → (length stretches < 1024) ⊎ (length p.items ≤ to) → index < length p.items
+    → GatheredSoFar p b to (stretches ++ s ∷ [])
+gathered-more p a b index from to stretches s h alike none is order within few below = record {
+  taken = none;
+  status = alike.status;
+  within = within;
+  few = counted h.few few;
+  on = λ more back left.
+      let here = lines_between p 0 index from in
+      let held : b.held ≡ a.held ++ here = held-grown h.taken none h.status alike.status alike.pushes in
+      let same : a.held ++ (here ++ back) ≡ b.held ++ back = sym (append_assoc a.held here back) ∙ ap (λ l. l ++ back) (sym held) in
+      let long : length b.held ≡ length a.held + length here = ap length held ∙ length-append a.held here in
+      let cut : take (length b.held - length a.held) (drop (length a.held) (a.held ++ (here ++ back))) ≡ here =
+      ap (take (length b.held - length a.held)) (drop-append_seam a.held (here ++ back)) ∙ ap (λ n. take n (here ++ back)) (omega (arith, long)) ∙ take-append_seam here back in
+      let left' : AreStretches p (a.held ++ (here ++ back)) index (length a.held) (s ∷ more) = rw is (
+        record {
+          first = alike.order;
+          order = order;
+          within = within;
+          start = omega (arith, long);
+          ends = omega (arith, long, length-append a.held (here ++ back), length-append here back);
+          alike = λ j less. cut ∙ sym (alike.alike j less);
+        },
+        subst (λ text. AreStretches p text to (length b.held) more) (sym same) left,
+      ) in
+      rw append_assoc (subst (λ text. AreStretches p text 0 0 (stretches ++ s ∷ more)) same (h.on (s ∷ more) (here ++ back) left'));
+}
+  where
+    counted : (length stretches ≤ 1024) ⊎ ((length stretches ≤ 1025) × (length p.items ≤ index)) → (length stretches < 1024) ⊎ (length p.items ≤ to)
+        → (length (stretches ++ s ∷ []) ≤ 1024) ⊎ ((length (stretches ++ s ∷ []) ≤ 1025) × (length p.items ≤ to))
+    counted (inr (many, ended)) last = absurd (omega (arith, ended, below))
+    counted (inl fits) (inl short) = inl (omega (arith, length-append stretches (s ∷ []), short))
+    counted (inl fits) (inr ended) = inr (omega (arith, length-append stretches (s ∷ []), fits), ended)
+
+-- all items are covered
+pub gathered-all : (p : PackedValues) (lines : LineModel) (index : ℕ) (stretches : List Stretch) (text : List ℕ) → GatheredSoFar p lines index stretches → length p.items ≤ index → text ≡ lines.held
+    → AreStretches p text 0 0 stretches
+gathered-all p lines index stretches text h ended is =
+    subst (λ t. AreStretches p t 0 0 stretches) (append-nil lines.held ∙ sym is) (subst (λ ss. AreStretches p (lines.held ++ []) 0 0 ss) (append-nil stretches) (h.on [] [] ended))
+
+-- what is held was appended to no text
+pub appended : (all text held back : List ℕ) (done : Bool) → all ≡ (if done then text ++ held else text) → done ≡ true → text ≡ [] → held ≡ back → all ≡ back
+appended all text held back done is ok none same = is ∙ ap (λ b. if b then text ++ held else text) ok ∙ ap (λ t. t ++ held) none ∙ same
+
+-- a reading of compressed data has one form in which it is shown
+pub same-packed : (p q : PackedValues) (r : Read) → IsPackedOf p r → IsPackedOf q r → p ≡ q
+same-packed p q r a b =
+    let both : together p.items ≡ together q.items = sym a.values ∙ b.values in
+    let items : p.items ≡ q.items = cc in
+    ap (λ t. record { table = t; subsets = p.subsets; items = p.items }) (a.table ∙ sym b.table) ∙ ap (λ n. record { table = q.table; subsets = n; items = p.items }) (a.subsets ∙ sym b.subsets)
+    ∙ ap (λ is. record { table = q.table; subsets = q.subsets; items = is }) items

@@ -1,0 +1,267 @@
+//! The lines that all subsets of compressed data have alike: they are made once for a message.
+ghost use Rattle.std.specs.Prelude.{◌≡◌, ◌≤◌, ◌<◌, ◌*◌, List, [], Ok, Some, true, false, length, IfOk};
+ghost use Rattle.bufr_tables.specs.Prelude.{Row, places};
+ghost use Rattle.bufr_text.specs.Prelude.{PushesCall, item_lines, PushesAlike, AreStretches, AreGathered};
+ghost use Rattle.bufr_walk.specs.Prelude.{Shows, Item, Content, item_calls, without_turns, range_calls, packed_calls, calls_of, turns_shown};
+
+use crate::line_writer::LineWriter;
+use bufr_bits::{Failed, Sink};
+use bufr_frame::RunFault;
+use bufr_walk::{PackedItems, Reading, ShowFault, SpecCache, Steps, Visitor};
+use std::alloc::Global;
+
+/// Room for a line. It has at most 2,061 octets: a text of 4 * 255, a name and a unit of 512 each.
+const LINE: usize = 2_560;
+
+/// Room for the lines that the subsets of a message have alike.
+pub(crate) const TEXT: usize = 32_768;
+
+/// The most stretches of a message but for the last.
+const MAX_STRETCHES: usize = 1_024;
+
+/// A sink that takes nothing: what is pushed stays in the block before it.
+#[derive(Drop)]
+pub(crate) struct NoSink {
+    empty_writes: u64,
+}
+
+impl Sink for NoSink {
+    ghost taken = { λ _. Some [] };
+
+    ghost failures = { λ _. 0 };
+
+    ghost empty_writes = { λ s. s.empty_writes };
+
+    ghost failed_flushes = { λ _. 0 };
+
+    ghost all_flushed = { λ _. true };
+
+    fn write(&mut self, buf: &[u8]) -> Result<usize, Failed> {
+        if !buf.is_empty() {
+            self.empty_writes = self.empty_writes.saturating_add(1);
+        }
+        Ok(0)
+    }
+
+    fn flush(&mut self) -> Result<(), Failed> {
+        Ok(())
+    }
+}
+
+/// A part of each subset: lines that all have alike, up to an end in their text, and after them the
+/// items from one index to before another.
+#[derive(Clone, Copy)]
+pub(crate) struct Stretch {
+    end: usize,
+    from: usize,
+    to: usize,
+}
+
+/// Whether an eighth of the items is alike: for fewer it is not worth it.
+fn are_enough_alike(items: &PackedItems<'_, '_>) -> bool {
+    let mut alike: usize = 0;
+    'items: for index in 0..items.len() {
+        if items.is_alike(index) {
+            alike = alike.saturating_add(1);
+        }
+    }
+    alike > items.len() / 8
+}
+
+/// Pushes the lines of the items from an index on that are alike, while there is room. Returns the
+/// index after them.
+fn push_alike(
+    items: &PackedItems<'_, '_>,
+    from: usize,
+    lines: &mut LineWriter<'_, '_, NoSink>,
+) -> Result<usize, ShowFault<RunFault>>
+    requires within { from ≤ length items.now.items }
+    requires some { 0 < items.now.subsets }
+    requires status { lines.old.status ≡ Ok tt }
+    ensures { IfOk result (λ to. PushesAlike items.now from to lines.old lines.new) }
+{
+    let mut to = from;
+    'items: while to < items.len() && items.is_alike(to) && lines.held().len() <= TEXT - LINE {
+        items.show(to, to + 1, 0, lines)?;
+        to += 1;
+    }
+    Ok(to)
+}
+
+/// The index after an item and those after it that are not alike.
+fn skip_different(items: &PackedItems<'_, '_>, from: usize) -> usize
+    requires { from < length items.now.items }
+    ensures more { from < result }
+    ensures within { result ≤ length items.now.items }
+{
+    let len = items.len();
+    let mut to = from + 1;
+    'items: while to < len && !items.is_alike(to) {
+        to += 1;
+    }
+    to
+}
+
+/// Pushes the lines of some items, of a subset, that were made before.
+#[inline(always)]
+fn push_made<W: Sink>(
+    text: &[u8],
+    lines: &mut LineWriter<'_, '_, W>,
+) -> Result<(), ShowFault<RunFault>>
+    requires { lines.old.status ≡ Ok tt }
+    ensures { (table : List Row) (items : List (Item Content)) → text.now ≡ item_lines table items
+        → Shows PushesCall lines.old (item_calls table 0 without_turns items) 0 result
+        lines.new 0 }
+{
+    if text.is_empty() {
+        return Ok(());
+    }
+    lines.push(text);
+    lines.end_line();
+    match lines.status() {
+        Ok(()) => Ok(()),
+        Err(fault) => Err(ShowFault::Visitor(fault)),
+    }
+}
+
+/// The lines that all subsets of a message have alike, at most 32,768 octets, and at most 1,025
+/// stretches. There are no stretches where no lines were gathered.
+#[derive(Drop)]
+pub(crate) struct AlikeLines {
+    text: Vec<u8>,
+    stretches: Vec<Stretch>,
+}
+
+impl AlikeLines {
+    /// No lines. It takes no memory.
+    pub(crate) fn new(alloc: Global) -> AlikeLines {
+        AlikeLines {
+            text: Vec::new(alloc),
+            stretches: Vec::new(alloc),
+        }
+    }
+
+    /// Gathers the lines of a message in place of those before. They are made in a block. Where
+    /// memory runs out, or few items are alike, there are none.
+    #[inline(never)]
+    pub(crate) fn gather(&mut self, reading: &Reading<'_>, block: &mut [u8])
+        ensures gathered { AreGathered reading.now self.new.text.items self.new.stretches.items }
+        ensures short { length self.new.text.items ≤ 32768 }
+        ensures few { length self.new.stretches.items ≤ 1025 }
+    {
+        self.text.clear();
+        self.stretches.clear();
+        let Some(items) = reading.packed() else {
+            return;
+        };
+        if items.subsets() < 2 || !are_enough_alike(&items) {
+            return;
+        }
+        if !self.gather_items(&items, block) {
+            self.stretches.clear();
+        }
+    }
+
+    /// Gathers the lines of some items, unless memory runs out.
+    fn gather_items(&mut self, items: &PackedItems<'_, '_>, block: &mut [u8]) -> bool
+        requires some { 0 < items.now.subsets }
+        requires text { self.old.text.items ≡ [] }
+        requires stretches { self.old.stretches.items ≡ [] }
+        ensures stretches { result ≡ true
+            → AreStretches items.now self.new.text.items 0 0 self.new.stretches.items }
+        ensures short { length self.new.text.items ≤ 32768 }
+        ensures few { length self.new.stretches.items ≤ 1025 }
+    {
+        let len = items.len();
+        let mut sink = NoSink { empty_writes: 0 };
+        let mut lines = LineWriter::new(block, &mut sink);
+        let mut at = 0;
+        'stretches: while at < len {
+            let Ok(from) = push_alike(items, at, &mut lines) else {
+                return false;
+            };
+            let end = lines.held().len();
+            let to = if from < len && end <= TEXT - LINE && self.stretches.len() < MAX_STRETCHES {
+                skip_different(items, from)
+            } else {
+                len
+            };
+            if self.stretches.push(Stretch { end, from, to }).is_err() {
+                return false;
+            }
+            at = to;
+        }
+        let text = lines.held();
+        text.len() <= TEXT && self.text.extend_from_slice(text).is_ok()
+    }
+
+    /// Shows one subset, counted from 0, to a writer of lines.
+    #[inline(always)]
+    fn show_subset<W: Sink>(
+        &self,
+        items: &PackedItems<'_, '_>,
+        subset: u16,
+        lines: &mut LineWriter<'_, '_, W>,
+    ) -> Result<(), ShowFault<RunFault>>
+        requires stretches { AreStretches items.now self.now.text.items 0 0
+            self.now.stretches.items }
+        requires subset { subset < items.now.subsets }
+        requires status { lines.old.status ≡ Ok tt }
+        ensures { Shows PushesCall lines.old
+            (range_calls items.now subset 0 (length items.now.items)) 0 result lines.new 0 }
+    {
+        let text = self.text.as_slice();
+        let mut at = 0;
+        'stretches: for index in 0..self.stretches.len() {
+            let stretch = self.stretches[index];
+            push_made(&text[at..stretch.end], lines)?;
+            items.show(stretch.from, stretch.to, subset, lines)?;
+            at = stretch.end;
+        }
+        Ok(())
+    }
+
+    /// Shows each subset to a writer of lines.
+    #[inline(never)]
+    fn show_all<W: Sink>(
+        &self,
+        items: &PackedItems<'_, '_>,
+        lines: &mut LineWriter<'_, '_, W>,
+    ) -> Result<(), ShowFault<RunFault>>
+        requires { AreStretches items.now self.now.text.items 0 0 self.now.stretches.items }
+        ensures { Shows PushesCall lines.old (packed_calls items.now) 0 result lines.new 0 }
+    {
+        'subsets: for subset in 0..items.subsets() {
+            match lines.subset(subset + 1) {
+                Ok(()) => self.show_subset(items, subset, lines)?,
+                Err(fault) => return Err(ShowFault::Visitor(fault)),
+            }
+        }
+        Ok(())
+    }
+
+    /// Shows a reading to a writer of lines, as [`Reading::show_by`] does, with the lines that were
+    /// gathered of it.
+    pub(crate) fn show<W: Sink>(
+        &self,
+        reading: &Reading<'_>,
+        specs: &mut SpecCache<'_>,
+        lines: &mut LineWriter<'_, '_, W>,
+        steps: &mut Steps,
+    ) -> Result<(), ShowFault<RunFault>>
+        requires cached { specs.old ≡ reading.now.table }
+        requires gathered { AreGathered reading.now self.now.text.items self.now.stretches.items }
+        ensures same { specs.new ≡ specs.old }
+        ensures shown { Shows PushesCall lines.old (calls_of reading.now) (turns_shown reading.now)
+            result lines.new steps.new }
+        ensures bounded { steps.new ≤ places reading.now.template * reading.now.bits }
+    {
+        if !self.stretches.is_empty()
+            && let Some(items) = reading.packed()
+        {
+            *steps = Steps::new();
+            return self.show_all(&items, lines);
+        }
+        reading.show_by(specs, lines, steps)
+    }
+}
