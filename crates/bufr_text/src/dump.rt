@@ -1,5 +1,5 @@
 //! The text that dumps a message: the lines before its subsets, and a line for each item.
-ghost use Rattle.std.specs.Prelude.{◌≡◌, ◌++◌, [], ◌∷◌, drop, map, take, unwrap_or, ◌≤◌, ◌*◌, OnOk};
+ghost use Rattle.std.specs.Prelude.{◌≡◌, ◌++◌, [], ◌∷◌, drop, map, take, unwrap_or, ◌≤◌, ◌*◌, vec_len, OnOk};
 ghost use Rattle.bufr_frame.specs.Prelude.{words_left};
 ghost use Rattle.bufr_text.specs.Prelude.{descriptors_line, head_lines, text_of_lines, dump_value_of, form_text, item_text, dump_text_of, dump_items, descriptors_text, hex_text, runs_of, Pushes, CountsFaults, MakesSteps, WritesPrefix, PushesCall, AreGathered};
 ghost use Rattle.bufr_tables.specs.Prelude.{fxy_text, places};
@@ -201,13 +201,21 @@ impl<'t> DumpMemory<'t> {
         }
     }
 
+    /// Makes room for lines.
+    fn make_room(&mut self) -> Result<(), AllocError>
+        ensures same { self.new.specs ≡ self.old.specs }
+        ensures block { OnOk result (vec_len self.new.block ≡ 98304) }
+    {
+        self.block.resize(PAGE + TEXT, 0)
+    }
+
     /// Makes room for lines, and gathers those that the subsets of a reading have alike.
     fn prepare(&mut self, reading: &Reading<'_>) -> Result<(), AllocError>
         ensures same { self.new.specs ≡ self.old.specs }
         ensures gathered { OnOk result (AreGathered reading.now self.new.alike.text.items
             self.new.alike.stretches.items) }
     {
-        self.block.resize(PAGE + TEXT, 0)?;
+        self.make_room()?;
         let (first, _) = self.block.as_mut_slice().split_at_mut(TEXT);
         self.alike.gather(reading, first);
         Ok(())
