@@ -243,11 +243,11 @@ pub size_is : (m : List ℕ) (s : Sections) → sections_of m ≡ Ok s → s.siz
 size_is m s e = ap (λ (x : Sections). x.size) (sections-ended m s e).is
 
 -- the bits that are written for a message's values, and their reading
-record IsFilled (table : List Row) (template : Tree) (s : Sections) (values : Values) (entries : List DraftEntry) : Type 0 where
-  out : List Bool
-  fills : data_bits s.compressed (next_item table template) (subsets_of entries) ≡ Ok out
-  short : length out ≤ length (bits_of s.payload)
-  read : (octets : List ℕ) (tail : List Bool) → bits_of octets ≡ out ++ tail
+pub record IsFilled (table : List Row) (template : Tree) (s : Sections) (values : Values) (entries : List DraftEntry) : Type 0 where
+  pub out : List Bool
+  pub fills : data_bits s.compressed (next_item table template) (subsets_of entries) ≡ Ok out
+  pub short : length out ≤ length (bits_of s.payload)
+  pub read : (octets : List ℕ) (tail : List Bool) → bits_of octets ≡ out ++ tail
       → IsReading (next_item table template) (record { compressed = s.compressed; subsets = s.subsets; bits = bits_of octets }) values (length out)
 
 pub enough : (out octets : List Bool) (bits : List Bool) → bits ≡ out ++ octets → length out ≤ length bits
@@ -270,7 +270,7 @@ pub packed_reading : (course : Course) (items : List (reading.Item (List Content
     → IsReading course (record { compressed = true; subsets = n; bits = bits_of octets }) (together items) (length out)
 packed_reading course items n out h1 octets more h2 = grind (arith, nat_tests, common_steps)
 
-filled : (table : List Row) (template : Tree) (s : Sections) (values : Values) (used at : ℕ) → AreRead table → IsLegal template
+pub filled : (table : List Row) (template : Tree) (s : Sections) (values : Values) (used at : ℕ) → AreRead table → IsLegal template
     → IsReading (next_item table template) (data_of s) values used → IsFilled table template s values (subset_entries at (dump_items table s.subsets values))
 filled table template s (apart subsets) used at rows legal read =
     let course = next_item table template in
