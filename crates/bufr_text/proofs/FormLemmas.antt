@@ -1,28 +1,27 @@
 -- The document of an accepted message is encoded in a form; a canonical one to the same octets.
 use Rattle.std.proofs.lemmas.Bool.{ltb-false}
-use Rattle.std.proofs.Common.{◌≡◌, ℕ, ◌+◌, ◌≤◌, Bool, true, false, List, [], ◌∷◌, ◌++◌, length, take, drop, map, Result, Ok, Err, refl, sym, ◌∙◌, ap, subst, arith, append_assoc, ◌⊎◌, inl, inr, ◌*◌, ◌/◌, nat_lt, if◌then◌else◌, flat_map, Vec, IfOk, IfErr}
+use Rattle.std.proofs.Common.{◌≡◌, ℕ, ◌+◌, ◌≤◌, Bool, true, false, List, [], ◌∷◌, ◌++◌, length, take, drop, map, Result, Ok, Err, refl, sym, ◌∙◌, ap, subst, arith, append_assoc, ◌⊎◌, inl, inr, ◌*◌, nat_lt, if◌then◌else◌, flat_map, Vec, IfOk, IfErr}
 use Rattle.std.proofs.lemmas.Bool.Decides.{nat_tests}
 use Rattle.std.proofs.lemmas.List.{take-append-drop}
-use Rattle.bufr_bits.specs.Prelude.{bits_of, padding}
+use Rattle.bufr_bits.specs.Prelude.{bits_of}
 use Rattle.bufr_tables.specs.Prelude.{Row, AreRows, Sequence, Tree, IsLegal, tables_of, Record}
 use Rattle.bufr_walk.specs.Prelude.{FieldSpec, IsSpec, Content, content_in, bits_for, found, plain_field, Course, next_item, Item, plain, ReadsItems, ReadsSubsets, IsPackedReading, after, apart, together, Values, IsReading, max_values, data_of, View, subsets_from, each_subset}
 use Rattle.bufr_fill.specs.Prelude.{IsMinusZero, rows, at_line, subsets_of, DraftEntry, IsUnlike, IsTogetherOrNot}
 use Rattle.bufr_fill.specs.declared.fault.ItemFault.{ItemFault}
 use Rattle.bufr_fill.proofs.PlainLaws.{AllSpecs, EachSpecs, same_bits, item_bits}
 use Rattle.bufr_frame.specs.Prelude.{with_even_length, message_octets, message_size, max_octets, MessageParts, parts_of, sections_from, Sections, sections_of}
-use Rattle.bufr_frame.proofs.AgainLemmas.{not-too-long, written-again, fitting-writable}
-use Rattle.bufr_frame.proofs.LayoutLemmas.{even-least, written-even, length-evened, evened-bits, read-back}
+use Rattle.bufr_frame.proofs.AgainLemmas.{not-too-long, written-again}
+use Rattle.bufr_frame.proofs.LayoutLemmas.{even-least, written-even, length-evened}
 use Rattle.bufr_walk.proofs.NextField.{AreRead, table_read, next_field}
-use Rattle.bufr_fill.proofs.WholeLaws.{packed_rows, reads_specs, template_apart, template_together, plain_template_again, packed_template_again}
+use Rattle.bufr_fill.proofs.WholeLaws.{packed_rows, reads_specs, template_apart, template_together}
 use Rattle.bufr_fill.proofs.GoodReads.{plain_specs}
 use Rattle.bufr_fill.proofs.FormLaws.{all_followed, plain_subsets, subsets_said, subset_bits, bits_or_none, row_bits, follow_reading}
 use Rattle.bufr_text.specs.Prelude.{subset_entries, document_of, lines_before, items_shown, IsAccepted, dump_items, HaveNoMinusZero, ArePacked, AreWritten, IsCanonical, IsEncodedAgain, HasReadingIn, IsForForm, IsFormed, IsFaultIn, EncodesForm, EncodesAgain, HasSameReading, data_bits, octets_of_bits, encoding_of, report_of_items, parts_as, compressed_as, message_of, encoding_in, IsDocumentRefusal, compressed_by, form_of_flag, compressed_in, Document, DocumentFault, Form}
-use Rattle.bufr_text.proofs.DumpableLemmas.{octets_are, sections_given}
-use Rattle.bufr_text.proofs.RoundTripLemmas.{all_apart, encoded_to, parts_back, parts_with, size_least, fills_as, bit_back, section2_back, padded, payload_bits, size_is, enough, suffix, encoded_again, as_written, data_refused, octets_small, framed, parts_of_document, plain_reading, packed_reading}
+use Rattle.bufr_text.proofs.DumpableLemmas.{sections_given}
+use Rattle.bufr_text.proofs.RoundTripLemmas.{all_apart, encoded_to, parts_back, parts_with, size_least, fills_as, bit_back, section2_back, enough, suffix, encoded_again, as_written, data_refused, parts_of_document, plain_reading, packed_reading, filled, is_message}
 use Rattle.std.specs.Global.{Global}
 use Rattle.bufr_bits.proofs.BitLemmas.{length-bits_of}
 use Rattle.bufr_tables.proofs.SoundLemmas.{tree_fine}
-use Rattle.bufr_fill.proofs.FieldLemmas.{octets_in-are}
 use Rattle.bufr_frame.specs.Layout as layout
 use Rattle.bufr_fill.specs.declared.fault.DraftFault.{DraftFault}
 use Rattle.bufr_text.specs.declared.fault.DocumentFault.TheVariants as fault
@@ -166,17 +165,21 @@ record IsUnfilled (table : List Row) (template : Tree) (entries : List DraftEntr
   unlike : IsUnlike why
 
 module _ (table : List Row) (template : Tree) (s : Sections) (used at : ℕ) (rows : AreRead table) (legal : IsLegal template) where
-  filled_plainly : (values : Values) → IsReading (next_item table template) (data_of s) values used → IsFilled false table template s values (subset_entries at (dump_items table s.subsets values))
-  filled_plainly (apart subsets) read =
-      let entries = subset_entries at (map (items_shown table) subsets) in
-      let w = plain_template_again table template subsets (subsets_of entries) (bits_of s.payload) (drop used (bits_of s.payload)) rows legal (all_apart table at subsets) read.2.0 in
-      record {
-        found = apart subsets;
-        out = w.out;
-        fills = w.is;
-        read = plain_reading (next_item table template) subsets s.subsets w.out (λ more. (w.again more, read.2.1));
+  -- in the form that the message has
+  in_own_form : (b : Bool) (values : Values) → s.compressed ≡ b → IsReading (next_item table template) (data_of s) values used
+      → IsFilled b table template s values (subset_entries at (dump_items table s.subsets values))
+  in_own_form b values own read =
+      let f = filled table template s values used at rows legal read in
+      subst (λ b. IsFilled b table template s values (subset_entries at (dump_items table s.subsets values))) own (record {
+        found = values;
+        out = f.out;
+        fills = f.fills;
+        read = f.read;
         each = refl;
-      }
+      })
+
+  filled_plainly : (values : Values) → IsReading (next_item table template) (data_of s) values used → IsFilled false table template s values (subset_entries at (dump_items table s.subsets values))
+  filled_plainly (apart subsets) read = in_own_form false (apart subsets) read.0 read
   filled_plainly (together items) read =
       let entries = subset_entries at (map (items_shown table) (subsets_from s.subsets 0 items)) in
       let dumped = all_apart table at (subsets_from s.subsets 0 items) in
@@ -191,17 +194,7 @@ module _ (table : List Row) (template : Tree) (s : Sections) (used at : ℕ) (ro
 
   packedly : (values : Values) → length (bits_of s.payload) ≤ max_values → IsReading (next_item table template) (data_of s) values used
       → IsFilled true table template s values (subset_entries at (dump_items table s.subsets values)) ⊎ IsUnfilled table template (subset_entries at (dump_items table s.subsets values))
-  packedly (together items) few read =
-      let entries = subset_entries at (map (items_shown table) (subsets_from s.subsets 0 items)) in
-      let dumped = all_apart table at (subsets_from s.subsets 0 items) in
-      let w = packed_template_again s.subsets table template items (subsets_of entries) (bits_of s.payload) (drop used (bits_of s.payload)) rows legal dumped read.2 in
-      inl (record {
-        found = together items;
-        out = w.out;
-        fills = w.is;
-        read = packed_reading (next_item table template) items s.subsets w.out w.again;
-        each = refl;
-      })
+  packedly (together items) few read = inl (in_own_form true (together items) read.0 read)
   packedly (apart subsets) few read = by (template_together table template subsets (subsets_of entries) (bits_of s.payload) (drop used (bits_of s.payload)) few rows legal (all_apart table at subsets)
       read.2.0)
     where
@@ -244,25 +237,18 @@ module _ (form : Form) (table : List Row) (sequences : List Sequence) (m : List 
   has_reading f few =
       let payload = octets_of_bits f.out in
       let parts = parts_for (compressed_by form s.compressed) s payload in
-      let octets = message_octets s.head parts in
-      let edition = s.head.edition in
       let given = sections_given m s a.octets a.sections in
-      let back = read-back s.head parts (fitting-writable s.head given.head) in
-      let long : length octets ≡ message_size edition parts = sym (size_is octets (sections_from s.head parts) back) in
-      let padded_bits = evened-bits edition 4 payload in
-      let written : bits_of (with_even_length edition 4 payload) ≡ f.out ++ (padding (length f.out) ++ padded_bits.0) =
-      padded_bits.1 ∙ ap (λ (b : List Bool). b ++ padded_bits.0) (payload_bits f.out) ∙ append_assoc f.out (padding (length f.out)) padded_bits.0 in
+      let w = is_message s.head parts f.out given.head given.local1 given.section2 given.descriptors given.few refl few in
       record {
-        few = omega (arith, few, long);
-        octets = octets_small s.head parts given.head given.local1 given.section2 given.descriptors given.few
-            (octets_are payload (octets_in-are ((length f.out + 7) / 8) (f.out ++ padding (length f.out)) (padded f.out))) few;
-        framed = λ at suffix. framed s.head parts at suffix long;
+        few = omega (arith, few, w.long);
+        octets = w.octets;
+        framed = w.framed;
         sections = sections_from s.head parts;
-        are = back;
+        are = w.are;
         same = record { head = refl; local1 = refl; section2 = refl; descriptors = refl; subsets = refl; observed = refl; compressed = refl };
         found = f.found;
         used = length f.out;
-        read = f.read (with_even_length edition 4 payload) (padding (length f.out) ++ padded_bits.0) written;
+        read = f.read (with_even_length s.head.edition 4 payload) w.tail w.bits;
         each = f.each;
         items = ap (map (items_shown table)) f.each;
       }

@@ -1,23 +1,21 @@
 -- What a document is encoded to says what the document says, in one spelling.
 use Rattle.std.proofs.lemmas.Bool.{ltb-false}
-use Rattle.std.proofs.Common.{◌≡◌, ℕ, ◌+◌, ◌/◌, ◌≤◌, suc, Bool, true, false, List, [], ◌∷◌, ◌++◌, length, Some, None, Result, Ok, Err, refl, sym, ◌∙◌, ap, subst, arith, append_assoc, zero, map, take, drop, ◌==◌, nat_lt, unwrap_or, if◌then◌else◌, codes, is_some, slice_index}
+use Rattle.std.proofs.Common.{◌≡◌, ℕ, ◌+◌, ◌≤◌, suc, Bool, true, false, List, [], ◌∷◌, ◌++◌, length, Some, None, Result, Ok, Err, refl, sym, ◌∙◌, ap, subst, arith, zero, map, take, drop, ◌==◌, nat_lt, unwrap_or, if◌then◌else◌, codes, is_some, slice_index}
 use Rattle.std.proofs.lemmas.Bool.Decides.{nat_tests}
-use Rattle.bufr_bits.specs.Prelude.{bits_of, padding}
+use Rattle.bufr_bits.specs.Prelude.{bits_of}
 use Rattle.bufr_tables.specs.declared.fault.TemplateFault.{TemplateFault}
 use Rattle.bufr_tables.specs.Prelude.{tree_of, IsLegal, tables_of, Record, Row, AreRows, Sequence, Tree}
 use Rattle.bufr_tables.proofs.SoundLemmas.{tree_fine}
 use Rattle.bufr_frame.specs.Prelude.{with_even_length, message_octets, message_size, max_octets, sections_from, MessageParts, parts_of}
-use Rattle.bufr_frame.proofs.LayoutLemmas.{evened-bits, read-back}
-use Rattle.bufr_frame.proofs.AgainLemmas.{fitting-writable}
 use Rattle.bufr_walk.specs.Prelude.{Content, FieldSpec, next_item, Course, Values, apart, together, Item, IsReading, plain, after, data_of, view_of, View, subsets_from, each_subset}
 use Rattle.bufr_fill.specs.Prelude.{Subset, subsets_of, Draft, AllHaveOctets, AreSaid, IsSaid, AreDrafts, content_of}
 use Rattle.bufr_fill.specs.declared.fault.DraftFault.{DraftFault}
 use Rattle.bufr_fill.proofs.BackLaws.{plain_template_back, packed_template_back}
-use Rattle.bufr_fill.proofs.FieldLemmas.{octets_in-are, same_ok}
+use Rattle.bufr_fill.proofs.FieldLemmas.{same_ok}
 use Rattle.bufr_text.specs.Prelude.{mosts, Form, Document, optional_in, head_from_values, Complete, documents_of, key_value, compressed_in, section2_in, ◌>>=◌, report_of_template, report_of_items, data_bits, octets_of_bits, parts_as, compressed_as, message_of, encoding_in, DocumentFault, encoding_of, bit, header_lines, local1_line, section2_line, descriptors_line, head_lines, item_text, subset_line, subset_lines, text_of_lines, dump_text_of, subset_entries, lines_before, document_of, IsProper, header_as, normal_head, normal_line, draft_answer, line_and, normal_items, normal_subsets, normal, AreValuesOf, IsReadAs, runs_of, items_shown, dump_items}
-use Rattle.bufr_text.proofs.DumpableLemmas.{octets_are, dumpable, optional_octets}
+use Rattle.bufr_text.proofs.DumpableLemmas.{dumpable, optional_octets}
 use Rattle.bufr_walk.proofs.NextField.{table_read}
-use Rattle.bufr_text.proofs.RoundTripLemmas.{padded, payload_bits, size_is, octets_small, framed, same_form, all_apart, bit_back, parts_back, parts_with, parts_of_document, plain_reading, packed_reading}
+use Rattle.bufr_text.proofs.RoundTripLemmas.{same_form, all_apart, bit_back, parts_back, parts_with, parts_of_document, plain_reading, packed_reading, is_message}
 use Rattle.bufr_text.proofs.HeaderLemmas.{headed-fits, subsets-few, header-widest}
 use Rattle.bufr_frame.specs.declared.section1.Head.{Head}
 use Rattle.bufr_fill.proofs.PlainLaws.{normal_dumped, said_fxy}
@@ -66,28 +64,22 @@ module _ (form : Form) (records : List Record) (table : List Row) (sequences : L
       let parts = parts_as (compressed_as form d) d payload in
       let legal = (tree_fine (tables_of table sequences) d.descriptors template expands).legal in
       let f = filled records table template rows legal (subsets_of d.entries) bits proper.texts (compressed_as form d) fills in
-      let message = message_octets head parts in
-      let fits = headed-fits d proper.headed in
-      let back = read-back head parts (fitting-writable head fits) in
-      let long : length message ≡ message_size head.edition parts = sym (size_is message (sections_from head parts) back) in
-      let padded_bits = evened-bits head.edition 4 payload in
-      let written : bits_of (with_even_length head.edition 4 payload) ≡ bits ++ (padding (length bits) ++ padded_bits.0) =
-      padded_bits.1 ∙ ap (λ (b : List Bool). b ++ padded_bits.0) (payload_bits bits) ∙ append_assoc bits (padding (length bits)) padded_bits.0 in
+      let w = is_message head parts bits (headed-fits d proper.headed) proper.local1 (optional_octets (optional_in d == 1) d.section2 proper.section2) proper.descriptors (subsets-few d proper.headed)
+      refl few in
       record {
         sections = sections_from head parts;
         template = template;
         values = f.values;
         used = length bits;
         accepted = record {
-          octets = octets_small head parts fits proper.local1 (optional_octets (optional_in d == 1) d.section2 proper.section2) proper.descriptors (subsets-few d proper.headed)
-              (octets_are payload (octets_in-are ((length bits + 7) / 8) (bits ++ padding (length bits)) (padded bits))) few;
-          few = omega (arith, few, long);
-          sections = back;
+          octets = w.octets;
+          few = omega (arith, few, w.long);
+          sections = w.are;
           expands = expands;
           read = subst (λ n. IsReading (next_item table template) (record { compressed = compressed_as form d; subsets = n; bits = bits_of (with_even_length head.edition 4 payload) }) f.values
-              (length bits)) proper.counted (f.read (with_even_length head.edition 4 payload) (padding (length bits) ++ padded_bits.0) written);
+              (length bits)) proper.counted (f.read (with_even_length head.edition 4 payload) w.tail w.bits);
         };
-        framed = λ at suffix. framed head parts at suffix long;
+        framed = w.framed;
         head = refl;
         local1 = refl;
         section2 = refl;

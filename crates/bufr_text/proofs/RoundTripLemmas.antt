@@ -243,11 +243,11 @@ pub size_is : (m : List ℕ) (s : Sections) → sections_of m ≡ Ok s → s.siz
 size_is m s e = ap (λ (x : Sections). x.size) (sections-ended m s e).is
 
 -- the bits that are written for a message's values, and their reading
-record IsFilled (table : List Row) (template : Tree) (s : Sections) (values : Values) (entries : List DraftEntry) : Type 0 where
-  out : List Bool
-  fills : data_bits s.compressed (next_item table template) (subsets_of entries) ≡ Ok out
-  short : length out ≤ length (bits_of s.payload)
-  read : (octets : List ℕ) (tail : List Bool) → bits_of octets ≡ out ++ tail
+pub record IsFilled (table : List Row) (template : Tree) (s : Sections) (values : Values) (entries : List DraftEntry) : Type 0 where
+  pub out : List Bool
+  pub fills : data_bits s.compressed (next_item table template) (subsets_of entries) ≡ Ok out
+  pub short : length out ≤ length (bits_of s.payload)
+  pub read : (octets : List ℕ) (tail : List Bool) → bits_of octets ≡ out ++ tail
       → IsReading (next_item table template) (record { compressed = s.compressed; subsets = s.subsets; bits = bits_of octets }) values (length out)
 
 pub enough : (out octets : List Bool) (bits : List Bool) → bits ≡ out ++ octets → length out ≤ length bits
@@ -270,7 +270,7 @@ pub packed_reading : (course : Course) (items : List (reading.Item (List Content
     → IsReading course (record { compressed = true; subsets = n; bits = bits_of octets }) (together items) (length out)
 packed_reading course items n out h1 octets more h2 = grind (arith, nat_tests, common_steps)
 
-filled : (table : List Row) (template : Tree) (s : Sections) (values : Values) (used at : ℕ) → AreRead table → IsLegal template
+pub filled : (table : List Row) (template : Tree) (s : Sections) (values : Values) (used at : ℕ) → AreRead table → IsLegal template
     → IsReading (next_item table template) (data_of s) values used → IsFilled table template s values (subset_entries at (dump_items table s.subsets values))
 filled table template s (apart subsets) used at rows legal read =
     let course = next_item table template in
@@ -321,6 +321,31 @@ at-most-even m s is = by (edition_of m == 3) (u24_at m (section3_begins m) % 2 =
     by true true c f g h = two f
     by true false true f g h = two f
 
+-- a message of parts has octets, is found in a stream, and has the bits of its payload
+pub record IsMessageOf (h : Head) (p : MessageParts) (out : List Bool) : Type 0 where
+  pub octets : AllByRecursion IsOctet (message_octets h p)
+  pub framed : (at : ℕ) (suffix : List ℕ) → scan_from 0 at (message_octets h p ++ suffix) ≡ FrameAt at (message_octets h p) ∷ scan_from 0 (at + length (message_octets h p)) suffix
+  pub are : sections_of (message_octets h p) ≡ Ok (sections_from h p)
+  pub long : length (message_octets h p) ≡ message_size h.edition p
+  pub tail : List Bool
+  pub bits : bits_of (with_even_length h.edition 4 (octets_of_bits out)) ≡ out ++ tail
+
+pub is_message : (h : Head) (p : MessageParts) (out : List Bool) → IsFitting h → AllByRecursion IsOctet p.local1 → AllByRecursion IsOctet (unwrap_or p.section2 [])
+    → AllByRecursion IsDescriptorWord p.descriptors → p.subsets < 65536 → p.payload ≡ octets_of_bits out → message_size h.edition p ≤ max_octets → IsMessageOf h p out
+is_message h p out fits local1 section2 descriptors subsets payload few =
+    let back = read-back h p (fitting-writable h fits) in
+    let long : length (message_octets h p) ≡ message_size h.edition p = sym (size_is (message_octets h p) (sections_from h p) back) in
+    let even = evened-bits h.edition 4 (octets_of_bits out) in
+    record {
+      octets = octets_small h p fits local1 section2 descriptors subsets
+          (subst (AllByRecursion IsOctet) (sym payload) (octets_are (octets_of_bits out) (octets_in-are ((length out + 7) / 8) (out ++ padding (length out)) (padded out)))) few;
+      framed = λ at suffix. framed h p at suffix long;
+      are = back;
+      long = long;
+      tail = padding (length out) ++ even.0;
+      bits = even.1 ∙ ap (λ (b : List Bool). b ++ even.0) (payload_bits out) ∙ append_assoc out (padding (length out)) even.0;
+    }
+
 pub encoded_again : (table : List Row) (sequences : List Sequence) (m : List ℕ) (s : Sections) (template : Tree) (values : Values) (used at : ℕ) → AreRead table → IsLegal template
     → IsAccepted table sequences m s template values used → IsEncodedAgain table sequences m s template values (document_of at s (dump_items table s.subsets values))
 unfolding parts_with
@@ -338,27 +363,21 @@ encoded_again table sequences m s template values used at rows legal a =
     let few : message_size edition (parts_of_document d payload) ≤ max_octets = subst (λ (p : MessageParts). message_size edition p ≤ max_octets) (sym same) most in
     let fills : data_bits (compressed_in d) (next_item table template) (subsets_of d.entries) ≡ Ok f.out =
     fills_as (compressed_in d) s.compressed (next_item table template) (subsets_of d.entries) f.out (bit_back s.compressed) f.fills in
-    let octets = message_octets s.head parts in
     let given = sections_given m s a.octets a.sections in
-    let back = read-back s.head parts (fitting-writable s.head given.head) in
-    let long : length octets ≡ message_size edition parts = sym (size_is octets (sections_from s.head parts) back) in
-    let padded_bits = evened-bits edition 4 payload in
-    let written : bits_of (with_even_length edition 4 payload) ≡ f.out ++ (padding (length f.out) ++ padded_bits.0) =
-    padded_bits.1 ∙ ap (λ (b : List Bool). b ++ padded_bits.0) (payload_bits f.out) ∙ append_assoc f.out (padding (length f.out)) padded_bits.0 in
+    let w = is_message s.head parts f.out given.head given.local1 given.section2 given.descriptors given.few refl most in
     record {
-      octets = octets;
+      octets = message_octets s.head parts;
       is = encoded_to table sequences d template f.out a.expands fills few ∙ ap (λ (p : MessageParts). Ok (message_octets s.head p)) same;
       same = record {
-        no_longer = omega (arith, least, long);
-        few = omega (arith, most, long);
-        octets = octets_small s.head parts given.head given.local1 given.section2 given.descriptors given.few
-            (octets_are payload (octets_in-are ((length f.out + 7) / 8) (f.out ++ padding (length f.out)) (padded f.out))) most;
-        framed = λ at suffix. framed s.head parts at suffix long;
+        no_longer = omega (arith, least, w.long);
+        few = omega (arith, most, w.long);
+        octets = w.octets;
+        framed = w.framed;
         sections = sections_from s.head parts;
-        are = back;
+        are = w.are;
         same = record { head = refl; local1 = refl; section2 = refl; descriptors = refl; subsets = refl; observed = refl; compressed = refl };
         used = length f.out;
-        read = f.read (with_even_length edition 4 payload) (padding (length f.out) ++ padded_bits.0) written;
+        read = f.read (with_even_length edition 4 payload) w.tail w.bits;
       };
     }
 
