@@ -397,22 +397,24 @@ fn take_line(
 {
     if let ParserState::Filling(_) = progress.state
         && line.len() <= MAX_LINE
+        && let Some((fxy, number)) = decimal_item(line)
     {
-        let at = progress.at;
-        let entries = &mut progress.parts.entries;
-        if let Some((fxy, number)) = decimal_item(line) {
-            entries.push_decimal(at, fxy, number)?;
-            return Ok(LineEffect::Continues(progress.state));
-        }
-        if let Some(fxy) = missing_item(line) {
-            let form = DraftValue::Missing;
-            entries.push_item(DraftItem {
-                line: at,
-                fxy,
-                form,
-            })?;
-            return Ok(LineEffect::Continues(progress.state));
-        }
+        progress
+            .parts
+            .entries
+            .push_decimal(progress.at, fxy, number)?;
+        return Ok(LineEffect::Continues(progress.state));
+    }
+    if let ParserState::Filling(_) = progress.state
+        && line.len() <= MAX_LINE
+        && let Some(fxy) = missing_item(line)
+    {
+        let (line, form) = (progress.at, DraftValue::Missing);
+        progress
+            .parts
+            .entries
+            .push_item(DraftItem { line, fxy, form })?;
+        return Ok(LineEffect::Continues(progress.state));
     }
     let said = read_line(line, progress.parts.known, octets, words);
     turn(progress.state, &mut progress.parts, progress.at, said)
