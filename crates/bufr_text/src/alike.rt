@@ -68,11 +68,12 @@ fn are_enough_alike(items: &PackedItems<'_, '_>) -> bool {
     alike > items.len() / 8
 }
 
-/// Pushes the lines of the items from an index on that are alike, while there is room. Returns the
-/// index after them.
+/// Pushes the lines of the items from an index on that are alike, while fewer octets are held than
+/// have room. Returns the index after them.
 fn push_alike(
     items: &PackedItems<'_, '_>,
     from: usize,
+    room: usize,
     lines: &mut LineWriter<'_, '_, NoSink>,
 ) -> Result<usize, ShowFault<RunFault>>
     requires within { from ≤ length items.now.items }
@@ -81,7 +82,7 @@ fn push_alike(
     ensures { IfOk result (λ to. PushesAlike items.now from to lines.old lines.new) }
 {
     let mut to = from;
-    'items: while to < items.len() && items.is_alike(to) && lines.held().len() <= TEXT - LINE {
+    'items: while to < items.len() && items.is_alike(to) && lines.held().len() < room {
         items.show(to, to + 1, 0, lines)?;
         to += 1;
     }
@@ -125,7 +126,7 @@ fn push_made<W: Sink>(
 }
 
 /// The lines that all subsets of a message have alike, at most 32,768 octets, and at most 1,025
-/// stretches. There are no stretches where no lines were gathered.
+/// stretches. There are none where nothing was gathered.
 #[derive(Drop)]
 pub(crate) struct AlikeLines {
     text: Vec<u8>,
@@ -141,8 +142,8 @@ impl AlikeLines {
         }
     }
 
-    /// Gathers the lines of a message in place of those before. They are made in a block. Where
-    /// memory runs out, or few items are alike, there are none.
+    /// Gathers the lines of a message in place of those before. They are made in a block. Where few
+    /// items are alike there is one stretch of all, and none where memory runs out.
     #[inline(never)]
     pub(crate) fn gather(&mut self, reading: &Reading<'_>, block: &mut [u8])
         ensures gathered { AreGathered reading.now self.new.text.items self.new.stretches.items }
@@ -154,16 +155,18 @@ impl AlikeLines {
         let Some(items) = reading.packed() else {
             return;
         };
-        if items.subsets() < 2 || !are_enough_alike(&items) {
+        if items.subsets() == 0 {
             return;
         }
-        if !self.gather_items(&items, block) {
+        let worth = items.subsets() > 1 && are_enough_alike(&items);
+        let room = if worth { TEXT - LINE } else { 0 };
+        if !self.gather_items(&items, room, block) {
             self.stretches.clear();
         }
     }
 
     /// Gathers the lines of some items, unless memory runs out.
-    fn gather_items(&mut self, items: &PackedItems<'_, '_>, block: &mut [u8]) -> bool
+    fn gather_items(&mut self, items: &PackedItems<'_, '_>, room: usize, block: &mut [u8]) -> bool
         requires some { 0 < items.now.subsets }
         requires text { self.old.text.items ≡ [] }
         requires stretches { self.old.stretches.items ≡ [] }
@@ -177,11 +180,11 @@ impl AlikeLines {
         let mut lines = LineWriter::new(block, &mut sink);
         let mut at = 0;
         'stretches: while at < len {
-            let Ok(from) = push_alike(items, at, &mut lines) else {
+            let Ok(from) = push_alike(items, at, room, &mut lines) else {
                 return false;
             };
             let end = lines.held().len();
-            let to = if from < len && end <= TEXT - LINE && self.stretches.len() < MAX_STRETCHES {
+            let to = if from < len && end < room && self.stretches.len() < MAX_STRETCHES {
                 skip_different(items, from)
             } else {
                 len
@@ -222,7 +225,7 @@ impl AlikeLines {
     }
 
     /// Shows each subset to a writer of lines.
-    #[inline(never)]
+    #[inline(always)]
     fn show_all<W: Sink>(
         &self,
         items: &PackedItems<'_, '_>,

@@ -1,13 +1,14 @@
 -- Compressed data shown from what a reading keeps.
 use Rattle.std.proofs.lemmas.Grind.{common_steps}
-use Rattle.std.proofs.Common.{◌≡◌, ℕ, ◌+◌, ◌-◌, ◌*◌, ◌<◌, ◌≤◌, Bool, true, false, List, ◌++◌, length, take, drop, replicate, sym, ◌∙◌, ap, arith, zero, suc, get_or, set, length-take-le, Result, Ok, Err, [], ◌∷◌, inl, inr, refl, subst, add-one, append_assoc, if◌then◌else◌, ◌/◌}
+use Rattle.std.proofs.Common.{◌≡◌, ℕ, ◌+◌, ◌-◌, ◌*◌, ◌<◌, ◌≤◌, Bool, true, false, List, ◌++◌, length, take, drop, replicate, sym, ◌∙◌, ap, arith, zero, suc, get_or, set, length-take-le, Some, ◌==◌, Result, Ok, Err, [], ◌∷◌, inl, inr, refl, subst, add-one, append_assoc, if◌then◌else◌, ◌/◌}
 use Rattle.std.proofs.lemmas.List.{drop-drop, drop_all, get_or-take, take_all, append-nil, take_more_set, replicate-append-replicate}
 use Rattle.bufr_bits.specs.Prelude.{bits_of, are_all_ones}
-use Rattle.bufr_tables.specs.Prelude.{is_character, Row}
+use Rattle.bufr_tables.specs.Prelude.{entry_of, is_character, Row}
 use Rattle.bufr_walk.specs.Prelude.{IndexedItem, PackedValues, packed_values, range_calls, packed_calls, IsPackedOf, IsReading, course_of, content_at, item_at, item_call, view_of, octets_in, text, missing, shown_text, shown_missing, shown, Content, padded_text, FieldSpec, content_kept, call_kept, IsStoredReading, KeepsValues, held_of, fits_at, items_at, ShowFault, Sofar, Call, Timed, timed, Shows, subset_call, calls_for, turns_for, Item, Values, apart, together, items_kept, Read, item_calls, turns_after, turns_in, subset_calls, subsets_from, items_of_subset, without_turns, plain}
 use Rattle.bufr_walk.proofs.PackedLemmas.{base_content, kept_parts, text_content, text_within}
 use Rattle.bufr_walk.proofs.PlainLemmas.{bits_length, octets_prefix}
 use Rattle.std.specs.List.{list_all}
+use Rattle.std.proofs.lemmas.Bool.{eqb-true}
 use Rattle.std.proofs.Math.Seq.{drop-cons}
 use Rattle.bufr_bits.proofs.DecimalLemmas.{and_first, and_second}
 use Rattle.bufr_walk.proofs.ShownLemmas.{sofar_self, sofar_then, sofar_call}
@@ -118,6 +119,15 @@ alike_entry bits n kept i j k fit h e none below =
     ∙ ap (λ l. item_at bits n k ∷ l) (drop_all (i + 1) (take (i + 1) items) (omega (arith, length-take-le (i + 1) items long))) in
     let same : content_kept bits n k j ≡ content_kept bits n k 0 = base_content bits n k j fits none below ∙ sym (base_content bits n k 0 fits none (omega (arith, below))) in
     ap (items_of_subset j) is ∙ ap (λ c. items_of_subset 0 (record { spec = k.spec; content = c ∷ [] } ∷ [])) same ∙ ap (items_of_subset 0) (sym is)
+
+-- an entry that was found has the descriptor that was looked for
+pub entry_fxy : (rows : List Row) (fxy : ℕ) (row : Row) → Some row ≡ entry_of rows fxy → row.fxy ≡ fxy
+entry_fxy [] fxy row e = absurd cc
+entry_fxy (r ∷ rows) fxy row e = by (r.fxy == fxy) refl e (entry_fxy rows fxy row)
+  where
+    by : (b : Bool) → (r.fxy == fxy) ≡ b → Some row ≡ (if b then Some r else entry_of rows fxy) → (Some row ≡ entry_of rows fxy → row.fxy ≡ fxy) → row.fxy ≡ fxy
+    by true is e more = let same : row ≡ r = cc in ap (λ x. x.fxy) same ∙ eqb-true r.fxy fxy is
+    by false is e more = more e
 
 -- spaces after a text
 pub pad_none : (xs : List ℕ) (n : ℕ) → xs ≡ xs ++ replicate (n - n) 32

@@ -404,8 +404,9 @@ fn show_item<V: Visitor>(
         let Some(raw) = number_of(pack, &item, subset) else {
             return show_missing(fxy, entry, visitor);
         };
+        // The descriptor of the entry, so that a visitor sees that it is the same.
         return visitor.item(&ItemView {
-            fxy,
+            fxy: entry.fxy(),
             entry: Some(entry),
             value: plain_number(&item.spec, raw),
         });
@@ -495,7 +496,7 @@ impl<'r, 'a> PackedItems<'r, 'a> {
 
     /// Shows each subset, and its items.
     #[tactic(auto, using(crate::proofs::PackedShowing::subsets_start, crate::proofs::PackedShowing::subsets_done))]
-    #[inline(always)]
+    #[inline(never)]
     pub(crate) fn show_all<V: Visitor>(&self, visitor: &mut V) -> Result<(), ShowFault<V::Fault>>
         ensures { Shows V.sees visitor.old (packed_calls self.now) 0 result visitor.new 0 }
     {
