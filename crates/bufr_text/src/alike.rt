@@ -14,7 +14,7 @@ use std::alloc::Global;
 const LINE: usize = 2_560;
 
 /// Room for the lines that the subsets of a message have alike.
-pub(crate) const TEXT: usize = 32_768;
+pub(crate) const TEXT: usize = 16_384;
 
 /// The most stretches of a message but for the last.
 const MAX_STRETCHES: usize = 1_024;
@@ -125,7 +125,7 @@ fn push_made<W: Sink>(
     }
 }
 
-/// The lines that all subsets of a message have alike, at most 32,768 octets, and at most 1,025
+/// The lines that all subsets of a message have alike, at most 16,384 octets, and at most 1,025
 /// stretches. There are none where nothing was gathered.
 #[derive(Drop)]
 pub(crate) struct AlikeLines {
@@ -147,7 +147,7 @@ impl AlikeLines {
     #[inline(never)]
     pub(crate) fn gather(&mut self, reading: &Reading<'_>, block: &mut [u8])
         ensures gathered { AreGathered reading.now self.new.text.items self.new.stretches.items }
-        ensures short { length self.new.text.items ≤ 32768 }
+        ensures short { length self.new.text.items ≤ 16384 }
         ensures few { length self.new.stretches.items ≤ 1025 }
     {
         self.text.clear();
@@ -172,7 +172,7 @@ impl AlikeLines {
         requires stretches { self.old.stretches.items ≡ [] }
         ensures stretches { result ≡ true
             → AreStretches items.now self.new.text.items 0 0 self.new.stretches.items }
-        ensures short { length self.new.text.items ≤ 32768 }
+        ensures short { length self.new.text.items ≤ 16384 }
         ensures few { length self.new.stretches.items ≤ 1025 }
     {
         let len = items.len();

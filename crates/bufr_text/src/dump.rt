@@ -204,7 +204,7 @@ impl<'t> DumpMemory<'t> {
     /// Makes room for lines.
     fn make_room(&mut self) -> Result<(), AllocError>
         ensures same { self.new.specs ≡ self.old.specs }
-        ensures block { OnOk result (vec_len self.new.block ≡ 98304) }
+        ensures block { OnOk result (vec_len self.new.block ≡ 81920) }
     {
         self.block.resize(PAGE + TEXT, 0)
     }

@@ -243,6 +243,10 @@ pub(crate) fn missing_item(line: &[u8]) -> Option<Fxy>
         return None;
     }
     let text = without_space(suffix(line, 6))?;
+    // Other values do not wait for a comparison of the whole word.
+    if octet_at(text, 0) != b'M' {
+        return None;
+    }
     let rest = without_prefix(text, b"MISSING")?;
     if !is_passed_after(rest) {
         return None;

@@ -105,7 +105,10 @@ pub(crate) fn ones_at(bits: &BitSlice<'_>, at: u64, width: u32) -> bool
     requires { at + width ≤ 8 * length (octets_of bits.now) }
     ensures { result ≡ are_all_ones (bits_at (octets_of bits.now) at width) }
 {
-    matches!(bits.all_ones(at, width), Some(true))
+    match bits.all_ones(at, width) {
+        Some(ones) => ones,
+        None => unreachable!(),
+    }
 }
 
 /// Copies `count` octets that begin at any bit.
