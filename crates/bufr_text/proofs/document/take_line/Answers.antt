@@ -8,5 +8,5 @@ returns-clause-turns c =
 
 pub returns-2-clause-turns : goal.returns-2-clause-turns
 returns-2-clause-turns c =
-    item-taken c.args.progress.now _ c.args.line.now c.push_item.new.self c.in-Filling-state.field-0 _ _ c.progress.view_is c.in-Filling-state.is c.if-line-le-MAX_LINE-2.true c.in-Some-missing_item.ensures
-    c.in_ok-push_item.ensures.item
+    item-taken c.args.progress.now _ c.args.line.now c.push_item.new.self c.in-Filling-state.field-0 _ _ c.progress.view_is c.in-Filling-state.is c.if-line-le-MAX_LINE-2.true
+    c.in-Some-missing_item.ensures c.in_ok-push_item.ensures.item
