@@ -11,7 +11,8 @@ its place: std's `collect` of the words first asks for much room.
 The output is made of pieces: the lines of `ls`, the texts of `dump`, the messages of `encode`. A prefix of them is left,
 whole, and never fewer than an earlier refusal left. `dump` also leaves the whole lines of the text that it was at. Of
 several pieces a late refusal leaves some: what was written before it is handed on. `dump` takes no memory for plain
-data that redefine no reference, where the descriptors are those of the message before.
+data that redefine no reference, where the descriptors are those of the message before. Where it has no memory for the
+lines that all subsets of compressed data have alike, it makes each as it comes.
 
 Then the tests of `growth_tests.rt`, one call of a library each, are run in the same way: each passes at each refusal.
 
@@ -59,6 +60,9 @@ INPUTS = {
     "a long text": message(b"A" * 255, words("205255")),
     "nothing": b"",
 }
+
+# How many refused calls leave the whole answer: those for the lines that subsets have alike, and for what is between.
+SPARED = {"dump of compressed names": 1, "dump of 200 compressed items": 2, "dump of buoys.bufr": 4}
 
 
 class Run(NamedTuple):
@@ -108,7 +112,7 @@ class Trial:
             return whole, list(pool.map(lambda number: self.left(run, number), numbers))
 
 
-def wrongs(whole: Left, lefts: list) -> list:
+def wrongs(name: str, whole: Left, lefts: list) -> list:
     """What is not so of a run of the program with each call refused in turn."""
     if whole.calls == 0:
         return ["the library does not see the program's calls for memory"]
@@ -118,7 +122,7 @@ def wrongs(whole: Left, lefts: list) -> list:
     spared = [left for left in lefts[:-1] if left.calls <= whole.calls and left[:3] == whole[:3]]
     wrong = [f"call {n} refused: {left}"[:400] for n, left in enumerate(lefts, 1) if not fits(whole, n, left)]
     wrong += [f"{len(again)} refused calls are made again"] * (len(again) > 1)
-    wrong += [f"{len(spared)} refused calls are spared"] * (len(spared) > 0)
+    wrong += [f"{len(spared)} refused calls are spared"] * (len(spared) != SPARED.get(name, 0))
     short = [len(left.output) for left in lefts if left[:3] != whole[:3]]
     wrong += ["a later refusal leaves less"] * (short != sorted(short))
     return wrong + ["no refusal leaves a piece"] * (len(pieces(whole.output)) > 1 and short[-1] == 0)
@@ -232,7 +236,7 @@ def main() -> None:
         return
     with tempfile.TemporaryDirectory() as work:
         trial = Trial(words, pathlib.Path(work))
-        found = [f"{run.name}: {wrong}" for run in runs(trial.work) for wrong in wrongs(*trial.lefts(run))]
+        found = [f"{run.name}: {wrong}" for run in runs(trial.work) for wrong in wrongs(run.name, *trial.lefts(run))]
         finish(found + again(trial) + tests(trial))
 
 
