@@ -471,7 +471,8 @@ impl<'r, 'a> PackedItems<'r, 'a> {
     /// # Errors
     ///
     /// [`ShowFault::Visitor`] with the visitor's fault.
-    #[inline(always)]
+    // Out of line, so that an item's line is made in its loop.
+    #[inline(never)]
     pub fn show<V: Visitor>(
         &self,
         from: usize,
@@ -485,8 +486,9 @@ impl<'r, 'a> PackedItems<'r, 'a> {
         ensures { Shows V.sees visitor.old (range_calls self.now subset from to) 0 result
             visitor.new 0 }
     {
+        let (data, kept) = (self.data, self.kept);
         'items: for index in from..to {
-            match show_item(&self.data, self.kept, index, subset, visitor) {
+            match show_item(&data, kept, index, subset, visitor) {
                 Ok(()) => {}
                 Err(fault) => return Err(ShowFault::Visitor(fault)),
             }
