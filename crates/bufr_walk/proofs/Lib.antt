@@ -16,5 +16,6 @@ pub mod PackedLemmas
 pub mod PackedReading
 pub mod PackedShowing
 pub mod ShownLemmas
+pub mod PackedNumbers
 pub mod CacheLemmas
 pub mod RowLemmas

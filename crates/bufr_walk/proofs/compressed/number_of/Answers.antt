@@ -5,7 +5,7 @@ use Rattle.bufr_walk.specs.Prelude.{IndexedItem, fits_at}
 use Rattle.std.proofs.Math.Nat.{pow-le-pow_right}
 use Rattle.bufr_walk.proofs.PackedLemmas.{number_within, kept_number, step_small, increment_at, all_ones}
 use Rattle.bufr_walk.proofs.PlainLemmas.{bits_length}
-use Rattle.bufr_walk.proofs.ShownLemmas.{base_missing, base_number, kept_last, kept_whole, kept_never, kept_some}
+use Rattle.bufr_walk.proofs.PackedNumbers.{base_missing, base_number, kept_last, kept_whole, kept_never, kept_some}
 use Rattle.bufr_walk.proofs.compressed.number_of.Goals as goal
 use Rattle.bufr_walk.proofs.compressed.number_of.Goals.{then-increment-k-via-then-increment-k, then-increment-k-via-else-increment-k+then-sum-width, else-may_be_missing-via-then-may_be_missing+else-item-width, else-may_be_missing-via-else-may_be_missing}
 
