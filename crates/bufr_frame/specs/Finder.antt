@@ -34,6 +34,8 @@ pub record FinderModel : Type 0 where
   pub longest : ℕ
   -- how many octets there is room for without taking memory
   pub room : ℕ
+  -- how many places are free after the octets held
+  pub free : ℕ
 
 -- the number of octets held
 abbrev pub held : FinderModel → ℕ
@@ -51,6 +53,7 @@ new_finder =
       reads = 0;
       longest = 0;
       room = 0;
+      free = 0;
     }
 
 -- `rest`, from offset `at'`, is a suffix of s, whose first octet is at offset `at`.
@@ -205,6 +208,7 @@ IsFinder f =
     × (f.input.reads ≤ max_reads) × (length f.input.held ≤ max 4096 f.longest)
     × (f.longest < 2 ^ 24)
     × (f.word ≡ codes "BUFR") × ((f.fault ≡ None) ⊎ (f.input.ended ≡ false))
+    × (0 < f.input.reads → 8192 ≤ f.input.room)
 
 -- ---- What a call of Finder::next returns.
 
@@ -262,7 +266,8 @@ GivesHeldEvent old new None = NeedsRead old new
 
 -- the input of a finder as far as it is left
 abbrev pub input_left : FinderModel → InputModel
-input_left s = record { held = s.rest; ended = s.ended; reads = s.reads; room = s.room; free = 0 }
+input_left s =
+    record { held = s.rest; ended = s.ended; reads = s.reads; room = s.room; free = s.free }
 
 -- One read: octets come after those that are left, or the end was reached, or a fault stops it.
 pub record ReadsMore (left left' : Option (List ℕ)) (old new : FinderModel)

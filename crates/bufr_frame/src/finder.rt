@@ -2,8 +2,9 @@
 ghost use Rattle.std.specs.Prelude.{◌≡◌, ◌≢◌, ◌≤◌, false, List, ℕ, ◌<◌, ◌+◌, ◌-◌, ◌*◌, ◌^◌, length, take, drop, min, codes, IfSome, Some, None, Option, max, Err};
 ghost use Rattle.memchr.specs.Find.{FindsNeedle};
 ghost use Rattle.bufr_frame.specs.Scan.{classify, stated_length};
-ghost use Rattle.bufr_frame.specs.Finder.{IsSearchResult, passed_by, len_at, IsEventAt, GivesHeldEvent, ReadsMore, gone_to, StartsWithBufr, FinderModel, held, new_finder, ReturnsNextEvent, IsFinder};
-ghost use Rattle.bufr_frame.specs.Input.{read_failures_after, AddsReads, AsksAtMost, max_reads};
+ghost use Rattle.bufr_frame.specs.Finder.{IsSearchResult, passed_by, len_at, IsEventAt, GivesHeldEvent, ReadsMore, input_left, gone_to, StartsWithBufr, FinderModel, held, new_finder, ReturnsNextEvent, IsFinder};
+ghost use Rattle.bufr_bits.specs.Prelude.{counted};
+ghost use Rattle.bufr_frame.specs.Input.{read_failures_after, AddsReads, asked_by, max_reads};
 ghost use Rattle.std.specs.Borrow.{sem};
 ghost use Rattle.std.specs.Io.BufRead.{Rests};
 
@@ -77,6 +78,7 @@ impl Model for Finder {
       reads = f.input.reads;
       longest = f.longest;
       room = f.input.room;
+      free = f.input.free;
     } };
 
     ghost invariant = { IsFinder };
@@ -209,8 +211,14 @@ impl Finder {
         ensures sure { self.old.fault ≡ None → R.waits r.old ≡ false
             → result ≢ Err RunFault.Read }
         ensures counts { AddsReads (R.reads r.old) (R.reads r.new) self.old.reads self.new.reads }
-        ensures asked { AsksAtMost (R.asked r.old) (R.asked r.new)
-            (max 4096 self.old.longest * (self.new.reads - self.old.reads)) }
+        // A read asks for all that fits, up to what may be held.
+        ensures asked { R.asked r.new ≡ counted (R.asked r.old)
+            (asked_by (max 4096 self.old.longest - length self.old.rest)
+            (input_left self.old) (input_left self.new)) }
+        // The room is at least 8,192 octets, and at most doubles what was held.
+        ensures least { 0 < self.new.reads → 8192 ≤ self.new.room }
+        ensures most { self.new.room
+            ≤ max self.old.room (max 8192 (2 * length self.old.rest)) }
         ensures bound { held self.new ≤ max 4096 self.new.longest }
         ensures again { IfSome self.old.fault (λ fault. result ≡ Err fault) }
         ensures same { IfSome self.old.fault (λ _. r.new ≡ r.old) }
