@@ -45,6 +45,7 @@ import collections
 import csv
 import functools
 import hashlib
+import itertools
 import os
 import pathlib
 import re
@@ -427,7 +428,7 @@ def check_copies(room: pathlib.Path, crate: str, copies: dict) -> dict:
         found = ERROR.match(line)
         if found:
             tag, file, row, column, message = found.groups()
-            rest = [one.strip() for one in lines[at + 1 : at + 6] if one.startswith("  ")]
+            rest = [one.strip() for one in itertools.takewhile(lambda one: one.startswith("  "), lines[at + 1 :])]
             text = copies[tag][0][file].splitlines()[int(row) - 1]
             refused[tag].append((file, int(row), int(column), " ".join([message, *rest]), text))
         elif ": error: " in line:
@@ -439,14 +440,38 @@ def check_copies(room: pathlib.Path, crate: str, copies: dict) -> dict:
 def is_refused_refl(copy: Copy, error: tuple) -> bool:
     """Whether an error says that the two sides of an equation of the example differ."""
     file, _, column, message, text = error
-    return (
-        file == copy.file()
-        and message.startswith(f"`{copy.example}`: ")
-        and "expected type" in message
-        and "but this has type" in message
-        and "does not unfold" not in message
-        and text[column - 1 :].startswith("refl")
-    )
+    is_unequal = "expected type" in message and "type `" in message and message.startswith(f"`{copy.example}`: ")
+    return file == copy.file() and is_unequal and text[column - 1 :].startswith("refl")
+
+
+@functools.lru_cache(None)
+def computed_names() -> frozenset:
+    """The words that a value has no more once it is computed: names of definitions, of ours and those that we import."""
+    ours, others, built = set(), set(), {"true", "false", "zero", "suc", "pos", "negsuc", "tt", "∷", "[]", "refl"}
+    for crate, folder, name in modules():
+        for block in blocks(source((crate, folder, f"{name}.antt"))):
+            if block.declares and DECLARATION.match(block.lines[0])[1] not in ("data", "record"):
+                ours |= block.names
+            elif block.declares:
+                built |= block.names
+            elif "Rattle.bufr" not in block.text:
+                others |= {part for name in block.imported() for part in parts_of(name.rpartition(" as ")[2])}
+    return frozenset((ours | {name for name in others if not name[:1].isupper()}) - built)
+
+
+DIFFER = re.compile(r"computed as far as they go, the two types .*? `(.*?)`\s+\(expected\).*? `(.*?)`\s+\(found\)")
+
+
+def is_computed(side: str) -> bool:
+    """Whether a side of an equation, as the checker prints it, is a value: no call in it waits."""
+    labels = set(re.findall(r"(\S+) =", side))
+    return not (tokens(side) - labels) & computed_names() and "elim" not in tokens(side)
+
+
+def differs(errors: list) -> bool:
+    """Whether one of the refusals shows two values, and not a call that computes no further."""
+    shown = [DIFFER.search(message) for *_, message, _ in errors]
+    return any(found and is_computed(found[1]) and is_computed(found[2]) for found in shown)
 
 
 def judge_examples(room: pathlib.Path, crate: str, entries: list) -> dict:
@@ -472,6 +497,8 @@ def judge_examples(room: pathlib.Path, crate: str, entries: list) -> dict:
             verdicts[entry] = f"invalid: the unchanged copy is refused: {refused[right][0]}"
         elif others:
             verdicts[entry] = f"invalid: the changed definitions are refused: {others[0]}"
+        elif refused[tag] and not differs(refused[tag]):
+            verdicts[entry] = f"invalid: the example computes no further with the change: {refused[tag][0]}"
         else:
             verdicts[entry] = "caught" if refused[tag] else "survives"
     return verdicts
