@@ -1,8 +1,8 @@
 -- Worked examples of what is refused of sections: each bound from both sides, and of two faults the
 -- one that is reported.
-use Rattle.std.proofs.Common.{◌≡◌, ℕ, ◌+◌, ◌-◌, Bool, true, false, List, [], ◌∷◌, ◌++◌, length, replicate, codes, slice_set, Result, Ok, Err, refl}
+use Rattle.std.proofs.Common.{◌≡◌, ℕ, ◌+◌, ◌-◌, true, false, List, [], ◌∷◌, ◌++◌, length, replicate, codes, slice_set, Result, Ok, Err, refl}
 use Rattle.bufr_bits.specs.Prelude.{◌>>=◌}
-use Rattle.bufr_frame.specs.Prelude.{head_by_edition, head_size, sections_of, section_end, Sections, three_octets, edition_of, parts_if_end_matches, is_long_edition_3, is_writable, greatest_values, max_reads, Head}
+use Rattle.bufr_frame.specs.Prelude.{head_by_edition, head_size, sections_of, section_end, three_octets, edition_of, parts_if_end_matches, is_long_edition_3, is_writable, greatest_values, max_reads, Head}
 use Rattle.bufr_frame.specs.declared.fault.SectionFault.{SectionFault}
 use Rattle.bufr_frame.specs.declared.fault.SectionFault.TheVariants.{Edition, SectionShort, SectionPast, SectionsEnd}
 
@@ -203,6 +203,7 @@ section-4-before-end = (refl, refl)
 long-with-odd-section-3 : (m : List ℕ) → edition_of m ≡ 3 → length m ≡ 16777214 → is_long_edition_3 m 26 35 16777210 ≡ true
 long-with-odd-section-3 m of-3 long = rw (long, of-3) refl
 
+-- rule: edition-3-length
 long-with-even-section-4 : (m : List ℕ) → edition_of m ≡ 3 → length m ≡ 16777215 → is_long_edition_3 m 26 35 16777211 ≡ true
 long-with-even-section-4 m of-3 long = rw (long, of-3) refl
 
@@ -215,9 +216,11 @@ long-with-odd-section-4 m of-3 long = rw (long, of-3) refl
 long-with-even-sections : (m : List ℕ) → edition_of m ≡ 3 → length m ≡ 16777214 → is_long_edition_3 m 26 36 16777210 ≡ false
 long-with-even-sections m of-3 long = rw (long, of-3) refl
 
+-- rule: edition-3-length
 not-so-long : (m : List ℕ) → edition_of m ≡ 3 → length m ≡ 16777213 → is_long_edition_3 m 26 35 16777209 ≡ false
-not-so-long m of-3 long = rw (long, of-3) refl
+not-so-long m of-3 long = rw long refl
 
+-- rule: edition-3-length
 long-of-edition-4 : (m : List ℕ) → edition_of m ≡ 4 → length m ≡ 16777214 → is_long_edition_3 m 30 39 16777210 ≡ false
 long-of-edition-4 m of-4 long = rw (long, of-4) refl
 

@@ -1,6 +1,6 @@
 -- Worked examples of where a `BUFR` begins no message: each bound from both sides, and of two causes
 -- the one that is reported.
-use Rattle.std.proofs.Common.{◌≡◌, ℕ, Bool, List, [], ◌∷◌, ◌++◌, refl, take, replicate, codes, slice_set, Some, None}
+use Rattle.std.proofs.Common.{◌≡◌, ℕ, ◌-◌, List, [], ◌∷◌, ◌++◌, refl, take, replicate, codes, slice_set}
 use Rattle.bufr_frame.specs.Prelude.{StreamEvent, FrameAt, StrayAt, scan, scan_from}
 use Rattle.bufr_frame.specs.declared.fault.Cause.TheVariants.{Cut, ShortLength, NoEnd}
 

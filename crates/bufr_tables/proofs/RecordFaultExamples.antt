@@ -1,11 +1,11 @@
 -- Worked examples of what is refused of a table: each bound of a record from both sides, and of two
 -- faults the one that is reported.
-use Rattle.std.proofs.Common.{◌≡◌, ℕ, ◌+◌, Bool, true, false, List, [], ◌∷◌, ◌++◌, length, replicate, codes, Option, Some, None, is_some, Result, Ok, Err, refl, pos, negsuc}
+use Rattle.std.proofs.Common.{◌≡◌, ℕ, true, false, List, [], ◌∷◌, ◌++◌, length, replicate, codes, Some, None, is_some, Result, Ok, Err, refl, pos, negsuc}
 use Rattle.std.specs.Prelude.{⊤}
 use Rattle.csv.specs.Machine.{next_record}
 use Rattle.csv.specs.Reading.{records_from, strip_bom}
 use Rattle.csv.specs.Records.{field_at}
-use Rattle.bufr_tables.specs.Prelude.{fxy_of, is_fxy, begins_with, kind_of, if_i64, i64_of, integer_of, natural_of, records_of, table_from, table_of, ◌>>=◌, is_factor}
+use Rattle.bufr_tables.specs.Prelude.{fxy_of, begins_with, kind_of, if_i64, i64_of, integer_of, natural_of, records_of, table_from, table_of, ◌>>=◌}
 use Rattle.bufr_tables.specs.TableB as b
 use Rattle.bufr_tables.specs.TableD as d
 use Rattle.bufr_tables.specs.declared.fault.TableFault.{TableFault}

@@ -15,7 +15,7 @@ is_one_of (e ∷ es) d = if d == e then true else is_one_of es d
 
 -- a group of one pass over all of a list
 group : List ℕ → List ℕ
-group list = 100001 + 1000 * length list ∷ list
+group list = (100001 + 1000 * length list) ∷ list
 
 -- so many such groups, one in another
 groups : ℕ → List ℕ → List ℕ
@@ -37,8 +37,8 @@ members d =
     else if d == word 303016 then Some (map word (groups 17 (1001 ∷ [])))
     else if d == word 301033 then Some (map word (1001 ∷ []))
     else if d == word 300015 then Some (map word (1001 ∷ 1001 ∷ []))
-    else if (f_of d == 3) && (x_of d == 0) && nat_le (y_of d) 15 then Some (d + 1 ∷ d + 1 ∷ [])
-    else if (f_of d == 3) && nat_le 1 (x_of d) && nat_le (x_of d) 3 && nat_le (y_of d) 33 then Some (d + 1 ∷ [])
+    else if (f_of d == 3) && (x_of d == 0) && nat_le (y_of d) 15 then Some ((d + 1) ∷ (d + 1) ∷ [])
+    else if (f_of d == 3) && nat_le 1 (x_of d) && nat_le (x_of d) 3 && nat_le (y_of d) 33 then Some ((d + 1) ∷ [])
     else None
 
 tables : Tables
@@ -94,7 +94,7 @@ numbers from (suc more) = from ∷ numbers (from + 1) more
 allowed : ℕ → List ℕ → List ℕ
 allowed x [] = []
 allowed x (y ∷ ys) =
-    if is_ok (means (200000 + 1000 * x + y ∷ 1001 ∷ [])) then y ∷ allowed x ys else allowed x ys
+    if is_ok (means ((200000 + 1000 * x + y) ∷ 1001 ∷ [])) then y ∷ allowed x ys else allowed x ys
 
 -- all that 2 X may have
 operands : ℕ → List ℕ
@@ -108,14 +108,17 @@ operands-of-changes :
 unfolding numbers allowed operands means
 operands-of-changes = (refl, refl, refl)
 
+-- rule: operators-known, fault-22
 operands-of-references : operands 3 ≡ numbers 0 64 ++ 255 ∷ []
 unfolding numbers allowed operands means
 operands-of-references = refl
 
+-- rule: operators-known, fault-22
 operands-of-widths : (operands 5 ≡ numbers 1 255) × (operands 6 ≡ numbers 1 255)
 unfolding numbers allowed operands means
 operands-of-widths = (refl, refl)
 
+-- rule: operators-known, fault-22
 operands-of-precisions : operands 7 ≡ numbers 0 19
 unfolding numbers allowed operands means
 operands-of-precisions = refl
@@ -364,14 +367,17 @@ no-descriptors-before-no-factor :
 unfolding means
 no-descriptors-before-no-factor = (refl, refl)
 
+-- rule: order-at-a-replication
 no-descriptors-before-unknown-factor : means_by no_factors (100000 ∷ 31001 ∷ 1001 ∷ []) ≡ Err (GroupShape (word 100000))
 unfolding means_by
 no-descriptors-before-unknown-factor = refl
 
+-- rule: order-at-a-replication
 no-descriptors-before-depth : means (groups 32 (100001 ∷ 1001 ∷ [])) ≡ Err (GroupShape (word 100001))
 unfolding means group groups
 no-descriptors-before-depth = refl
 
+-- rule: order-at-a-replication
 no-descriptors-before-size : at_full (100002 ∷ 1001 ∷ []) ≡ Err (GroupShape (word 100002))
 unfolding at_full
 no-descriptors-before-size = refl
@@ -383,18 +389,21 @@ no-factor-before-unknown-factor :
 unfolding means means_by
 no-factor-before-unknown-factor = (refl, refl)
 
+-- rule: order-at-a-replication
 no-factor-before-too-few :
     (means (102000 ∷ 1001 ∷ 1001 ∷ []) ≡ Err (NoFactor (word 102000)))
     × (means (101000 ∷ 1001 ∷ []) ≡ Err (NoFactor (word 101000)))
 unfolding means
 no-factor-before-too-few = (refl, refl)
 
+-- rule: order-at-a-replication
 no-factor-before-depth :
     (means (groups 32 (101000 ∷ 1001 ∷ 1001 ∷ [])) ≡ Err (NoFactor (word 101000)))
     × (means (groups 32 (101000 ∷ [])) ≡ Err (NoFactor (word 101000)))
 unfolding means group groups
 no-factor-before-depth = (refl, refl)
 
+-- rule: order-at-a-replication
 no-factor-before-size :
     (at_full (101000 ∷ 1001 ∷ 1001 ∷ []) ≡ Err (NoFactor (word 101000)))
     × (at_full (101000 ∷ []) ≡ Err (NoFactor (word 101000)))
@@ -406,10 +415,12 @@ unknown-factor-before-too-few : means_by no_factors (105000 ∷ 31001 ∷ 1001 �
 unfolding means_by
 unknown-factor-before-too-few = refl
 
+-- rule: order-at-a-replication
 unknown-factor-before-depth : means_by no_factors (groups 32 (101000 ∷ 31001 ∷ 1001 ∷ [])) ≡ Err (UnknownElement (word 31001))
 unfolding means_by group groups
 unknown-factor-before-depth = refl
 
+-- rule: order-at-a-replication
 unknown-factor-before-size : after_by no_factors 65535 32 (101000 ∷ 31001 ∷ 1001 ∷ []) ≡ Err (UnknownElement (word 31001))
 unfolding after_by
 unknown-factor-before-size = refl
@@ -419,10 +430,12 @@ too-few-before-depth : means (groups 32 (102001 ∷ 1001 ∷ [])) ≡ Err (Group
 unfolding means group groups
 too-few-before-depth = refl
 
+-- rule: order-at-a-replication
 too-few-before-size : at_full (102002 ∷ 1001 ∷ []) ≡ Err (GroupShape (word 102002))
 unfolding at_full
 too-few-before-size = refl
 
+-- rule: order-at-a-replication
 depth-before-size : after 65535 0 (101002 ∷ 1001 ∷ []) ≡ Err (Depth (word 101002))
 unfolding after
 depth-before-size = refl
@@ -435,11 +448,12 @@ unfolding means group groups
 unknown-sequence-before-depth = refl
 
 -- a sequence without a place left
-sequences-at_full :
+-- rule: order-at-a-sequence
+sequences-at-full :
     (at_full (300099 ∷ []) ≡ Err (UnknownSequence (word 300099)))
     × (after 65535 0 (360192 ∷ []) ≡ Err (Depth (word 360192)))
 unfolding at_full after
-sequences-at_full = (refl, refl)
+sequences-at-full = (refl, refl)
 
 -- ---- Of two faults at one element: 20, then 27.
 
@@ -457,10 +471,12 @@ operator-before-its-element :
 unfolding means
 operator-before-its-element = (refl, refl)
 
+-- rule: order-at-an-operator
 operator-before-size : at_full (204001 ∷ []) ≡ Err (Operator (word 204001))
 unfolding at_full
 operator-before-size = refl
 
+-- rule: order-at-an-operator
 no-element-before-size : at_full (206012 ∷ 201000 ∷ []) ≡ Err (LocalShape (word 206012))
 unfolding at_full
 no-element-before-size = refl
