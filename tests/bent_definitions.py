@@ -43,6 +43,7 @@ computed: what weakens them is noticed by the proofs above.
 import argparse
 import collections
 import csv
+import difflib
 import functools
 import hashlib
 import itertools
@@ -581,6 +582,250 @@ def judge_alone(room: pathlib.Path, entry: Entry, known: dict) -> str:
 
 
 
+
+# ---------------------------------------------------------------- what needs an entry
+
+WORD = re.compile(r"[(){};,\[\]]|[^\s(){};,\[\]]+")
+INFIX = {"==", "≤", "<"}
+ORDERED = {"nat_lt", "nat_le"}
+PREFIX = ORDERED | {"int_eq", "bytes_eq"}
+ENDS = set("( ) [ ] { } , ; && || = if then else in let → λ ∷ ++ ↦ | ← × ⊎ >>= : do ≡ ↔".split())
+NUMBER = re.compile(r"\d[\d_]*$|0x[\dA-Fa-f_]+$")
+REFUSALS = set("Err None Wrong Refuses Stray unless only_if".split())
+ACCEPTED = set("Ok Some Continues true".split())
+
+
+class Site:
+    """A comparison, a number or an order of a definition, by its words from `first` up to `last`. Of an order `after`
+    has the words of what is asked second."""
+
+    def __init__(self, kind: str, words: list, first: int, last: int, after=()) -> None:
+        self.kind, self.first, self.last, self.after = kind, first, last, after
+        self.words = words[first:last]
+        self.entries, self.reason = [], ""
+
+    def __str__(self) -> str:
+        told = " ".join(self.words)
+        return f"{self.kind} {told}" + (f"  BEFORE  {' '.join(self.after)}" if self.after else "")
+
+    def wanted(self) -> int:
+        return 2 if self.kind == "comparison" and ORDERED & set(self.words) else 1
+
+    def is_covered(self) -> bool:
+        return bool(self.reason) or len(self.entries) >= self.wanted()
+
+
+class Definition:
+    """A definition of specs/: its words, those of its comments left out, and its sites."""
+
+    def __init__(self, place: tuple, line: int, start: int, text: str) -> None:
+        self.place, self.line, self.start, self.text = place, line, start, text
+        self.name = DECLARATION.match(text)[2]
+        bare = re.sub(r"(?m)(^| )--( .*)?$", lambda one: " " * len(one[0]), text)
+        found = list(WORD.finditer(bare))
+        self.words, self.starts = [one[0] for one in found], [start + one.start() for one in found]
+        self.body = next((at for at, word in enumerate(self.words) if word == "=" and not self.depth(at)), len(self.words))
+        result = self.words[: self.body]
+        is_type = DECLARATION.match(text)[1] or "Type" in result
+        self.sites = list(self.propositions() if is_type else self.computed())
+
+    def depth(self, at: int) -> int:
+        return sum(word in "([{" for word in self.words[:at]) - sum(word in ")]}" for word in self.words[:at])
+
+    def argument(self, at: int) -> int:
+        """The end of an argument that begins at a word."""
+        opened = 0
+        while at < len(self.words):
+            opened += (self.words[at] in "([{") - (self.words[at] in ")]}")
+            at += 1
+            if opened <= 0 and not self.words[at : at + 1] == [".0"]:
+                break
+        return at
+
+    def comparison(self, at: int) -> tuple:
+        """The first word of a comparison, and the end."""
+        if self.words[at] in PREFIX:
+            return at, self.argument(self.argument(at + 1))
+        first, opened = at, 0
+        while first and not (opened == 0 and self.words[first - 1] in ENDS - {")", "]", "}"}):
+            first -= 1
+            opened += (self.words[first] in ")]}") - (self.words[first] in "([{")
+        last, opened = at + 1, 0
+        while last < len(self.words) and not (opened == 0 and self.words[last] in ENDS - {"(", "[", "{"}):
+            opened += (self.words[last] in "([{") - (self.words[last] in ")]}")
+            last += 1
+        return first, last
+
+    def propositions(self):
+        found = [Site("proposition", self.words, *self.comparison(at)) for at, word in enumerate(self.words) if word in INFIX | PREFIX]
+        yield from (site for site in found if site)
+
+    def computed(self):
+        words, inside = self.words, set()
+        for at, word in enumerate(words):
+            if at > 0 and word in INFIX | PREFIX and words[at - 1 : at] != ["{"]:
+                first, last = self.comparison(at)
+                inside |= set(range(first, last))
+                yield Site("comparison", words, first, last)
+        bare = all(NUMBER.match(word) or word in ("∷", "[]", "=", "(", ")", self.name) for word in words[self.body + 1 :])
+        if bare or REFUSALS & set(words):
+            for at, word in enumerate(words):
+                if at > self.body and at not in inside and NUMBER.match(word) and self.is_value(at):
+                    yield Site("number", words, at, at + 1)
+        yield from self.orders()
+
+    def is_value(self, at: int) -> bool:
+        """Whether a number is on the right of its clause, and not in a pattern or a signature."""
+        line = self.text.rfind("\n", 0, self.starts[at] - self.start) + 1
+        head = self.text[line : self.starts[at] - self.start]
+        return head.startswith(" ") or " = " in head
+
+    def orders(self):
+        """What is asked after one another where both can refuse: statements of a `do` block, and conditions of a chain."""
+        steps = []
+        for line in self.text.split("\n"):
+            told = re.match(r"  (?:\S+ ← )?(.*)$", line)
+            if re.search(r"(^|\s)do$", line):
+                steps = [[]]
+            elif steps and told and not line.startswith("   "):
+                steps.append(WORD.findall(told[1]))
+            elif steps and told:
+                steps[-1] += WORD.findall(told[1])
+            elif steps and line.strip():
+                yield from self.pairs(steps[1:])
+                steps = []
+        yield from self.pairs(steps[1:])
+        yield from self.pairs(self.chain())
+
+    def chain(self) -> list:
+        """The conditions of `if C then REFUSAL else if ..`, each with what it answers."""
+        steps, words = [], self.words
+        for at, word in enumerate(words):
+            if word == "if" and "then" in words[at:]:
+                middle = at + words[at:].index("then")
+                if middle + 1 < len(words) and words[middle + 1] in REFUSALS | {"(Refuses", "("}:
+                    steps.append(words[at + 1 : middle])
+        return steps
+
+    def pairs(self, steps: list):
+        steps = [step for step in steps if step and not (step[0] in ACCEPTED and step is steps[-1])]
+        for one, other in zip(steps, steps[1:]):
+            at = place_in(self.words, one)
+            if at is not None:
+                yield Site("order", self.words, at, at + len(one), tuple(other))
+
+
+def place_in(words: list, part) -> int | None:
+    """Where the words of a part stand among others."""
+    part = list(part)
+    return next((at for at in range(len(words) - len(part) + 1) if words[at : at + len(part)] == part), None)
+
+
+@functools.lru_cache(None)
+def definitions(place: tuple) -> list:
+    """The definitions of a file of specs/."""
+    found, start, lines = [], 0, source(place).split("\n")
+    opened = None
+    for number, line in enumerate([*lines, "use end"], 1):
+        begins = line[:1] not in ("", " ", ")", "}") and (line.startswith("--") or NO_DECLARATION.match(line) or SIGNATURE.match(line))
+        if begins:
+            if opened:
+                text = "\n".join(lines[opened[0] - 1 : number - 1])
+                found.append(Definition(place, opened[0], opened[1], text))
+            is_declared = not line.startswith("--") and not NO_DECLARATION.match(line)
+            opened = (number, start) if is_declared else None
+        start += len(line) + 1
+    return found
+
+
+def files() -> list:
+    return [(crate, "specs", path.name) for crate in crates() for path in sorted((TOP / "crates" / crate / "specs").glob("*.antt"))]
+
+
+def cover(entries: list) -> list:
+    """Gives each site the entries that change it, or the reason why it has none. The answer are complaints."""
+    wrongs = []
+    for entry in entries:
+        for change in entry.changes:
+            if change.folder == "specs":
+                note(entry, change)
+        for file, names in entry.free:
+            wrongs += set_free(entry, (entry.crate, "specs", file), names)
+    return wrongs
+
+
+def note(entry: Entry, change: Change) -> None:
+    """Gives the sites that a change touches their entry."""
+    before = source(change.place())
+    start = before.find("\n".join(change.old))
+    if start < 0:
+        return  # a text that an earlier pair of the entry made
+    old, new = WORD.findall("\n".join(change.old)), WORD.findall("\n".join(change.new))
+    places = [start + one.start() for one in WORD.finditer("\n".join(change.old))]
+    touched = set()
+    for what, first, last, *_ in difflib.SequenceMatcher(None, old, new, autojunk=False).get_opcodes():
+        if what != "equal":
+            touched |= set(places[first : max(last, first + 1)])
+            if first == last and first:
+                touched.add(places[first - 1])
+    end = start + len("\n".join(change.old))
+    for definition in definitions(change.place()):
+        if definition.start + len(definition.text) < start or definition.start > end:
+            continue
+        for site in definition.sites:
+            if site.kind == "order":
+                one, other = place_in(new, site.words), place_in(new, site.after)
+                turned = one is not None and other is not None and other < one
+                if turned and entry not in site.entries:
+                    site.entries.append(entry)
+            elif touched & set(definition.starts[site.first : site.last]) and entry not in site.entries:
+                site.entries.append(entry)
+
+
+def set_free(entry: Entry, place: tuple, names: str) -> list:
+    """Gives sites the reason why they have no entry."""
+    reason, found = " ".join(entry.words), definitions(place)
+    if names.startswith("`"):
+        text = names.strip("`")
+        if source(place).count(text) != 1:
+            return [f"{entry.crate}.txt:{entry.line}: {place[2]} has {source(place).count(text)} times {text!r}"]
+        start = source(place).index(text)
+        hit = [
+            site
+            for one in found
+            for site in one.sites
+            if any(start <= at < start + len(text) for at in one.starts[site.first : site.last])
+        ]
+        for site in hit:
+            site.reason = reason
+        return [] if hit else [f"{entry.crate}.txt:{entry.line}: nothing in {text!r} needs an entry"]
+    wrongs = []
+    for name in names.split(","):
+        of = [one for one in found if one.name == name.strip()]
+        if not any(one.sites for one in of):
+            wrongs.append(f"{entry.crate}.txt:{entry.line}: nothing in {name.strip()} of {place[2]} needs an entry")
+        for one in of:
+            for site in one.sites:
+                site.reason = reason
+    return wrongs
+
+
+def listed(crate: str, is_whole: bool) -> list:
+    """The lines for each site, and those that are not covered."""
+    lines, missing = [], []
+    for place in files():
+        if crate and place[0] != crate:
+            continue
+        for one in definitions(place):
+            for site in one.sites:
+                at = f"crates/{'/'.join(place)}:{source(place).count(chr(10), 0, one.starts[site.first]) + 1}: {one.name}: {site}"
+                if not site.is_covered():
+                    missing.append(f"{at}: has {len(site.entries)} of {site.wanted()} entries")
+                told = f"free: {site.reason}" if site.reason else ", ".join(f"{entry.crate}.txt:{entry.line}" for entry in site.entries)
+                lines.append(f"{at}: {told or 'no entry'}")
+    return lines if is_whole else missing
+
+
 # ---------------------------------------------------------------- the run
 
 
@@ -626,6 +871,14 @@ def main() -> None:
             every += read_entries(crate)
         except Bad as wrong:
             wrongs.append(str(wrong))
+    wrongs += cover(every)
+    missing = listed(asked.crate, False)
+    if asked.list:
+        print("\n".join(listed(asked.crate, True)))
+        print(f"bent_definitions: {len(missing)} without an entry")
+        finish(wrongs)
+    if asked.all:
+        wrongs += missing
     entries = chosen(asked, [entry for entry in every if entry.kind])
     if not shutil.which("rt"):
         print("bent_definitions: skipped: the toolchain's rt is not on the PATH")
