@@ -457,7 +457,7 @@ def computed_names() -> frozenset:
                 built |= block.names
             elif "Rattle.bufr" not in block.text:
                 others |= {part for name in block.imported() for part in parts_of(name.rpartition(" as ")[2])}
-    return frozenset((ours | {name for name in others if not name[:1].isupper()}) - built)
+    return frozenset(name for name in (ours | others) - built if not name[:1].isupper())
 
 
 DIFFER = re.compile(r"computed as far as they go, the two types .*? `(.*?)`\s+\(expected\).*? `(.*?)`\s+\(found\)")
