@@ -94,9 +94,15 @@ class Entry:
         self.crate, self.line = crate, line
         self.words, self.changes, self.free = [], [], []
         self.kind = self.of = self.name = ""
+        self.wanted, self.file = "caught", crate
 
     def __str__(self) -> str:
-        return f"{self.crate}.txt:{self.line}: {' '.join(self.words)}"
+        return f"{self.file}.txt:{self.line}: {' '.join(self.words)}"
+
+    def text(self) -> str:
+        """All that an entry says."""
+        lines = [line for one in self.changes for line in (one.crate, one.file, *one.old, *one.new)]
+        return "\n".join([*self.words, *lines, self.kind, self.of, self.name])
 
     def changed(self, places: set) -> dict:
         """The texts that are changed, by place."""
@@ -116,15 +122,16 @@ def source(place: tuple) -> str:
     return path.read_text(encoding="utf-8")
 
 
-def read_entries(crate: str):
-    """The entries of a crate's list. What cannot be read is a Bad."""
-    path = HERE / f"{crate}.txt"
+def read_entries(name: str, crate: str):
+    """The entries of a list, which are of this crate. What cannot be read is a Bad."""
+    path = HERE / f"{name}.txt"
     lines = path.read_text(encoding="utf-8").splitlines() if path.is_file() else []
     entry = None
     for number, line in enumerate([*lines, ""], 1):
         try:
             if line.strip():
                 entry = entry or Entry(crate, number)
+                entry.file = name
                 read_line(entry, line)
             elif entry:
                 if entry.changes or entry.free or entry.kind:
@@ -133,6 +140,11 @@ def read_entries(crate: str):
                 entry = None
         except Bad as wrong:
             raise Bad(f"{path.relative_to(TOP)}:{number if line.strip() else entry.line}: {wrong}") from None
+
+
+def every_entry() -> list:
+    """The entries of the lists of all crates."""
+    return [entry for crate in crates() for entry in read_entries(crate, crate)]
 
 
 def read_line(entry: Entry, line: str) -> None:
@@ -156,6 +168,8 @@ def read_line(entry: Entry, line: str) -> None:
         entry.of = of or entry.crate
         if entry.kind not in KINDS or not entry.name:
             raise Bad(f"`fails:` names one of {', '.join(KINDS)}, and its name")
+    elif key == "verdict":
+        entry.wanted = text.strip()
     elif key == "free":
         file, _, names = text.partition(":")
         entry.free.append((file.strip(), names.strip()))
@@ -475,9 +489,19 @@ def differs(errors: list) -> bool:
     return any(found and is_computed(found[1]) and is_computed(found[2]) for found in shown)
 
 
+def shown(error: tuple) -> str:
+    """A refusal, for a person."""
+    file, _, _, message, text = error
+    return f"{file}: {text.strip()[:120]}: {message[:700]}"
+
+
+# An equation that no check may accept.
+UNEQUAL = {"unequal": "use Rattle.std.proofs.Common.{◌≡◌, ℕ, zero, suc, refl}\n\nunequal : zero ≡ suc zero\nunequal = refl\n"}
+
+
 def judge_examples(room: pathlib.Path, crate: str, entries: list) -> dict:
     """The verdict on each entry whose example is of this crate, by one check."""
-    verdicts, copies, made, tried = {}, {}, {}, []
+    verdicts, copies, made, tried = {}, {"unequal": (UNEQUAL, "unequal")}, {}, []
     for number, entry in enumerate(entries):
         try:
             copy = Copy(entry)
@@ -491,15 +515,17 @@ def judge_examples(room: pathlib.Path, crate: str, entries: list) -> dict:
             copies[made[same]] = {name: text.replace(".variants.TAG.", f".variants.{made[same]}.") for name, text in right.items()}, copy.file()
         copies[tag] = copy.texts(copy.new, crate, tag), copy.file()
         tried.append((entry, copy, tag, made[same]))
-    refused = check_copies(room, crate, copies) if tried else {}
+    refused = check_copies(room, crate, copies) if tried else {"unequal": True}
+    if not refused["unequal"]:
+        raise Bad(f"the check of {crate} accepts that 0 is 1, so it may not have read the copies")
     for entry, copy, tag, right in tried:
         others = [error for error in refused[tag] if not is_refused_refl(copy, error)]
         if refused[right]:
-            verdicts[entry] = f"invalid: the unchanged copy is refused: {refused[right][0]}"
+            verdicts[entry] = f"invalid: the unchanged copy is refused: {shown(refused[right][0])}"
         elif others:
-            verdicts[entry] = f"invalid: the changed definitions are refused: {others[0]}"
+            verdicts[entry] = f"invalid: more than the example is refused: {shown(others[0])}"
         elif refused[tag] and not differs(refused[tag]):
-            verdicts[entry] = f"invalid: the example computes no further with the change: {refused[tag][0]}"
+            verdicts[entry] = f"invalid: the refusal does not show two values: {shown(refused[tag][0])}"
         else:
             verdicts[entry] = "caught" if refused[tag] else "survives"
     return verdicts
@@ -810,6 +836,11 @@ def set_free(entry: Entry, place: tuple, names: str) -> list:
     return wrongs
 
 
+def boundaries(place: tuple, name: str) -> list:
+    """The sites of a definition that is computed."""
+    return [site for one in definitions(place) if one.name == name for site in one.sites if site.kind != "proposition"]
+
+
 def listed(crate: str, is_whole: bool) -> list:
     """The lines for each site, and those that are not covered."""
     lines, missing = [], []
@@ -828,71 +859,91 @@ def listed(crate: str, is_whole: bool) -> list:
 
 # ---------------------------------------------------------------- the run
 
+SAMPLE = 24  # of the examples of each crate
+CONTROLS = "controls", "bufr_tables"  # the list that says its verdicts, and the crate that it changes
+
+
+def sampled(entries: list) -> list:
+    """Some entries with an example of each crate. Which ones is decided by the definitions, and so the same until one changes."""
+    seed = "".join(source(place) for place in files())
+
+    def rank(entry: Entry) -> str:
+        return hashlib.sha256((seed + entry.text()).encode()).hexdigest()
+
+    found = [entry for entry in entries if entry.file == CONTROLS[0]]
+    for crate in crates():
+        found += sorted((entry for entry in entries if entry.kind == "example" and entry.of == crate), key=rank)[:SAMPLE]
+    return found
+
 
 def chosen(asked: argparse.Namespace, entries: list) -> list:
     if asked.crate:
         entries = [entry for entry in entries if entry.crate == asked.crate]
     if asked.only:
-        entries = [entry for entry in entries if asked.only in str(entry) + repr(vars(entry)) + repr([vars(one) for one in entry.changes])]
-    return entries
+        entries = [entry for entry in entries if asked.only in entry.text()]
+    return entries if asked.all or asked.crate or asked.only else sampled(entries)
 
 
 def judge(entries: list, jobs: int) -> dict:
     """The verdict on each entry."""
-    verdicts = {}
+    verdicts, by_crate = {}, collections.defaultdict(list)
+    for entry in entries:
+        if entry.kind == "example":
+            by_crate[entry.of].append(entry)
     with tempfile.TemporaryDirectory(prefix="bent-definitions-") as place, ThreadPoolExecutor(jobs) as pool:
         room, known = pathlib.Path(place), {}
-        by_crate = collections.defaultdict(list)
-        for entry in entries:
-            if entry.kind == "example":
-                by_crate[entry.of].append(entry)
-        runs = [pool.submit(judge_examples, room, crate, of) for crate, of in sorted(by_crate.items())]
-        alone = [entry for entry in entries if entry.kind != "example"]
-        single = [(entry, pool.submit(judge_alone, room, entry, known)) for entry in alone]
-        for run in runs:
-            verdicts.update(run.result())
-        for entry, run in single:
-            verdicts[entry] = run.result()
+        checks = [pool.submit(judge_examples, room, crate, of) for crate, of in by_crate.items()]
+        others = {entry: pool.submit(judge_alone, room, entry, known) for entry in entries if entry.kind != "example"}
+        try:
+            for check in checks:
+                verdicts.update(check.result())
+            verdicts.update({entry: other.result() for entry, other in others.items()})
+        except BaseException:
+            pool.shutdown(cancel_futures=True)
+            raise
     return verdicts
 
 
 def main() -> None:
     asker = argparse.ArgumentParser(description=__doc__, formatter_class=argparse.RawDescriptionHelpFormatter)
-    asker.add_argument("--all", action="store_true")
-    asker.add_argument("--crate", metavar="NAME")
-    asker.add_argument("--only", metavar="WORD")
-    asker.add_argument("--list", action="store_true")
-    asker.add_argument("--jobs", type=int, default=2, choices=(1, 2))
-    asker.add_argument("program", nargs="?", help="is not used")
+    asker.add_argument("--all", action="store_true", help="try all entries; a comparison that has none is an error")
+    asker.add_argument("--crate", metavar="NAME", help="try the entries of this crate")
+    asker.add_argument("--only", metavar="WORD", help="try the entries whose text has WORD")
+    asker.add_argument("--list", action="store_true", help="list what needs an entry, and try none")
+    asker.add_argument("--jobs", type=int, default=2, choices=(1, 2), help="how many checks at a time")
+    asker.add_argument("program", nargs="?", help="is not used: definitions are checked, not the program")
     asked = asker.parse_args()
-    every, wrongs = [], []
-    for crate in crates():
-        try:
-            every += read_entries(crate)
-        except Bad as wrong:
-            wrongs.append(str(wrong))
-    wrongs += cover(every)
+    if asked.crate and asked.crate not in crates():
+        asker.error(f"crates.txt has no {asked.crate}")
+    try:
+        entries = every_entry()
+    except Bad as wrong:
+        finish([str(wrong)])
+    wrongs = cover(entries)
     missing = listed(asked.crate, False)
     if asked.list:
         print("\n".join(listed(asked.crate, True)))
-        print(f"bent_definitions: {len(missing)} without an entry")
+        print(f"bent_definitions: {len(missing)} lack an entry")
         finish(wrongs)
-    if asked.all:
-        wrongs += missing
-    entries = chosen(asked, [entry for entry in every if entry.kind])
+    wrongs += missing if asked.all else []
     if not shutil.which("rt"):
-        print("bent_definitions: skipped: the toolchain's rt is not on the PATH")
+        print("bent_definitions: skipped, as the toolchain's rt is not on the PATH; the lists were read")
         finish(wrongs)
+    every = [entry for entry in [*entries, *read_entries(*CONTROLS)] if entry.kind]
+    tried = chosen(asked, every)
+    if not tried:
+        asker.error("no entry has this crate and word")
+    start = time.monotonic()
     try:
-        verdicts = judge(entries, asked.jobs)
+        verdicts = judge(tried, asked.jobs)
     except Bad as wrong:
         finish([*wrongs, str(wrong)])
     for entry, verdict in verdicts.items():
-        print(f"{verdict}: {entry}")
-        if verdict != "caught":
-            wrongs.append(f"{entry.crate}.txt:{entry.line}: {verdict}")
-    counts = collections.Counter(verdict.partition(":")[0] for verdict in verdicts.values())
-    print(f"bent_definitions: {len(verdicts)} of {len(every)} entries tried: {dict(counts)}")
+        if verdict.partition(":")[0] != entry.wanted:
+            wrongs.append(f"{entry}: {verdict}" + (f"; {entry.kind} {entry.of}/{entry.name} passes all the same" if verdict == "survives" else ""))
+    counts = collections.Counter(verdict.partition(":")[0] for entry, verdict in verdicts.items() if entry.wanted == "caught")
+    told = ", ".join(f"{counts[verdict]} {verdict}" for verdict in ("caught", "survives", "invalid"))
+    print(f"bent_definitions: {len(tried)} of {len(every)} entries tried in {time.monotonic() - start:.0f} s: {told}; {len(missing)} lack an entry")
     finish(wrongs)
 
 
