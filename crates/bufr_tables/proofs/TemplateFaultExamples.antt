@@ -285,8 +285,8 @@ unfolding means measures numbers
 elements-that-fit = refl
 
 -- rule: fault-27
-elements-too-many : means (numbers 300001 15 ++ 1001 ∷ []) ≡ Err (TemplateSize (word 1001))
-unfolding means numbers
+elements-too-many : measures (numbers 300001 15 ++ 1001 ∷ []) ≡ Err (TemplateSize (word 1001))
+unfolding means measures numbers
 elements-too-many = refl
 
 -- rule: fault-27
