@@ -1,6 +1,6 @@
 -- Worked examples of the faults of sections. Each bound is shown from both sides. If two faults
 -- meet, the example shows which one is reported.
-use Rattle.std.proofs.Common.{◌≡◌, ℕ, ◌+◌, ◌-◌, true, false, List, [], ◌∷◌, ◌++◌, length, replicate, codes, slice_set, Result, Ok, Err, refl}
+use Rattle.std.proofs.Common.{◌≡◌, ℕ, ◌+◌, ◌-◌, Bool, true, false, List, [], ◌∷◌, ◌++◌, length, replicate, codes, slice_set, Result, Ok, Err, refl}
 use Rattle.bufr_bits.specs.Prelude.{◌>>=◌}
 use Rattle.bufr_frame.specs.Prelude.{head_by_edition, head_size, sections_of, section_end, three_octets, edition_of, parts_if_end_matches, is_long_edition_3, is_writable, greatest_values, max_octets, max_reads, Head}
 use Rattle.bufr_frame.specs.declared.fault.SectionFault.{SectionFault}
@@ -163,6 +163,26 @@ flags-of-section-1 :
     × (of_edition_3 (slice_set (section 17 17) 7 128 ++ section 7 7 ++ section 4 4) ≡ Err (SectionShort 3))
 unfolding of_edition_4 of_edition_3 section
 flags-of-section-1 = (refl, refl, refl, refl)
+
+-- ---- Flags of section 3: bit 1 is observed, bit 2 compressed.
+
+-- whether data with these flags are observed, and whether they are compressed
+flags : ℕ → Result (Bool × Bool) SectionFault
+unfolding message section sections_of section_end head_by_edition head_size
+flags octet =
+    sections_of (message 4 (section 22 22 ++ slice_set (section 7 7) 6 octet ++ section 4 4))
+    >>= λ s. Ok (s.observed, s.compressed)
+
+-- rule: section-3, reserved-ignored
+flags-of-section-3 :
+    (flags 63 ≡ Ok (false, false))
+    × (flags 64 ≡ Ok (false, true))
+    × (flags 127 ≡ Ok (false, true))
+    × (flags 128 ≡ Ok (true, false))
+    × (flags 191 ≡ Ok (true, false))
+    × (flags 192 ≡ Ok (true, true))
+unfolding flags
+flags-of-section-3 = (refl, refl, refl, refl, refl, refl)
 
 -- ---- Two faults: each section in turn has its length octets, its least length and its end
 -- checked. Then comes 13, and 14 is last.

@@ -1,7 +1,7 @@
 -- Worked examples of a `BUFR` that begins no message. Each bound is shown from both sides. If two
 -- causes meet, the example shows which one is reported.
 use Rattle.std.proofs.Common.{◌≡◌, ℕ, ◌-◌, List, [], ◌∷◌, ◌++◌, refl, take, replicate, codes, slice_set}
-use Rattle.bufr_frame.specs.Prelude.{StreamEvent, FrameAt, StrayAt, scan, scan_from}
+use Rattle.bufr_frame.specs.Prelude.{StreamEvent, FrameAt, StrayAt, scan, scan_from, length_here}
 use Rattle.bufr_frame.specs.declared.fault.Cause.TheVariants.{Cut, ShortLength, NoEnd}
 
 -- section 0 with a length under 256
@@ -63,6 +63,13 @@ ends :
     × (events (frame 21 20 ++ codes "7") ≡ FrameAt 0 (frame 21 20 ++ codes "7") ∷ [])
 unfolding events section_0 frame
 ends = (refl, refl, refl, refl, refl, refl, refl)
+
+-- a length is stated if all eight octets are there
+lengths-stated :
+    (length_here (take 7 (section_0 8)) ≡ 0)
+    × (length_here (section_0 8) ≡ 8)
+unfolding section_0
+lengths-stated = (refl, refl)
 
 -- ---- Two causes: cut, then short length, then no end.
 
