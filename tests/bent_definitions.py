@@ -37,8 +37,8 @@ compile is an error of the list. Each check also holds changes without effect, w
 
 What needs an entry: each comparison of a computed definition (two, one a step to either side, for an order
 comparison), each number of a rule that refuses, and each two faults of which the first that applies is reported. An
-entry is for the comparison whose words it changes, and for an order if it turns it round. Propositions are not
-computed: what weakens them is noticed by the proofs above.
+entry is for the comparison whose words it changes, and for an order if it turns it round. Propositions need
+none: they say what is proved, and refuse no input.
 """
 import argparse
 import collections
@@ -621,6 +621,9 @@ REFUSALS = set("Err None Wrong Refuses Stray unless only_if".split())
 ACCEPTED = set("Ok Some Continues true".split())
 
 
+PROVED = "a proposition says what is proved, and refuses no input"
+
+
 class Site:
     """A comparison, a number or an order of a definition, by its words from `first` up to `last`. Of an order `after`
     has the words of what is asked second."""
@@ -628,7 +631,7 @@ class Site:
     def __init__(self, kind: str, words: list, first: int, last: int, after=()) -> None:
         self.kind, self.first, self.last, self.after = kind, first, last, after
         self.words = words[first:last]
-        self.entries, self.reason = [], ""
+        self.entries, self.reason = [], PROVED if kind == "proposition" else ""
 
     def __str__(self) -> str:
         told = " ".join(self.words)
@@ -668,6 +671,9 @@ class Definition:
                 break
         return at
 
+    def begins_clause(self, at: int) -> bool:
+        return at == len(self.words) or self.text[: self.starts[at] - self.start].rpartition("\n")[2] == "" and at > 0
+
     def comparison(self, at: int) -> tuple:
         """The first word of a comparison, and the end."""
         if self.words[at] in PREFIX:
@@ -677,14 +683,15 @@ class Definition:
             first -= 1
             opened += (self.words[first] in ")]}") - (self.words[first] in "([{")
         last, opened = at + 1, 0
-        while last < len(self.words) and not (opened == 0 and self.words[last] in ENDS - {"(", "[", "{"}):
+        while not self.begins_clause(last) and not (opened == 0 and self.words[last] in ENDS - {"(", "[", "{"}):
             opened += (self.words[last] in "([{") - (self.words[last] in ")]}")
             last += 1
         return first, last
 
     def propositions(self):
-        found = [Site("proposition", self.words, *self.comparison(at)) for at, word in enumerate(self.words) if word in INFIX | PREFIX]
-        yield from (site for site in found if site)
+        for at, word in enumerate(self.words):
+            if word in INFIX | PREFIX:
+                yield Site("proposition", self.words, *self.comparison(at))
 
     def computed(self):
         words, inside = self.words, set()
@@ -707,37 +714,60 @@ class Definition:
         return head.startswith(" ") or " = " in head
 
     def orders(self):
-        """What is asked after one another where both can refuse: statements of a `do` block, and conditions of a chain."""
-        steps = []
-        for line in self.text.split("\n"):
-            told = re.match(r"  (?:\S+ ← )?(.*)$", line)
+        """What is asked after one another where both can refuse: statements of a `do` block of which the second does not
+        need the first, and conditions of a chain."""
+        steps, bound, is_open = [], [], False
+        for line in self.text.split("\n") if "Result" in self.words[: self.body] else []:
+            told = re.match(r"  (?:(\S+) ← )?(\S.*)$", line)
             if re.search(r"(^|\s)do$", line):
-                steps = [[]]
-            elif steps and told and not line.startswith("   "):
-                steps.append(WORD.findall(told[1]))
-            elif steps and told:
-                steps[-1] += WORD.findall(told[1])
-            elif steps and line.strip():
-                yield from self.pairs(steps[1:])
-                steps = []
-        yield from self.pairs(steps[1:])
-        yield from self.pairs(self.chain())
+                steps, bound, is_open = [], [], True
+            elif is_open and told:
+                steps.append(WORD.findall(told[2]))
+                bound.append(told[1] or (steps[-1][1] if steps[-1][0] == "let" else "_"))
+            elif is_open and line.startswith("   "):
+                steps[-1] += WORD.findall(line)
+        for name, one, other in zip(bound, steps, steps[1:]):
+            needs = {part for word in other for part in word.split(".")}
+            if name not in needs and one[0] != "let":
+                yield from self.pairs([one, other])
+        for at, word in enumerate(self.words):
+            if word == "if":
+                yield from self.pairs(self.choice(at))
 
-    def chain(self) -> list:
-        """The conditions of `if C then REFUSAL else if ..`, each with what it answers."""
-        steps, words = [], self.words
-        for at, word in enumerate(words):
-            if word == "if" and "then" in words[at:]:
-                middle = at + words[at:].index("then")
-                if middle + 1 < len(words) and words[middle + 1] in REFUSALS | {"(Refuses", "("}:
-                    steps.append(words[at + 1 : middle])
-        return steps
+    def end_of(self, at: int, word: str) -> int:
+        """The end of an expression that begins at a word: where another word of its own `if` stands, or where it is closed."""
+        opened = inner = 0
+        while not self.begins_clause(at) and not (opened == 0 and self.words[at] in (")", ",", ";")):
+            if opened == 0 and self.words[at] == word:
+                if not inner:
+                    break
+                inner -= 1
+            opened += (self.words[at] in "([{") - (self.words[at] in ")]}")
+            inner += opened == 0 and self.words[at] == "if" and word == "else"
+            at += 1
+        return at
+
+    def choice(self, at: int) -> list:
+        """The condition of an `if` that refuses, and what is asked if it does not."""
+        then = self.end_of(at + 1, "then")
+        other = self.end_of(then + 1, "else")
+        branches = self.words[then + 1 : other], self.words[other + 1 : self.end_of(other + 1, "")]
+        refuses = [bool(REFUSALS - {"None"} & set(words[:3])) for words in branches]
+        if refuses[0] == refuses[1]:
+            return []
+        asked = [word for word in branches[refuses[0]]]
+        while asked[:1] in (["("], ["if"]):
+            begins_if = asked[0] == "if"
+            asked = asked[1 : asked.index("then")] if begins_if else asked[1:-1]
+            if begins_if:
+                break
+        is_asked = len(asked) > 1 and not (asked[0] in ACCEPTED | {"record", "let"} or asked[0][:1].isupper() or "∷" in asked)
+        return [self.words[at + 1 : then], asked] if is_asked else []
 
     def pairs(self, steps: list):
-        steps = [step for step in steps if step and not (step[0] in ACCEPTED and step is steps[-1])]
         for one, other in zip(steps, steps[1:]):
             at = place_in(self.words, one)
-            if at is not None:
+            if at is not None and other[0] not in ACCEPTED:
                 yield Site("order", self.words, at, at + len(one), tuple(other))
 
 
