@@ -34,6 +34,54 @@ values :
 unfolding decimal_value_of
 values = (refl, refl, refl, refl, refl, refl, refl, refl, refl, refl, refl, refl)
 
+-- an optional minus sign, one digit or more, and after a point one or more again
+-- rule: decimal-form
+forms :
+    (decimal_value_of (codes "0") (pos 0) ≡ Ok (pos 0))
+    × (decimal_value_of (codes "9.0") (pos 0) ≡ Ok (pos 9))
+    × (decimal_value_of (codes "-007.50") (pos 1) ≡ Ok (negsuc 74))
+    × (decimal_value_of [] (pos 0) ≡ Err Syntax)
+    × (decimal_value_of (codes "+1") (pos 0) ≡ Err Syntax)
+    × (decimal_value_of (codes "--1") (pos 0) ≡ Err Syntax)
+    × (decimal_value_of (codes "1-") (pos 0) ≡ Err Syntax)
+    × (decimal_value_of (codes "1.") (pos 0) ≡ Err Syntax)
+    × (decimal_value_of (codes "1.2.3") (pos 2) ≡ Err Syntax)
+    × (decimal_value_of (codes "-.5") (pos 1) ≡ Err Syntax)
+    × (decimal_value_of (codes "1/") (pos 0) ≡ Err Syntax)
+    × (decimal_value_of (codes "1:") (pos 0) ≡ Err Syntax)
+unfolding decimal_value_of
+forms = (refl, refl, refl, refl, refl, refl, refl, refl, refl, refl, refl, refl)
+
+-- the number times ten to the scale is whole, or it is not
+whole-or-inexact :
+    (decimal_value_of (codes "0.5") (pos 1) ≡ Ok (pos 5))
+    × (decimal_value_of (codes "0.50") (pos 1) ≡ Ok (pos 5))
+    × (decimal_value_of (codes "0.05") (pos 1) ≡ Err Inexact)
+    × (decimal_value_of (codes "0.5") (pos 0) ≡ Err Inexact)
+    × (decimal_value_of (codes "10") (negsuc 0) ≡ Ok (pos 1))
+    × (decimal_value_of (codes "1") (negsuc 0) ≡ Err Inexact)
+    × (decimal_value_of (codes "0") (negsuc 0) ≡ Ok (pos 0))
+unfolding decimal_value_of
+whole-or-inexact = (refl, refl, refl, refl, refl, refl, refl)
+
+-- from -2^127 to 2^127 - 1
+greatest-numbers :
+    (decimal_value_of (codes "170141183460469231731687303715884105727") (pos 0) ≡ Ok (pos 170141183460469231731687303715884105727))
+    × (decimal_value_of (codes "170141183460469231731687303715884105728") (pos 0) ≡ Err Large)
+    × (decimal_value_of (codes "-170141183460469231731687303715884105728") (pos 0) ≡ Ok (negsuc 170141183460469231731687303715884105727))
+    × (decimal_value_of (codes "-170141183460469231731687303715884105729") (pos 0) ≡ Err Large)
+unfolding decimal_value_of
+greatest-numbers = (refl, refl, refl, refl)
+
+-- of two faults: the syntax, then a number that is not whole, then one that is too large
+-- rule: decimal-form, inexact-before-too-large
+order-of-number-faults :
+    (decimal_value_of (codes "0.5x") (pos 0) ≡ Err Syntax)
+    × (decimal_value_of (replicate 40 57 ++ codes "x") (pos 0) ≡ Err Syntax)
+    × (decimal_value_of (replicate 40 57 ++ codes ".5") (pos 0) ≡ Err Inexact)
+unfolding decimal_value_of
+order-of-number-faults = (refl, refl, refl)
+
 -- 5 in three bits, then the octet AB, then padding: B5 60
 -- rule: bit-order, field-number
 bits :

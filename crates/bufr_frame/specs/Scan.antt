@@ -26,7 +26,7 @@ stated_length m = u24_at m 4
 
 -- what begins where the octets that are left begin, if they begin with `BUFR`: the first case that
 -- holds counts
--- rule: stray-cut, stray-short-length, stray-no-end, input-ends-early
+-- rule: stray-cut, stray-short-length, stray-no-end, input-ends-early, order-of-causes
 abbrev pub classify : List ℕ → Option Candidate
 classify m =
     if not (has_word_at (codes "BUFR") 0 m) then None

@@ -29,6 +29,7 @@ pub record Sections : Type 0 where
 
 -- where section k ends, from p on, of at least `least` octets; the last four octets are section 5
 -- rule: odd-sections-read, length-past-end, length-under-least, section-past-end
+-- rule: order-of-sections
 unfoldable pub section_end : List ℕ → (k least p : ℕ) → Result ℕ SectionFault
 section_end m k least p =
     if nat_lt (length m - 4) (p + 3) then Err (SectionPast k)
@@ -68,7 +69,7 @@ is_long_edition_3 m p2 p3 p4 =
     && (is_padded (edition_of m) (p3 - p2) || is_padded (edition_of m) (p4 - p3))
 
 -- the parts, where section 4 ends at the last four octets
--- rule: section-4-end
+-- rule: section-4-end, order-of-sections
 abbrev pub parts_if_end_matches : List ℕ → (p1 p2 p3 p4 : ℕ) → Result Sections SectionFault
 parts_if_end_matches m p1 p2 p3 p4 =
     if not (p4 == (length m - 4)) then Err SectionsEnd
@@ -76,7 +77,7 @@ parts_if_end_matches m p1 p2 p3 p4 =
     else Ok (parts m p1 p2 p3 p4)
 
 -- the sections, or the first fault: of the edition, then of the sections in order, then of the end
--- rule: edition-first, sections-in-order
+-- rule: edition-first, sections-in-order, order-of-sections
 unfoldable pub sections_of : List ℕ → Result Sections SectionFault
 sections_of m = if not (is_edition (edition_of m)) then Err (Edition (edition_of m)) else do
   p1 ← section_end m 1 (min_section_1 (edition_of m)) 8

@@ -312,7 +312,7 @@ pub(crate) enum SearchResult {
 
 /// What begins where `m`, which begins with `BUFR`, begins, if nothing comes after `m`: the first
 /// case that holds counts.
-// rule: stray-cut, stray-short-length, stray-no-end, input-ends-early
+// rule: stray-cut, stray-short-length, stray-no-end, input-ends-early, order-of-causes
 pub(crate) fn classify(m: &[u8]) -> Candidate
     requires { StartsWithBufr m.now }
     ensures { classify m.now ≡ Some result }

@@ -139,7 +139,7 @@ impl<'a> Message<'a> {
     /// and the message has more than 16,777,213.
     #[tactic(auto, unfolding(crate::specs::Sections::sections_of))]
     // rule: edition-first, sections-in-order, section-4-end, local-use, section-3, section-4
-    // rule: reserved-ignored, edition-3-length
+    // rule: reserved-ignored, edition-3-length, order-of-sections
     #[inline(always)]
     pub fn parse(octets: &'a [u8]) -> Result<Message<'a>, SectionFault>
         requires { 12 ≤ length octets.now }
@@ -298,6 +298,7 @@ impl<'a> Iterator for Words<'a> {
 /// The end of section `k`, which begins at `p` and has at least `least` octets.
 #[tactic(auto, unfolding(crate::specs::Sections::section_end))]
 // rule: odd-sections-read, length-past-end, length-under-least, section-past-end
+// rule: order-of-sections
 fn section_end_at(m: &[u8], k: u8, least: usize, p: usize) -> Result<usize, SectionFault>
     requires long { 12 ≤ length m.now }
     requires near { p < 2 ^ 33 }

@@ -5,4 +5,6 @@ pub mod CycleLemmas
 pub mod ExpansionLemmas
 pub mod SoundLemmas
 pub mod TemplateExamples
+mod TemplateFaultExamples
+mod RecordFaultExamples
 mod Examples

@@ -55,7 +55,7 @@ begins_with_element [] = false
 begins_with_element (d ∷ after) = f_of d == 0
 
 -- an element: known to Table B, or of a width that the operator before it gives
--- rule: 2-06-y-unknown-element, fault-20
+-- rule: 2-06-y-unknown-element, fault-20, order-at-an-element
 abbrev pub element_part : Tables → Bool → ℕ → ℕ → Result ExpandedPart TemplateFault
 element_part tables width_given places d = do
   _ ← unless (width_given || tables.known d) (fault.UnknownElement d)
@@ -63,7 +63,7 @@ element_part tables width_given places d = do
   Ok (part (element d bare) 0)
 
 -- an operator; one that gives a width comes before an element
--- rule: 2-06-y-before-an-element, fault-22, fault-28
+-- rule: 2-06-y-before-an-element, fault-22, fault-28, order-at-an-operator
 abbrev pub operator_part : ℕ → ℕ → List ℕ → Result ExpandedPart TemplateFault
 operator_part places d after = do
   _ ← unless (is_legal_operator d) (fault.Operator d)
@@ -73,6 +73,7 @@ operator_part places d after = do
 
 -- the body of a group: the next X descriptors after its own places; some node of it takes bits
 -- rule: replication-before-expansion, replication-nested, replication-in-one-list, fault-23
+-- rule: order-at-a-replication
 abbrev pub body_of : Option Expansion → (places own d : ℕ) → List ℕ → Result Tree TemplateFault
 body_of inner places own d after = do
   _ ← unless (nat_le (x_of d) (length after)) (fault.GroupShape d)
@@ -90,7 +91,7 @@ fixed_part inner places d after = do
   Ok (part (fixed (y_of d) body bare) (x_of d))
 
 -- a group of as many passes as its factor says, which comes before the X descriptors
--- rule: delayed-replication, fault-24
+-- rule: delayed-replication, fault-24, order-at-a-replication
 abbrev pub delayed_part : Tables → Option Expansion → ℕ → ℕ → List ℕ
     → Result ExpandedPart TemplateFault
 delayed_part tables inner places d [] = Err (fault.NoFactor d)
@@ -107,7 +108,7 @@ group_by zero tables inner places d after = delayed_part tables inner places d a
 group_by (suc count) tables inner places d after = fixed_part inner places d after
 
 -- a replication
--- rule: fault-23
+-- rule: fault-23, order-at-a-replication
 abbrev pub group_part : Tables → Option Expansion → ℕ → ℕ → List ℕ
     → Result ExpandedPart TemplateFault
 group_part tables inner places d after = do
@@ -115,7 +116,7 @@ group_part tables inner places d after = do
   group_by (y_of d) tables inner places d after
 
 -- a sequence: its members are in its place
--- rule: fault-21
+-- rule: fault-21, order-at-a-sequence
 abbrev pub sequence_part : Tables → Option Expansion → ℕ → ℕ → Result ExpandedPart TemplateFault
 sequence_part tables inner places d = do
   members ← ok_or (tables.members d) (fault.UnknownSequence d)
@@ -138,6 +139,7 @@ part_of tables inner width_given places d after =
     part_by (f_of d) tables inner width_given places d after
 
 -- one list, from left to right, but for so many descriptors that a group has taken
+-- rule: first-descriptor-decides
 unfoldable pub level : Tables → Option Expansion → Bool → ℕ → Expansion
 level tables inner width_given skip places [] = Ok bare
 level tables inner width_given (suc skip) places (d ∷ after) =

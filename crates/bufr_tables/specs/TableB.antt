@@ -148,7 +148,7 @@ with_row n rows None = Err (RowFault n)
 with_row n rows (Some row) =
     if is_some (entry_of rows row.fxy) then Err (Duplicate row.fxy) else Ok (rows ++ row ∷ [])
 
--- rule: fault-45
+-- rule: fault-45, order-in-a-record
 unfoldable pub with_record_b : ℕ → List Row → Record → Result (List Row) TableFault
 with_record_b n rows r = if length r == 6 then with_row n rows (row_of r) else Err Csv
 

@@ -73,14 +73,14 @@ abbrev pub begins_again : List Sequence → Member → Bool
 begins_again table row = not (is_last table row.sequence) && is_some (members_of table row.sequence)
 
 -- the sequences with the row of record n, before which are n - 2 rows, or what is at fault with it
--- rule: fault-44
+-- rule: fault-44, order-in-a-record
 abbrev pub with_member : ℕ → List Sequence → Option Member → Result (List Sequence) TableFault
 with_member n table None = Err (RowFault n)
 with_member n table (Some row) =
     if begins_again table row then Err (Duplicate row.sequence)
     else if nat_le 65536 (n - 2) then Err TableSize else Ok (added table row)
 
--- rule: fault-45
+-- rule: fault-45, order-in-a-record
 unfoldable pub with_record_d : ℕ → List Sequence → Record → Result (List Sequence) TableFault
 with_record_d n table r = if length r == 2 then with_member n table (member_of r) else Err Csv
 

@@ -53,6 +53,7 @@ impl Expander<'_> {
     /// Expands one descriptor, and returns how many of those after it it takes.
     #[cycle(expansion)]
     // rule: descriptor-kinds, 2-06-y-unknown-element, 2-06-y-before-an-element
+    // rule: order-at-an-element, order-at-an-operator, order-at-a-sequence
     fn part(
         &self,
         fxy: Fxy,
@@ -104,7 +105,7 @@ impl Expander<'_> {
 
     /// A replication: a group of Y passes, or of as many as its factor says, which comes first.
     #[cycle(expansion)]
-    // rule: fixed-replication, delayed-replication
+    // rule: fixed-replication, delayed-replication, order-at-a-replication
     fn group(
         &self,
         fxy: Fxy,
@@ -142,7 +143,7 @@ impl Expander<'_> {
     /// A group whose body is the next X descriptors; some node of it takes bits.
     #[cycle(expansion)]
     // rule: replication-before-expansion, replication-nested, replication-in-one-list
-    // rule: groups-take-bits
+    // rule: groups-take-bits, order-at-a-replication
     fn group_of(
         &self,
         fxy: Fxy,

@@ -366,7 +366,7 @@ impl TableB {
 
     /// Adds the element of record `number`.
     #[tactic(auto, unfolding(crate::specs::TableB::with_record_b))]
-    // rule: fault-42, fault-45
+    // rule: fault-42, fault-45, order-in-a-record
     fn add(&mut self, number: u64, fields: &ByteRecord) -> Result<(), TableFault>
         ensures ok { OnOk result
             (with_record_b number self.old (fields_of fields.now) ≡ Ok self.new) }

@@ -143,7 +143,7 @@ impl TableD {
 
     /// Adds the row of record `number`.
     #[tactic(auto, unfolding(crate::specs::TableD::with_record_d, crate::specs::TableD::added))]
-    // rule: fault-42, fault-44, fault-45
+    // rule: fault-42, fault-44, fault-45, order-in-a-record
     fn add(&mut self, number: u64, fields: &ByteRecord) -> Result<(), TableFault>
         ensures ok { OnOk result
             (with_record_d number self.old (fields_of fields.now) ≡ Ok self.new) }

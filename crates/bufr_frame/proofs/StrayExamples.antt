@@ -1,0 +1,99 @@
+-- Worked examples of where a `BUFR` begins no message: each bound from both sides, and of two causes
+-- the one that is reported.
+use Rattle.std.proofs.Common.{◌≡◌, ℕ, ◌-◌, List, [], ◌∷◌, ◌++◌, refl, take, replicate, codes, slice_set}
+use Rattle.bufr_frame.specs.Prelude.{StreamEvent, FrameAt, StrayAt, scan, scan_from}
+use Rattle.bufr_frame.specs.declared.fault.Cause.TheVariants.{Cut, ShortLength, NoEnd}
+
+-- section 0 with a length under 256
+section_0 : ℕ → List ℕ
+section_0 stated = codes "BUFR" ++ 0 ∷ 0 ∷ stated ∷ 4 ∷ []
+
+-- so many octets that state a length, the last four being `7777`
+frame : (stated octets : ℕ) → List ℕ
+unfolding section_0
+frame stated octets = section_0 stated ++ replicate (octets - 12) 0 ++ codes "7777"
+
+-- the events of a stream
+events : List ℕ → List StreamEvent
+unfolding scan_from
+events s = scan s
+
+-- the four octets of the word
+-- rule: first-bufr
+words-found :
+    (events (codes "BUF") ≡ [])
+    × (events (codes "BUFR") ≡ StrayAt 0 Cut ∷ [])
+    × (events (codes "BUFr") ≡ [])
+    × (events (codes "bUFR") ≡ [])
+    × (events (codes "BUBUFR") ≡ StrayAt 2 Cut ∷ [])
+unfolding events
+words-found = (refl, refl, refl, refl, refl)
+
+-- eight octets from the word on, and all that it states
+-- rule: stray-cut
+cut-octets :
+    (events (take 7 (section_0 8)) ≡ StrayAt 0 Cut ∷ [])
+    × (events (section_0 8) ≡ StrayAt 0 ShortLength ∷ [])
+    × (events (frame 20 20) ≡ FrameAt 0 (frame 20 20) ∷ [])
+    × (events (frame 21 20) ≡ StrayAt 0 Cut ∷ [])
+    × (events (codes "x" ++ frame 20 20) ≡ FrameAt 1 (frame 20 20) ∷ [])
+    × (events (codes "x" ++ frame 21 20) ≡ StrayAt 1 Cut ∷ [])
+unfolding events section_0 frame
+cut-octets = (refl, refl, refl, refl, refl, refl)
+
+-- 12 octets are the least, and 11 are not enough though they end with `7777`
+-- rule: stray-short-length
+least-message :
+    (events (frame 12 12) ≡ FrameAt 0 (frame 12 12) ∷ [])
+    × (events (codes "BUFR" ++ 0 ∷ 0 ∷ 11 ∷ codes "7777") ≡ StrayAt 0 ShortLength ∷ [])
+    × (events (section_0 0) ≡ StrayAt 0 ShortLength ∷ [])
+unfolding events section_0 frame
+least-message = (refl, refl, refl)
+
+-- each octet of `7777` counts, and its place
+-- rule: stray-no-end
+ends :
+    (events (slice_set (frame 20 20) 16 54) ≡ StrayAt 0 NoEnd ∷ [])
+    × (events (slice_set (frame 20 20) 17 54) ≡ StrayAt 0 NoEnd ∷ [])
+    × (events (slice_set (frame 20 20) 18 56) ≡ StrayAt 0 NoEnd ∷ [])
+    × (events (slice_set (frame 20 20) 19 56) ≡ StrayAt 0 NoEnd ∷ [])
+    × (events (frame 20 21) ≡ StrayAt 0 NoEnd ∷ [])
+    × (events (frame 20 20 ++ codes "7") ≡ FrameAt 0 (frame 20 20) ∷ [])
+    × (events (frame 21 20 ++ codes "7") ≡ FrameAt 0 (frame 21 20 ++ codes "7") ∷ [])
+unfolding events section_0 frame
+ends = (refl, refl, refl, refl, refl, refl, refl)
+
+-- ---- Of two causes: cut, then short length, then no end.
+
+-- rule: order-of-causes
+cut-before-short-length :
+    (events (take 7 (section_0 7)) ≡ StrayAt 0 Cut ∷ [])
+    × (events (section_0 11 ++ codes "ab") ≡ StrayAt 0 Cut ∷ [])
+unfolding events section_0
+cut-before-short-length = (refl, refl)
+
+-- rule: order-of-causes
+cut-before-no-end :
+    (events (section_0 13 ++ codes "7776") ≡ StrayAt 0 Cut ∷ [])
+    × (events (section_0 12 ++ codes "7776") ≡ StrayAt 0 NoEnd ∷ [])
+unfolding events section_0
+cut-before-no-end = (refl, refl)
+
+-- rule: order-of-causes
+short-length-before-no-end :
+    (events (section_0 11 ++ codes "abcd") ≡ StrayAt 0 ShortLength ∷ [])
+    × (events (section_0 12 ++ codes "abcd") ≡ StrayAt 0 NoEnd ∷ [])
+unfolding events section_0
+short-length-before-no-end = (refl, refl)
+
+-- ---- Where the search goes on: four octets after a stray, and after all octets of a frame.
+
+-- rule: after-a-stray, frame
+search-goes-on :
+    (events (codes "BUFRBUFR") ≡ StrayAt 0 Cut ∷ StrayAt 4 Cut ∷ [])
+    -- inside of what a stray states, and not inside of a frame
+    × (events (section_0 20 ++ section_0 8) ≡ StrayAt 0 Cut ∷ StrayAt 8 ShortLength ∷ [])
+    × (events (section_0 20 ++ section_0 8 ++ codes "7777") ≡ FrameAt 0 (section_0 20 ++ section_0 8 ++ codes "7777") ∷ [])
+    × (events (frame 12 12 ++ frame 12 12) ≡ FrameAt 0 (frame 12 12) ∷ FrameAt 12 (frame 12 12) ∷ [])
+unfolding events section_0 frame
+search-goes-on = (refl, refl, refl, refl)

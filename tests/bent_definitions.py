@@ -1,0 +1,647 @@
+#!/usr/bin/env python3
+"""Bends definitions on purpose, one rule at a time, and wants a worked example, a vector, a test or a law to notice.
+
+    tests/bent_definitions.py [PROGRAM]                      a sample of the entries; all entries are read
+    tests/bent_definitions.py --all                          all entries; fails also if a comparison has no entry
+    tests/bent_definitions.py --crate NAME | --only WORD     the entries of a crate, or those whose text has WORD
+    tests/bent_definitions.py --list [--crate NAME]          tries none, and lists each comparison with its entries
+
+The program is proved equal to its definitions, so a wrong rule that stands in both is noticed only by what was
+computed by hand. Each crate has a file bent_definitions/CRATE.txt of wrong rules, whose entries are separated by blank
+lines:
+
+    # 33 groups and sequences may be open together.
+    specs: Expansion.antt
+    old: max_open = 32
+    new: max_open = 33
+    fails: example TemplateExamples.faults
+
+The comment is the wrong rule in words. `specs:` names a file of the crate's specs/, or CRATE/FILE, and the pairs below
+change it: the old text stands there exactly once. Lines `old:` after one another are one text of several lines, and so
+are lines `new:`. `fails:` names what must notice:
+
+    example MODULE.NAME    a worked example of proofs/, or CRATE/MODULE.NAME: its `refl` is refused
+    law MODULE::NAME       a law of src/ that speaks of definitions alone, or CRATE/MODULE::NAME: it is not proved
+    vector NAME            a case of vectors/cases.tsv, of a program that is changed in the same way
+    test FILE::NAME        a test of bufr_tests, of code that is changed in the same way
+
+For a vector and a test the entry has the change of the code too, by pairs below `code:`, a file of the crate's src/.
+Lines `free: FILE: NAME, NAME` or ``free: FILE: `TEXT` `` below a comment say why definitions, or the comparison that a
+text holds, have no entry.
+
+How examples are tried: for each entry a scratch copy of the crate gets a copy of every module between the changed
+definition and the example, reduced to what the example needs, and beside it the same without the change. One check
+judges all entries of a crate. An entry is caught only if in the changed copy the checker refuses a `refl` of the
+example, since its two sides differ, and nothing else; and refuses nothing in the unchanged copy. A change that does not
+compile is an error of the list. Each check also holds changes without effect, which must pass, and one that must not.
+
+What needs an entry: each comparison of a computed definition (two, one a step to either side, for an order
+comparison), each number of a rule that refuses, and each two faults of which the first that applies is reported. An
+entry is for the comparison whose words it changes, and for an order if it turns it round. Propositions are not
+computed: what weakens them is noticed by the proofs above.
+"""
+import argparse
+import collections
+import csv
+import functools
+import hashlib
+import itertools
+import os
+import pathlib
+import re
+import shutil
+import subprocess
+import sys
+import tempfile
+import time
+from concurrent.futures import ThreadPoolExecutor
+
+from lib import TOP, finish
+
+HERE = TOP / "tests/bent_definitions"
+KINDS = ("example", "law", "vector", "test")
+
+
+class Bad(Exception):
+    """What is wrong with a list, or why no verdict can be given."""
+
+
+# ---------------------------------------------------------------- the entries
+
+
+class Change:
+    """A text of a file that takes the place of another one."""
+
+    def __init__(self, folder: str, crate: str, file: str) -> None:
+        self.folder, self.crate, self.file = folder, crate, file
+        self.old, self.new = [], []
+
+    def place(self) -> tuple:
+        return self.crate, self.folder, self.file
+
+    def apply(self, text: str) -> str:
+        old, new = "\n".join(self.old), "\n".join(self.new)
+        if text.count(old) != 1:
+            raise Bad(f"crates/{'/'.join(self.place())} has {text.count(old)} times {old!r}")
+        return text.replace(old, new)
+
+
+class Entry:
+    """A wrong rule, and what must notice it."""
+
+    def __init__(self, crate: str, line: int) -> None:
+        self.crate, self.line = crate, line
+        self.words, self.changes, self.free = [], [], []
+        self.kind = self.of = self.name = ""
+
+    def __str__(self) -> str:
+        return f"{self.crate}.txt:{self.line}: {' '.join(self.words)}"
+
+    def changed(self, places: set) -> dict:
+        """The texts that are changed, by place."""
+        texts = {}
+        for change in self.changes:
+            place = change.place()
+            if change.folder in places:
+                texts[place] = change.apply(texts[place] if place in texts else source(place))
+        return texts
+
+
+@functools.lru_cache(None)
+def source(place: tuple) -> str:
+    path = TOP / "crates" / "/".join(place)
+    if not path.is_file():
+        raise Bad(f"there is no {path.relative_to(TOP)}")
+    return path.read_text(encoding="utf-8")
+
+
+def read_entries(crate: str):
+    """The entries of a crate's list. What cannot be read is a Bad."""
+    path = HERE / f"{crate}.txt"
+    lines = path.read_text(encoding="utf-8").splitlines() if path.is_file() else []
+    entry = None
+    for number, line in enumerate([*lines, ""], 1):
+        try:
+            if line.strip():
+                entry = entry or Entry(crate, number)
+                read_line(entry, line)
+            elif entry:
+                if entry.changes or entry.free or entry.kind:
+                    finished(entry)
+                    yield entry
+                entry = None
+        except Bad as wrong:
+            raise Bad(f"{path.relative_to(TOP)}:{number if line.strip() else entry.line}: {wrong}") from None
+
+
+def read_line(entry: Entry, line: str) -> None:
+    key, _, text = line.partition(":")
+    text = text[1:] if text.startswith(" ") else text
+    if line.startswith("#"):
+        entry.words.append(line[1:].strip())
+    elif key in ("specs", "code"):
+        of, _, file = text.strip().rpartition("/")
+        entry.changes.append(Change("specs" if key == "specs" else "src", of or entry.crate, file))
+    elif key in ("old", "new"):
+        if not entry.changes:
+            raise Bad(f"`{key}:` comes before `specs:`")
+        last = entry.changes[-1]
+        if key == "old" and last.new:
+            entry.changes.append(Change(last.folder, last.crate, last.file))
+        getattr(entry.changes[-1], key).append(text)
+    elif key == "fails":
+        entry.kind, _, name = text.strip().partition(" ")
+        of, _, entry.name = name.strip().rpartition("/")
+        entry.of = of or entry.crate
+        if entry.kind not in KINDS or not entry.name:
+            raise Bad(f"`fails:` names one of {', '.join(KINDS)}, and its name")
+    elif key == "free":
+        file, _, names = text.partition(":")
+        entry.free.append((file.strip(), names.strip()))
+    else:
+        raise Bad(f"a line begins with {key!r}")
+
+
+def finished(entry: Entry) -> None:
+    """An entry is whole, and its texts are there."""
+    if not entry.words:
+        raise Bad("a comment must say the wrong rule, or the reason, in words")
+    if entry.free:
+        if entry.changes or entry.kind:
+            raise Bad("`free:` stands in an entry of its own")
+        return
+    if not entry.kind:
+        raise Bad("`fails:` is missing")
+    for change in entry.changes:
+        if not change.old or not change.new or change.old == change.new:
+            raise Bad(f"a pair of {change.file} lacks `old:` or `new:`, or changes nothing")
+    folders = {change.folder for change in entry.changes}
+    wanted = {"specs", "src"} if entry.kind in ("vector", "test") else {"specs"}
+    if folders != wanted:
+        raise Bad(f"for `fails: {entry.kind}` the changes must be of {' and '.join(sorted(wanted))}")
+    entry.changed(wanted)
+
+
+# ---------------------------------------------------------------- modules and declarations of antt
+
+MODULE = re.compile(r"Rattle\.(bufr\w*)\.(specs|proofs)\.(\w+)")
+NO_DECLARATION = re.compile(r"(?:unfoldable |pub )*(?:use|mod|infixl|infixr|infix|ruleset|open) ")
+DECLARATION = re.compile(r"(?:(?:unfoldable|abbrev|pattern|pub) )*(?:(data|record|module) )?([^\s:]+)")
+SIGNATURE = re.compile(r"(?:(?:unfoldable|abbrev|pattern|pub|data|record|module) |[^\s:=]+(?: \{[^}]*\})? :(?: |$))")
+
+
+def parts_of(name: str) -> set:
+    """The parts of a name: of an operator's those between its places."""
+    return {part for part in name.split("◌") if part}
+
+
+def tokens(text: str) -> set:
+    return {part for word in re.split(r"[\s(){}.;,@\"«»]+", text) for part in parts_of(word)}
+
+
+class Block:
+    """A declaration, or a line that imports: its text, and the names that it declares."""
+
+    def __init__(self, line: str) -> None:
+        self.lines, self.declares = [line], not NO_DECLARATION.match(line)
+
+    @functools.cached_property
+    def text(self) -> str:
+        return "\n".join(self.lines)
+
+    @functools.cached_property
+    def names(self) -> set:
+        if not self.declares:
+            return set()
+        kind, name = DECLARATION.match(self.lines[0]).groups()
+        if kind == "module":
+            inner = re.findall(r"(?m)^  (?:(?:unfoldable|abbrev|pub) )*([^\s:=]+)(?: \{[^}]*\})? :", self.text)
+            return set().union(*map(parts_of, inner))
+        inner = re.findall(r"(?m)^  ([^\s:]+) :", self.text) if kind == "data" else []
+        return set().union(*map(parts_of, [name, *inner]))
+
+    @functools.cached_property
+    def tokens(self) -> frozenset:
+        return frozenset(tokens(self.text))
+
+    def imported(self) -> list:
+        return [name.strip() for name in self.text.partition("{")[2].rpartition("}")[0].split(",")]
+
+
+@functools.lru_cache(None)
+def blocks(text: str) -> list:
+    """The declarations and imports of a module, without comments."""
+    found = []
+    for line in text.splitlines():
+        if line.startswith("--"):
+            continue
+        if line[:1] not in ("", " ", ")", "}") and (NO_DECLARATION.match(line) or SIGNATURE.match(line)):
+            found.append(Block(line))
+        elif line.strip() and found:
+            found[-1].lines.append(line)
+    return found
+
+
+@functools.lru_cache(None)
+def modules() -> dict:
+    """The modules of specs/ and proofs/, with those that each imports."""
+    texts = {}
+    for path in (TOP / "crates").glob("*/*/*.antt"):
+        crate, folder, _ = path.parts[-3:]
+        if folder in ("specs", "proofs"):
+            texts[crate, folder, path.stem] = path.read_text(encoding="utf-8")
+    return {place: {one for one in MODULE.findall(text) if one in texts} for place, text in texts.items()}
+
+
+@functools.lru_cache(None)
+def below(place: tuple) -> frozenset:
+    """A module and those that it imports, and so on."""
+    seen, todo = set(), [place]
+    while todo:
+        one = todo.pop()
+        if one not in seen:
+            seen.add(one)
+            todo += modules()[one]
+    return frozenset(seen)
+
+
+class Copy:
+    """The modules between changed definitions and an example, reduced to what the example needs."""
+
+    def __init__(self, entry: Entry) -> None:
+        module, _, self.example = entry.name.rpartition(".")
+        self.place = entry.of, "proofs", module
+        if self.place not in modules():
+            raise Bad(f"there is no crates/{entry.of}/proofs/{module}.antt")
+        texts = {(crate, folder, file.removesuffix(".antt")): text for (crate, folder, file), text in entry.changed({"specs"}).items()}
+        self.places = sorted(one for one in below(self.place) if below(one) & set(texts))
+        if not set(texts) <= set(self.places):
+            raise Bad(f"{entry.name} does not use the changed definitions")
+        self.old = {place: blocks(source((*place[:2], f"{place[2]}.antt"))) for place in self.places}
+        self.new = {place: blocks(texts[place]) if place in texts else self.old[place] for place in self.places}
+        if not any(self.example in block.names for block in self.old[self.place]):
+            raise Bad(f"crates/{entry.of}/proofs/{module}.antt has no {self.example}")
+        self.needed = self.need()
+
+    def need(self) -> set:
+        """The words of all that the example names, and what that names, and so on, before and after the change."""
+        needed, todo = {self.example, ">>="}, True
+        every = [block for of in (self.old, self.new) for found in of.values() for block in found]
+        taken = set()
+        while todo:
+            todo = False
+            for block in every:
+                if block.names & needed and id(block) not in taken:
+                    taken.add(id(block))
+                    todo = True
+                    needed |= block.tokens
+                elif not block.declares:
+                    for name in block.imported():
+                        one, _, other = name.partition(" as ")
+                        if other and parts_of(other) & needed and not parts_of(one) <= needed:
+                            needed |= parts_of(one)
+                            todo = True
+        return needed
+
+    def kept(self, of: dict, place: tuple) -> set:
+        """The names that a module of the copy still has."""
+        found = set()
+        for block in of[place]:
+            if block.declares:
+                found |= block.names if block.names & self.needed else set()
+            elif block.text.startswith(("pub ", "unfoldable ")):
+                found |= set().union(*(parts_of(name.rpartition(" as ")[2]) for name in block.imported()))
+        return found & self.needed
+
+    def texts(self, of: dict, crate: str, tag: str) -> dict:
+        """The files of the copy, by their names, below a folder TAG of the proofs of a crate."""
+        made = {}
+        for place in self.places:
+            lines = []
+            for block in of[place]:
+                if block.declares:
+                    if block.names & self.needed:
+                        lines.append(block.text)
+                    continue
+                text, used = block.text, MODULE.search(block.text)
+                if used and used.groups() in self.places and "{" in text:
+                    there = self.kept(of, used.groups())
+                    names = [name for name in block.imported() if parts_of(name.partition(" as ")[0]) & there]
+                    if not names:
+                        continue
+                    text = f"{text.partition('{')[0]}{{{', '.join(names)}}}"
+                lines.append(text)
+            made["_".join(place)] = MODULE.sub(
+                lambda one: f"Rattle.{crate}.proofs.variants.{tag}.{'_'.join(one.groups())}" if one.groups() in self.places else one[0],
+                "\n".join(lines) + "\n",
+            )
+        return made
+
+    def file(self) -> str:
+        return "_".join(self.place)
+
+
+# ---------------------------------------------------------------- a check of many copies
+
+ERROR = re.compile(r"^\./proofs/variants/(\w+)/(\w+)\.antt:(\d+):(\d+): error: (.*)$")
+
+
+@functools.lru_cache(None)
+def kit() -> pathlib.Path:
+    told = subprocess.run(["rt", "doc"], stdout=subprocess.PIPE, text=True, check=True).stdout.split()
+    return pathlib.Path(told[-1]).parent
+
+
+@functools.lru_cache(None)
+def crates() -> dict:
+    """What each crate of crates.txt stands on."""
+    lines = [line.partition("#")[0] for line in (TOP / "crates.txt").read_text(encoding="utf-8").splitlines()]
+    return {name.split()[0]: uses.split() for name, _, uses in (line.partition(":") for line in lines if line.strip())}
+
+
+def libraries(crate: str) -> list:
+    """The crates below one, in the order in which they are met."""
+    found = []
+    for used in crates()[crate]:
+        for one in [used, *(libraries(used) if used in crates() else [])]:
+            if one not in found:
+                found.append(one)
+    return found
+
+
+def scratch(room: pathlib.Path) -> pathlib.Path:
+    """A copy of the crates without what was built."""
+    top = pathlib.Path(tempfile.mkdtemp(dir=room))
+    shutil.copytree(TOP / "crates", top / "crates", symlinks=True, ignore=shutil.ignore_patterns("out", "must-fail"))
+    for name in ("crates.txt", "HANDLES"):
+        shutil.copy(TOP / name, top / name)
+    return top
+
+
+def check_words(top: pathlib.Path, crate: str, law: str) -> list:
+    """The words of a check of one law, with the crates below as source."""
+    words = [kit() / "bin/rattle", "check", "--crate-name", crate, "src/lib.rt", "--only", law]
+    for one in ["std", *libraries(crate)]:
+        if one in crates():
+            words += ["--lib", f"{one}={top}/crates/{one}/src/lib.rt"]
+        else:
+            words += ["--extern", f"{one}={kit()}/rlibs/{one}.rlib"]
+    words += ["-L", f"dependency={kit()}/rlibs", "--antt-project", kit() / "rattle/logic/antt-project.json"]
+    return [*words, "--logic-built", kit() / "logic_built", "--jobs", "1"]
+
+
+def check_copies(room: pathlib.Path, crate: str, copies: dict) -> dict:
+    """Checks modules in one scratch copy of a crate. `copies` has by tag the files and the name of the module that
+    imports the others. The answer has by tag what was refused: the file, line, column, message and source line."""
+    top = scratch(room)
+    folder = top / "crates" / crate
+    for tag, (texts, _) in copies.items():
+        place = folder / "proofs/variants" / tag
+        place.mkdir(parents=True)
+        for name, text in texts.items():
+            (place / f"{name}.antt").write_text(text, encoding="utf-8")
+        (folder / f"proofs/variants/{tag}.antt").write_text("".join(f"pub mod {name}\n" for name in texts), encoding="utf-8")
+    (folder / "proofs/variants.antt").write_text("".join(f"pub mod {tag}\n" for tag in copies), encoding="utf-8")
+    lib, root = folder / "proofs/Lib.antt", folder / "src/lib.rt"
+    lib.write_text("pub mod variants\n" + lib.read_text(encoding="utf-8"), encoding="utf-8")
+    root.write_text(re.sub(r"(?m)^(pub mod|mod) ", r"mod bent;\n\1 ", root.read_text(encoding="utf-8"), count=1), encoding="utf-8")
+    (folder / "src/bent.rt").write_text(
+        "//! A law whose answer imports all copies.\nghost use Rattle.std.specs.Prelude.{◌≡◌, true};\n\n"
+        "/// A law whose answer imports all copies.\npub fn bent()\n    ensures { true ≡ true }\n{}\n",
+        encoding="utf-8",
+    )
+    answers = folder / "proofs/bent/bent/Answers.antt"
+    answers.parent.mkdir(parents=True)
+    imports = "".join(f"use Rattle.{crate}.proofs.variants.{tag}.{name} as x{tag}\n" for tag, (_, name) in copies.items())
+    answers.write_text(
+        f"use Rattle.std.proofs.Common.{{refl}}\n{imports}use Rattle.{crate}.proofs.bent.bent.Goals as goal\n\n"
+        "pub returns : goal.returns\nreturns c = refl\n",
+        encoding="utf-8",
+    )
+    words = check_words(top, crate, "bent::bent")
+    done = subprocess.run(words, cwd=folder, stdout=subprocess.PIPE, stderr=subprocess.STDOUT, text=True, encoding="utf-8")
+    lines = done.stdout.splitlines()
+    if not any(re.match(r"only=1 proved=[01]$", line) for line in lines) or done.returncode not in (0, 1):
+        raise Bad(f"the check of {crate} gave no verdict:\n{done.stdout[-2000:]}")
+    refused = collections.defaultdict(list)
+    for at, line in enumerate(lines):
+        found = ERROR.match(line)
+        if found:
+            tag, file, row, column, message = found.groups()
+            rest = [one.strip() for one in itertools.takewhile(lambda one: one.startswith("  "), lines[at + 1 :])]
+            text = copies[tag][0][file].splitlines()[int(row) - 1]
+            refused[tag].append((file, int(row), int(column), " ".join([message, *rest]), text))
+        elif ": error: " in line:
+            raise Bad(f"the check of {crate} refused what is no copy: {line}")
+    shutil.rmtree(top)
+    return refused
+
+
+def is_refused_refl(copy: Copy, error: tuple) -> bool:
+    """Whether an error says that the two sides of an equation of the example differ."""
+    file, _, column, message, text = error
+    is_unequal = "expected type" in message and "type `" in message and message.startswith(f"`{copy.example}`: ")
+    return file == copy.file() and is_unequal and text[column - 1 :].startswith("refl")
+
+
+@functools.lru_cache(None)
+def computed_names() -> frozenset:
+    """The words that a value has no more once it is computed: names of definitions, of ours and those that we import."""
+    ours, others, built = set(), set(), {"true", "false", "zero", "suc", "pos", "negsuc", "tt", "∷", "[]", "refl"}
+    for crate, folder, name in modules():
+        for block in blocks(source((crate, folder, f"{name}.antt"))):
+            if block.declares and DECLARATION.match(block.lines[0])[1] not in ("data", "record"):
+                ours |= block.names
+            elif block.declares:
+                built |= block.names
+            elif "Rattle.bufr" not in block.text:
+                others |= {part for name in block.imported() for part in parts_of(name.rpartition(" as ")[2])}
+    return frozenset((ours | {name for name in others if not name[:1].isupper()}) - built)
+
+
+DIFFER = re.compile(r"computed as far as they go, the two types .*? `(.*?)`\s+\(expected\).*? `(.*?)`\s+\(found\)")
+
+
+def is_computed(side: str) -> bool:
+    """Whether a side of an equation, as the checker prints it, is a value: no call in it waits."""
+    labels = set(re.findall(r"(\S+) =", side))
+    return not (tokens(side) - labels) & computed_names() and "elim" not in tokens(side)
+
+
+def differs(errors: list) -> bool:
+    """Whether one of the refusals shows two values, and not a call that computes no further."""
+    shown = [DIFFER.search(message) for *_, message, _ in errors]
+    return any(found and is_computed(found[1]) and is_computed(found[2]) for found in shown)
+
+
+def judge_examples(room: pathlib.Path, crate: str, entries: list) -> dict:
+    """The verdict on each entry whose example is of this crate, by one check."""
+    verdicts, copies, made, tried = {}, {}, {}, []
+    for number, entry in enumerate(entries):
+        try:
+            copy = Copy(entry)
+        except Bad as wrong:
+            verdicts[entry] = f"invalid: {wrong}"
+            continue
+        tag, right = f"w{number}", copy.texts(copy.old, crate, "TAG")
+        same = repr(sorted(right.items()))
+        if same not in made:
+            made[same] = f"r{number}"
+            copies[made[same]] = {name: text.replace(".variants.TAG.", f".variants.{made[same]}.") for name, text in right.items()}, copy.file()
+        copies[tag] = copy.texts(copy.new, crate, tag), copy.file()
+        tried.append((entry, copy, tag, made[same]))
+    refused = check_copies(room, crate, copies) if tried else {}
+    for entry, copy, tag, right in tried:
+        others = [error for error in refused[tag] if not is_refused_refl(copy, error)]
+        if refused[right]:
+            verdicts[entry] = f"invalid: the unchanged copy is refused: {refused[right][0]}"
+        elif others:
+            verdicts[entry] = f"invalid: the changed definitions are refused: {others[0]}"
+        elif refused[tag] and not differs(refused[tag]):
+            verdicts[entry] = f"invalid: the example computes no further with the change: {refused[tag][0]}"
+        else:
+            verdicts[entry] = "caught" if refused[tag] else "survives"
+    return verdicts
+
+
+# ---------------------------------------------------------------- laws, vectors and tests, one at a time
+
+
+def changed_copy(room: pathlib.Path, texts: dict) -> pathlib.Path:
+    top = scratch(room)
+    for place, text in texts.items():
+        (top / "crates" / "/".join(place)).write_text(text, encoding="utf-8")
+    return top
+
+
+def proves(room: pathlib.Path, entry: Entry, texts: dict) -> str:
+    """Whether a law is proved: `yes`, `no`, or what is wrong with the texts themselves."""
+    top = changed_copy(room, texts)
+    words = check_words(top, entry.of, entry.name)
+    done = subprocess.run(words, cwd=top / "crates" / entry.of, stdout=subprocess.PIPE, stderr=subprocess.STDOUT, text=True, encoding="utf-8")
+    shutil.rmtree(top)
+    ended = re.search(r"(?m)^only=1 proved=([01])$", done.stdout)
+    wrong = re.search(r"(?m)^\S*(?:specs/|\.rt:).*: error: .*$", done.stdout)
+    if not ended or done.returncode not in (0, 1) or wrong:
+        return wrong[0] if wrong else done.stdout[-300:]
+    return "no" if done.returncode or ended[1] == "0" else "yes"
+
+
+def answers(room: pathlib.Path, entry: Entry, texts: dict) -> str:
+    """Whether a vector or a test passes on a trial build, which proves nothing: `yes`, `no`, or why none was made."""
+    top = changed_copy(room, texts)
+    told = tries_test(top, entry.name) if entry.kind == "test" else tries_vector(top, entry.name)
+    shutil.rmtree(top)
+    return told
+
+
+def tries_test(top: pathlib.Path, name: str) -> str:
+    done = subprocess.run(["rt", "try", "--test"], cwd=top / "crates/bufr_tests", stdout=subprocess.PIPE, stderr=subprocess.STDOUT, text=True)
+    told = re.search(rf"(?m)^test {re.escape(name)} \.\.\. (\w+)", done.stdout)
+    return {"ok": "yes", "FAILED": "no"}.get(told[1], told[0]) if told else done.stdout[-300:]
+
+
+@functools.lru_cache(None)
+def vectors() -> dict:
+    with open(TOP / "tests/vectors/cases.tsv", encoding="ascii", newline="") as file:
+        return {case["case"]: case for case in csv.DictReader(file, delimiter="\t")}
+
+
+def tries_vector(top: pathlib.Path, name: str) -> str:
+    case, folder = vectors()[name], TOP / "tests/vectors"
+
+    def content(file: str) -> bytes:
+        return b"" if file == "-" else (folder / file).read_bytes()
+
+    words = ["rt", "try"]
+    for word in case["words"].split():
+        if (folder / word).is_file():
+            words += ["--data", f"{word}={folder / word}"]
+    words += ["--", *case["words"].split()]
+    done = subprocess.run(words, cwd=top / "crates/bufr", input=content(case["input"]), stdout=subprocess.PIPE, stderr=subprocess.PIPE)
+    faults, ended, _ = done.stderr.partition(b"checked: ended status=")
+    if not ended:
+        return done.stderr[-300:].decode(errors="replace")
+    wanted = int(case["status"]), content(case["output"]), content(case["faults"])
+    return "yes" if wanted == (done.returncode, done.stdout, faults) else "no"
+
+
+def judge_alone(room: pathlib.Path, entry: Entry, known: dict) -> str:
+    """The verdict on an entry that needs a check or a build of its own. `known` has what passes without a change."""
+    if entry.kind == "vector" and entry.name not in vectors():
+        return f"invalid: vectors/cases.tsv has no {entry.name}"
+    run = proves if entry.kind == "law" else answers
+    same = entry.kind, entry.of, entry.name
+    if same not in known:
+        known[same] = run(room, entry, {})
+    if known[same] != "yes":
+        return f"invalid: {entry.kind} {entry.name} does not pass without the change: {known[same]}"
+    told = run(room, entry, entry.changed({"specs", "src"}))
+    return {"yes": "survives", "no": "caught"}.get(told, f"invalid: the changed text is refused: {told}")
+
+
+
+# ---------------------------------------------------------------- the run
+
+
+def chosen(asked: argparse.Namespace, entries: list) -> list:
+    if asked.crate:
+        entries = [entry for entry in entries if entry.crate == asked.crate]
+    if asked.only:
+        entries = [entry for entry in entries if asked.only in str(entry) + repr(vars(entry)) + repr([vars(one) for one in entry.changes])]
+    return entries
+
+
+def judge(entries: list, jobs: int) -> dict:
+    """The verdict on each entry."""
+    verdicts = {}
+    with tempfile.TemporaryDirectory(prefix="bent-definitions-") as place, ThreadPoolExecutor(jobs) as pool:
+        room, known = pathlib.Path(place), {}
+        by_crate = collections.defaultdict(list)
+        for entry in entries:
+            if entry.kind == "example":
+                by_crate[entry.of].append(entry)
+        runs = [pool.submit(judge_examples, room, crate, of) for crate, of in sorted(by_crate.items())]
+        alone = [entry for entry in entries if entry.kind != "example"]
+        single = [(entry, pool.submit(judge_alone, room, entry, known)) for entry in alone]
+        for run in runs:
+            verdicts.update(run.result())
+        for entry, run in single:
+            verdicts[entry] = run.result()
+    return verdicts
+
+
+def main() -> None:
+    asker = argparse.ArgumentParser(description=__doc__, formatter_class=argparse.RawDescriptionHelpFormatter)
+    asker.add_argument("--all", action="store_true")
+    asker.add_argument("--crate", metavar="NAME")
+    asker.add_argument("--only", metavar="WORD")
+    asker.add_argument("--list", action="store_true")
+    asker.add_argument("--jobs", type=int, default=2, choices=(1, 2))
+    asker.add_argument("program", nargs="?", help="is not used")
+    asked = asker.parse_args()
+    every, wrongs = [], []
+    for crate in crates():
+        try:
+            every += read_entries(crate)
+        except Bad as wrong:
+            wrongs.append(str(wrong))
+    entries = chosen(asked, [entry for entry in every if entry.kind])
+    if not shutil.which("rt"):
+        print("bent_definitions: skipped: the toolchain's rt is not on the PATH")
+        finish(wrongs)
+    try:
+        verdicts = judge(entries, asked.jobs)
+    except Bad as wrong:
+        finish([*wrongs, str(wrong)])
+    for entry, verdict in verdicts.items():
+        print(f"{verdict}: {entry}")
+        if verdict != "caught":
+            wrongs.append(f"{entry.crate}.txt:{entry.line}: {verdict}")
+    counts = collections.Counter(verdict.partition(":")[0] for verdict in verdicts.values())
+    print(f"bent_definitions: {len(verdicts)} of {len(every)} entries tried: {dict(counts)}")
+    finish(wrongs)
+
+
+if __name__ == "__main__":
+    main()
