@@ -8,6 +8,8 @@ definition of specs/, an example of proofs/, a function, a test of bufr_tests; o
 tests/. The last column of tests/vectors/cases.tsv has the rules of a vector. The first two cells of a row are written by hand, the others are made from the tags. Each heading of
 docs/format.md and docs/texts.md has its part, and each fault of docs/texts.md a row. In docs/design.md the part of a
 crate names each of its modules. A name of the code in a page is somewhere in the crates.
+The last cell of a row has how many comparisons, numbers and orders the rule's definitions have, and how many of them an
+entry of tests/bent_definitions bends; the others have a reason for having none. A rule where one has neither is not covered.
 docs/names.md has each name that a `specs/Prelude` passes on, with its file and its comment.
 """
 import csv
@@ -15,6 +17,7 @@ import pathlib
 import re
 import sys
 
+import bent_definitions
 from lib import FAULT, TOP, finish
 
 CRATES = re.findall(r"^(\w+):", (TOP / "crates.txt").read_text(encoding="utf-8"), re.M)
@@ -92,6 +95,16 @@ def places() -> list:
     return found
 
 
+def bounds_of(of: list) -> tuple:
+    """How many boundaries and orders a rule's definitions have, how many of them an entry bends, and how many have no reason for having none."""
+    sites = []
+    for _, column, crate, name in of:
+        if column == "definition":
+            file, _, name = name.rpartition(".")
+            sites += bent_definitions.boundaries((crate, "specs", f"{file}.antt"), name)
+    return len(sites), sum(bool(site.entries) for site in sites), sum(not site.is_covered() for site in sites)
+
+
 def row(rule: str, tag: str, of: list) -> str:
     """The row of a rule, made of the places that have its tag."""
     crate = next((one[2] for column in COLUMNS for one in of if one[1] == column and one[2] not in ("", TESTS)), "-")
@@ -99,6 +112,8 @@ def row(rule: str, tag: str, of: list) -> str:
     for column in COLUMNS:
         names = [one[3] if one[2] in (crate, "", TESTS) else f"{one[2]}/{one[3]}" for one in of if one[1] == column]
         cells.append(", ".join(f"`{name}`" for name in names) or "-")
+    every, bent, _ = bounds_of(of)
+    cells.append(f"{bent} of {every}" if every else "-")
     return "| " + " | ".join([rule, f"`{tag}`", f"`{crate}`", *cells]) + " |"
 
 
@@ -125,6 +140,9 @@ def rules() -> None:
             if found[2] not in by_tag:
                 complain("docs/map.md", line, f"nothing has the tag {found[2]}")
             known.add(found[2])
+            lacking = bounds_of(by_tag.get(found[2], []))[2]
+            if lacking:
+                complain("docs/map.md", line, f"{found[2]} is not covered: {lacking} of its boundaries and orders have no entry in tests/bent_definitions")
             one = row(found[1], found[2], by_tag.get(found[2], []))
         lines.append(one)
     for tag in sorted(set(by_tag) - known):
@@ -255,6 +273,10 @@ def names() -> None:
         complain("docs/names.md", line, "is not as the definitions have it: run tests/map.py --update")
 
 
+try:
+    bent_definitions.cover(bent_definitions.every_entry())
+except bent_definitions.Bad as wrong:
+    finish([str(wrong)])
 rules()
 house()
 pages()
