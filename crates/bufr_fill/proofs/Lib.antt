@@ -2,6 +2,7 @@ mod ExampleTables
 mod PlainExamples
 mod PackedExamples
 mod ReadBackExamples
+mod RefusalExamples
 pub mod FillSteps
 pub mod WalkLemmas
 pub mod PlainLaws

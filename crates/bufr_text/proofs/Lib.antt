@@ -14,6 +14,7 @@ pub mod HeaderLemmas
 pub mod LawLemmas
 pub mod DumpTextLemmas
 mod NormalExamples
+mod RefusalExamples
 pub mod NormalLemmas
 pub mod PushLemmas
 pub mod NumberLemmas

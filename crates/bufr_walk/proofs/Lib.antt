@@ -4,6 +4,7 @@ mod SpecExamples
 mod GroupExamples
 mod PackedExamples
 mod DataExamples
+mod RefusalExamples
 pub mod CourseLemmas
 pub mod PassLemmas
 pub mod SpecLemmas

@@ -1,0 +1,94 @@
+-- Worked examples of which fault of a message, a document or a run is reported, and of the statuses.
+use Rattle.std.proofs.Common.{◌≡◌, ◌++◌, ℕ, List, [], ◌∷◌, map, take, slice_set, replicate, refl, codes}
+use Rattle.std.specs.Fmt.{digits}
+use Rattle.bufr_bits.specs.Prelude.{bits_of, decimal_value_of}
+use Rattle.bufr_frame.specs.Prelude.{head_by_edition, head_size, FrameAt, sections_of, section_end}
+use Rattle.bufr_frame.specs.declared.fault.RunFault.TheVariants.{Read, Write, InputTooLong, Memory}
+use Rattle.bufr_tables.specs.Prelude.{tree_of, inner_of, level, part_of}
+use Rattle.bufr_tables.specs.declared.fault.TableFault.TheVariants as table
+use Rattle.bufr_walk.specs.Prelude.{next_item}
+use Rattle.bufr_text.specs.Prelude.{leasts, mosts, lines_of, parse_lines, turn, documents_of, encoding_in, prefix_while, suffix_while, without_prefix, descriptors_read, fxy_read, hex_read, is_hashed, quoted_read, keys, line_of, index_from, value_read, worded}
+use Rattle.bufr_text.specs.declared.encode.Form.TheVariants.{AsWritten}
+use Rattle.bufr_cli.specs.Prelude.{dump_piece, ls_piece, encode_pieces, up_to_refused, Piece, OnErrors, status_of, Tally}
+use Rattle.bufr_cli.specs.declared.outcome.Outcome.TheVariants.{Ran, TableB, TableD, Run}
+use Rattle.bufr_cli.proofs.Examples.{one_block_number}
+use Rattle.bufr_cli.proofs.RoundTripExamples.{blocks}
+
+-- ---- Of two faults of a message the first: its sections, then its template, then its data.
+
+-- a message with one block number and no data; with a section 4 that is short by one octet; and of
+-- edition 2 with that section
+abbrev without_data : List ℕ
+without_data = slice_set (take 39 one_block_number) 6 47 ++ 0 ∷ 0 ∷ 4 ∷ 0 ∷ 55 ∷ 55 ∷ 55 ∷ 55 ∷ []
+
+abbrev past_section_4 : List ℕ
+past_section_4 = slice_set one_block_number 41 4
+
+abbrev edition_2 : List ℕ
+edition_2 = slice_set past_section_4 7 2
+
+-- Table B lacks the element, so each message has a fault of its template too, and its data end
+-- where they have none. Fails where the template goes before the sections, or the data before it.
+-- rule: one-fault-a-message, list-before-data
+sections_then_template_then_data :
+    map (λ octets. dump_piece [] [] (FrameAt 0 octets)) (edition_2 ∷ past_section_4 ∷ without_data ∷ [])
+    ≡ OnErrors (codes "offset 0: 10 edition 2\n") ∷ OnErrors (codes "offset 0: 13 sections do not meet the end\n") ∷ OnErrors (codes "offset 0: 20 unknown element 001001\n") ∷ []
+unfolding sections_of section_end head_by_edition head_size tree_of inner_of level part_of next_item bits_of digits
+sections_then_template_then_data = refl
+
+-- With the element the data are at fault, but after the sections.
+-- rule: one-fault-a-message
+sections_then_data :
+    map (λ octets. dump_piece blocks [] (FrameAt 0 octets)) (past_section_4 ∷ without_data ∷ [])
+    ≡ OnErrors (codes "offset 0: 13 sections do not meet the end\n") ∷ OnErrors (codes "offset 0: 30 data end at subset 1 descriptor 001001 bit 0\n") ∷ []
+unfolding sections_of section_end head_by_edition head_size tree_of inner_of level part_of next_item bits_of digits
+sections_then_data = refl
+
+-- `ls` has the same faults of sections.
+-- rule: one-fault-a-message
+sections_listed : map (λ octets. ls_piece (FrameAt 0 octets)) (edition_2 ∷ past_section_4 ∷ [])
+    ≡ OnErrors (codes "offset 0: 10 edition 2\n") ∷ OnErrors (codes "offset 0: 13 sections do not meet the end\n") ∷ []
+unfolding sections_of section_end head_by_edition head_size digits
+sections_listed = refl
+
+-- ---- Of two faults of a text the first.
+
+-- a document of one block number, with these lines after its descriptors
+abbrev document_with : List ℕ → List ℕ
+document_with rest =
+    codes "message\nedition 4\nmaster 0\ncentre 98\nsubcentre 0\nupdate 0\ncategory 0\nsubcategory 0\nlocalsubcategory 0\nmasterversion 14\nlocalversion 0\nyear 2024\nmonth 1\nday 2\nhour 3\nminute 4\nsecond 5\nobserved 1\ncompressed 0\noptional 0\nsubsets 1\ndescriptors 001001\n"
+    ++ rest
+
+-- what `encode` writes for a text
+written : List ℕ → List Piece
+unfolding up_to_refused parse_lines lines_of turn line_of worded prefix_while suffix_while index_from keys leasts mosts without_prefix descriptors_read fxy_read value_read quoted_read hex_read is_hashed
+    encoding_in tree_of level part_of inner_of next_item decimal_value_of digits
+written text = encode_pieces AsWritten blocks [] (documents_of text)
+
+-- A document is read to its end before its template and items are examined: 50 and 57 on a later
+-- line come before the item on line 24. In the next document they come after it.
+-- rule: document-read-first, first-refusal-ends
+lines_then_items : map written (document_with (codes "subset 1\n001001 200\nend\n") ∷ document_with (codes "subset 1\n001001 200\nend \n") ∷ document_with (codes "subset 1\n001001 200\nsubset 2\n") ∷ document_with (codes "subset 1\n001001 200\n")
+    ∷ (document_with (codes "subset 1\n001001 200\nend\n") ++ codes "end\n") ∷ [])
+    ≡ (OnErrors (codes "line 24: 53 out of range\n") ∷ []) ∷ (OnErrors (codes "line 25: 50 line\n") ∷ []) ∷ (OnErrors (codes "line 25: 57 subset count\n") ∷ []) ∷ (OnErrors (codes "line 25: 50 line\n") ∷ [])
+    ∷ (OnErrors (codes "line 24: 53 out of range\n") ∷ []) ∷ []
+unfolding written
+lines_then_items = refl
+
+-- ---- The exit statuses.
+
+abbrev tally : (accepted refused : ℕ) → Tally
+tally accepted refused = record { accepted = accepted; refused = refused }
+
+-- The status of a run goes by what was refused, however much was accepted: 0 for nothing, 1 for
+-- one and more.
+-- rule: status-0-and-1
+status_of_runs : map status_of (Ran (tally 0 0) ∷ Ran (tally 9 0) ∷ Ran (tally 9 1) ∷ Ran (tally 0 1) ∷ Ran (tally 0 2) ∷ Ran (tally 9 65536) ∷ []) ≡ 0 ∷ 0 ∷ 1 ∷ 1 ∷ 1 ∷ 1 ∷ []
+status_of_runs = refl
+
+-- It is 2 for each fault of a device or a table.
+-- rule: status-of-table
+status_of_faults :
+    map status_of (Run Read ∷ Run Write ∷ Run InputTooLong ∷ Run Memory ∷ TableB table.Header ∷ TableB (table.Row 2) ∷ TableB (table.Duplicate 257) ∷ TableD (table.Cycle 49153) ∷ TableD table.TableSize ∷ TableD table.Csv ∷ TableD table.Memory ∷ [])
+    ≡ replicate 11 2
+status_of_faults = refl

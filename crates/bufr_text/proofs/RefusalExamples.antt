@@ -1,0 +1,257 @@
+-- Worked examples of lines and documents that are refused: each bound from both sides, and of two
+-- faults at one line, or in one document, the first.
+use Rattle.std.proofs.Common.{◌≡◌, ◌+◌, ◌++◌, ℕ, Bool, true, false, List, [], ◌∷◌, map, replicate, Result, Ok, Err, refl, codes}
+use Rattle.bufr_bits.specs.Prelude.{decimal_value_of}
+use Rattle.bufr_frame.specs.declared.section1.Head.{Head}
+use Rattle.bufr_frame.specs.Prelude.{MessageParts, message_octets, message_size}
+use Rattle.bufr_tables.specs.Prelude.{part_of, level, inner_of, tree_of}
+use Rattle.bufr_tables.specs.declared.fault.TemplateFault.TheVariants as template
+use Rattle.bufr_walk.specs.Prelude.{next_item}
+use Rattle.bufr_fill.specs.Prelude.{number_token, text_form, missing_form, reference_token, Ends}
+use Rattle.bufr_fill.specs.declared.fault.ItemFault.TheVariants as wrong
+use Rattle.bufr_text.specs.declared.document.LineGroup.TheVariants as group
+use Rattle.bufr_text.specs.declared.fault.DocumentFault.TheVariants as fault
+use Rattle.bufr_text.specs.Prelude.{leasts, mosts, in_range, prefix_while, suffix_while, without_prefix, hex_read, hex_text, fxy_read, descriptors_read, descriptors_text, quoted_read, is_hashed, Line, Header, Local1, Section2, Descriptors, Begins, Item, Wrong, keys, index_from, value_read, worded, line_of, read_line, ParseResult, Refused, NotAllowed, SubsetCount, HeaderRange, turn, parse_lines, lines_of, documents_of, Document, blank, Heading, BeforeSubsets, open_documents_of, split_of, parse_open_lines, text_of_lines, DocumentFault, encoding_of, encoding_in, message_of}
+use Rattle.bufr_text.proofs.EncodingExamples.{listed, table, document, number}
+
+-- ---- What one line says, where an octet is on either side of a range.
+
+said : List (List ℕ) → List Line
+unfolding line_of worded prefix_while suffix_while without_prefix fxy_read value_read quoted_read is_hashed index_from keys hex_read descriptors_read
+said lines = map read_line lines
+
+-- A digit of local use is 0 to 9, A to F or a to f: each with its neighbours, last and first.
+-- rule: reading-hexadecimal
+hexadecimal_digits :
+    (said (map (λ c. codes "local1 0" ++ c ∷ []) (47 ∷ 48 ∷ 57 ∷ 58 ∷ 64 ∷ 65 ∷ 70 ∷ 71 ∷ 96 ∷ 97 ∷ 102 ∷ 103 ∷ []))
+    ≡ Wrong ∷ Local1 (0 ∷ []) ∷ Local1 (9 ∷ []) ∷ Wrong ∷ Wrong ∷ Local1 (10 ∷ []) ∷ Local1 (15 ∷ []) ∷ Wrong ∷ Wrong ∷ Local1 (10 ∷ []) ∷ Local1 (15 ∷ []) ∷ Wrong ∷ [])
+    × (said (map (λ c. codes "section2 " ++ c ∷ 48 ∷ []) (47 ∷ 48 ∷ 57 ∷ 58 ∷ 64 ∷ 65 ∷ 70 ∷ 71 ∷ 96 ∷ 97 ∷ 102 ∷ 103 ∷ []))
+    ≡ Wrong ∷ Section2 (0 ∷ []) ∷ Section2 (144 ∷ []) ∷ Wrong ∷ Wrong ∷ Section2 (160 ∷ []) ∷ Section2 (240 ∷ []) ∷ Wrong ∷ Wrong ∷ Section2 (160 ∷ []) ∷ Section2 (240 ∷ []) ∷ Wrong ∷ [])
+unfolding said
+hexadecimal_digits = (refl, refl)
+
+-- Lines of octets have 1 to 32 of them, and lines of descriptors 1 to 8.
+-- rule: reading-long-lists, reading-hexadecimal
+most_of_a_line :
+    (said (map (λ n. codes "local1 " ++ hex_text (replicate n 1)) (0 ∷ 1 ∷ 32 ∷ 33 ∷ [])) ≡ Wrong ∷ Local1 (1 ∷ []) ∷ Local1 (replicate 32 1) ∷ Wrong ∷ [])
+    × (said (map (λ n. codes "section2 " ++ hex_text (replicate n 1)) (0 ∷ 1 ∷ 32 ∷ 33 ∷ [])) ≡ Wrong ∷ Section2 (1 ∷ []) ∷ Section2 (replicate 32 1) ∷ Wrong ∷ [])
+    × (said (map (λ n. codes "descriptors" ++ descriptors_text (replicate n 257)) (0 ∷ 1 ∷ 8 ∷ 9 ∷ [])) ≡ Wrong ∷ Descriptors (257 ∷ []) ∷ Descriptors (replicate 8 257) ∷ Wrong ∷ [])
+unfolding said hex_text descriptors_text
+most_of_a_line = (refl, refl, refl)
+
+-- In a text an octet from space to tilde is itself, but a quote and a backslash.
+-- rule: reading-quoted
+octets_of_a_text : said (map (λ c. codes "205001 " ++ 34 ∷ c ∷ 34 ∷ []) (31 ∷ 32 ∷ 33 ∷ 34 ∷ 35 ∷ 91 ∷ 92 ∷ 93 ∷ 126 ∷ 127 ∷ 255 ∷ []))
+    ≡ Wrong ∷ Item 0x8501 (text_form (32 ∷ [])) ∷ Item 0x8501 (text_form (33 ∷ [])) ∷ Wrong ∷ Item 0x8501 (text_form (35 ∷ [])) ∷ Item 0x8501 (text_form (91 ∷ []))
+    ∷ Wrong ∷ Item 0x8501 (text_form (93 ∷ [])) ∷ Item 0x8501 (text_form (126 ∷ [])) ∷ Wrong ∷ Wrong ∷ []
+unfolding said
+octets_of_a_text = refl
+
+-- An escape is a quote, a backslash, or x and two digits of upper case. Fails where a digit of
+-- lower case, one digit, or another letter is read.
+-- rule: reading-quoted
+escapes_of_a_text :
+    (said (map (λ c. codes "205001 " ++ 34 ∷ 92 ∷ codes "x0" ++ c ∷ 34 ∷ []) (47 ∷ 48 ∷ 57 ∷ 58 ∷ 64 ∷ 65 ∷ 70 ∷ 71 ∷ 97 ∷ 102 ∷ []))
+    ≡ Wrong ∷ Item 0x8501 (text_form (0 ∷ [])) ∷ Item 0x8501 (text_form (9 ∷ [])) ∷ Wrong ∷ Wrong ∷ Item 0x8501 (text_form (10 ∷ [])) ∷ Item 0x8501 (text_form (15 ∷ [])) ∷ Wrong ∷ Wrong ∷ Wrong ∷ [])
+    × (said (map (λ octets. codes "205001 " ++ 34 ∷ 92 ∷ octets ++ 34 ∷ []) ((34 ∷ []) ∷ (92 ∷ []) ∷ codes "X41" ∷ codes "x4" ∷ codes "x" ∷ codes "y41" ∷ []))
+    ≡ Item 0x8501 (text_form (34 ∷ [])) ∷ Item 0x8501 (text_form (92 ∷ [])) ∷ Wrong ∷ Wrong ∷ Wrong ∷ Wrong ∷ [])
+unfolding said
+escapes_of_a_text = (refl, refl)
+
+-- A number token has minus signs, points and digits: each with its neighbours.
+-- rule: reading-number
+octets_of_a_number :
+    (said (map (λ c. codes "001001 " ++ c ∷ []) (44 ∷ 45 ∷ 46 ∷ 47 ∷ 48 ∷ 57 ∷ 58 ∷ []))
+    ≡ Wrong ∷ Item 257 (number_token (45 ∷ [])) ∷ Item 257 (number_token (46 ∷ [])) ∷ Wrong ∷ Item 257 (number_token (48 ∷ [])) ∷ Item 257 (number_token (57 ∷ [])) ∷ Wrong ∷ [])
+    × (said (map (λ c. codes "001001 1" ++ c ∷ []) (44 ∷ 45 ∷ 46 ∷ 47 ∷ 48 ∷ 57 ∷ 58 ∷ []))
+    ≡ Wrong ∷ Item 257 (number_token (49 ∷ 45 ∷ [])) ∷ Item 257 (number_token (49 ∷ 46 ∷ [])) ∷ Wrong ∷ Item 257 (number_token (49 ∷ 48 ∷ [])) ∷ Item 257 (number_token (49 ∷ 57 ∷ [])) ∷ Wrong ∷ [])
+unfolding said
+octets_of_a_number = (refl, refl)
+
+-- An `R` line has a number and nothing else, with one space between.
+-- rule: reading-reference, reading-after-a-value
+lines_of_references : said (codes "R 012101 -400" ∷ codes "R 012101 -400  # x" ∷ codes "R 012101 MISSING" ∷ (codes "R 012101 " ++ 34 ∷ 65 ∷ 34 ∷ []) ∷ codes "R 012101 -400 x" ∷ codes "R  012101 -400" ∷ codes "R 012101  -400" ∷ codes "R 01210 1" ∷ codes "R" ∷ codes "R 012101 " ∷ [])
+    ≡ Item 3173 (reference_token (codes "-400")) ∷ Item 3173 (reference_token (codes "-400")) ∷ replicate 8 Wrong
+unfolding said
+lines_of_references = refl
+
+-- After a value come spaces and `#`, or nothing. Fails where a comment after `R FXY N`, after
+-- MISSING or after a text is refused, or where no space is wanted before it.
+-- rule: reading-after-a-value
+after_a_value :
+    (said (codes "001001 MISSING # x" ∷ codes "001001 MISSING#" ∷ codes "001001 MISSING " ∷ codes "001001 MISSINGS" ∷ codes "001001 MISSIN" ∷ codes "001001 missing" ∷ (codes "205001 " ++ 34 ∷ 65 ∷ 34 ∷ codes " #") ∷ (codes "205001 " ++ 34 ∷ 65 ∷ 34 ∷ codes "#") ∷ [])
+    ≡ Item 257 missing_form ∷ Wrong ∷ Wrong ∷ Wrong ∷ Wrong ∷ Wrong ∷ Item 0x8501 (text_form (65 ∷ [])) ∷ Wrong ∷ [])
+    × (said (codes "R 012101 1 #" ∷ codes "R 012101 1#" ∷ codes "R 012101 1 " ∷ []) ≡ Item 3173 (reference_token (codes "1")) ∷ Wrong ∷ Wrong ∷ [])
+unfolding said
+after_a_value = (refl, refl)
+
+-- A header number, and that of `subset`, is one or more digits after one space; any past 65,535 are
+-- alike.
+-- rule: reading-header-number
+numbers_of_the_header :
+    (said (map (λ c. codes "year " ++ c ∷ []) (47 ∷ 48 ∷ 57 ∷ 58 ∷ [])) ≡ Wrong ∷ Header 10 0 ∷ Header 10 9 ∷ Wrong ∷ [])
+    × (said (codes "year" ∷ codes "year " ∷ codes "year  1" ∷ codes "year 1 " ∷ codes "year -1" ∷ codes "year 1.0" ∷ codes "Year 1" ∷ codes "year 1 # x" ∷ []) ≡ replicate 8 Wrong)
+    × (said (codes "year 0002024" ∷ codes "year 65535" ∷ codes "year 65536" ∷ codes "year 65537" ∷ []) ≡ Header 10 2024 ∷ Header 10 65535 ∷ Header 10 65536 ∷ Header 10 65536 ∷ [])
+    × (said (map (λ c. codes "subset " ++ c ∷ []) (47 ∷ 48 ∷ 57 ∷ 58 ∷ [])) ≡ Wrong ∷ Begins 0 ∷ Begins 9 ∷ Wrong ∷ [])
+unfolding said
+numbers_of_the_header = (refl, refl, refl, refl)
+
+-- ---- The ranges of the header.
+
+-- whether each value, and one more, is within the range of its key, from a key on
+bounds : (edition key : ℕ) → List ℕ → List (Bool × Bool)
+unfolding leasts mosts
+bounds edition key [] = []
+bounds edition key (value ∷ more) = (in_range edition key value, in_range edition key (value + 1)) ∷ bounds edition (key + 1) more
+
+-- The greatest value of each key, and one more, by edition; 0 is within, but for `edition`.
+-- rule: reading-header-ranges
+greatest_of_the_header :
+    (bounds 4 0 (4 ∷ 255 ∷ 65535 ∷ 65535 ∷ 255 ∷ 255 ∷ 255 ∷ 255 ∷ 255 ∷ 255 ∷ 65535 ∷ 255 ∷ 255 ∷ 255 ∷ 255 ∷ 255 ∷ 1 ∷ 1 ∷ 1 ∷ 65535 ∷ []) ≡ replicate 20 (true, false))
+    × (bounds 3 0 (4 ∷ 255 ∷ 255 ∷ 255 ∷ 255 ∷ 255 ∷ 255 ∷ 0 ∷ 255 ∷ 255 ∷ 255 ∷ 255 ∷ 255 ∷ 255 ∷ 255 ∷ 0 ∷ 1 ∷ 1 ∷ 1 ∷ 65535 ∷ []) ≡ replicate 20 (true, false))
+    × (bounds 4 1 (replicate 19 0) ≡ replicate 19 (true, true))
+    × (bounds 4 0 (2 ∷ []) ≡ (false, true) ∷ [])
+unfolding bounds
+greatest_of_the_header = (refl, refl, refl, refl)
+
+-- ---- Which lines may come where.
+
+-- the documents of lines
+documents_in : List (List ℕ) → List ParseResult
+unfolding line_of worded prefix_while suffix_while without_prefix fxy_read value_read quoted_read is_hashed index_from keys leasts mosts hex_read descriptors_read parse_lines lines_of turn
+documents_in lines = documents_of (text_of_lines lines)
+
+-- what lines after a header do, from line 22 on; in the end `x` is on a line
+after_header : (optional subsets : ℕ) → List (List ℕ) → List ParseResult
+unfolding line_of worded prefix_while suffix_while without_prefix fxy_read value_read quoted_read is_hashed index_from keys leasts mosts hex_read descriptors_read parse_lines turn
+after_header optional subsets lines = parse_lines 22 (BeforeSubsets group.Local1, record (blank 1) { header = 4 ∷ 0 ∷ 98 ∷ 0 ∷ 0 ∷ 0 ∷ 0 ∷ 0 ∷ 14 ∷ 0 ∷ 2024 ∷ 1 ∷ 2 ∷ 3 ∷ 4 ∷ 5 ∷ 1 ∷ 0 ∷ optional ∷ subsets ∷ [] }) (lines ++ codes "x" ∷ [])
+
+abbrev line_at : ℕ → List ParseResult
+line_at n = Refused n NotAllowed ∷ []
+
+abbrev count_at : ℕ → List ParseResult
+count_at n = Refused n SubsetCount ∷ []
+
+abbrev range_at : ℕ → List ParseResult
+range_at n = Refused n HeaderRange ∷ []
+
+-- what lines do that come after `compressed`, from line 20 on; in the end `x` is on a line
+late_header : List (List ℕ) → List ParseResult
+unfolding line_of worded prefix_while suffix_while without_prefix fxy_read value_read quoted_read is_hashed index_from keys leasts mosts hex_read descriptors_read parse_lines turn
+late_header lines = parse_lines 20 (Heading, record (blank 1) { header = 4 ∷ 0 ∷ 98 ∷ 0 ∷ 0 ∷ 0 ∷ 0 ∷ 0 ∷ 14 ∷ 0 ∷ 2024 ∷ 1 ∷ 2 ∷ 3 ∷ 4 ∷ 5 ∷ 1 ∷ 0 ∷ [] }) (lines ++ codes "x" ∷ [])
+
+-- The header ends with `subsets`, and no sooner.
+-- rule: reading-header-order, fault-61
+end_of_the_header :
+    map late_header ((codes "optional 1" ∷ codes "subsets 65535" ∷ codes "local1 01" ∷ []) ∷ (codes "optional 0" ∷ codes "local1 01" ∷ []) ∷ (codes "optional 0" ∷ codes "end" ∷ []) ∷ (codes "optional 0" ∷ codes "subsets 1" ∷ codes "subsets 1" ∷ [])
+    ∷ (codes "subsets 1" ∷ []) ∷ (codes "optional 2" ∷ []) ∷ (codes "optional 0" ∷ codes "subsets 65536" ∷ []) ∷ [])
+    ≡ line_at 23 ∷ line_at 21 ∷ line_at 21 ∷ line_at 22 ∷ line_at 20 ∷ range_at 20 ∷ range_at 21 ∷ []
+unfolding late_header
+end_of_the_header = refl
+
+-- Octets of local use, those of section 2, descriptors and subsets come in this order, each kind as
+-- often as it likes. Fails where one may come late, or where a second is refused.
+-- rule: reading-section2, reading-long-lists, fault-50
+kinds_in_order :
+    (after_header 1 1 (codes "local1 01" ∷ codes "local1 01" ∷ codes "section2 01" ∷ codes "section2 01" ∷ codes "descriptors 001001" ∷ codes "descriptors 001001" ∷ codes "subset 1" ∷ codes "001001 1" ∷ codes "R 012101 1" ∷ []) ≡ line_at 31)
+    × (map (after_header 1 1) ((codes "section2 01" ∷ codes "local1 01" ∷ []) ∷ (codes "descriptors 001001" ∷ codes "local1 01" ∷ []) ∷ (codes "descriptors 001001" ∷ codes "section2 01" ∷ [])
+    ∷ (codes "subset 1" ∷ codes "local1 01" ∷ []) ∷ (codes "subset 1" ∷ codes "section2 01" ∷ []) ∷ (codes "subset 1" ∷ codes "descriptors 001001" ∷ []) ∷ []) ≡ replicate 6 (line_at 23))
+unfolding after_header
+kinds_in_order = (refl, refl)
+
+-- Section 2 may have octets where `optional` is 1 alone.
+-- rule: reading-section2
+section2_by_the_flag : (after_header 0 1 (codes "section2 01" ∷ []) ≡ line_at 22) × (after_header 1 1 (codes "section2 01" ∷ []) ≡ line_at 23) × (after_header 0 1 (codes "local1 01" ∷ []) ≡ line_at 23)
+unfolding after_header
+section2_by_the_flag = (refl, refl, refl)
+
+-- An item comes after `subset`; a header line and `message` come neither before nor after it.
+-- rule: fault-50
+lines_out_of_place :
+    (map (λ line. after_header 1 1 (line ∷ [])) (codes "001001 1" ∷ codes "R 012101 1" ∷ codes "message" ∷ codes "edition 4" ∷ codes "subsets 1" ∷ []) ≡ replicate 5 (line_at 22))
+    × (map (λ line. after_header 1 1 (codes "subset 1" ∷ line ∷ [])) (codes "message" ∷ codes "edition 4" ∷ codes "subsets 1" ∷ []) ≡ replicate 3 (line_at 23))
+unfolding after_header
+lines_out_of_place = (refl, refl)
+
+-- A subset has the next number, and no number past `subsets`; at `end` there are so many. Fails
+-- where a number is skipped, where it is not compared with `subsets`, or where fewer are enough.
+-- rule: fault-57, reading-subsets
+numbers_of_subsets :
+    (map (λ line. after_header 0 1 (line ∷ [])) (codes "subset 0" ∷ codes "subset 01" ∷ codes "subset 2" ∷ codes "end" ∷ []) ≡ count_at 22 ∷ line_at 23 ∷ count_at 22 ∷ count_at 22 ∷ [])
+    × (map (λ line. after_header 0 3 (codes "subset 1" ∷ line ∷ [])) (codes "subset 1" ∷ codes "subset 2" ∷ codes "subset 3" ∷ codes "end" ∷ []) ≡ count_at 23 ∷ line_at 24 ∷ count_at 23 ∷ count_at 23 ∷ [])
+    × (after_header 0 2 (codes "subset 2" ∷ []) ≡ count_at 22)
+    × (after_header 0 1 (codes "subset 1" ∷ codes "subset 2" ∷ []) ≡ count_at 23)
+    × (map (λ line. after_header 0 0 (line ∷ [])) (codes "subset 0" ∷ codes "subset 1" ∷ []) ≡ count_at 22 ∷ count_at 22 ∷ [])
+    × (map (λ line. after_header 0 65535 (line ∷ [])) (codes "subset 1" ∷ codes "subset 65536" ∷ codes "subset 99999999999" ∷ []) ≡ line_at 23 ∷ count_at 22 ∷ count_at 22 ∷ [])
+unfolding after_header
+numbers_of_subsets = (refl, refl, refl, refl, refl, refl)
+
+-- ---- Of two faults at one line the first: 50, then 61 or 57.
+
+-- What is no line comes before a wrong count.
+-- rule: fault-order-of-a-line
+line_before_count :
+    (map (λ line. after_header 0 1 (line ∷ [])) (codes "subset 2 " ∷ codes "subset -1" ∷ codes "subset" ∷ codes "end " ∷ codes "end # x" ∷ []) ≡ replicate 5 (line_at 22))
+    × (map (λ line. after_header 0 2 (codes "subset 1" ∷ line ∷ [])) (codes "subset 3x" ∷ codes "end " ∷ []) ≡ replicate 2 (line_at 23))
+    × (map documents_in ((codes "subset 7" ∷ []) ∷ (codes "end" ∷ []) ∷ []) ≡ replicate 2 (line_at 1))
+    × (map (λ line. documents_in (codes "message" ∷ codes "edition 4" ∷ line ∷ [])) (codes "subset 7" ∷ codes "end" ∷ []) ≡ replicate 2 (line_at 3))
+unfolding after_header documents_in
+line_before_count = (refl, refl, refl, refl)
+
+-- What is no line, or another key than the next, comes before a value past its range.
+-- rule: fault-order-of-a-line, reading-header-order
+line_before_range :
+    (map (λ line. documents_in (codes "message" ∷ line ∷ [])) (codes "edition 5 " ∷ codes "edition x" ∷ codes "master 256" ∷ codes "edition 2" ∷ codes "edition 3" ∷ codes "edition 4" ∷ codes "edition 5" ∷ [])
+    ≡ line_at 2 ∷ line_at 2 ∷ line_at 2 ∷ range_at 2 ∷ line_at 3 ∷ line_at 3 ∷ range_at 2 ∷ [])
+    × (map (λ line. documents_in (codes "message" ∷ codes "edition 4" ∷ line ∷ [])) (codes "edition 9" ∷ codes "centre 65536" ∷ codes "master 256 # x" ∷ codes "master 255" ∷ codes "master 256" ∷ codes "master 99999999999999999999999" ∷ [])
+    ≡ line_at 3 ∷ line_at 3 ∷ line_at 3 ∷ line_at 4 ∷ range_at 3 ∷ range_at 3 ∷ [])
+    × (documents_in (codes "edition 5" ∷ []) ≡ line_at 1)
+    × (after_header 0 1 (codes "centre 65536" ∷ []) ≡ line_at 22)
+unfolding after_header documents_in
+line_before_range = (refl, refl, refl, refl)
+
+-- ---- Long lines, and where a text ends.
+
+-- A line has at most 4,096 octets, with its line feed or without, a comment too; one octet more is
+-- refused before the line ends.
+-- rule: reading-longest-line
+longest_line :
+    (documents_of (35 ∷ replicate 4095 120) ≡ [])
+    × (documents_of (35 ∷ replicate 4096 120) ≡ line_at 1)
+    × (open_documents_of (replicate 4096 120) ≡ [])
+    × (open_documents_of (replicate 4097 120) ≡ line_at 1)
+unfolding line_of parse_lines lines_of turn parse_open_lines split_of
+longest_line = (refl, refl, refl, refl)
+
+-- The text may end between documents alone, and the fault is at the next line; a line that is
+-- refused ends all.
+-- rule: input-ends-early, fault-50
+where_a_text_ends :
+    (map documents_of ([] ∷ codes "\n" ∷ codes "# x" ∷ codes "message" ∷ codes "message\n" ∷ codes "message\nedition 4\n" ∷ codes "message\nedition 4\n# x" ∷ codes "message\nx\ny\n" ∷ codes "message \n" ∷ codes "messages\n" ∷ [])
+    ≡ [] ∷ [] ∷ [] ∷ line_at 2 ∷ line_at 2 ∷ line_at 3 ∷ line_at 4 ∷ line_at 2 ∷ line_at 1 ∷ line_at 1 ∷ [])
+    × (map open_documents_of (codes "message" ∷ codes "message\nedition 4\n" ∷ codes "message\nedition 4\nx" ∷ codes "message\nx\n" ∷ []) ≡ [] ∷ [] ∷ [] ∷ line_at 2 ∷ [])
+unfolding line_of worded prefix_while suffix_while without_prefix fxy_read value_read quoted_read is_hashed index_from keys leasts mosts hex_read descriptors_read parse_lines lines_of turn parse_open_lines split_of
+where_a_text_ends = (refl, refl)
+
+-- ---- Of two faults of a document the first: 56, then that of an item, then 60.
+
+encoded : Document → Result (List ℕ) DocumentFault
+unfolding table document number encoding_in tree_of level part_of inner_of next_item decimal_value_of
+encoded d = encoding_of table [] d
+
+-- However much local use there is, the template goes first, and then the items.
+-- rule: fault-56-first-60-last
+template_then_items : (octets : List ℕ)
+    → (encoded (record (document 0 1 (0x0101 ∷ 0x0102 ∷ []) (number 24 0x0101 (codes "127") ∷ Ends 25 ∷ [])) { local1 = octets }) ≡ Err (fault.Template 1 (template.UnknownElement 0x0102)))
+    × (encoded (record (document 0 1 (0x8179 ∷ 0x0101 ∷ 0x0102 ∷ []) (Ends 24 ∷ [])) { local1 = octets }) ≡ Err (fault.Template 1 (template.UnknownElement 0x0102)))
+    × (encoded (record (document 0 1 (0x0101 ∷ []) (number 24 0x0101 (codes "127") ∷ Ends 25 ∷ [])) { local1 = octets }) ≡ Err (fault.Item 24 wrong.OutOfRange))
+    × (encoded (record (document 0 0 (0x0102 ∷ []) []) { local1 = octets }) ≡ Err (fault.Template 1 (template.UnknownElement 0x0102)))
+unfolding encoded document number listed
+template_then_items octets = (refl, refl, refl, refl)
+
+-- A message of 16,777,215 octets is written, and one of 16,777,216 is too long.
+-- rule: fault-60
+greatest_length : (line : ℕ) (head : Head) (parts : MessageParts)
+    → (message_size head.edition parts ≡ 16777215 → message_of line head parts ≡ Ok (message_octets head parts))
+    × (message_size head.edition parts ≡ 16777216 → message_of line head parts ≡ Err (fault.TooLong line))
+greatest_length line head parts = (λ is. rw is refl, λ is. rw is refl)
