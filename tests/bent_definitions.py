@@ -509,6 +509,9 @@ def judge_examples(room: pathlib.Path, crate: str, entries: list) -> dict:
             verdicts[entry] = f"invalid: {wrong}"
             continue
         tag, right = f"w{number}", copy.texts(copy.old, crate, "TAG")
+        if right == copy.texts(copy.new, crate, "TAG"):
+            verdicts[entry] = f"invalid: {entry.name} computes nothing by the changed definitions"
+            continue
         same = repr(sorted(right.items()))
         if same not in made:
             made[same] = f"r{number}"
@@ -563,7 +566,7 @@ def answers(room: pathlib.Path, entry: Entry, texts: dict) -> str:
 
 
 def tries_test(top: pathlib.Path, name: str) -> str:
-    done = subprocess.run(["rt", "try", "--test"], cwd=top / "crates/bufr_tests", stdout=subprocess.PIPE, stderr=subprocess.STDOUT, text=True)
+    done = subprocess.run(["rt", "try", "--test", "--", name.rpartition("::")[2]], cwd=top / "crates/bufr_tests", stdout=subprocess.PIPE, stderr=subprocess.STDOUT, text=True)
     told = re.search(rf"(?m)^test {re.escape(name)} \.\.\. (\w+)", done.stdout)
     return {"ok": "yes", "FAILED": "no"}.get(told[1], told[0]) if told else done.stdout[-300:]
 
@@ -900,7 +903,7 @@ def sampled(entries: list) -> list:
     def rank(entry: Entry) -> str:
         return hashlib.sha256((seed + entry.text()).encode()).hexdigest()
 
-    found = [entry for entry in entries if entry.file == CONTROLS[0]]
+    found = [entry for entry in entries if entry.file == CONTROLS[0] and entry.kind == "example"]
     for crate in crates():
         found += sorted((entry for entry in entries if entry.kind == "example" and entry.of == crate), key=rank)[:SAMPLE]
     return found
