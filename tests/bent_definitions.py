@@ -26,6 +26,7 @@ are lines `new:`. `fails:` names what must notice:
     test FILE::NAME        a test of bufr_tests, of code that is changed in the same way
 
 For a vector and a test the entry has the change of the code too, by pairs below `code:`, a file of the crate's src/.
+A line `order: DEFINITION` says that the change turns round what the definition asks first, where no words show it.
 Lines `free: FILE: NAME, NAME` or ``free: FILE: `TEXT` `` below a comment say why definitions, or the comparison that a
 text holds, have no entry.
 
@@ -92,7 +93,7 @@ class Entry:
 
     def __init__(self, crate: str, line: int) -> None:
         self.crate, self.line = crate, line
-        self.words, self.changes, self.free = [], [], []
+        self.words, self.changes, self.free, self.turned = [], [], [], set()
         self.kind = self.of = self.name = ""
         self.wanted, self.file = "caught", crate
 
@@ -168,6 +169,8 @@ def read_line(entry: Entry, line: str) -> None:
         entry.of = of or entry.crate
         if entry.kind not in KINDS or not entry.name:
             raise Bad(f"`fails:` names one of {', '.join(KINDS)}, and its name")
+    elif key == "order":
+        entry.turned.add(text.strip())
     elif key == "verdict":
         entry.wanted = text.strip()
     elif key == "free":
@@ -803,14 +806,16 @@ def files() -> list:
 
 def cover(entries: list) -> list:
     """Gives each site the entries that change it, or the reason why it has none. The answer are complaints."""
-    wrongs = []
     for entry in entries:
         for change in entry.changes:
             if change.folder == "specs":
                 note(entry, change)
-        for file, names in entry.free:
-            wrongs += set_free(entry, (entry.crate, "specs", file), names)
-    return wrongs
+    return [
+        f"{entry.file}.txt:{entry.line}: in {file} nothing of {names} is without an entry"
+        for entry in entries
+        for file, names in entry.free
+        if not set_free(entry, (entry.crate, "specs", file), names)
+    ]
 
 
 def note(entry: Entry, change: Change) -> None:
@@ -834,7 +839,8 @@ def note(entry: Entry, change: Change) -> None:
         for site in definition.sites:
             if site.kind == "order":
                 one, other = place_in(new, site.words), place_in(new, site.after)
-                turned = one is not None and other is not None and other < one
+                is_told = definition.name in entry.turned and touched & set(definition.starts[site.first :])
+                turned = is_told or one is not None and other is not None and other < one
                 if turned and entry not in site.entries:
                     site.entries.append(entry)
             elif touched & set(definition.starts[site.first : site.last]) and entry not in site.entries:
@@ -842,31 +848,27 @@ def note(entry: Entry, change: Change) -> None:
 
 
 def set_free(entry: Entry, place: tuple, names: str) -> list:
-    """Gives sites the reason why they have no entry."""
-    reason, found = " ".join(entry.words), definitions(place)
+    """Gives the sites of definitions, or of a text, that have no entry the reason for it. The answer are these sites."""
+    text, found = names.strip("`"), definitions(place)
     if names.startswith("`"):
-        text = names.strip("`")
+        start = source(place).find(text)
         if source(place).count(text) != 1:
-            return [f"{entry.crate}.txt:{entry.line}: {place[2]} has {source(place).count(text)} times {text!r}"]
-        start = source(place).index(text)
+            return []
         hit = [
             site
             for one in found
             for site in one.sites
             if any(start <= at < start + len(text) for at in one.starts[site.first : site.last])
         ]
-        for site in hit:
-            site.reason = reason
-        return [] if hit else [f"{entry.crate}.txt:{entry.line}: nothing in {text!r} needs an entry"]
-    wrongs = []
-    for name in names.split(","):
-        of = [one for one in found if one.name == name.strip()]
-        if not any(one.sites for one in of):
-            wrongs.append(f"{entry.crate}.txt:{entry.line}: nothing in {name.strip()} of {place[2]} needs an entry")
-        for one in of:
-            for site in one.sites:
-                site.reason = reason
-    return wrongs
+    else:
+        wanted = {name.strip() for name in names.split(",")}
+        hit = [site for one in found if one.name in wanted for site in one.sites]
+        if not wanted <= {one.name for one in found if any(not site.is_covered() for site in one.sites)}:
+            return []
+    hit = [site for site in hit if not site.is_covered()]
+    for site in hit:
+        site.reason = " ".join(entry.words)
+    return hit
 
 
 def boundaries(place: tuple, name: str) -> list:
