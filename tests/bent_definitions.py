@@ -783,6 +783,12 @@ def place_in(words: list, part) -> int | None:
     return next((at for at in range(len(words) - len(part) + 1) if words[at : at + len(part)] == part), None)
 
 
+def times(words: list, part: list, is_open: bool) -> int:
+    """How often words have a part, after which an expression ends if the part is no open one."""
+    ends = (at + len(part) for at in range(len(words)) if words[at : at + len(part)] == part)
+    return sum(is_open or words[end : end + 1] == [] or words[end] in ENDS for end in ends)
+
+
 @functools.lru_cache(None)
 def definitions(place: tuple) -> list:
     """The definitions of a file of specs/."""
@@ -844,7 +850,10 @@ def note(entry: Entry, change: Change) -> None:
                 if turned and entry not in site.entries:
                     site.entries.append(entry)
             elif touched & set(definition.starts[site.first : site.last]) and entry not in site.entries:
-                site.entries.append(entry)
+                beside = site.kind == "number"  # a number is told from others by the words beside it
+                words = definition.words[site.first - beside : site.last + beside]
+                if not 0 < times(old, words, beside) <= times(new, words, beside):  # and not only moved
+                    site.entries.append(entry)
 
 
 def set_free(entry: Entry, place: tuple, names: str) -> list:
