@@ -26,6 +26,7 @@ are lines `new:`. `fails:` names what must notice:
     test FILE::NAME        a test of bufr_tests, of code that is changed in the same way
 
 For a vector and a test the entry has the change of the code too, by pairs below `code:`, a file of the crate's src/.
+A line `order: DEFINITION` says that the change turns round what the definition asks first, where no words show it.
 Lines `free: FILE: NAME, NAME` or ``free: FILE: `TEXT` `` below a comment say why definitions, or the comparison that a
 text holds, have no entry.
 
@@ -51,6 +52,7 @@ import os
 import pathlib
 import re
 import shutil
+import signal
 import subprocess
 import sys
 import tempfile
@@ -92,7 +94,7 @@ class Entry:
 
     def __init__(self, crate: str, line: int) -> None:
         self.crate, self.line = crate, line
-        self.words, self.changes, self.free = [], [], []
+        self.words, self.changes, self.free, self.turned = [], [], [], set()
         self.kind = self.of = self.name = ""
         self.wanted, self.file = "caught", crate
 
@@ -168,6 +170,8 @@ def read_line(entry: Entry, line: str) -> None:
         entry.of = of or entry.crate
         if entry.kind not in KINDS or not entry.name:
             raise Bad(f"`fails:` names one of {', '.join(KINDS)}, and its name")
+    elif key == "order":
+        entry.turned.add(text.strip())
     elif key == "verdict":
         entry.wanted = text.strip()
     elif key == "free":
@@ -361,10 +365,32 @@ class Copy:
 ERROR = re.compile(r"^\./proofs/variants/(\w+)/(\w+)\.antt:(\d+):(\d+): error: (.*)$")
 
 
+running = set()  # the processes that were started and have not ended
+
+
+def run(words: list, cwd: pathlib.Path, given: bytes = b"") -> tuple:
+    """The status of a command, its output and its error output. It is in a group of its own, so that it can be stopped."""
+    pipe = subprocess.PIPE
+    with subprocess.Popen(words, cwd=cwd, stdin=pipe, stdout=pipe, stderr=pipe, start_new_session=True) as process:
+        running.add(process)
+        try:
+            output, errors = process.communicate(given)
+        finally:
+            running.discard(process)
+    return process.returncode, output, errors
+
+
+def stop_all() -> None:
+    for process in list(running):
+        os.killpg(process.pid, signal.SIGKILL)
+
+
 @functools.lru_cache(None)
 def kit() -> pathlib.Path:
-    told = subprocess.run(["rt", "doc"], stdout=subprocess.PIPE, text=True, check=True).stdout.split()
-    return pathlib.Path(told[-1]).parent
+    status, output, errors = run(["rt", "doc"], TOP)
+    if status:
+        raise Bad(f"rt doc does not say where the toolchain is: {errors.decode()}")
+    return pathlib.Path(output.decode().split()[-1]).parent
 
 
 @functools.lru_cache(None)
@@ -433,11 +459,10 @@ def check_copies(room: pathlib.Path, crate: str, copies: dict) -> dict:
         "pub returns : goal.returns\nreturns c = refl\n",
         encoding="utf-8",
     )
-    words = check_words(top, crate, "bent::bent")
-    done = subprocess.run(words, cwd=folder, stdout=subprocess.PIPE, stderr=subprocess.STDOUT, text=True, encoding="utf-8")
-    lines = done.stdout.splitlines()
-    if not any(re.match(r"only=1 proved=[01]$", line) for line in lines) or done.returncode not in (0, 1):
-        raise Bad(f"the check of {crate} gave no verdict:\n{done.stdout[-2000:]}")
+    status, output, errors = run(check_words(top, crate, "bent::bent"), folder)
+    lines = output.decode("utf-8", "replace").splitlines()
+    if not any(re.match(r"only=1 proved=[01]$", line) for line in lines) or status not in (0, 1):
+        raise Bad(f"the check of {crate} gave no verdict (status {status}):\n{(output + errors)[-2000:].decode(errors='replace')}")
     refused = collections.defaultdict(list)
     for at, line in enumerate(lines):
         found = ERROR.match(line)
@@ -547,14 +572,14 @@ def changed_copy(room: pathlib.Path, texts: dict) -> pathlib.Path:
 def proves(room: pathlib.Path, entry: Entry, texts: dict) -> str:
     """Whether a law is proved: `yes`, `no`, or what is wrong with the texts themselves."""
     top = changed_copy(room, texts)
-    words = check_words(top, entry.of, entry.name)
-    done = subprocess.run(words, cwd=top / "crates" / entry.of, stdout=subprocess.PIPE, stderr=subprocess.STDOUT, text=True, encoding="utf-8")
+    status, output, errors = run(check_words(top, entry.of, entry.name), top / "crates" / entry.of)
+    told = (output + errors).decode(errors="replace")
     shutil.rmtree(top)
-    ended = re.search(r"(?m)^only=1 proved=([01])$", done.stdout)
-    wrong = re.search(r"(?m)^\S*(?:specs/|\.rt:).*: error: .*$", done.stdout)
-    if not ended or done.returncode not in (0, 1) or wrong:
-        return wrong[0] if wrong else done.stdout[-300:]
-    return "no" if done.returncode or ended[1] == "0" else "yes"
+    ended = re.search(r"(?m)^only=1 proved=([01])$", told)
+    wrong = re.search(r"(?m)^\S*(?:specs/|\.rt:).*: error: .*$", told)
+    if not ended or status not in (0, 1) or wrong:
+        return wrong[0] if wrong else told[-300:]
+    return "no" if status or ended[1] == "0" else "yes"
 
 
 def answers(room: pathlib.Path, entry: Entry, texts: dict) -> str:
@@ -566,9 +591,10 @@ def answers(room: pathlib.Path, entry: Entry, texts: dict) -> str:
 
 
 def tries_test(top: pathlib.Path, name: str) -> str:
-    done = subprocess.run(["rt", "try", "--test", "--", name.rpartition("::")[2]], cwd=top / "crates/bufr_tests", stdout=subprocess.PIPE, stderr=subprocess.STDOUT, text=True)
-    told = re.search(rf"(?m)^test {re.escape(name)} \.\.\. (\w+)", done.stdout)
-    return {"ok": "yes", "FAILED": "no"}.get(told[1], told[0]) if told else done.stdout[-300:]
+    _, output, errors = run(["rt", "try", "--test", "--", name.rpartition("::")[2]], top / "crates/bufr_tests")
+    told = (output + errors).decode(errors="replace")
+    found = re.search(rf"(?m)^test {re.escape(name)} \.\.\. (\w+)", told)
+    return {"ok": "yes", "FAILED": "no"}.get(found[1], found[0]) if found else told[-300:]
 
 
 @functools.lru_cache(None)
@@ -588,25 +614,25 @@ def tries_vector(top: pathlib.Path, name: str) -> str:
         if (folder / word).is_file():
             words += ["--data", f"{word}={folder / word}"]
     words += ["--", *case["words"].split()]
-    done = subprocess.run(words, cwd=top / "crates/bufr", input=content(case["input"]), stdout=subprocess.PIPE, stderr=subprocess.PIPE)
-    faults, ended, _ = done.stderr.partition(b"checked: ended status=")
+    status, output, errors = run(words, top / "crates/bufr", content(case["input"]))
+    faults, ended, _ = errors.partition(b"checked: ended status=")
     if not ended:
-        return done.stderr[-300:].decode(errors="replace")
+        return errors[-300:].decode(errors="replace")
     wanted = int(case["status"]), content(case["output"]), content(case["faults"])
-    return "yes" if wanted == (done.returncode, done.stdout, faults) else "no"
+    return "yes" if wanted == (status, output, faults) else "no"
 
 
 def judge_alone(room: pathlib.Path, entry: Entry, known: dict) -> str:
     """The verdict on an entry that needs a check or a build of its own. `known` has what passes without a change."""
     if entry.kind == "vector" and entry.name not in vectors():
         return f"invalid: vectors/cases.tsv has no {entry.name}"
-    run = proves if entry.kind == "law" else answers
+    passes = proves if entry.kind == "law" else answers
     same = entry.kind, entry.of, entry.name
     if same not in known:
-        known[same] = run(room, entry, {})
+        known[same] = passes(room, entry, {})
     if known[same] != "yes":
         return f"invalid: {entry.kind} {entry.name} does not pass without the change: {known[same]}"
-    told = run(room, entry, entry.changed({"specs", "src"}))
+    told = passes(room, entry, entry.changed({"specs", "src"}))
     return {"yes": "survives", "no": "caught"}.get(told, f"invalid: the changed text is refused: {told}")
 
 
@@ -780,6 +806,12 @@ def place_in(words: list, part) -> int | None:
     return next((at for at in range(len(words) - len(part) + 1) if words[at : at + len(part)] == part), None)
 
 
+def times(words: list, part: list, is_open: bool) -> int:
+    """How often words have a part, after which an expression ends if the part is no open one."""
+    ends = (at + len(part) for at in range(len(words)) if words[at : at + len(part)] == part)
+    return sum(is_open or words[end : end + 1] == [] or words[end] in ENDS for end in ends)
+
+
 @functools.lru_cache(None)
 def definitions(place: tuple) -> list:
     """The definitions of a file of specs/."""
@@ -803,14 +835,16 @@ def files() -> list:
 
 def cover(entries: list) -> list:
     """Gives each site the entries that change it, or the reason why it has none. The answer are complaints."""
-    wrongs = []
     for entry in entries:
         for change in entry.changes:
             if change.folder == "specs":
                 note(entry, change)
-        for file, names in entry.free:
-            wrongs += set_free(entry, (entry.crate, "specs", file), names)
-    return wrongs
+    return [
+        f"{entry.file}.txt:{entry.line}: in {file} nothing of {names} is without an entry"
+        for entry in entries
+        for file, names in entry.free
+        if not set_free(entry, (entry.crate, "specs", file), names)
+    ]
 
 
 def note(entry: Entry, change: Change) -> None:
@@ -834,39 +868,39 @@ def note(entry: Entry, change: Change) -> None:
         for site in definition.sites:
             if site.kind == "order":
                 one, other = place_in(new, site.words), place_in(new, site.after)
-                turned = one is not None and other is not None and other < one
+                is_told = definition.name in entry.turned and touched & set(definition.starts[site.first :])
+                turned = is_told or one is not None and other is not None and other < one
                 if turned and entry not in site.entries:
                     site.entries.append(entry)
             elif touched & set(definition.starts[site.first : site.last]) and entry not in site.entries:
-                site.entries.append(entry)
+                beside = site.kind == "number"  # a number is told from others by the words beside it
+                words = definition.words[site.first - beside : site.last + beside]
+                if not 0 < times(old, words, beside) <= times(new, words, beside):  # and not only moved
+                    site.entries.append(entry)
 
 
 def set_free(entry: Entry, place: tuple, names: str) -> list:
-    """Gives sites the reason why they have no entry."""
-    reason, found = " ".join(entry.words), definitions(place)
+    """Gives the sites of definitions, or of a text, that have no entry the reason for it. The answer are these sites."""
+    text, found = names.strip("`"), definitions(place)
     if names.startswith("`"):
-        text = names.strip("`")
+        start = source(place).find(text)
         if source(place).count(text) != 1:
-            return [f"{entry.crate}.txt:{entry.line}: {place[2]} has {source(place).count(text)} times {text!r}"]
-        start = source(place).index(text)
+            return []
         hit = [
             site
             for one in found
             for site in one.sites
             if any(start <= at < start + len(text) for at in one.starts[site.first : site.last])
         ]
-        for site in hit:
-            site.reason = reason
-        return [] if hit else [f"{entry.crate}.txt:{entry.line}: nothing in {text!r} needs an entry"]
-    wrongs = []
-    for name in names.split(","):
-        of = [one for one in found if one.name == name.strip()]
-        if not any(one.sites for one in of):
-            wrongs.append(f"{entry.crate}.txt:{entry.line}: nothing in {name.strip()} of {place[2]} needs an entry")
-        for one in of:
-            for site in one.sites:
-                site.reason = reason
-    return wrongs
+    else:
+        wanted = {name.strip() for name in names.split(",")}
+        hit = [site for one in found if one.name in wanted for site in one.sites]
+        if not wanted <= {one.name for one in found if any(not site.is_covered() for site in one.sites)}:
+            return []
+    hit = [site for site in hit if not site.is_covered()]
+    for site in hit:
+        site.reason = " ".join(entry.words)
+    return hit
 
 
 def boundaries(place: tuple, name: str) -> list:
@@ -932,7 +966,8 @@ def judge(entries: list, jobs: int) -> dict:
                 verdicts.update(check.result())
             verdicts.update({entry: other.result() for entry, other in others.items()})
         except BaseException:
-            pool.shutdown(cancel_futures=True)
+            pool.shutdown(wait=False, cancel_futures=True)
+            stop_all()
             raise
     return verdicts
 
@@ -967,10 +1002,13 @@ def main() -> None:
     if not tried:
         asker.error("no entry has this crate and word")
     start = time.monotonic()
+    signal.signal(signal.SIGTERM, lambda number, _: sys.exit(128 + number))
     try:
         verdicts = judge(tried, asked.jobs)
-    except Bad as wrong:
-        finish([*wrongs, str(wrong)])
+    except (Bad, OSError) as wrong:
+        finish([*wrongs, f"no verdict: {wrong}"])
+    except KeyboardInterrupt:
+        sys.exit(130)
     for entry, verdict in verdicts.items():
         if verdict.partition(":")[0] != entry.wanted:
             wrongs.append(f"{entry}: {verdict}" + (f"; {entry.kind} {entry.of}/{entry.name} passes all the same" if verdict == "survives" else ""))
