@@ -247,8 +247,8 @@ def clauses_of_proof() -> None:
     tables = re.findall(r"^\| [^|]* \| (?:calls and clauses|where|contract) \|.*\n\|-.*\n((?:\|.*\n)+)", page, re.M)
     want(len(tables) == 3, "docs/proof.md: not three tables have calls and clauses")
     sources = "\n".join(path.read_text(encoding="utf-8") for path in TOP.glob("crates/*/src/*.rt"))
-    for block in re.findall(r"^```\n(.*?)^```$", page, re.M | re.S):
-        want(" ".join(block.split()) in " ".join(sources.split()), f"docs/proof.md: in no crate is {block}")
+    for language, block in re.findall(r"^```(\w*)\n(.*?)^```$", page, re.M | re.S):
+        want(language != "" or " ".join(block.split()) in " ".join(sources.split()), f"docs/proof.md: in no crate is {block}")
     for row in "".join(tables).splitlines():
         cell = row.split(" | ")[1].rstrip(" |")
         for text in [re.sub(r"\([^()]*\)", "", cell), *re.findall(r"\(([^()]*)\)", cell)]:
