@@ -308,7 +308,10 @@ def wait(process: int) -> int:
 
 
 def lines_from(pipe: int, progress: Progress, place):
-    """Blocks of whole lines, as a program writes them to a pipe. Meanwhile the progress is told by `place()`."""
+    """Blocks of whole lines, as a program writes them to a pipe, and at the end what it left of a last one.
+
+    Meanwhile the progress is shown by `place()`.
+    """
     rest, block = b"", b" "
     while block:
         if progress.is_on:
@@ -317,7 +320,10 @@ def lines_from(pipe: int, progress: Progress, place):
             progress.at(place())
         block = os.read(pipe, BLOCK)
         lines, end, rest = (rest + block).rpartition(b"\n")
+        if len(rest) > BLOCK:
+            raise Failed("a line of the listing is over 1 MB long")
         yield lines + end
+    yield rest
 
 
 def checked(status: int, has_told: bool = True, what: str = "bufr") -> int:

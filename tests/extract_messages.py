@@ -22,6 +22,7 @@ import lib
 from lib import TOP, want
 
 EXTRACT = TOP / "scripts/bufr-extract"
+SYNOP = TOP / "examples/synop.bufr"
 HEADING = b"\x01\r\r\n123\r\r\nISMD01 EDZW 221200\r\r\n"
 
 
@@ -50,19 +51,35 @@ CONDITIONS = [
     (["--awk", 'value["length"] > 56 && $6 ~ /=[34]\\//'], lambda n, m: len(m) > 56 and n % 5 > 2),
     (["--awk", "/ category=4/", "centre=74"], lambda n, m: n % 5 == 4 and n // 5 % 2 == 1),
 ]
-# words that are refused with status 2, and what is told
+# words that are refused with status 2, and part of the message
 REFUSED = [
-    (["categori=0"], "no key categori"),
-    (["category=land"], "no value of a listing"),
-    (["category="], "no value of a listing"),
-    (["--awk", "1)"], "awk does not take the condition"),
-    (["--awk", ""], "--awk without a condition would take nothing"),
-    (["--awk", " # length"], "--awk without a condition would take nothing"),
-    (["--awk", ";\n# one\n\n  # other\n"], "--awk without a condition would take nothing"),
-    (["--all"], "no option --all"),
-    (["one", "two"], "one file a call"),
+    (["categori=0"], "unknown key categori in 'categori=0'"),
+    (["category=land"], "'category=land' has a value that no listing has"),
+    (["category="], "has a value that no listing has"),
+    (["category", SYNOP], "category has no value: write category=VALUE"),
+    ([SYNOP, "time"], "time has no value: write time=VALUE"),
+    (["--awk", "1)"], "awk does not accept the condition 1)"),
+    (["--awk", ""], "--awk needs a condition that is not empty"),
+    (["--awk", " # length"], "--awk needs a condition that is not empty"),
+    (["--awk", ";\n# one\n\n  # other\n"], "--awk needs a condition that is not empty"),
+    (["--awk"], "--awk needs a value"),
+    (["--all"], "unknown option --all"),
+    (["one", "two"], "it reads one file: cat one two | bufr-extract"),
     (["nosuch"], "cannot open nosuch"),
     (["/"], "read failed"),
+]
+# Conditions of awk that do more than select lines.
+NO_CONDITIONS = [
+    "1;1",
+    '$0 = "offset=5 length=3"',
+    '$2 = "length=54"',
+    '$2 = "length=99999999"',
+    '$1 = "offset=99999999999999999999"',
+    "$0 = $0 \"\\r\"",
+    "{ lines = $0 \"\\n\" lines } END { printf \"%s\", lines }",
+    '{ printf "%s", $0 }',
+    '{ printf "x" }',
+    '{ while (1) printf "%s", "x" }',
 ]
 
 
@@ -105,6 +122,19 @@ def refuses_what_it_cannot(path: pathlib.Path) -> None:
         want(
             done.returncode == 2 and not done.stdout and told in done.stderr.decode(), f"{words} is told {done.stderr}"
         )
+    path.write_bytes(made(1) * 2)
+    for condition in NO_CONDITIONS:
+        for name, done in (
+            ("a file", run(["--awk", condition, path], timeout=60)),
+            ("a pipe", run(["--awk", condition], input=path.read_bytes(), timeout=60)),
+        ):
+            lines = done.stderr.decode().splitlines()
+            told = "a line of the listing is over 1 MB long" if "while" in condition else "--awk printed or changed a line"
+            is_refused = done.returncode == 2 and done.stdout in (b"", made(1)) and len(lines) == 1 and told in lines[0]
+            want(is_refused, f"--awk '{condition}' over {name}: {done}")
+    done = run(["--awk", 'NR == 2 { print last } { last = $0; next }', path])
+    want((done.returncode, done.stdout) == (0, made(1)), f"a line that awk selects later is refused: {done}")
+    want(run(["--awk", "END { exit 2 }", path]).returncode == 2, "a filter that fails is no failure")
     path.write_bytes(made(1))
     with open("/dev/full", "wb") as full:
         done = run([path], stdout=full)
@@ -129,22 +159,27 @@ def tells_years_of_the_century(folder: pathlib.Path) -> None:
     path = folder / "years.bufr"
     path.write_bytes(b"".join(messages.values()))
     first, second, next_year, whole, of_14, whole_next = dates
+    two_digits = "whose years have two digits"
     for words, taken, told in (
-        (["time=2014"], [whole], "2 messages of edition 3, which has years of the century: time=2014,0014 takes both"),
-        (["time=2014-06"], [], "1 message of edition 3, which has years of the century: time=2014-06,0014-06 takes both"),
+        (["time=2014"], [whole], f"2 edition 3 messages, {two_digits}: time=2014,0014 takes both editions"),
+        (["time=2014-06"], [], f"1 edition 3 message, {two_digits}: time=2014-06,0014-06 takes both editions"),
         (["time=2014,0014"], [first, second, whole, of_14], ""),
         (["time=2014,0014-05"], [first, whole, of_14], ""),
         (["time=2015", "edition=4"], [whole_next], ""),
         (["time=2013"], [], ""),
         (["time=0014", "edition=3"], [first, second], ""),
-        (["time=2014,0015", "time=2015,0014"], [], "3 messages of edition 3"),
+        (
+            ["time=2014,0015", "time=2015,0014"],
+            [],
+            f"3 edition 3 messages, {two_digits}: time=2014,0015,0014,0015 takes both editions",
+        ),
         (["time!=2014,0014"], [next_year, whole_next], ""),
     ):
         done = run([*words, path])
         wanted = b"".join(messages[date] for date in taken)
         want((done.returncode, done.stdout) == (0, wanted), f"{words} takes other messages")
-        told = f"bufr-extract: left out {told}" if told else ""
-        want(done.stderr.decode().startswith(told) and bool(done.stderr) == bool(told), f"{words} is told {done.stderr}")
+        told = f"bufr-extract: left out {told}\n" if told else ""
+        want(done.stderr.decode() == told, f"{words} prints {done.stderr}")
 
 
 def tells_that_there_is_no_message(path: pathlib.Path) -> None:
@@ -163,6 +198,19 @@ def tells_that_there_is_no_message(path: pathlib.Path) -> None:
                 lines = done.stderr.decode().splitlines()
                 wanted = [] if told is None else [f"bufr-extract: {name} has no message{told}"]
                 want((done.returncode, lines[status:]) == (status, wanted), f"{words} of {octets[:9]}: {done}")
+
+
+def ignores_the_locale(folder: pathlib.Path) -> None:
+    """A condition means the same in every locale: gawk counts characters, or bytes in the locale C."""
+    gawk = shutil.which("gawk")
+    if not gawk:
+        print("extract_messages: skipped, gawk is not there to try a locale")
+        return
+    (folder / "awk").symlink_to(gawk)
+    (folder / "one").write_bytes(made(1))
+    environment = {**os.environ, "PATH": f"{folder}:{os.environ['PATH']}", "LC_ALL": "C.UTF-8"}
+    done = run(["--awk", 'length("\u00e9") == 2', folder / "one"], env=environment)
+    want(done.stdout == made(1), f"a condition depends on the locale: {done}")
 
 
 def serves_a_feed(folder: pathlib.Path) -> None:
@@ -223,6 +271,7 @@ def main() -> None:
         refuses_what_it_cannot(folder / "one.bufr")
         tells_years_of_the_century(folder)
         tells_that_there_is_no_message(folder / "none")
+        ignores_the_locale(folder)
         serves_a_feed(folder)
         takes_at_most_three_times_as_long(program, folder)
 
