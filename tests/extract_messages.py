@@ -134,7 +134,14 @@ def refuses_what_it_cannot(path: pathlib.Path) -> None:
             want(is_refused, f"--awk '{condition}' over {name}: {done}")
     done = run(["--awk", 'NR == 2 { print last } { last = $0; next }', path])
     want((done.returncode, done.stdout) == (0, made(1)), f"a line that awk selects later is refused: {done}")
-    want(run(["--awk", "END { exit 2 }", path]).returncode == 2, "a filter that fails is no failure")
+    done = run(["--awk", "NR == 2 { exit 2 } 1", path])
+    want((done.returncode, done.stdout) == (2, made(1)), f"an awk that fails is no failure: {done}")
+    killed = path.with_name("killed")
+    killed.write_text('#!/bin/sh\nprintf "offset=0 length=5"\nkill -9 $$\n')
+    killed.chmod(0o755)
+    done = run(["category!=9", path], env={**os.environ, "BUFR": str(killed)})
+    is_told = b"bufr ended with 137" in done.stderr or b"bufr was killed" in done.stderr
+    want(done.returncode == 2 and not done.stdout and is_told, f"of a line that is cut something is taken: {done}")
     path.write_bytes(made(1))
     with open("/dev/full", "wb") as full:
         done = run([path], stdout=full)
