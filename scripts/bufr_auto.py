@@ -161,8 +161,8 @@ class Masker:
     def __init__(self, longest: int) -> None:
         self.finder, self.count = Finder(longest), 0
 
-    def take(self, octets: bytes) -> bytes:
-        """Takes the next block, and returns what the program may read by now."""
+    def take(self, octets: bytes) -> Iterator[bytes]:
+        """Takes the next block, which is empty at the end, and yields what the program may read by now."""
         finder = self.finder
         finder.put(octets)
         while found := finder.find():
@@ -171,11 +171,9 @@ class Masker:
                 finder.held[begin : begin + 4] = bytes(4)
                 self.count += 1
                 bufr_guard.say(stray_line(finder.passed + begin, fault))
-        return bytes(finder.held if finder.has_ended else finder.held[: finder.at])
-
-    def rest(self) -> bytes:
-        """What remains at the end of the stream."""
-        return self.take(b"")
+        end = len(finder.held) if finder.has_ended else finder.at
+        for begin in range(0, end, bufr_guard.BLOCK):
+            yield bytes(finder.held[begin : min(begin + bufr_guard.BLOCK, end)])
 
 
 class Source:

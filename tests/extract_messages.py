@@ -63,8 +63,9 @@ REFUSED = [
     (["--awk", " # length"], "--awk needs a condition that is not empty"),
     (["--awk", ";\n# one\n\n  # other\n"], "--awk needs a condition that is not empty"),
     (["--awk"], "--awk needs a value"),
+    (["--max-length", "11"], "--max-length '11': expected a whole number, at least 12"),
     (["--all"], "unknown option --all"),
-    (["one", "two"], "it reads one file: cat one two | bufr-extract"),
+    (["one", "two"], "only one file: use cat one two | bufr-extract"),
     (["nosuch"], "cannot open nosuch"),
     (["/"], "read failed"),
 ]
@@ -220,6 +221,45 @@ def ignores_the_locale(folder: pathlib.Path) -> None:
     want(done.stdout == made(1), f"a condition depends on the locale: {done}")
 
 
+def skips_what_is_too_long(folder: pathlib.Path) -> None:
+    """With --max-length a message that declares more is skipped with a note, and reading continues in it."""
+    inner, stray = made(3), b"BUFR\xff\xff\xff\x04"
+    longer = lib.message(inner, lib.words("205056"))
+    octets = made(1) + HEADING + longer + stray + made(2) + longer[:-4]
+    first, second = len(made(1) + HEADING), len(made(1) + HEADING + longer)
+    limit = len(made(6))
+    want(len(longer) > limit >= max(map(len, (made(1), made(2), inner))), "the made messages have other lengths")
+    last = second + len(stray + made(2))
+    notes = [(first, len(longer)), (second, 0xFFFFFF), (last, len(longer))]
+    told = [f"bufr-extract: offset {offset}: skipped: it declares {length} bytes" for offset, length in notes]
+    path = folder / "longer"
+    path.write_bytes(octets)
+    for words, taken in (([], [1, 3, 2, 3]), (["centre=98"], [1, 3, 2, 3]), (["--awk", 'value["subsets"] != 3'], [1, 3, 3])):
+        words = [*words, "--max-length", str(limit)]
+        for name, done in (("a file", run([*words, path])), ("a pipe", run(words, input=octets))):
+            want(done.stdout == b"".join(map(made, taken)), f"{words} of {name}: other messages")
+            want((done.returncode, done.stderr.decode().splitlines()) == (1, told), f"{words} of {name}: {done}")
+    whole = run(["--max-length", "16777215", path])
+    want(whole.stdout == run([path]).stdout != b"", "a high limit changes what is taken")
+    want(run([f"--max-length={len(made(1))}", "-"], input=made(1)).returncode == 0, "a message as long as the limit is skipped")
+    with subprocess.Popen(
+        [sys.executable, EXTRACT, "--max-length", "1000"],
+        stdin=subprocess.PIPE,
+        stdout=subprocess.PIPE,
+        stderr=subprocess.PIPE,
+        bufsize=0,
+    ) as feed:
+        feed.stdin.write(stray)
+        note = b"bufr-extract: offset 0: skipped: it declares 16777215 bytes\n"
+        is_there = select.select([feed.stderr], [], [], 20)[0]
+        want(is_there and feed.stderr.read(1 << 16) == note, "the note of a live feed waits")
+        feed.stdin.write(made(1))
+        is_there = select.select([feed.stdout], [], [], 20)[0]
+        want(is_there and feed.stdout.read(1 << 16) == made(1), "a stray delays a live feed")
+        feed.stdin.close()
+        want(feed.wait() == 1, "a live feed with a stray ends otherwise")
+
+
 def serves_a_feed(folder: pathlib.Path) -> None:
     """Each message is there before the next one is sent, by any awk."""
     for awk in filter(None, map(shutil.which, ("awk", "mawk", "gawk"))):
@@ -279,6 +319,7 @@ def main() -> None:
         tells_years_of_the_century(folder)
         tells_that_there_is_no_message(folder / "none")
         ignores_the_locale(folder)
+        skips_what_is_too_long(folder)
         serves_a_feed(folder)
         takes_at_most_three_times_as_long(program, folder)
 
