@@ -6,7 +6,7 @@ _bufr_scripts() {
     case ${COMP_WORDS[0]##*/} in
         bufr-auto) options='--encode' ;;
         bufr-extract)
-            options='--awk'
+            options='--awk --max-length'
             words='offset= length= edition= centre= update= category= tables= time= subsets= observed= compressed= optional= descriptors='
             ;;
         bufr-parallel)
@@ -24,7 +24,7 @@ _bufr_scripts() {
             mapfile -t COMPREPLY < <(compgen -d -- "$word"; compgen -f -X '!*.csv' -- "$word")
             return
             ;;
-        -P | --awk | --value | --message | --subset) return ;;
+        -P | --awk | --max-length | --value | --message | --subset) return ;;
     esac
     if [[ $word == -* ]]; then
         mapfile -t COMPREPLY < <(compgen -W "$options --help --version" -- "$word")

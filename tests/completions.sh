@@ -32,12 +32,18 @@ offers 'examples/synop.bufr' --encode examples/synop.b
 program=bufr-extract
 offers 'tables= time=' t
 offers '' --awk ''
+offers '--max-length' --m
+offers '' --max-length ''
+offers '--awk --max-length --help --version' -
 offers 'examples/synop.bufr' time=2024 examples/synop.b
 program=bufr-parallel
 offers 'dump' d
 offers 'tables/wmo-39/B.csv' -P 2 dump -B tables/wmo-39/B
+offers '-P -B -D --help --version' -
 program=bufr-plot
 offers 'map sounding' ''
+offers '--value --message --subset --help --version' map -
+offers '' map --value ''
 
 command -v zsh > /dev/null || { echo "$0: zsh is not there, its completions are skipped" && exit; }
 # A shell in a terminal of its own types the line and a tab, and is then asked what the line has become.

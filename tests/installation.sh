@@ -6,6 +6,15 @@ set -eu
 top=$PWD prefix=$work/here/prefix
 mkdir -p "$work/here" "$work/other/prefix"
 (cd "$work/here" && umask 077 && CDPATH=$work/other PROGRAM=$bufr "$top/install.sh" prefix) > "$work/told" || fail "install.sh fails"
+# A second installation replaces the first one, even while its program runs, and adds nothing to it.
+(cd "$prefix" && find . | sort) > "$work/once"
+mkfifo "$work/feed"
+"$prefix/bin/bufr" ls < "$work/feed" &
+exec 3> "$work/feed"
+(umask 077 && PROGRAM=$bufr "$top/install.sh" "$prefix") > "$work/again" || fail "install.sh fails where it installed before"
+exec 3>&-
+wait $!
+(cd "$prefix" && find . | sort) | diff "$work/once" - || fail "a second installation has other files"
 find "$prefix" -type d ! -perm 755 -o -type f ! -perm 644 ! -perm 755 > "$work/modes"
 test ! -s "$work/modes" || fail "who did not install them cannot read: $(< "$work/modes")"
 for program in "$prefix"/bin/*; do test -x "$program" || fail "$program is no program"; done
