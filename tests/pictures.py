@@ -96,7 +96,7 @@ def first_of_a_level(python: str, folder: pathlib.Path, text: bytes) -> None:
 
 def memory_of_points(python: str, folder: pathlib.Path) -> None:
     """A map takes at most 120 MB and 250 bytes for each point."""
-    head, _, rest = stations(100, name=b"A" * 60).partition(b"subset 1\n")
+    head, _, rest = stations(100, name=b"A" * 250).partition(b"subset 1\n")
     sizes = []
     for messages in (1, 501):
         with open(folder / "many.txt", "wb") as file:
