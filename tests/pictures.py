@@ -98,7 +98,7 @@ def memory_of_points(python: str, folder: pathlib.Path) -> None:
     """A map takes at most 120 MB and 250 bytes for each point."""
     head, _, rest = stations(100, name=b"A" * 250).partition(b"subset 1\n")
     sizes = []
-    for messages in (1, 501):
+    for messages in (2, 502):
         with open(folder / "many.txt", "wb") as file:
             for _ in range(messages):
                 file.write(head + b"subset 1\n" + rest)
