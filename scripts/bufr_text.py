@@ -29,7 +29,7 @@ from decimal import Decimal
 from typing import IO, BinaryIO, Dict, Iterable, Iterator, List, NamedTuple, Optional, Sequence, Tuple, Union
 
 __all__ = (
-    "HEADER Cell DumpWarning Fault Item Message Place RunError TextError Value "
+    "HEADER Cell DumpWarning Fault Item Listed Message RunError TextError Value "
     "dump encode find levels listing parts read rows write"
 ).split()
 
@@ -54,7 +54,10 @@ _HEX = re.compile(rb"(?:[0-9A-Fa-f]{2}){1,32}")
 _VALUE = rb'(?:(-?\d+(?:\.\d+)?)|"(' + _QUOTED + rb')"|MISSING)'
 _ITEM = re.compile(rb"(R )?(" + _FXY + rb") " + _VALUE + rb"(?: +#(?: (.*) \[(.*)\]|.*))?", re.DOTALL)
 _ESCAPE = re.compile(rb"\\(?:x(..)|(.))")
-_LISTED = re.compile(rb"offset=(\d+) length=(\d+) ")
+_LISTED = re.compile(
+    b"offset=N length=N edition=N centre=N/N update=N category=N/N/N tables=N/N/N time=N-N-NTN:N:N "
+    b"subsets=N observed=N compressed=N optional=N descriptors=N\n".replace(b"N", rb"(\d+)")
+)
 _FAULT = re.compile(rb"offset (\d+): (\d+) (.*)\n?")
 _NOTE = re.compile(rb"bufr-auto: (\d+) messages?,(?: the first)? at offset (\d+): (.*)")
 _UNPRINTED = re.compile(rb'["\\]|[^ -~]')
@@ -129,11 +132,35 @@ class Fault(NamedTuple):
         return f"offset {self.offset}: {self.number} {self.text}"
 
 
-class Place(NamedTuple):
-    """Where a message begins in its stream, and its length, in octets."""
+class Listed(NamedTuple):
+    """A message as `bufr ls` lists it: its offset in the file, its length, and its header, by the names of `HEADER`.
+
+    `descriptors` is how many descriptors section 3 has.
+    """
 
     offset: int
     length: int
+    edition: int
+    centre: int
+    subcentre: int
+    update: int
+    category: int
+    subcategory: int
+    localsubcategory: int
+    master: int
+    masterversion: int
+    localversion: int
+    year: int
+    month: int
+    day: int
+    hour: int
+    minute: int
+    second: int
+    subsets: int
+    observed: int
+    compressed: int
+    optional: int
+    descriptors: int
 
 
 @dataclass
@@ -407,7 +434,8 @@ def _cell(item: Optional[Item]) -> Cell:
         return None
     if isinstance(item.value, bytes):
         return _UNPRINTED.sub(_escaped, item.value.rstrip(b" ")).decode()
-    return float(item.value) if "." in str(item.value) else int(item.value)
+    # not str, which writes 0.0000003 as 3E-7
+    return float(item.value) if "." in format(item.value, "f") else int(item.value)
 
 
 def _levels(
@@ -467,7 +495,7 @@ def _passes(subset: List[Item]) -> List[List[Item]]:
     return passes
 
 
-def listing(file: _Path, faults: Optional[List[Fault]] = None) -> Iterator[Place]:
+def listing(file: _Path, faults: Optional[List[Fault]] = None) -> Iterator[Listed]:
     """The place of each message of a file, by `bufr ls`. `faults` and what is raised are as for `dump`."""
     told = _Told(file, faults)
     with _opened(file) as stream, tempfile.TemporaryFile() as errors:
@@ -477,9 +505,9 @@ def listing(file: _Path, faults: Optional[List[Fault]] = None) -> Iterator[Place
         told.end(stream)
 
 
-def parts(places: Iterable[Place], octets: int = 1 << 19) -> Iterator[List[Place]]:
+def parts(places: Iterable[Listed], octets: int = 1 << 19) -> Iterator[List[Listed]]:
     """The places in lists, each with so many octets or some more. The last one may have less."""
-    part: List[Place] = []
+    part: List[Listed] = []
     held = 0
     for place in places:
         part.append(place)
@@ -496,7 +524,7 @@ def dump(
     table_b: Optional[_Path] = None,
     table_d: Optional[_Path] = None,
     faults: Optional[List[Fault]] = None,
-    places: Optional[Iterable[Place]] = None,
+    places: Optional[Iterable[Listed]] = None,
 ) -> Iterator[Message]:
     """The messages of a file by `bufr dump` with these two tables, or without tables by `bufr-auto`.
 
@@ -513,7 +541,7 @@ def dump(
     return _dumped(file, words, _Told(file, faults), places)
 
 
-def _dumped(file: _Path, words: List[str], told: _Told, places: Optional[Iterable[Place]]) -> Iterator[Message]:
+def _dumped(file: _Path, words: List[str], told: _Told, places: Optional[Iterable[Listed]]) -> Iterator[Message]:
     with _opened(file) as stream, tempfile.TemporaryFile() as errors:
         # which messages of a part are refused is known when the run over it has ended
         for part in parts(_listed(stream, errors, told) if places is None else places):
@@ -528,7 +556,7 @@ def _dumped(file: _Path, words: List[str], told: _Told, places: Optional[Iterabl
                 message = next(messages, None)
                 if message is None:
                     raise RunError(2, f"{words[0]} gave no text of the message at offset {place.offset}")
-                message.offset, message.length = place
+                message.offset, message.length = place.offset, place.length
                 yield message
         told.end(stream)
 
@@ -557,7 +585,7 @@ class _Told:
             self.tell(self.stray)
             self.stray = next(self.strays, None)
 
-    def of_part(self, errors: bytes, part: List[Place]) -> Dict[int, Fault]:
+    def of_part(self, errors: bytes, part: List[Listed]) -> Dict[int, Fault]:
         """The faults of the messages of a part, by their offsets. Its notes are kept."""
         begins = itertools.accumulate((place.length for place in part), initial=0)
         offsets = {begin: place.offset for begin, place in zip(begins, part)}
@@ -597,7 +625,7 @@ def _opened(file: _Path) -> IO[bytes]:
         return copy
 
 
-def _octets(stream: IO[bytes], place: Place) -> bytes:
+def _octets(stream: IO[bytes], place: Listed) -> bytes:
     octets = os.pread(stream.fileno(), place.length, place.offset)
     if len(octets) < place.length:
         raise RunError(2, f"the file has no whole message at offset {place.offset} any more")
@@ -611,7 +639,7 @@ def _looks(stream: IO[bytes]) -> str:
     return told.decode(errors="replace").rstrip().rpartition("has no message")[2]
 
 
-def _listed(stream: IO[bytes], errors: IO[bytes], told: _Told) -> Iterator[Place]:
+def _listed(stream: IO[bytes], errors: IO[bytes], told: _Told) -> Iterator[Listed]:
     """The places of a stream's messages. Its strays wait in a file, from which they are told."""
     with tempfile.TemporaryFile() as lines:
         words = [_bufr(), "ls"]
@@ -628,7 +656,7 @@ def _listed(stream: IO[bytes], errors: IO[bytes], told: _Told) -> Iterator[Place
             found = _LISTED.match(line)
             if not found:
                 raise RunError(2, f"{words[0]} ls writes other lines than bufr")
-            yield Place(int(found[1]), int(found[2]))
+            yield Listed._make(map(int, found.groups()))
 
 
 def encode(
