@@ -13,7 +13,6 @@ longest message.
 """
 from __future__ import annotations
 
-import io
 import itertools
 import os
 import pathlib
@@ -26,7 +25,11 @@ import tempfile
 import warnings
 from dataclasses import dataclass, field, replace
 from decimal import Decimal
-from typing import IO, BinaryIO, Dict, Iterable, Iterator, List, NamedTuple, Optional, Sequence, Tuple, Union
+from typing import IO, Dict, Iterable, Iterator, List, NamedTuple, Optional, Sequence, Tuple, Union
+
+TYPE_CHECKING = False
+if TYPE_CHECKING:
+    from bufr_conditions import Conditions
 
 __all__ = (
     "HEADER Cell DumpWarning Fault Item Listed Message RunError TextError Value "
@@ -306,7 +309,7 @@ def _read_item(lines: _Lines, line: bytes) -> Item:
     return Item(found[2].decode(), value, name, unit, found[1] is not None)
 
 
-def write(messages: Iterable[Message], stream: BinaryIO) -> None:
+def write(messages: Iterable[Message], stream: IO[bytes]) -> None:
     """Writes the text of messages. Of what `read` took of a dump, unchanged, it is the same text again.
 
     Lines `subsets` and `subset` are counted anew, so a subset may be taken out or added. Raises `TypeError` for a
@@ -370,7 +373,11 @@ def find(subset: List[Item], fxy: str, count: int = 1) -> Optional[Item]:
 
 
 def rows(
-    messages: Union[_Path, Iterable[Message]], columns: Sequence[str], header: Sequence[str] = ()
+    messages: Union[_Path, Iterable[Message]],
+    columns: Sequence[str],
+    header: Sequence[str] = (),
+    faults: Optional[List[Fault]] = None,
+    where: Sequence[str] = (),
 ) -> Iterator[Tuple[Cell, ...]]:
     """A tuple for each subset, as a row for `csv.writer` or a DataFrame: values of the header, then of the columns.
 
@@ -385,7 +392,7 @@ def rows(
     asked = [(word[:6], int(word[7:] or 1)) for word in columns]
     return (
         (*before, *(_cell(find(subset, fxy, count)) for fxy, count in asked))
-        for before, subset in _subsets(messages, header)
+        for before, subset in _subsets(_messages(messages, faults, where), header)
     )
 
 
@@ -394,6 +401,8 @@ def levels(
     columns: Sequence[str],
     header: Sequence[str] = (),
     keep: Sequence[str] = (),
+    faults: Optional[List[Fault]] = None,
+    where: Sequence[str] = (),
 ) -> Iterator[Tuple[Cell, ...]]:
     """A tuple for each level of a sounding: values of the header, of `keep`, then of the columns.
 
@@ -403,6 +412,7 @@ def levels(
     begin comes twice in one: a `DumpWarning` at the end says how many these are.
     """
     _check([*columns, *keep], re.compile(_FXY.decode()), header)
+    messages = _messages(messages, faults, where)
     return _levels(_subsets(messages, [*header, "message", "subset"]), columns, keep)
 
 
@@ -415,12 +425,18 @@ def _check(columns: List[str], form: re.Pattern[str], header: Sequence[str]) -> 
             raise ValueError(f"no key of the header: '{word}'")
 
 
-def _subsets(
-    messages: Union[_Path, Iterable[Message]], header: Sequence[str]
-) -> Iterator[Tuple[List[Cell], List[Item]]]:
-    """Each subset, with what the keys say of it."""
+def _messages(
+    messages: Union[_Path, Iterable[Message]], faults: Optional[List[Fault]], where: Sequence[str]
+) -> Iterable[Message]:
     if isinstance(messages, (str, os.PathLike)):
-        messages = dump(messages)
+        return dump(messages, faults=faults, where=where)
+    if faults is not None or where:
+        raise TypeError("faults and where are for the messages of a file: give them to dump")
+    return messages
+
+
+def _subsets(messages: Iterable[Message], header: Sequence[str]) -> Iterator[Tuple[List[Cell], List[Item]]]:
+    """Each subset, with the values of the header's keys."""
     for number, message in enumerate(messages, 1):
         known: Dict[str, Cell] = {**message.header, "offset": message.offset, "length": message.length}
         known.update(message=number, subsets=len(message.subsets), optional=int(message.section2 is not None))
@@ -525,6 +541,7 @@ def dump(
     table_d: Optional[_Path] = None,
     faults: Optional[List[Fault]] = None,
     places: Optional[Iterable[Listed]] = None,
+    where: Sequence[str] = (),
 ) -> Iterator[Message]:
     """The messages of a file by `bufr dump` with these two tables, or without tables by `bufr-auto`.
 
@@ -538,26 +555,38 @@ def dump(
     `BUFR=PROGRAM` names another program.
     """
     words = _words("dump", table_b, table_d)
-    return _dumped(file, words, _Told(file, faults), places)
+    told = _Told(file, faults)
+    if not where:
+        return _dumped(words, told, places)
+    if places is not None:
+        raise TypeError("where selects from the whole file: give either where or places")
+    import bufr_conditions
+
+    told.conditions = bufr_conditions.Conditions(where)
+    return _dumped(words, told, None)
 
 
-def _dumped(file: _Path, words: List[str], told: _Told, places: Optional[Iterable[Listed]]) -> Iterator[Message]:
-    with _opened(file) as stream, tempfile.TemporaryFile() as errors:
+def _dumped(words: List[str], told: _Told, places: Optional[Iterable[Listed]]) -> Iterator[Message]:
+    with _opened(told.file) as stream, tempfile.TemporaryFile() as errors:
         # which messages of a part are refused is known when the run over it has ended
         for part in parts(_listed(stream, errors, told) if places is None else places):
-            done = _run(words, b"".join(_octets(stream, place) for place in part))
-            refused = told.of_part(done.stderr, part)
-            messages = read(io.BytesIO(done.stdout))
-            for place in part:
-                told.up_to(place.offset)
-                if place.offset in refused:
-                    told.tell(refused[place.offset])
-                    continue
-                message = next(messages, None)
-                if message is None:
-                    raise RunError(2, f"{words[0]} gave no text of the message at offset {place.offset}")
-                message.offset, message.length = place.offset, place.length
-                yield message
+            with tempfile.TemporaryFile() as octets, tempfile.TemporaryFile() as text:
+                for place in part:
+                    octets.write(_octets(stream, place))
+                done = _run(words, octets, text)
+                refused = told.of_part(done.stderr, part)
+                text.seek(0)
+                messages = read(text)
+                for place in part:
+                    told.up_to(place.offset)
+                    if place.offset in refused:
+                        told.tell(refused[place.offset])
+                        continue
+                    message = next(messages, None)
+                    if message is None:
+                        raise RunError(2, f"{words[0]} gave no text of the message at offset {place.offset}")
+                    message.offset, message.length = place.offset, place.length
+                    yield message
         told.end(stream)
 
 
@@ -570,6 +599,7 @@ class _Told:
         self.strays: Iterator[Fault] = iter(())
         self.stray: Optional[Fault] = None
         self.notes: Dict[bytes, List[int]] = {}
+        self.conditions: Optional[Conditions] = None
 
     def tell(self, fault: Fault) -> None:
         self.count += 1
@@ -609,6 +639,8 @@ class _Told:
         told += [f"fault lines: {self.count}, the first: {self.first}"] * (self.faults is None and self.count > 0)
         for reason, (count, first) in self.notes.items():
             told.append(f"messages: {count}, the first at offset {first}: {reason.decode(errors='replace')}")
+        if self.conditions and self.conditions.note():
+            told.append(self.conditions.note())
         for text in told:
             warnings.warn(f"{os.fsdecode(self.file)}: {text}", DumpWarning, stacklevel=3)
 
@@ -653,10 +685,11 @@ def _listed(stream: IO[bytes], errors: IO[bytes], told: _Told) -> Iterator[Liste
         told.is_bare = lines.seek(0, os.SEEK_END) == 0
         lines.seek(0)
         for line in lines:
-            found = _LISTED.match(line)
+            found = _LISTED.fullmatch(line)
             if not found:
                 raise RunError(2, f"{words[0]} ls writes other lines than bufr")
-            yield Listed._make(map(int, found.groups()))
+            if told.conditions is None or told.conditions.are_met(line):
+                yield Listed._make(map(int, found.groups()))
 
 
 def encode(
@@ -673,10 +706,10 @@ def encode(
     if form is not None:
         compressed = ["plain", "compressed"].index(form)
         messages = (replace(one, header={**one.header, "compressed": compressed}) for one in messages)
-    text = io.BytesIO()
-    write(messages, text)
     words = _words("encode", table_b, table_d)
-    done = _run(words, text.getvalue())
+    with tempfile.TemporaryFile() as text:
+        write(messages, text)
+        done = _run(words, text, subprocess.PIPE)
     if done.returncode:
         raise _failure(done.returncode, words, done.stderr.splitlines(True))
     for line in done.stderr.splitlines():
@@ -693,8 +726,9 @@ def _words(command: str, table_b: Optional[_Path], table_d: Optional[_Path]) -> 
     return [_bufr(), command, "-B", os.path.abspath(table_b), "-D", os.path.abspath(table_d)]
 
 
-def _run(words: List[str], octets: bytes) -> subprocess.CompletedProcess[bytes]:
-    done = subprocess.run(words, input=octets, stdout=subprocess.PIPE, stderr=subprocess.PIPE)
+def _run(words: List[str], source: IO[bytes], target: Union[int, IO[bytes]]) -> subprocess.CompletedProcess[bytes]:
+    source.seek(0)
+    done = subprocess.run(words, stdin=source, stdout=target, stderr=subprocess.PIPE)
     if done.returncode not in (0, 1) or done.returncode == 1 and not done.stderr:
         raise _failure(done.returncode, words, done.stderr.splitlines(True))
     return done
