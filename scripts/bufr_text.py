@@ -578,15 +578,14 @@ def dump(
     file cannot be read. The environment variable `BUFR` can name another program.
     """
     words = _words("dump", table_b, table_d)
-    told = _Told(file, faults)
-    if not where:
-        return _dumped(words, told, places)
-    if places is not None:
+    if where and places is not None:
         raise TypeError("where selects from the whole file: give either where or places")
-    import bufr_conditions
+    told = _Told(file, faults)
+    if where:
+        import bufr_conditions
 
-    told.conditions = bufr_conditions.Conditions(where)
-    return _dumped(words, told, None)
+        told.conditions = bufr_conditions.Conditions(where)
+    return _dumped(words, told, places)
 
 
 def _dumped(words: List[str], told: _Told, places: Optional[Iterable[Listed]]) -> Iterator[Message]:
