@@ -401,7 +401,8 @@ def document(chance: random.Random) -> bytes:
                 for _ in range(passes):
                     yield from lines(member)
             else:
-                yield member + chance.choice([b" %d\n" % chance.randint(0, 99), b" MISSING\n", b" 1\nR 012101 5\n\n#\n"])
+                numbers = [b" %d\n" % chance.randint(0, 99), b" 0.0000003\n", b" -0.%d\n" % chance.randint(0, 99)]
+                yield member + chance.choice([*numbers, b" MISSING\n", b" 1\nR 012101 5\n\n#\n"])
 
     return with_line(24, b"".join(lines(group(0))))
 
