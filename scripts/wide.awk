@@ -1,24 +1,58 @@
-# A row of CSV for each subset of a dump, with a column for each descriptor or key of the header that is named.
+# Rows of CSV from a dump: one for each subset, or with levels=1 one for each level of a sounding.
 #
 #     bufr dump -B B.csv -D D.csv FILE | awk -v columns=centre,year,001001,012101 -f scripts/wide.awk
 #
-# A descriptor stands for its first item in the subset, and 012101:2 for its second. Texts and missing values are as
-# in long.awk; an item that a subset does not have is an empty field too. A key is the first word of a header line.
+#     bufr dump -B B.csv -D D.csv FILE |
+#       awk -v levels=1 -v keep=year,001001,001002 -v columns=007004,012101,012103 -f scripts/wide.awk
+#
+# A column is a descriptor or a key of the header, which is the first word of a header line. A descriptor selects its
+# first item in the subset, and 012101:2 selects the second. Text is quoted, without its trailing spaces and with the
+# escapes of the dump (\", \\, \xHH). If a value is missing, or the subset has no such item, the field is empty.
+#
+# A level is one pass of a group that is repeated by a factor in the data (031000 to 031002). It has a row if it has the
+# first of the columns and, if there are several, another one. The columns of `keep` describe the whole subset and come
+# first in each of its rows. The first pass begins after the factor, and the next one where the descriptor that began
+# the first comes again, so a pass of two equal halves counts as two. A group inside a pass belongs to that pass. A
+# subset is skipped if it has no such level, or if the descriptor that begins a pass also comes inside one.
 #
 #     bufr ls FILE > listing
 #     bufr dump -B B.csv -D D.csv FILE 2> faults |
 #       awk -v columns=offset,012101 -v listing=listing -v faults=faults -f scripts/wide.awk
 #
-# A text has no offset: `offset` and `length` are those of the next message of the listing without a fault line.
-# Columns that no subset had are told on standard error at the end. The status is 2 where a column is no descriptor and
-# no key, and where listing, fault lines and text are not of one stream. Any awk will do.
+# A dump does not contain offsets. The columns `offset` and `length` come from the listing, whose messages with a fault
+# line are left out.
+#
+# With json=1 each row is a JSON object. A missing value is null, and \xHH becomes the character with that number.
+#
+# Notes at the end name the columns that no row has, and count the subsets that were skipped. The status is 1 if a subset
+# was skipped because its levels cannot be told apart. It is 2 if a column is neither a descriptor nor a key, if the text
+# ends inside a message, or if the listing and the fault lines do not match the text. Any awk will do.
+#
+# bufr-csv also sets: name, which begins the messages; placed=1 if the lines `file`, `offset` and `length` are before
+# each message; feed=0 if rows need not be flushed at the end of each message; and in the environment `labels`, the
+# names of the columns, one on each line.
 
 function fail(text) {
-    print "wide.awk: " text | "cat >&2"
+    print name ": " text | "cat >&2"
     exit failed = 2
 }
 
-# The value of an item's line, as a field of CSV. No function looks at the comment, whose octets may be no characters.
+# A text of the dump in quotes. JSON has the same \" and \\, and \u00HH for \xHH.
+function quoted(text,   parts, count, part) {
+    if (!json)
+        gsub(/"/, "\"\"", text)
+    else if (index(text, "\\x")) {
+        count = split(text, parts, /\\\\/)
+        text = ""
+        for (part = 1; part <= count; part++) {
+            gsub(/\\x/, "\\u00", parts[part])
+            text = text (part > 1 ? "\\\\" : "") parts[part]
+        }
+    }
+    return "\"" text "\""
+}
+
+# The value of an item. No function looks at the comment, whose bytes may be invalid in the locale.
 function field(   parts, part, value) {
     if ($2 !~ /^"/)
         return $2 == "MISSING" ? "" : $2
@@ -27,81 +61,212 @@ function field(   parts, part, value) {
     for (part = 3; match(value, /\\+$/) && RLENGTH % 2; part++)
         value = value "\"" parts[part]
     sub(/ +$/, "", value)
-    gsub(/"/, "\"\"", value)
-    return "\"" value "\""
+    return quoted(value)
 }
 
-# Sets `offset` and `octets` to those of the next message of the listing without a fault line, if there is one.
+# Finds the offset and length of the next message of the listing that has no fault line. Returns whether there is one.
 function next_listed(   line, words, is_read) {
     do {
         if ((is_read = (getline line < listing)) <= 0)
             return is_read < 0 ? fail("cannot read " listing) : 0
         if (line !~ /^offset=[0-9]+ /)
-            fail(listing " is no listing of bufr ls")
+            fail(listing " is not a listing by bufr ls")
         split(line, words, /[= ]/)
-        offset = words[2]
-        octets = words[4]
-        while (fault + 0 < offset + 0 && (is_read = (getline line < faults)) > 0)
+        header["offset"] = words[2]
+        header["length"] = words[4]
+        while (fault + 0 < words[2] + 0 && (is_read = (getline line < faults)) > 0)
             if (line ~ /^offset [0-9]+: /) {
                 split(line, words, /[ :]/)
                 fault = words[2]
             }
         if (is_read < 0)
             fail("cannot read " faults)
-    } while (fault == offset)
+    } while (fault == header["offset"])
     return 1
 }
 
-# Whether a word is a descriptor of six digits, alone or with a count from 1.
-function is_descriptor(word) {
-    return word ~ /^[0-3][0-9][0-9][0-9][0-9][0-9](:[1-9][0-9]*)?$/ && \
-        substr(word, 2, 2) < 64 && substr(word, 4, 3) < 256
+# Whether a word is a descriptor of six digits. Columns of the whole subset may have a count from 1 after a colon.
+function is_descriptor(word, of_subset) {
+    if (of_subset)
+        sub(/:[1-9][0-9]*$/, "", word)
+    return word ~ /^[0-3][0-9][0-9][0-9][0-9][0-9]$/ && substr(word, 2, 2) < 64 && substr(word, 4, 3) < 256
 }
 
-# The row of the subset that was read, if there was one.
-function row(   line, column) {
+# Splits a list of columns and returns their number. `keys` are the words that are allowed besides descriptors.
+function split_columns(words, list, keys,   count, column, word) {
+    count = split(words, list, /[ ,]+/)
+    for (column = 1; column <= count; column++) {
+        word = list[column]
+        if (word != "" && index(keys, " " word " "))
+            is_key[word] = wanted[word] = 1
+        else if (is_descriptor(word, keys != ""))
+            wanted[substr(word, 1, 6)] = 1
+        else
+            fail("no descriptor of six digits" (keys == "" ? "" : ", and no key of the header") ": " word)
+        if (!(++total in label))
+            label[total] = json ? "\"" word "\"" : word
+        before[total] = json ? "," label[total] ":" : ","
+        heading = heading "," label[total]
+    }
+    return count
+}
+
+# A column of a row, with what separates it from the column before it.
+function cell(column, value) {
+    return before[column] (json && value == "" ? "null" : value)
+}
+
+# Ends the open pass. If it has a row, the row is held until the subset ends.
+function end_pass(   column, line, others, value) {
+    if (!open)
+        return
+    for (column = 1; column <= level_count; column++) {
+        value = ""
+        if (level[column] in values) {
+            value = values[level[column]]
+            others += column > 1
+        }
+        line = line cell(kept_count + column, value)
+    }
+    if (level[1] in values && (others || level_count == 1)) {
+        rows[++row_count] = line
+        for (column in values)
+            had[column] = 1
+    }
+    open = 0
+    split("", values)
+}
+
+# Writes the rows of the subset that was read, if there was one.
+function end_subset(   row, column, line) {
     if (!subset)
         return
-    line = message "," subset
-    for (column = 1; column <= count; column++) {
-        if (asked[column] in values)
-            had[column] = 1
-        line = line "," values[asked[column]]
+    end_pass()
+    if (levels && !row_count && !twice && !bare++)
+        first_bare = message " subset " subset
+    if (!levels || row_count) {
+        line = row_begin message row_middle subset
+        for (column = 1; column <= kept_count; column++) {
+            if (item_of[column] in first)
+                had[item_of[column]] = 1
+            line = line cell(column, first[item_of[column]])
+        }
+        if (!levels)
+            print line row_end
+        for (row = 1; row <= row_count; row++)
+            print line rows[row] row_end
     }
-    print line
-    subset = 0
+    row_count = subset = left = twice = 0
+}
+
+# Skips a subset in which the descriptor that begins a pass also comes inside a pass.
+function skip_subset(fxy) {
+    if (!unclear++)
+        first_unclear = message " subset " subset ": " fxy
+    twice = 1
+    open = left = row_count = 0
+    split("", values)
+}
+
+# One item in or before the passes of a group. `left` of them have yet to begin, each with the item `opener`. The open
+# pass has had `items` items and `inner` factors so far, and the pass before it had `pass_items` and `pass_inner`.
+function item(fxy) {
+    if (left && (opener == "" || fxy == opener)) {
+        if (opened > 1 && !inner && !pass_inner && items != pass_items) {
+            skip_subset(opener)
+            return
+        }
+        end_pass()
+        opened++
+        open = 1
+        left--
+        opener = fxy
+        pass_items = items
+        pass_inner = inner
+        items = inner = 0
+    } else if (open && !left && opened > 1 && !pass_inner) {
+        if (items == pass_items)
+            end_pass()
+        else if (fxy == opener) {
+            skip_subset(opener)
+            return
+        }
+    }
+    if (fxy in factors) {
+        if (open && (left || opened > 1 && inner < pass_inner))
+            inner++
+        else {
+            end_pass()
+            left = field() + 0
+            opener = ""
+            opened = items = inner = 0
+            return
+        }
+    }
+    items++
+    if (open && fxy in in_levels && !(fxy in values))
+        values[fxy] = field()
 }
 
 BEGIN {
+    if (name == "")
+        name = "wide.awk"
     if (columns == "")
         fail("name the columns: -v columns=001001,001002")
+    if (keep != "" && !levels)
+        fail("keep needs levels=1")
     keys = " offset length edition master centre subcentre update category subcategory localsubcategory masterversion" \
         " localversion year month day hour minute second observed compressed optional subsets "
-    count = split(columns, asked, /[ ,]+/)
-    line = "message,subset"
-    for (column = 1; column <= count; column++) {
-        word = asked[column]
-        if (word != "" && index(keys, " " word " "))
-            is_key[word] = wanted[word] = 1
-        else if (is_descriptor(word)) {
-            wanted[substr(word, 1, 6)] = 1
-            if (word !~ /:/)
-                asked[column] = word ":1"
-            is_asked[asked[column]] = 1
-        } else
-            fail("no descriptor of six digits, and no key of the header: " word)
-        line = line "," word
-        told[column] = word
-    }
-    is_joined = "offset" in is_key || "length" in is_key
+    if (placed)
+        keys = keys "file "
+    split(ENVIRON["labels"], label, "\n")
+    kept_count = split_columns(levels ? keep : columns, kept, keys)
+    if (levels)
+        level_count = split_columns(columns, level, "")
+    is_joined = !placed && ("offset" in is_key || "length" in is_key)
     if (is_joined && (listing == "" || faults == ""))
         fail("offset and length need the files -v listing= (of bufr ls) and -v faults= (the fault lines of this dump)")
     fault = -1
-    print line
+    for (column = 1; column <= kept_count; column++) {
+        word = kept[column]
+        item_of[column] = word in is_key || word ~ /:/ ? word : word ":1"
+        is_kept[item_of[column]] = 1
+        in_keep[substr(word, 1, 6)] = 1
+    }
+    for (column = 1; column <= level_count; column++)
+        in_levels[level[column]] = 1
+    if (levels)
+        for (column = 31000; column <= 31002; column++)
+            factors["0" column] = wanted["0" column] = 1
     wanted["message"] = wanted["subset"] = wanted["end"] = 1
+    row_begin = json ? "{\"message\":" : ""
+    row_middle = json ? ",\"subset\":" : ","
+    row_end = json ? "}" : ""
+    if (!json)
+        print "message,subset" heading
 }
 
-!($1 in wanted) { next }
+# Most items are not wanted. Outside passes they do nothing, and inside passes they are counted.
+!($1 in wanted) {
+    if (left || open)
+        if (open && opener != "" && $1 != opener && (left || opened < 2 || pass_inner || items != pass_items))
+            items += /^[0-3]/
+        else if (/^[0-3]/)
+            item($1)
+    next
+}
+/^[0-3]/ {
+    if (twice)
+        next
+    if ($1 in in_keep) {
+        word = $1 ":" ++seen[$1]
+        if (word in is_kept)
+            first[word] = field()
+    }
+    if (left || open || $1 in factors)
+        item($1)
+    next
+}
 $1 == "message" {
     message++
     is_open = 1
@@ -109,23 +274,23 @@ $1 == "message" {
         fail("the text has more messages than the listing")
     next
 }
-$1 == "end" { row(); is_open = 0; fflush(); next }
-$1 == "subset" {
-    row()
-    subset = $2
-    split("", values)
-    split("", seen)
-    for (key in is_key)
-        values[key] = key == "offset" ? offset : key == "length" ? octets : header[key]
+$1 == "end" {
+    end_subset()
+    is_open = 0
+    if (feed != "0")
+        fflush()
     next
 }
-!subset { header[$1] = $2; next }
-
-{
-    item = $1 ":" ++seen[$1]
-    if (item in is_asked)
-        values[item] = field()
+$1 == "subset" {
+    end_subset()
+    subset = $2
+    split("", first)
+    split("", seen)
+    for (key in is_key)
+        first[key] = header[key]
+    next
 }
+!subset { header[$1] = substr($0, length($1) + 2) }
 
 END {
     if (failed)
@@ -134,7 +299,17 @@ END {
         fail("the text ends inside a message")
     if (is_joined && next_listed())
         fail("the listing has more messages than the text and the fault lines")
-    for (column = 1; column <= count; column++)
-        if (!had[column])
-            print "wide.awk: no subset has " told[column] | "cat >&2"
+    for (column = 1; column <= kept_count; column++)
+        if (!(item_of[column] in had))
+            print name ": no row has " kept[column] | "cat >&2"
+    for (column = 1; column <= level_count; column++)
+        if (!(level[column] in had))
+            print name ": no row has " level[column] | "cat >&2"
+    if (bare)
+        print name ": subsets without such a level: " bare ", the first is message " first_bare | "cat >&2"
+    if (unclear) {
+        line = name ": subsets with a descriptor twice in a level: " unclear
+        print line ", the first is message " first_unclear | "cat >&2"
+        exit 1
+    }
 }
