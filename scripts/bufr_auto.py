@@ -7,6 +7,7 @@ import os
 import stat
 
 import bufr_guard
+import bufr_options
 import bufr_sets
 
 # A part has at most about so many octets, and so many pieces: what is held does not grow with the stream.
@@ -466,16 +467,6 @@ class Work:
 
 
 def work(words: list) -> int:
-    kind, names = Dump, []
-    while words:
-        word = words.pop(0)
-        if word == "--":
-            names += words
-            break
-        if word == "--encode":
-            kind = Encode
-        elif word.startswith("-") and word != "-":
-            raise bufr_guard.Failed(f"no option {word}; bufr-auto --help tells them")
-        else:
-            names.append(word)
-    return Work(kind, names or [None]).do(names or [None])
+    asked = bufr_options.Asked(words, flags=["--encode"])
+    names = asked.files()
+    return Work(Encode if asked.has("--encode") else Dump, names).do(names)

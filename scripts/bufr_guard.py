@@ -52,6 +52,10 @@ class Failed(Exception):
     """What is told before status 2."""
 
 
+class Question(Exception):
+    """The word --help or --version of a command line, which `run` answers in the place of the work."""
+
+
 def run(work, text: str, ends_by_pipe: bool = False) -> None:
     """Does the work of a script on the words of its command line, and leaves. The text is its help.
 
@@ -95,11 +99,9 @@ def guarded(work, text: str) -> int:
         if sys.version_info < (3, 9):
             raise Failed("Python 3.9 or a later one is needed")
         try:
-            status = answered(sys.argv[1:], text)
-            if status is None:
-                status = work(sys.argv[1:])
-        except SystemExit as end:  # argparse
-            status = end.code or 0
+            status = work(sys.argv[1:])
+        except Question as question:
+            status = answer(str(question), text)
         Progress.clear()
         flush()
         return status
@@ -133,30 +135,17 @@ def hook(_kind, error: BaseException, _place) -> None:
         os._exit(2)
 
 
-def answered(words: list, text: str):
-    """The status, where help or the version is asked for."""
-    if words[:1] in (["-h"], ["--help"]):
-        print(text.strip())
+def answer(question: str, text: str) -> int:
+    """Prints the help or the version, and gives the status."""
+    if question == "--help":
+        output().write(text.strip().encode() + b"\n")
         return 0
-    if words[:1] in (["-V"], ["--version"]):
-        source, target = os.pipe()
-        process = start([program(), "--version"], output=target)
-        os.close(target)
-        with open(source) as told:
-            print(f"{name()}, with {told.read().strip()}")
-        return checked(wait(process))
-    return None
-
-
-def file_of(words: list):
-    """FILE of a command line without options, or nothing."""
-    if words[:1] == ["--"]:
-        words = words[1:]
-    elif words and words[0].startswith("-") and words[0] != "-":
-        raise Failed(f"no option {words[0]}; {name()} --help tells more")
-    if len(words) > 1:
-        raise Failed(f"one file a call: cat {' '.join(words)} | {name()}")
-    return words[0] if words else None
+    source, target = os.pipe()
+    process = start([program(), "--version"], output=target)
+    os.close(target)
+    with open(source, "rb") as told:
+        output().write(f"{name()}, with ".encode() + told.read().strip() + b"\n")
+    return checked(wait(process))
 
 
 def reason(error: BaseException) -> str:
