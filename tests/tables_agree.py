@@ -1,11 +1,11 @@
 #!/usr/bin/env python3
-"""Compares four ways from a dump to its values: long.awk, wide.awk, bufr_text.dump and bufr_text.rows.
+"""Compares four ways from a dump to its values: table.awk by item and by subset, bufr_text.dump and bufr_text.rows.
 
     tests/tables_agree.py [PROGRAM]
 
-All four must give the same values, with each awk that is installed. The streams are random messages over WMO's tables,
-and messages over a table of its own with numbers of every scale from -127 to 127: zero, one digit, the ends of a
-field's range, missing. Numbers up to the limits of 128 bits, which no field holds, are read from a text.
+All four must give the same values, with each awk that is installed. There are random messages over WMO's tables, and
+messages over a table made here with numbers of every scale from -127 to 127: zero, one digit, the ends of a field's
+range, missing. Numbers up to the limits of 128 bits, which no field holds, are read from a text.
 """
 import itertools
 import os
@@ -32,9 +32,9 @@ KEYS = ["message", "subset", *bufr_text.HEADER, "optional", "subsets"]
 FIELD = re.compile(r'("(?:[^"]|"")*"|[^,"]*),')
 
 
-def table(script: str, awk: list, text: bytes, columns: list) -> list:
-    """The rows that a script makes of a text, each a tuple of fields in their spelling."""
-    words = [*awk, "-v", "columns=" + ",".join(columns), "-f", TOP / "scripts" / script]
+def table(awk: list, text: bytes, columns: list) -> list:
+    """The rows of table.awk, each a tuple of fields in their spelling: one for each item, or with columns each subset."""
+    words = [*awk, "-v", "columns=" + ",".join(columns), "-f", TOP / "scripts/table.awk"]
     done = subprocess.run(words, input=text, stdout=subprocess.PIPE, stderr=subprocess.DEVNULL, check=True)
     lines = done.stdout.decode("utf-8", "surrogateescape").split("\n")[1:-1]
     return [tuple(FIELD.findall(line + ",")) for line in lines]
@@ -45,7 +45,7 @@ def quoted(text: str) -> str:
 
 
 def spelled(value) -> str:
-    """A value of `dump`, as long.awk and wide.awk are to spell it."""
+    """A value of `dump`, as table.awk is to spell it."""
     if value is None:
         return ""
     if isinstance(value, Decimal):
@@ -79,11 +79,11 @@ def agree(what: str, text: bytes, messages: list, awk: list, columns: list) -> i
             asked = [(column[:6], int(column[7:] or 1)) for column in columns]
             values = [seen[fxy][count - 1] if len(seen.get(fxy, "")) >= count else "" for fxy, count in asked]
             wide.append((*(str(header[key]) for key in KEYS), *values))
-    compare(f"{what}: long.awk by {awk} and bufr_text.dump", table("long.awk", awk, text, []), found)
-    made = table("wide.awk", awk, text, [*KEYS[2:], *columns])
-    compare(f"{what}: wide.awk by {awk} and bufr_text.dump", made, wide)
+    compare(f"{what}: items by {awk} and bufr_text.dump", table(awk, text, []), found)
+    made = table(awk, text, [*KEYS[2:], *columns])
+    compare(f"{what}: subsets by {awk} and bufr_text.dump", made, wide)
     rows = [tuple(map(repr, row)) for row in bufr_text.rows(messages, columns, KEYS)]
-    compare(f"{what}: bufr_text.rows and wide.awk by {awk}", rows, [tuple(repr(cell(one)) for one in row) for row in made])
+    compare(f"{what}: bufr_text.rows and {awk}", rows, [tuple(repr(cell(one)) for one in row) for row in made])
     return len(found) + sum(field != "" for row in made for field in row)
 
 
