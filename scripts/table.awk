@@ -96,7 +96,7 @@ function next_listed(   line, words, is_read) {
         split(line, words, /[= ]/)
         header["offset"] = words[2]
         header["length"] = words[4]
-        while (fault + 0 < words[2] + 0 && (is_read = (getline line < faults)) > 0)
+        while (fault + 0 < header["offset"] + 0 && (is_read = (getline line < faults)) > 0)
             if (line ~ /^offset [0-9]+: /) {
                 split(line, words, /[ :]/)
                 fault = words[2]
@@ -137,7 +137,7 @@ function split_columns(words, list, keys,   count, column, word) {
 
 # The end of an item's row: the name and the unit in a comment. The unit is after the last ` [`.
 function name_and_unit(comment,   parts, part, count, title, unit) {
-    sub(/^ *# */, "", comment)
+    sub(/^ *# ?/, "", comment)
     count = split(comment, parts, / \[/)
     title = count > 1 ? parts[1] : ""
     for (part = 2; part < count; part++)

@@ -59,7 +59,7 @@ class Trial:
         return str(path)
 
     def wanted(self, tables: list) -> tuple:
-        """The table and the fault lines, by one run for each file and wide.awk."""
+        """The table and the fault lines, by one run for each file and table.awk."""
         rows, lines = [["file", *COLUMNS.split(",")]], []
         for file in self.files:
             with open(self.folder / "listing", "wb") as listing, open(self.folder / "faults", "wb") as faults:
@@ -68,7 +68,7 @@ class Trial:
                 text = subprocess.run(words, cwd=self.folder, stdout=subprocess.PIPE, stderr=faults).stdout
             columns = COLUMNS.replace("subset,", "")
             words = ["awk", "-v", f"columns={columns}", "-v", "listing=listing", "-v", "faults=faults"]
-            words += ["-f", TOP / "scripts/wide.awk"]
+            words += ["-f", TOP / "scripts/table.awk"]
             done = subprocess.run(words, cwd=self.folder, input=text, stdout=subprocess.PIPE, stderr=subprocess.DEVNULL)
             rows += [[file, row[2], row[1], *row[3:]] for row in csv.reader(done.stdout.decode().splitlines()[1:])]
             lines += [f"{file}: {line}" for line in (self.folder / "faults").read_text().splitlines()]

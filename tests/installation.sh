@@ -20,7 +20,7 @@ cd "$work"
 bufr-auto "$examples/synop.bufr" | cmp - "$examples/synop.txt" || fail "bufr-auto: another dump of examples/synop.bufr"
 bufr-lacks "$examples/synop.bufr" > lacks || fail "bufr-lacks: $(< lacks)"
 bufr dump -B "$prefix/share/bufr/tables/wmo-37/B.csv" -D "$prefix/share/bufr/tables/wmo-37/D.csv" "$examples/buoys.bufr" |
-    awk -f "$prefix/share/bufr/long.awk" | grep -c '"TEMPERATURE/AIR TEMPERATURE"' > /dev/null || fail "long.awk: no temperature"
+    awk -f "$prefix/share/bufr/table.awk" | grep -c '"TEMPERATURE/AIR TEMPERATURE"' > /dev/null || fail "table.awk: no temperature"
 "$prefix/share/bufr/tables/convert.py" copy "$prefix/share/bufr/tables/wmo-39" &&
     cmp copy/D.csv "$prefix/share/bufr/tables/wmo-39/D.csv" || fail "convert.py: another set"
 set=$prefix/share/bufr/tables/wmo-39

@@ -281,12 +281,12 @@ class Texts(unittest.TestCase):
 
 
 class Tables(unittest.TestCase):
-    def test_rows_are_those_of_wide_awk(self):
+    def test_rows_are_those_of_table_awk(self):
         columns = ["001001", "001015", "012101", "012101:2", "020012:2", "031001", "205004", "012104"]
         header, passed = [*bufr_text.HEADER, "optional", "subsets"], 0
         for path in TEXTS:
             with self.subTest(path.name):
-                words = ["awk", "-v", "columns=" + ",".join([*header, *columns]), "-f", TOP / "scripts/wide.awk", path]
+                words = ["awk", "-v", "columns=" + ",".join([*header, *columns]), "-f", TOP / "scripts/table.awk", path]
                 _, *wanted = csv.reader(run(*words).stdout.decode().splitlines())
                 try:
                     rows = list(bufr_text.rows(bufr_text.read(lines_of(path)), columns, ["message", "subset", *header]))
@@ -358,7 +358,7 @@ class Tables(unittest.TestCase):
         with self.assertRaisesRegex(ValueError, "not 'AIR TEMPERATURE'$"):
             bufr_text.rows([], ["AIR TEMPERATURE"])
 
-    def test_levels_are_those_of_levels_awk(self):
+    def test_levels_are_those_of_table_awk(self):
         texts = [(TOP / f"examples/{name}.txt").read_bytes() for name in ("sounding", "synop", "buoys")]
         chance = random.Random(1)
         texts += [document(chance) for _ in range(60)]
@@ -368,8 +368,8 @@ class Tables(unittest.TestCase):
         lists = [("001015", "007004,012101,012103"), ("001001", "007004"), ("007004", "012101,007004"), ("", "020012,020011"), ("", "008002")]
         unclear, count = 0, 0
         for keep, columns in lists:
-            words = ["awk", "-v", f"keep=year,{keep}".strip(","), "-v", f"columns={columns}", "-f"]
-            done = run(*words, TOP / "scripts/levels.awk", input=b"".join(texts))
+            words = ["awk", "-v", "levels=1", "-v", f"keep=year,{keep}".strip(","), "-v", f"columns={columns}", "-f"]
+            done = run(*words, TOP / "scripts/table.awk", input=b"".join(texts))
             _, *wanted = csv.reader(done.stdout.decode().splitlines())
             with warnings.catch_warnings(record=True) as told:
                 warnings.simplefilter("always")
@@ -379,7 +379,7 @@ class Tables(unittest.TestCase):
             self.assertEqual(self.alike(rows), self.alike(wanted))
             count += len(rows)
             lines = [line for line in done.stderr.decode().splitlines() if "twice" in line]
-            self.assertEqual([f"levels.awk: {one.message}" for one in told], lines)
+            self.assertEqual([f"table.awk: {one.message}" for one in told], lines)
             unclear += done.returncode
         self.assertGreater(count, 100)
         self.assertGreater(unclear, 0)
