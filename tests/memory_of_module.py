@@ -59,7 +59,7 @@ def main() -> None:
     streams = [
         ("small messages", small, 20_000, 1, 50, ["listing", "where"]),
         ("faults", b"BUFR\0\0\1" * 100 + small, 2_000, 1, 50, ["dump", "listing"]),
-        ("refused messages", unknown, 40_000, 0, 0, ["dump"]),
+        ("refused messages", unknown, 60_000, 0, 0, ["dump"]),
         ("messages of 16 MB", lib.message(b"\x14" + bytes(16_700_000)), 3, 1, 50, ["dump"]),
         ("long dumps", packed(1000), 100, 20_000, 50, ["three messages of dump"]),
         ("a long message", packed(1) + packed(3000) + packed(1), 1, 60_000, 50, ["rows"]),
