@@ -27,6 +27,7 @@ import bufr_text  # noqa: E402
 import random_messages  # noqa: E402
 
 SCALES = range(-127, 128)
+RANDOM = 150
 KEYS = ["message", "subset", *bufr_text.HEADER, "optional", "subsets"]
 # A field of CSV in its spelling: a missing value has no quotes, an empty text has two.
 FIELD = re.compile(r'("(?:[^"]|"")*"|[^,"]*),')
@@ -103,19 +104,23 @@ def columns_of(messages: list, rng: random.Random) -> list:
 
 
 def random_stream() -> bytes:
-    return b"BUFR".join(random_messages.message(number).octets for number in range(150))
+    return b"BUFR".join(random_messages.message(number).octets for number in range(RANDOM))
 
 
 def own_tables(folder: pathlib.Path) -> list:
-    """Tables with an element for each scale: 0 48 000 has the least one."""
+    """Tables with an element for each scale, 0 48 000 for the least one, and one with the least reference."""
     rows = [f"048{number:03},SCALE {scale},Numeric,{scale},{-number},63\n" for number, scale in enumerate(SCALES)]
+    rows.append(f"048255,LEAST,Numeric,0,{-(1 << 63)},3\n")
     (folder / "B.csv").write_text("fxy,name,unit,scale,reference,width\n" + "".join(rows))
     (folder / "D.csv").write_text("fxy,member\n")
     return ["-B", str(folder / "B.csv"), "-D", str(folder / "D.csv")]
 
 
 def scaled_stream(rng: random.Random) -> bytes:
-    """A message of each kind of number, which has every scale. The reference of an element is minus its place."""
+    """A message of each kind of number, which has every scale. The reference of an element is minus its place.
+
+    A last message has the largest number that a message can have, with 37 digits: 2 07 018 multiplies its reference.
+    """
     most, stream = (1 << 63) - 1, b""
     kinds = [lambda place: place, lambda place: place + 1, lambda place: most, lambda place: most - 1, lambda place: 0]
     kinds += [lambda place: place + rng.choice((10, 100, 123, 10**18)), lambda place: rng.randrange(most)]
@@ -124,7 +129,7 @@ def scaled_stream(rng: random.Random) -> bytes:
         for place in range(len(SCALES)):
             bits.put(raw(place), 63)
         stream += lib.message(bits.octets(), lib.words(" ".join(f"048{place:03}" for place in range(len(SCALES)))))
-    return stream
+    return stream + lib.message(bytes(8), lib.words("207018 048255 207000"))
 
 
 def limits() -> bytes:
@@ -161,8 +166,11 @@ def main() -> None:
         for awk in AWKS:
             if shutil.which(awk[0]):
                 values += agree(what, text, messages, awk, columns)
-    missing = kinds["numbers of every scale"][0].count(b" MISSING")
-    want(missing == len(SCALES), f"{missing} numbers of every scale are missing")
+    count = len(kinds["random messages"][1])
+    want(count == RANDOM, f"{count} of {RANDOM} random messages are read")
+    text = kinds["numbers of every scale"][0]
+    missing, least = text.count(b" MISSING"), text.count(b"\n048255 -9223372036854775808." + b"0" * 18 + b" ")
+    want((missing, least) == (len(SCALES), 1), f"of every scale {missing} numbers are missing, and {least} is the least")
     print(f"tables_agree: {values:,} values agree")
 
 
