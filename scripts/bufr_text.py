@@ -759,9 +759,11 @@ def _run(words: List[str], source: IO[bytes], target: IO[bytes]) -> subprocess.C
 
 
 def _failure(status: int, words: List[str], errors: Iterable[bytes]) -> RunError:
-    """The error with what the program printed, or with its status if it printed nothing."""
+    """The error with what the program printed, or with its status if it printed nothing, and whether a disk is full."""
     told = b"".join(line for line in errors if not _FAULT.match(line)).decode(errors="replace").strip()
-    return RunError(status, told or f"{words[0]} ended with status {status}")
+    told = told or f"{words[0]} ended with status {status}"
+    folder = tempfile.gettempdir()  # which takes all output
+    return RunError(status, f"{told}: {folder} is full" if shutil.disk_usage(folder).free < 1 << 16 else told)
 
 
 def _bufr() -> str:

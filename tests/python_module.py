@@ -19,6 +19,7 @@ import sys
 import tempfile
 import tracemalloc
 import unittest
+import unittest.mock
 import warnings
 from decimal import Decimal
 
@@ -630,6 +631,7 @@ class Runs(unittest.TestCase):
             bufr_text.encode([], *TABLES, form="small")
         for script, told, status in [
             ("kill -9 $$", "ended with status -9", -9),
+            ('[ "$1" = ls ] || exec > /dev/full; exec "$REAL" "$@"', "71 write failed$", 2),
             ("exit 7", "ended with status 7", 7),
             ("exit 1", "ended with status 1", 1),
             ('[ "$1" = ls ] && exec "$REAL" "$@"; exit 1', "ended with status 1", 1),
@@ -643,6 +645,13 @@ class Runs(unittest.TestCase):
             with self.subTest(script), self.assertRaisesRegex(bufr_text.RunError, told) as error:
                 list(bufr_text.dump(self.stream, *TABLES, []))
             self.assertEqual(error.exception.status, status)
+
+    def test_a_full_disk_is_named(self):
+        self.use_program("exit 2")
+        with unittest.mock.patch("shutil.disk_usage") as usage:
+            usage.return_value.free = 0
+            with self.assertRaisesRegex(bufr_text.RunError, f"ended with status 2: {tempfile.gettempdir()} is full$"):
+                list(bufr_text.dump(self.stream, *TABLES, []))
 
     def test_errors_go_from_one_process_to_another(self):
         for error in (bufr_text.RunError(1, "line 153: 52 number"), bufr_text.TextError(5, "an item", "a tab")):
