@@ -130,13 +130,13 @@ def is_number(word: str) -> bool:
 
 
 def folder_of_sets() -> str:
-    """BUFR_TABLES, or the folder that is installed with this module or with the script, or that of the repository."""
+    """BUFR_TABLES, or the folder that is installed with this module, the script or Python, or the repository's."""
     named = os.environ.get("BUFR_TABLES")
     if named:
         places = [named]
     else:
         here, bin = (os.path.dirname(os.path.realpath(name)) for name in (__file__, sys.argv[0]))
-        places = [f"{here}/tables", f"{bin}/../share/bufr/tables", f"{here}/../tables"]
+        places = [f"{here}/tables", f"{bin}/../share/bufr/tables", f"{here}/../tables", f"{sys.prefix}/share/bufr/tables"]
     for place in places:
         if os.path.isdir(place):
             return os.path.abspath(place)

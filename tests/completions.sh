@@ -29,6 +29,12 @@ offers '--form' encode --f
 function=_bufr_scripts program=bufr-auto
 offers '--encode' --e
 offers 'examples/synop.bufr' --encode examples/synop.b
+program=bufr-csv
+offers '-c' -c
+offers '--levels' --l
+offers '' -c ''
+offers 'category=' --where cat
+offers 'examples/synop.bufr' -c 001015 examples/synop.b
 program=bufr-extract
 offers 'tables= time=' t
 offers '' --awk ''
@@ -59,7 +65,14 @@ zpty -r -m shell line '*shown2:*:*'
 print -r -- ${${line##*shown2:}%%:*}
 zpty -d shell
 END
-for begun in 'bufr encode --form=p' 'bufr encode --form p'; do
-    shown=$(timeout 30 zsh -f "$work/zsh" "$begun") || fail "zsh completes nothing"
-    [ "$shown" = "${begun}lain " ] || fail "zsh makes '$shown' of '$begun'"
-done
+# completes BEGUN REST: zsh completes the line that is begun by the rest.
+completes() {
+    local shown
+    shown=$(timeout 30 zsh -f "$work/zsh" "$1") || fail "zsh completes nothing"
+    [ "$shown" = "$1$2" ] || fail "zsh makes '$shown' of '$1'"
+}
+completes 'bufr encode --form=p' 'lain '
+completes 'bufr encode --form p' 'lain '
+completes 'bufr-csv --l' 'evels '
+completes 'bufr-csv --where categ' 'ory='
+completes 'bufr-csv -c 001015,subce' 'ntre'

@@ -231,7 +231,7 @@ def skips_what_is_too_long(folder: pathlib.Path) -> None:
     want(len(longer) > limit >= max(map(len, (made(1), made(2), inner))), "the made messages have other lengths")
     last = second + len(stray + made(2))
     notes = [(first, len(longer)), (second, 0xFFFFFF), (last, len(longer))]
-    told = [f"bufr-extract: offset {offset}: skipped: it declares {length} bytes" for offset, length in notes]
+    told = [f"bufr-extract: offset {offset}: skipped a message that declares {length} bytes" for offset, length in notes]
     path = folder / "longer"
     path.write_bytes(octets)
     for words, taken in (([], [1, 3, 2, 3]), (["centre=98"], [1, 3, 2, 3]), (["--awk", 'value["subsets"] != 3'], [1, 3, 3])):
@@ -250,7 +250,7 @@ def skips_what_is_too_long(folder: pathlib.Path) -> None:
         bufsize=0,
     ) as feed:
         feed.stdin.write(stray)
-        note = b"bufr-extract: offset 0: skipped: it declares 16777215 bytes\n"
+        note = b"bufr-extract: offset 0: skipped a message that declares 16777215 bytes\n"
         is_there = select.select([feed.stderr], [], [], 20)[0]
         want(is_there and feed.stderr.read(1 << 16) == note, "the note of a live feed waits")
         feed.stdin.write(made(1))

@@ -29,7 +29,7 @@ cd "$work"
 bufr-auto "$examples/synop.bufr" | cmp - "$examples/synop.txt" || fail "bufr-auto: another dump of examples/synop.bufr"
 bufr-lacks "$examples/synop.bufr" > lacks || fail "bufr-lacks: $(< lacks)"
 bufr dump -B "$prefix/share/bufr/tables/wmo-37/B.csv" -D "$prefix/share/bufr/tables/wmo-37/D.csv" "$examples/buoys.bufr" |
-    awk -f "$prefix/share/bufr/long.awk" | grep -c '"TEMPERATURE/AIR TEMPERATURE"' > /dev/null || fail "long.awk: no temperature"
+    awk -f "$prefix/share/bufr/table.awk" | grep -c '"TEMPERATURE/AIR TEMPERATURE"' > /dev/null || fail "table.awk: no temperature"
 "$prefix/share/bufr/tables/convert.py" copy "$prefix/share/bufr/tables/wmo-39" &&
     cmp copy/D.csv "$prefix/share/bufr/tables/wmo-39/D.csv" || fail "convert.py: another set"
 set=$prefix/share/bufr/tables/wmo-39
@@ -80,6 +80,8 @@ if python3 -c 'import pip, venv' 2> errors; then
         rm -r "$prefix"/bin/bufr-* "$prefix/share/bufr"
         environment/bin/bufr-auto "$examples/synop.bufr" | cmp - "$examples/synop.txt" || fail "bufr-auto of the package"
         environment/bin/python -c "$count" "$examples/synop.bufr" | grep -qx 1 || fail "bufr_text of the package"
+        environment/bin/python -c 'import bufr_text; bufr_text.rows([], ["AIR TEMPERATURE"])' 2>&1 |
+            grep -q ' 012001, 012101,' || fail "bufr_text of the package finds no tables"
         for script in "$top"/scripts/bufr-*; do
             "environment/bin/${script##*/}" --help > help || fail "${script##*/} of the package"
         done
