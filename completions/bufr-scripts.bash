@@ -4,7 +4,7 @@ _bufr_scripts() {
     local word=${COMP_WORDS[COMP_CWORD]} before=${COMP_WORDS[COMP_CWORD - 1]} options='' words=''
     COMPREPLY=()
     case ${COMP_WORDS[0]##*/} in
-        bufr-auto) options='--encode' ;;
+        bufr-auto) options='--encode --max-length' ;;
         bufr-extract)
             options='--awk'
             words='offset= length= edition= centre= update= category= tables= time= subsets= observed= compressed= optional= descriptors='
@@ -24,7 +24,7 @@ _bufr_scripts() {
             mapfile -t COMPREPLY < <(compgen -d -- "$word"; compgen -f -X '!*.csv' -- "$word")
             return
             ;;
-        -P | --awk | --value | --message | --subset) return ;;
+        -P | --awk | --max-length | --value | --message | --subset) return ;;
     esac
     if [[ $word == -* ]]; then
         mapfile -t COMPREPLY < <(compgen -W "$options --help --version" -- "$word")

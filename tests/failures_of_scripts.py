@@ -223,10 +223,9 @@ def killed(trial: Trial) -> None:
         (trial.place / folder).mkdir(parents=True)
     (trial.place / "third/bufr").symlink_to(program())
     path = f"{trial.place}/path:{trial.place}/third:{os.environ['PATH']}"
-    words, trial.words = trial.words, [sys.executable, str(trial.place / "bin" / trial.name), *trial.words[2:]]
+    whole, trial.words[1] = trial.run([SYNOP]).stdout, str(trial.place / "bin" / trial.name)
     done = trial.run([SYNOP], environment={"BUFR": "", "BUFR_TABLES": str(TOP / "tables"), "PATH": path})
-    holds(f"{trial.name} beside a folder", done.stdout == trial.run([SYNOP]).stdout and done.returncode == 0, done)
-    trial.words = words
+    holds(f"{trial.name} beside a folder", done.stdout == whole and done.returncode == 0, done)
 
 
 def signals(trial: Trial) -> None:
