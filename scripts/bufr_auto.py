@@ -112,44 +112,52 @@ class Finder:
 
     def __init__(self, longest: Optional[int] = None) -> None:
         self.longest = 1 << 24 if longest is None else longest
-        self.held, self.passed, self.at, self.has_ended = bytearray(), 0, 0, False
+        # What is buffered ends at `end`, and the search continues at `at`. Offset `passed` of the stream is held[0].
+        # The buffer never shrinks: giving its memory back and taking it again would fragment the heap.
+        self.held, self.at, self.end, self.passed, self.has_ended = bytearray(), 0, 0, 0, False
 
     def put(self, octets: bytes) -> None:
-        """Takes the next block, which is empty at the end of the stream, and drops what was passed."""
-        del self.held[: self.at]
-        self.passed += self.at
-        self.at = 0
-        self.held += octets
+        """Takes the next block, which is empty at the end of the stream."""
+        if self.at > BLOCK:
+            with memoryview(self.held) as held:
+                held[: self.end - self.at] = held[self.at : self.end]
+            self.passed, self.at, self.end = self.passed + self.at, 0, self.end - self.at
+        self.held[self.end : self.end + len(octets)] = octets
+        self.end += len(octets)
         self.has_ended = not octets
 
     def find(self) -> Optional[Tuple[int, int, bytes]]:
         """Where the next message begins and ends; or of a stray `BUFR` its fault. None if more bytes must decide."""
-        held, at = self.held, self.held.find(b"BUFR", self.at)
+        at = self.held.find(b"BUFR", self.at, self.end)
         if at < 0:
-            self.at = max(self.at, len(held) - 3)
+            self.at = max(self.at, self.end - 3)
             return None
         self.at = at
-        length = int.from_bytes(held[at + 4 : at + 7], "big")
-        end = at + length
+        length = int.from_bytes(self.held[at + 4 : at + 7], "big")
         fault = b""
-        if length > self.longest and at + 8 <= len(held):
-            fault = b"skipped: it declares %d bytes" % length
-        elif max(end, at + 8) > len(held):
+        if at + 8 > self.end or at + length > self.end and length <= self.longest:
             if not self.has_ended:
                 return None
             fault = b"1 cut"
+        elif length > self.longest:
+            fault = b"skipped a message that declares %d bytes" % length
         elif length < 12:
             fault = b"2 short length"
-        elif not held.startswith(b"7777", end - 4):
+        elif not self.held.startswith(b"7777", at + length - 4):
             fault = b"3 no end"
-        self.at = at + 4 if fault else end
+        self.at = at + 4 if fault else at + length
         return at, self.at, fault
 
 
+def is_stray(fault: bytes) -> bool:
+    """Whether a fault is that of a stray `BUFR`, rather than nothing or a note on a message that was skipped."""
+    return fault[:1].isdigit()
+
+
 def stray_line(offset: int, fault: bytes, prefix: bytes = b"") -> bytes:
-    """The line about a `BUFR` that is no message: a fault line, or a note if it was skipped for its length."""
+    """The line about a stray `BUFR`, or the note on a message that was skipped."""
     line = b"%soffset %d: %s\n" % (prefix, offset, fault)
-    return line if fault[:1].isdigit() else os.fsencode(bufr_guard.name()) + b": " + line
+    return line if is_stray(fault) else os.fsencode(bufr_guard.name()) + b": " + line
 
 
 class Masker:
@@ -165,13 +173,14 @@ class Masker:
         """Takes the next block, and returns what the program may read by now."""
         finder = self.finder
         finder.put(octets)
+        first = finder.at
         while found := finder.find():
             begin, _, fault = found
-            if fault and not fault[:1].isdigit():
+            if fault and not is_stray(fault):
                 finder.held[begin : begin + 4] = bytes(4)
                 self.count += 1
                 bufr_guard.say(stray_line(finder.passed + begin, fault))
-        return bytes(finder.held if finder.has_ended else finder.held[: finder.at])
+        return bytes(finder.held[first : finder.end if finder.has_ended else finder.at])
 
     def rest(self) -> bytes:
         """What remains at the end of the stream."""
@@ -207,8 +216,9 @@ class Messages(Source):
             found = finder.find()
             if found:
                 begin, end, fault = found
-                with memoryview(finder.held) as held, held[begin:end] as octets:
-                    yield finder.passed + begin, octets, fault
+                octets = memoryview(finder.held)[begin:end]
+                yield finder.passed + begin, octets, fault
+                octets.release()
             elif finder.has_ended:
                 return
             else:
@@ -293,29 +303,34 @@ class Store:
     """A temporary file that is filled in large blocks."""
 
     def __init__(self) -> None:
-        self.file = open(bufr_guard.temporary(), "wb", BLOCK, closefd=False)
+        self.file, self.block = bufr_guard.temporary(), bytearray()
 
     def add(self, octets: Octets) -> None:
-        try:
-            self.file.write(octets)
-        except OSError:
-            raise bufr_guard.no_room() from None
+        if len(octets) < BLOCK:
+            self.block += octets
+            if len(self.block) >= BLOCK:
+                self.flush()
+        else:
+            self.flush()
+            bufr_guard.keep(self.file, octets)
+
+    def flush(self) -> None:
+        bufr_guard.keep(self.file, self.block)
+        self.block.clear()
 
     def descriptor(self) -> int:
         """The file, at its start."""
-        try:
-            self.file.flush()
-        except OSError:
-            raise bufr_guard.no_room() from None
-        os.lseek(self.file.fileno(), 0, os.SEEK_SET)
-        return self.file.fileno()
+        self.flush()
+        os.lseek(self.file, 0, os.SEEK_SET)
+        return self.file
 
 
 class Reason:
-    """Why a set may not serve a message exactly, for which descriptors, and how to get the missing set."""
+    """Why a set may not match a message exactly, for which descriptors, and how to get the missing set."""
 
     def __init__(self, text: str, concerns: Callable[[str], bool], advice: Callable[[], str] = str) -> None:
         self.text, self.concerns, self.advice = text, concerns, advice
+        self.count, self.first = 0, ""
 
 
 class Run:
@@ -517,22 +532,22 @@ class Notes:
     """How many pieces no set matches exactly, by the reason, and where the first one is."""
 
     def __init__(self) -> None:
-        self.found: Dict[str, Tuple[Reason, List[int], str]] = {}
+        self.reasons: Dict[str, Reason] = {}
+        self.others = Reason("no set matches these exactly, for other reasons", bool)
 
-    def add(self, reason: Reason, place: str) -> None:
-        if reason.text not in self.found and len(self.found) >= KINDS_OF_NOTES:
-            reason = OTHER_REASONS
-        self.found.setdefault(reason.text, (reason, [0], place))[1][0] += 1
+    def known(self, reason: Reason) -> Reason:
+        """The reason with this text, so that each is retained once; if there are too many, that of all others."""
+        if reason.text not in self.reasons and len(self.reasons) >= KINDS_OF_NOTES:
+            return self.others
+        return self.reasons.setdefault(reason.text, reason)
 
     def lines(self, piece: str) -> Iterator[bytes]:
-        for text, (reason, [count], first) in self.found.items():
-            pieces = f"1 {piece}," if count == 1 else f"{count} {piece}s, the first"
-            advice = reason.advice()
-            line = f"{bufr_guard.name()}: {pieces} {first}: {text}{'; ' + advice if advice else ''}\n"
-            yield line.encode("utf-8", "surrogateescape")
-
-
-OTHER_REASONS = Reason("no set matches these exactly, for other reasons", bool)
+        for reason in [*self.reasons.values(), self.others]:
+            if reason.count:
+                pieces = f"1 {piece}," if reason.count == 1 else f"{reason.count} {piece}s, the first"
+                advice = reason.advice()
+                line = f"{bufr_guard.name()}: {pieces} {reason.first}: {reason.text}{'; ' + advice if advice else ''}\n"
+                yield line.encode("utf-8", "surrogateescape")
 
 
 def reasons(asked: Tables, tables: bufr_sets.TableSet) -> List[Reason]:
@@ -562,7 +577,7 @@ class Work:
         self.conditions: Optional[Conditions] = None
         self.has_places = False
         self.known: Dict[Tables, Tuple[bufr_sets.TableSet, List[Reason]]] = {}
-        self.remembered: Dict[Tuple[Tables, bytes], List[Reason]] = {}
+        self.remembered: Dict[Tuple[bufr_sets.TableSet, Callable[[str], bool], bytes], bool] = {}
         self.notes, self.status, self.is_over, self.done = Notes(), 0, False, 0
         self.last: List[bytes] = []
         sizes = [os.path.getsize(file) for file in files if file is not None and os.path.isfile(file)]
@@ -611,9 +626,10 @@ class Work:
     def parts(self, feed: Feed) -> Iterator[Optional[Part]]:
         """The parts of a file. None comes when the part before must be written: a read may block, or all was read."""
         part, count, source = Part(), 0, self.kind.SOURCE(feed, self.longest)
+        pieces = iter(source)  # freed after `part`: without memory Python would report that it cannot close it
         try:
-            for piece in source:
-                count += piece is not None and not piece[2]
+            for piece in pieces:
+                count += piece is not None and not is_stray(piece[2])
                 if piece and source.is_long:
                     yield part
                     yield None
@@ -713,23 +729,23 @@ class Work:
             self.known[asked] = tables, reasons(asked, tables)
         tables, notes = self.known[asked]
         if notes:
-            notes = self.concerning(asked, self.kind.words_of(piece))
+            words = self.kind.words_of(piece)
+            notes = [self.notes.known(reason) for reason in notes if self.is_concerned(tables, reason, words)]
         if tables not in part.runs:
             part.runs[tables] = self.kind(tables)
         return part.runs[tables], notes
 
-    def concerning(self, asked: Tables, words: bytes) -> List[Reason]:
-        """The reasons that concern a descriptor of this list."""
-        if (asked, words) in self.remembered:
-            return self.remembered[asked, words]
-        tables, notes = self.known[asked]
-        descriptors = self.kind.descriptors(words)
-        found = [reason for reason in notes if any(map(reason.concerns, tables.used(descriptors)))]
+    def is_concerned(self, tables: bufr_sets.TableSet, reason: Reason, words: bytes) -> bool:
+        """Whether a reason concerns a descriptor that this list uses."""
+        key = tables, reason.concerns, words
+        if key in self.remembered:
+            return self.remembered[key]
+        is_concerned = any(map(reason.concerns, tables.used(self.kind.descriptors(words))))
         if len(self.remembered) == REMEMBERED:
             self.remembered.clear()
         if len(words) <= 7 * REMEMBERED:
-            self.remembered[asked, words] = found
-        return found
+            self.remembered[key] = is_concerned
+        return is_concerned
 
     def write(self, part: Part, feed: Feed) -> None:
         """Writes what the runs of a part gave, in the order of its pieces."""
@@ -746,7 +762,8 @@ class Work:
             fault = one.fault(place, size)
             if fault.partition(b": ")[2][:1] != b"1":  # otherwise it is no message
                 for reason in notes:
-                    self.notes.add(reason, f"{within}at {one.PLACE.decode()}{place}")
+                    reason.count += 1
+                    reason.first = reason.first or f"{within}at {one.PLACE.decode()}{place}"
             if fault:
                 bufr_guard.say(prefix + fault)
                 self.is_over = one.COMMAND == "encode"

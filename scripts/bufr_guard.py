@@ -230,10 +230,12 @@ def flush() -> None:
         file.flush()
 
 
-def write_all(descriptor: int, octets: bytes) -> None:
-    view = memoryview(octets)
-    while view:
-        view = view[os.write(descriptor, view) :]
+def write_all(descriptor: int, octets: Union[bytes, bytearray, memoryview]) -> None:
+    with memoryview(octets) as view:
+        done = 0
+        while done < len(view):
+            with view[done:] as rest:
+                done += os.write(descriptor, rest)
 
 
 def say(lines: bytes) -> None:
@@ -422,8 +424,8 @@ def folder_of_temporary() -> str:
     return os.environ.get("TMPDIR") or "/tmp"
 
 
-def keep(descriptor: int, octets: bytes) -> None:
-    """Writes octets to a temporary file."""
+def keep(descriptor: int, octets: Union[bytes, bytearray, memoryview]) -> None:
+    """Writes bytes to a temporary file."""
     try:
         write_all(descriptor, octets)
     except OSError:
