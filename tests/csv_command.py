@@ -5,6 +5,7 @@ its options; several files with faults in the middle one; live feeds; what it re
     tests/csv_command.py [PROGRAM]
 """
 import csv
+import functools
 import json
 import os
 import pathlib
@@ -81,11 +82,16 @@ def columns_of(columns: list, message, subset: list, file) -> list:
     return [value_of(nth_item(subset, one)) if one[0] in "0123" else key_of(one, message, file) for one in columns]
 
 
+@functools.lru_cache(maxsize=None)
+def messages_of(file) -> list:
+    return list(bufr_text.dump(file, faults=[]))
+
+
 def subsets_of(files: list):
     """The file, the message, its number, and each subset with its number."""
     count = 0
     for file in files:
-        for message in bufr_text.dump(file, faults=[]):
+        for message in messages_of(file):
             count += 1
             for number, subset in enumerate(message.subsets, 1):
                 yield file, message, count, number, subset
@@ -346,15 +352,15 @@ def notes() -> None:
 
 def refusals() -> None:
     """Command lines that are not understood: status 2, nothing written, and one line that says what to do."""
-    keys = b"file, offset, length and the keys edition master"
+    keys = b"file, offset, length, or a key of the header (edition master"
     for words, told in [
         (["-x"], b"unknown option -x"),
         (["--column", "001001"], b"unknown option --column"),
-        (["-c=001001"], b"'=001001' is no column"),
+        (["-c=001001"], b"not '=001001'"),
         (["-c", ""], b"empty column"),
         (["-c", "001001,"], b"empty column"),
-        (["-c", "AIR TEMPERATURE"], b"012001, 012004, 012101, 012104"),
-        (["-c", "air temperature"], b"012001, 012004, 012101, 012104"),
+        (["-c", "AIR TEMPERATURE"], b"names of 012001, 012101, 012004, 012104"),
+        (["-c", "air temperature"], b"names of 012001, 012101, 012004, 012104"),
         (["-c", "001001,AIR TEMPERATURE"], b"'AIR TEMPERATURE'"),
         (["--levels", "-c", "PRESSURE"], b"007004"),
         (["--levels", "--keep", "STATION NUMBER", "-c", "007004"], b"001002"),
