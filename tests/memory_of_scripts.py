@@ -4,7 +4,7 @@
     tests/memory_of_scripts.py [PROGRAM [SCRIPT..]]
 
 The bound is a number of megabytes for each process, plus the longest message or document if --help says so. The streams
-have a million words `BUFR` that begin no message, a million small messages with bytes between them, 100,000 kinds of
+have a million words `BUFR` that begin no message, a million small messages with bytes between them, 30,000 kinds of
 messages whose tables are missing, or messages of 16 MB; a text has no end.
 """
 import os
@@ -40,10 +40,16 @@ def messages():
 
 
 def kinds():
-    """100,000 kinds of messages, with a descriptor that is in no table."""
-    message = lib.message(b"", lib.words("063255"))
-    for centre in range(1, 1001):
-        yield b"".join(lib.asking(message, 13, local, centre) for local in range(1, 101))
+    """30,000 kinds of messages, each with a descriptor list of its own; and 40 that lack 4,096 rows each."""
+    for centre in range(1, 301):
+        pieces = []
+        for local in range(1, 101):
+            others = b"\x30\x01" * 100 + bytes([0x31, centre & 255, 0x32, centre >> 8, 0x33, local])
+            pieces.append(lib.asking(lib.message(b"", others), 13, local, centre))
+        yield b"".join(pieces)
+    rows = b"".join(bytes([x, y]) for x in range(0x30, 0x40) for y in range(256))
+    for centre in range(40):
+        yield lib.asking(lib.message(b"", rows), 14, 1, centre)
 
 
 def long():
@@ -66,7 +72,7 @@ def no_end():
 
 
 # Each stream, with the status that a script gives and how many fault lines.
-STREAMS = {strays: (1, 1_000_000), messages: (0, 0), kinds: (1, 100_000), long: (0, 0)}
+STREAMS = {strays: (1, 1_000_000), messages: (0, 0), kinds: (1, 30_040), long: (0, 0)}
 TEXTS = {no_end: (1, 1)}
 
 
