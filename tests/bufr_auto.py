@@ -266,9 +266,9 @@ class Trial:
             bufr_auto.bufr_guard.say = told.append
             while at < len(stream):
                 size = random.choice((1, 5, 40, 300))
-                given += masker.take(stream[at : at + size])
+                given += b"".join(masker.take(stream[at : at + size]))
                 at += size
-            given += masker.rest()
+            given += b"".join(masker.take(b""))
             self.holds(f"lengths {number}: masked", (given, masker.count) == (masked, len(notes)), (given, masked))
             self.holds(f"lengths {number}: notes of the mask", told == [b"bufr_auto.py: " + note for note in notes], told)
         done = self.auto("--max-length=100", stream=long)
