@@ -23,6 +23,7 @@ SCRIPTS = {
     "bufr-auto --max-length": ["1000000"],
     "bufr-csv": [],
     "bufr-extract": [],
+    "bufr-extract --max-length=16777215": [],
     "bufr-lacks": [],
     "bufr-parallel": ["-P", "32", "dump", *TABLES],
 }
@@ -99,7 +100,8 @@ def main() -> None:
                     file.write(piece)
             for name in scripts:
                 script, *option = name.split()
-                if (stream in TEXTS) != (option == ["--encode"]) or (option == ["--max-length"] and stream is not long):
+                is_for_long = option[:1] != [] and option[0].startswith("--max-length")
+                if (stream in TEXTS) != (option == ["--encode"]) or is_for_long and stream is not long:
                     continue
                 megabytes, has_longest = stated(script)
                 words = [sys.executable, TOP / "scripts" / script, *option, *SCRIPTS[name], path]
