@@ -6,8 +6,8 @@
 A fenced block whose first line begins with `$ ` has commands: each line that begins so, with the lines after it that
 begin with `> `. Below a command stands what it writes, both outputs as one. There a line `...` stands for any lines,
 and a line `(status N)` at the end for a status other than 0. All commands of a document run one after another in one
-shell. They begin in an empty folder, with `bufr` on the path and links to examples/, scripts/ and tables/: those of the
-repository, or of the installation that has the document. A block whose fence ends in `if=WORD` is skipped where neither
+shell. They begin in an empty folder, with `bufr` and the scripts on the path and links to examples/, scripts/ and
+tables/: those of the repository, or of the installation that has the document. A block whose fence ends in `if=WORD` is skipped where neither
 a program nor a module of python3 has that name.
 """
 import os
@@ -86,6 +86,8 @@ def wrongs(path: pathlib.Path) -> list:
         folder, programs = pathlib.Path(place) / "run", pathlib.Path(place) / "bin"
         folder.mkdir(), programs.mkdir()
         (programs / "bufr").symlink_to(program())
+        for script in (top / "scripts").glob("bufr-*"):
+            (programs / script.name).symlink_to(script)
         for name in ("examples", "scripts", "tables"):
             (folder / name).symlink_to(top / name)
         environment = {**os.environ, "PATH": f"{programs}:{os.environ['PATH']}"}

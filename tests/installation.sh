@@ -21,6 +21,15 @@ for set in wmo-38 wmo-39; do ln -s "../../../bufr/tables/$set" "$doc/tables"; do
 [ -s "$older/own/B.csv" ] || fail "install.sh removes a set of the user's own"
 [ ! -L "$older/wmo-39/B.csv" ] && cmp "$older/wmo-39/B.csv" tables/wmo-39/B.csv || fail "another set wmo-39"
 rm -r "$older/own"
+# A second installation replaces the first one, even while its program runs, and adds nothing to it.
+(cd "$prefix" && find . | sort) > "$work/once"
+mkfifo "$work/feed"
+"$prefix/bin/bufr" ls < "$work/feed" &
+exec 3> "$work/feed"
+(umask 077 && "$top/install.sh" --program "$bufr" --unproved "$prefix") > "$work/again" || fail "install.sh fails where it installed before"
+exec 3>&-
+wait $!
+(cd "$prefix" && find . | sort) | diff "$work/once" - || fail "a second installation has other files"
 find "$prefix" -type d ! -perm 755 -o -type f ! -perm 644 ! -perm 755 > "$work/modes"
 test ! -s "$work/modes" || fail "who did not install them cannot read: $(< "$work/modes")"
 for program in "$prefix"/bin/*; do test -x "$program" || fail "$program is no program"; done
@@ -61,7 +70,7 @@ cd "$work"
 bufr-auto "$examples/synop.bufr" | cmp - "$examples/synop.txt" || fail "bufr-auto: another dump of examples/synop.bufr"
 bufr-lacks "$examples/synop.bufr" > lacks || fail "bufr-lacks: $(< lacks)"
 bufr dump -B "$prefix/share/bufr/tables/wmo-37/B.csv" -D "$prefix/share/bufr/tables/wmo-37/D.csv" "$examples/buoys.bufr" |
-    awk -f "$prefix/share/bufr/long.awk" | grep -c '"TEMPERATURE/AIR TEMPERATURE"' > /dev/null || fail "long.awk: no temperature"
+    awk -f "$prefix/share/bufr/table.awk" | grep -c '"TEMPERATURE/AIR TEMPERATURE"' > /dev/null || fail "table.awk: no temperature"
 "$prefix/share/bufr/tables/convert.py" copy "$prefix/share/bufr/tables/wmo-39" &&
     cmp copy/D.csv "$prefix/share/bufr/tables/wmo-39/D.csv" || fail "convert.py: another set"
 set=$prefix/share/bufr/tables/wmo-39
@@ -112,6 +121,8 @@ if python3 -c 'import pip, venv' 2> errors; then
         rm -r "$prefix"/bin/bufr-* "$prefix/share/bufr"
         environment/bin/bufr-auto "$examples/synop.bufr" | cmp - "$examples/synop.txt" || fail "bufr-auto of the package"
         environment/bin/python -c "$count" "$examples/synop.bufr" | grep -qx 1 || fail "bufr_text of the package"
+        environment/bin/python -c 'import bufr_text; bufr_text.rows([], ["AIR TEMPERATURE"])' 2>&1 |
+            grep -q ' 012001, 012101,' || fail "bufr_text of the package finds no tables"
         for script in "$top"/scripts/bufr-*; do
             "environment/bin/${script##*/}" --help > help || fail "${script##*/} of the package"
         done
