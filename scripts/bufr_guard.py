@@ -155,8 +155,28 @@ def answer(question: str, text: str) -> int:
     process = start([program(), "--version"], output=target)
     os.close(target)
     with open(source, "rb") as version:
-        output().write(f"{name()}, with ".encode() + version.read().strip() + b"\n")
+        output().write(f"{name()}, with ".encode() + version.read().strip() + f", {build()}\n".encode())
     return checked(wait(process))
+
+
+def build() -> str:
+    """What is known of the program that runs: its commit, and whether it is proved.
+
+    install.sh recorded both, with the program's SHA-256, in a file beside the pages.
+    """
+    import hashlib
+    import shutil
+
+    try:
+        with open(os.path.join(os.path.dirname(os.path.realpath(__file__)), "../doc/bufr/BUILD")) as lines:
+            known = dict(line.rstrip("\n").split(": ", 1) for line in lines)
+        with open(shutil.which(program()) or program(), "rb") as file:
+            digest = hashlib.sha256(file.read()).hexdigest()
+        if digest == known["program"]:
+            return f"commit {known['commit'][:12]}, {known['proof']}"
+    except (OSError, ValueError, KeyError):
+        pass  # not installed by install.sh
+    return "unknown build"
 
 
 def reason(error: BaseException) -> str:

@@ -410,9 +410,10 @@ class Trial:
             done = self.auto(word)
             self.holds("help", done.returncode == 0 and b"\n    bufr-auto [--max-length BYTES] [FILE..]\n" in done.stdout, done)
             self.holds("help", b"BUFR_TABLES" in done.stdout and done.stderr == b"", done)
-        version = subprocess.run([self.program, "--version"], capture_output=True).stdout
+        of_program = subprocess.run([self.program, "--version"], capture_output=True).stdout
+        version = b"bufr-auto, with " + of_program.strip() + b", unknown build\n"
         for word in ("--version", "-V"):
-            self.holds("version", self.auto(word).stdout == b"bufr-auto, with " + version, self.auto(word))
+            self.holds("version", self.auto(word).stdout == version, self.auto(word))
         file = str(TOP / "examples/synop.bufr")
         for words, why in (
             (["--other"], "unknown option --other"),
@@ -431,7 +432,7 @@ class Trial:
             self.holds(f"help by {words}", self.auto(*words).stdout == self.auto("--help").stdout)
         self.holds("a word behind --", self.auto("--", "--help").returncode == 2)
         done = self.auto("--version", PYTHONIOENCODING="utf-16")
-        self.holds("another encoding", done.stdout == b"bufr-auto, with " + version, done)
+        self.holds("another encoding", done.stdout == version, done)
         # Started as a program, it does without what an installation adds to Python.
         (self.place / "sitecustomize.py").write_text("raise SystemExit(7)")
         done = subprocess.run([AUTO[1], file], env={**self.environment, "PYTHONPATH": str(self.place)}, capture_output=True)

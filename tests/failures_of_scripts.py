@@ -313,7 +313,7 @@ def options(trial: Trial) -> None:
     version = subprocess.run([program(), "--version"], stdout=subprocess.PIPE, text=True).stdout
     for words in (["--version"], ["-V"]):
         done = trial.run(words)
-        holds(f"{trial.name} {words}", done.stdout.decode() == f"{trial.name}, with {version}", done)
+        holds(f"{trial.name} {words}", done.stdout.decode() == f"{trial.name}, with {version.strip()}, unknown build\n", done)
     for words in (["--help"], ["-h"]):
         done = trial.run(words)
         holds(f"{trial.name} {words}", done.returncode == 0 and trial.name in done.stdout.decode(), done)
