@@ -70,6 +70,10 @@ def main() -> None:
     print(f"{sys.argv[0]}: {len(told)} commands of README were typed; not run: {', '.join(skipped) or 'none'}")
     if len(told) < 8:
         wrong.append("fewer than eight commands to type")
+    picture = TOP / "docs/pictures/first_minute.svg"
+    drawn = subprocess.run([picture.with_suffix(".py"), program()], check=True, stdout=subprocess.PIPE)
+    if drawn.stdout != picture.read_bytes():
+        wrong.append(f"{picture.name} is not what first_minute.py draws")
     finish([f"README.md:{one}" for one in wrong])
 
 
