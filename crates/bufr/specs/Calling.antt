@@ -1,9 +1,9 @@
 -- What the process does with its words. (a choice of this project)
 -- Cited by public contracts.
-use Rattle.std.specs.Prelude.{◌≡◌, ◌⊎◌, ℕ, List, codes}
+use Rattle.std.specs.Prelude.{◌≡◌, ◌⊎◌, ℕ, List, [], Option, codes}
 use Rattle.std.specs.Borrow.{Bor}
 use Rattle.bufr_frame.specs.declared.fault.RunFault.TheVariants.{Memory}
-use Rattle.bufr_cli.specs.Prelude.{Known, Writers, WritesLine, last_line, status_of, RunsProgram}
+use Rattle.bufr_cli.specs.Prelude.{InputName, Known, Opens, Writers, WritesLine, last_line, status_of, RunsProgram}
 use Rattle.bufr_cli.specs.declared.outcome.Outcome.{Outcome}
 use Rattle.bufr_cli.specs.declared.outcome.Outcome.TheVariants.{Usage, Run}
 
@@ -17,9 +17,10 @@ IsWordless outcome =
 -- comes to; or they cannot be had, and the last line and the status say so, with no output.
 -- rule: argument-not-utf-8
 pub data RunsArguments {Standard File : Type 0} (inputs : Known Standard File)
-    (before after : Writers) (status : ℕ) : Type 0 where
-  Calls : (words : List (List ℕ)) → RunsProgram words inputs before after status
-      → RunsArguments inputs before after status
-  NoWords : (outcome : Outcome) → IsWordless outcome → after.output ≡ before.output
+    (opened opened' : Option (List InputName)) (before after : Writers) (status : ℕ) : Type 0 where
+  Calls : (words : List (List ℕ)) → RunsProgram words inputs opened opened' before after status
+      → RunsArguments inputs opened opened' before after status
+  NoWords : (outcome : Outcome) → IsWordless outcome → Opens opened opened' []
+      → after.output ≡ before.output
       → WritesLine before.errors after.errors (last_line outcome) → status ≡ status_of outcome
-      → RunsArguments inputs before after status
+      → RunsArguments inputs opened opened' before after status

@@ -39,8 +39,13 @@ fn status(rt: &HostRuntime) -> u8 {
     let mut e = Device::new(Buffered::new(errors));
     let status = match BufWriter::with_capacity(rt.alloc(), BUFFERED, rt.stdout()) {
         Ok(output) => {
-            let inputs = Process { runtime: rt };
-            run_words(rt, &inputs, &mut Device::new(Buffered::new(output)), &mut e)
+            let mut inputs = Process { runtime: rt };
+            run_words(
+                rt,
+                &mut inputs,
+                &mut Device::new(Buffered::new(output)),
+                &mut e,
+            )
         }
         Err(_) => finish(&Outcome::Run(RunFault::Memory), &mut e),
     };
@@ -61,9 +66,15 @@ fn argument_fault(error: &Error) -> Outcome<'static>
 }
 
 /// Runs the words of the command line over these inputs.
-fn run_words<I: Inputs, W: Sink, E: Sink>(rt: &HostRuntime, inputs: &I, w: &mut W, e: &mut E) -> u8
-    ensures { RunsArguments (known (I.standard_octets inputs.now) (I.file_octets inputs.now)
+fn run_words<I: Inputs, W: Sink, E: Sink>(
+    rt: &HostRuntime,
+    inputs: &mut I,
+    w: &mut W,
+    e: &mut E,
+) -> u8
+    ensures { RunsArguments (known (I.standard_octets inputs.old) (I.file_octets inputs.old)
         (input_of I.Standard.Source) (input_of I.File.Source))
+        (I.opened inputs.old) (I.opened inputs.new)
         (writers_of W.Sink w.old E.Sink e.old) (writers_of W.Sink w.new E.Sink e.new) result }
 {
     let words: Result<Vec<String>, _> = match std::env::args(rt) {

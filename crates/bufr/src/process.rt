@@ -24,7 +24,7 @@ impl<'a> Inputs for Process<'a> {
 
     ghost file_octets = { λ _ _. None };
 
-    fn standard(&self) -> Result<BufferedDevice<Stdin>, AllocError> {
+    fn standard(&mut self) -> Result<BufferedDevice<Stdin>, AllocError> {
         let stdin = self.runtime.stdin();
         match BufReader::with_capacity(self.runtime.alloc(), BUFFERED, stdin) {
             Ok(reader) => Ok(BufferedDevice::new(reader)),
@@ -32,7 +32,7 @@ impl<'a> Inputs for Process<'a> {
         }
     }
 
-    fn open(&self, name: &str) -> Result<BufferedDevice<File>, OpenFault> {
+    fn open(&mut self, name: &str) -> Result<BufferedDevice<File>, OpenFault> {
         let Ok(file) = fs::open(self.runtime, name) else {
             return Err(OpenFault::CannotOpen);
         };

@@ -24,7 +24,7 @@ nothing-written w piece r f is = rw is (record { output = grows-none w.output.ta
 output-reported : (before after : Writers) (text : List ℕ) (piece : Piece) → piece ≡ OnOutput text → Appends before.output.taken after.output.taken text → after.errors ≡ before.errors
     → LeavesPiece before after piece (Ok Accepted)
 output-reported before after text piece is writes same =
-    rw is (record { output = rw (append-nil text) writes; errors = rw same (Appends-nil before.errors.taken) }, refl, refl)
+    rw is (record { output = rw (append-nil text) writes; errors = rw same (Appends-nil before.errors.taken) }, refl, refl, same)
 
 pub output-stopped : (before after : Writers) (text : List ℕ) (piece : Piece) (f : RunFault) → piece ≡ OnOutput text → GrowsByPrefix before.output.taken after.output.taken text
     → after.errors ≡ before.errors → LeavesPiece before after piece (Err f)
@@ -35,7 +35,7 @@ output-stopped before after text piece f is writes same =
 pub errors-reported : (before after : Writers) (text : List ℕ) (piece : Piece) → piece ≡ OnErrors text → Appends before.errors.taken after.errors.taken text → after.output ≡ before.output
     → LeavesPiece before after piece (Ok Refused)
 errors-reported before after text piece is writes same =
-    rw is (record { output = rw same (Appends-nil before.output.taken); errors = rw (append-nil text) writes }, refl, refl)
+    rw is (record { output = rw same (Appends-nil before.output.taken); errors = rw (append-nil text) writes }, refl, refl, same)
 
 errors-stopped : (before after : Writers) (text : List ℕ) (piece : Piece) (f : RunFault) → piece ≡ OnErrors text → GrowsByPrefix before.errors.taken after.errors.taken text
     → after.output ≡ before.output → LeavesPiece before after piece (Err f)

@@ -4,7 +4,7 @@ use Rattle.std.specs.Borrow.{Bor}
 use Rattle.std.specs.Fmt.{digits}
 use Rattle.bufr_frame.specs.declared.fault.RunFault.TheVariants.{Read, Write, InputTooLong, Memory}
 use Rattle.bufr_text.specs.Prelude.{joined}
-use Rattle.bufr_cli.specs.Prelude.{last_line, status_of, Answers, AreUnread, ByTables, CommandOutcome, Does, InPart, InWhole, NoTables, RunsProgram, EndsRun, Input, IsNotOpened, Known, NoTableB, NoTableD, RunOutcome, ReadsAtMost, Runs, Tally, BlamesWriter, RunPieces, WantsMemory, Writer, Writers, event_pieces, holding, known, ls_piece}
+use Rattle.bufr_cli.specs.Prelude.{last_line, status_of, Answers, AreUnread, ByTables, CommandOutcome, Does, InPart, InWhole, NoTables, RunsProgram, EndsRun, Input, InputName, IsNotOpened, Known, NoTableB, NoTableD, RunOutcome, ReadsAtMost, Runs, Tally, BlamesWriter, RunPieces, WantsMemory, Writer, Writers, event_pieces, holding, known, ls_piece}
 use Rattle.bufr_cli.specs.declared.outcome.Outcome.TheVariants.{Ran, Usage, CannotOpen, TableB, TableD, Run}
 use Rattle.bufr_bits.specs.Prelude.{counted}
 use Rattle.bufr_cli.specs.declared.job.TableNames.{TableNames}
@@ -166,18 +166,18 @@ module _ {Standard File : Type 0} (inputs : Known Standard File) (before after :
   zero-is-not-two : ◌≡◌ {A = ℕ} 0 2 → ⊥
   zero-is-not-two is = omega arith
 
-status-0-is-handed-on : {Standard File : Type 0} (words : List Text) (inputs : Known Standard File) (before after : Writers) → RunsProgram words inputs before after 0 → after.output.all_flushed ≡ true
-status-0-is-handed-on words inputs before after (Does job is (Ran tally) between comes same line status) =
+status-0-is-handed-on : {Standard File : Type 0} (words : List Text) (inputs : Known Standard File) (opened opened' : Option (List InputName)) (before after : Writers) → RunsProgram words inputs opened opened' before after 0 → after.output.all_flushed ≡ true
+status-0-is-handed-on words inputs opened opened' before after (Does job is (Ran tally) between comes opens same line status) =
     ap (λ w. w.all_flushed) same ∙ command-is-handed-on inputs before between job.command job.file tally comes
-status-0-is-handed-on words inputs before after (Does job is (Usage text) between comes same line status) = absurd (zero-is-not-two inputs before after status)
-status-0-is-handed-on words inputs before after (Does job is (CannotOpen name) between comes same line status) = absurd (zero-is-not-two inputs before after status)
-status-0-is-handed-on words inputs before after (Does job is (TableB fault) between comes same line status) = absurd (zero-is-not-two inputs before after status)
-status-0-is-handed-on words inputs before after (Does job is (TableD fault) between comes same line status) = absurd (zero-is-not-two inputs before after status)
-status-0-is-handed-on words inputs before after (Does job is (Run fault) between comes same line status) = absurd (zero-is-not-two inputs before after status)
-status-0-is-handed-on words inputs before after (Answers (line.Help text) why (InWhole wrote flushed stays errors status)) = flushed
-status-0-is-handed-on words inputs before after (Answers (line.Help text) why (InPart wrote failed line status)) = absurd (zero-is-not-two inputs before after status)
-status-0-is-handed-on words inputs before after (Answers (line.Usage text) why (same, wrote, status)) = absurd (zero-is-not-two inputs before after status)
-status-0-is-handed-on words inputs before after (Answers line.Memory why (same, wrote, status)) = absurd (zero-is-not-two inputs before after status)
+status-0-is-handed-on words inputs opened opened' before after (Does job is (Usage text) between comes opens same line status) = absurd (zero-is-not-two inputs before after status)
+status-0-is-handed-on words inputs opened opened' before after (Does job is (CannotOpen name) between comes opens same line status) = absurd (zero-is-not-two inputs before after status)
+status-0-is-handed-on words inputs opened opened' before after (Does job is (TableB fault) between comes opens same line status) = absurd (zero-is-not-two inputs before after status)
+status-0-is-handed-on words inputs opened opened' before after (Does job is (TableD fault) between comes opens same line status) = absurd (zero-is-not-two inputs before after status)
+status-0-is-handed-on words inputs opened opened' before after (Does job is (Run fault) between comes opens same line status) = absurd (zero-is-not-two inputs before after status)
+status-0-is-handed-on words inputs opened opened' before after (Answers (line.Help text) why opens (InWhole wrote flushed stays errors status)) = flushed
+status-0-is-handed-on words inputs opened opened' before after (Answers (line.Help text) why opens (InPart wrote failed line status)) = absurd (zero-is-not-two inputs before after status)
+status-0-is-handed-on words inputs opened opened' before after (Answers (line.Usage text) why opens (same, wrote, status)) = absurd (zero-is-not-two inputs before after status)
+status-0-is-handed-on words inputs opened opened' before after (Answers line.Memory why opens (same, wrote, status)) = absurd (zero-is-not-two inputs before after status)
 
 -- nor is a table of such a file answered by 70 or 72
 table-is-not-70 : (fault : RunFault) → IsOfReads fault → (named : List ℕ → Option (List ℕ)) (tables : TableNames) → AreUnread (λ (file : Unit {0}). quiet) named tables (Run fault) → ⊥

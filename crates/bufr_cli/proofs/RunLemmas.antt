@@ -1,6 +1,6 @@
 -- What a run leaves, by its steps, and what comes of a job.
 use Rattle.bufr_frame.specs.Prelude.{max_reads, read_failures_after, AddsReads}
-use Rattle.std.proofs.Common.{◌≡◌, ◌≢◌, ◌∙◌, ◌<◌, ◌^◌, ℕ, ◌+◌, ◌-◌, Bool, true, false, List, [], ◌∷◌, ◌++◌, length, length-append, refl, sym, ap, subst, arith, Option, None, Ok, Err, append-nil, Some, inl, inr, Result, flat_map, map, count_by, IfSome}
+use Rattle.std.proofs.Common.{◌≡◌, ◌≢◌, ◌∙◌, ◌<◌, ◌^◌, ℕ, ◌+◌, ◌-◌, Bool, true, false, List, [], ◌∷◌, ◌++◌, length, length-append, refl, sym, ap, subst, arith, append_assoc, Option, None, Ok, Err, append-nil, Some, inl, inr, Result, flat_map, map, count_by, IfSome}
 use Rattle.std.specs.Io.KnownBytes.{Consumes, IsAtEnd, Keeps}
 use Rattle.std.proofs.KnownBytes.{Appends-nil, Appends-trans, Appends-kept, Consumes-trans}
 use Rattle.std.proofs.lemmas.Bool.{false≢true}
@@ -10,9 +10,11 @@ use Rattle.bufr_frame.proofs.FinderLemmas.{adds-then}
 use Rattle.bufr_frame.specs.declared.fault.RunFault.{RunFault}
 use Rattle.bufr_frame.specs.declared.fault.RunFault.TheVariants.{Read, Write, InputTooLong, Memory}
 use Rattle.bufr_text.specs.Prelude.{GrowsByPrefix, Stays, Fails, Writes}
-use Rattle.bufr_cli.specs.Prelude.{AllHandedOn, BlamesWriter, CountsCalls, CountsRead, EndsRun, FlushesRest, TakesStep, HandsOnBoth, Input, IsClosed, IsCut, IsDone, IsNotOpened, IsOpen, IsSame, InPart, Known, LeavesDevices, NoFlushFails, OnErrors, OnOutput, Piece, Progress, ReadsAndWrites, ReadsAtMost, ReadsFewer, ReadsOctets, RunOutcome, RunPieces, RunReads, RunsOver, RunsOverInput, StopsPiece, Tallies, Tally, Verdict, WantsMemory, Writers, WritesHelp, WritesLine, WritesPieces, WritesPrefixes, WrittenInPart, counted_accepted, counted_refused, errors_of, is_accepted, is_refused, output_of, run_line, tally_after}
+use Rattle.bufr_cli.specs.Prelude.{BlamesWriter, CountsCalls, CountsRead, EndsRun, FlushesRest, TakesStep, HandsOn, HandsOnBoth, HandsOnWritten, IsFlushedIf, IsHandedOn, LeavesOther, unflushed_after, Writer, Input, IsClosed, IsCut, IsDone, InputName, IsNotOpened, IsOpen, Opens, OpensInOrder, IsSame, InPart, Known, LeavesDevices, NoFlushFails, OnErrors, OnOutput, Piece, Progress, ReadsAndWrites, ReadsAtMost, ReadsFewer, ReadsOctets, RunOutcome, RunPieces, RunReads, RunsOver, RunsOverInput, StopsPiece, Tallies, Tally, Verdict, WantsMemory, Writers, WritesHelp, WritesLine, WritesPieces, WritesPrefixes, WrittenInPart, counted_accepted, counted_refused, errors_of, is_accepted, is_refused, output_of, run_line, tally_after}
 use Rattle.bufr_cli.specs.declared.outcome.Outcome.{Outcome}
 use Rattle.bufr_cli.specs.declared.run_pieces.RunStep.{RunStep}
+use Rattle.bufr_cli.specs.declared.run_pieces.Unflushed.{Unflushed}
+use Rattle.bufr_cli.specs.declared.outcome.Verdict.TheVariants as verdict
 use Rattle.bufr_cli.specs.declared.run_pieces.RunStep.TheVariants as step
 use Rattle.std.specs.Borrow.{Bor}
 
@@ -120,7 +122,12 @@ reads-at-most reads reads' n r counts long =
 abbrev pub progress : (from to : Input) (octets : List ℕ) (pieces : List Piece) → Progress
 progress from to octets pieces = record { from = from.left; left = to.left; octets = octets; pieces = pieces }
 
-pub record RunSoFar (reaches : Progress → Type 0) (from to : Input) (before after : Writers) (tally : Tally) : Type 0 where
+-- a writer to which nothing unflushed was written is handed on
+abbrev pub IsAllFlushed : Unflushed → (before after : Writers) → Type 0
+IsAllFlushed unflushed before after =
+    (unflushed.output ≡ false → IsHandedOn before.output after.output) × (unflushed.errors ≡ false → IsHandedOn before.errors after.errors)
+
+pub record RunSoFar (reaches : Progress → Type 0) (from to : Input) (before after : Writers) (tally : Tally) (unflushed : Unflushed) : Type 0 where
   pub octets : List ℕ
   pub pieces : List Piece
   pub reached : reaches (progress from to octets pieces)
@@ -129,12 +136,13 @@ pub record RunSoFar (reaches : Progress → Type 0) (from to : Input) (before af
   pub few : length pieces < 2 ^ 63
   pub failures : to.failures ≡ from.failures
   pub flushes : NoFlushFails before after
+  pub handed : IsAllFlushed unflushed before after
   pub same : IsSame before.output after.output × IsSame before.errors after.errors
 
 -- nothing was done yet
-pub so-far-none : (reaches : Progress → Type 0) (from : Input) (before : Writers) (tally : Tally) → reaches (progress from from [] []) → tally.accepted ≡ 0 → tally.refused ≡ 0
-    → RunSoFar reaches from from before before tally
-so-far-none reaches from before tally reached accepted refused = record {
+pub so-far-none : (reaches : Progress → Type 0) (from : Input) (before : Writers) (tally : Tally) (unflushed : Unflushed) → reaches (progress from from [] []) → tally.accepted ≡ 0
+    → tally.refused ≡ 0 → RunSoFar reaches from from before before tally unflushed
+so-far-none reaches from before tally unflushed reached accepted refused = record {
   octets = [];
   pieces = [];
   reached = reached;
@@ -143,19 +151,52 @@ so-far-none reaches from before tally reached accepted refused = record {
   few = omega arith;
   failures = refl;
   flushes = (refl, refl);
+  handed = ((λ none. inl refl), (λ none. inl refl));
   same = ((refl, refl), (refl, refl));
 }
 
-module _ (reaches : Progress → Type 0) (from to : Input) (before mid : Writers) (tally : Tally) (ran : RunSoFar reaches from to before mid tally) where
+-- one more piece leaves the other writer
+piece-handed : (unflushed : Unflushed) (verdict : Verdict) (before mid after : Writers) → LeavesOther mid after verdict → IsAllFlushed unflushed before mid
+    → IsAllFlushed (unflushed_after unflushed verdict) before after
+piece-handed unflushed verdict.Accepted before mid after other handed = (
+  (λ none. absurd (false≢true (sym none))),
+  (λ none. let H : Writer → Type 0 = λ w. IsHandedOn before.errors w in subst H (sym other) (handed.1 none)),
+)
+piece-handed unflushed verdict.Refused before mid after other handed = (
+  (λ none. let H : Writer → Type 0 = λ w. IsHandedOn before.output w in subst H (sym other) (handed.0 none)),
+  (λ none. absurd (false≢true (sym none))),
+)
+
+-- a writer that was flushed if something was written to it is handed on
+flushed-handed : (written : Bool) (before mid after : Writer) → (written ≡ false → IsHandedOn before mid) → IsFlushedIf written mid after → IsHandedOn before after
+flushed-handed true before mid after handed flushed = inr flushed
+flushed-handed false before mid after handed flushed = let H : Writer → Type 0 = λ w. IsHandedOn before w in subst H (sym flushed) (handed refl)
+
+-- before a read what was written is handed on, or nothing changes
+read-handed : (waits : Bool) (unflushed unflushed' : Unflushed) (before mid after : Writers) (r : Result (Unit {0}) RunFault) → HandsOnWritten waits unflushed unflushed' mid after r → r ≡ Ok tt
+    → IsAllFlushed unflushed before mid → IsAllFlushed unflushed' before after
+read-handed waits unflushed unflushed' before mid after r hands well handed =
+    let U : Unflushed → Type 0 = λ u. IsAllFlushed u before mid in
+    let W : Writers → Type 0 = λ w. IsAllFlushed unflushed' before w in
+    elim (rw well at hands.handed) [
+      | inl flushed ↦ (
+        (λ none. flushed-handed unflushed.output before.output mid.output after.output handed.0 flushed.0),
+        (λ none. flushed-handed unflushed.errors before.errors mid.errors after.errors handed.1 flushed.1),
+      )
+      | inr still ↦ subst W (sym still.2) (subst U (sym still.1) handed)
+    ]
+
+module _ (reaches : Progress → Type 0) (from to : Input) (before mid : Writers) (tally : Tally) (unflushed : Unflushed) (ran : RunSoFar reaches from to before mid tally unflushed) where
   -- so many pieces are few
   pub tally-few : tally.accepted + tally.refused < 2 ^ 63
   tally-few = omega (arith, ran.tallies.accepted, ran.tallies.refused, counted-all ran.pieces, ran.few)
 
   -- one more piece was written
-  pub piece-written : (pieces : RunPieces) (on : Progress → Type 0) (after : Writers) (tally' : Tally) (verdict : Verdict) (r : Result RunStep RunFault)
+  pub piece-written : (pieces : RunPieces) (on : Progress → Type 0) (after : Writers) (tally' : Tally) (unflushed' : Unflushed) (verdict : Verdict) (r : Result RunStep RunFault)
       → ((so : Progress) → reaches so → TakesStep pieces on so mid after r) → r ≡ Ok (step.Piece verdict)
-      → BlamesWriter mid after r → NoFlushFails mid after → tally' ≡ tally_after tally verdict → RunSoFar on from to before after tally'
-  piece-written pieces on after tally' verdict r gives is counts flushes after-it =
+      → BlamesWriter mid after r → NoFlushFails mid after → tally' ≡ tally_after tally verdict → unflushed' ≡ unflushed_after unflushed verdict
+      → RunSoFar on from to before after tally' unflushed'
+  piece-written pieces on after tally' unflushed' verdict r gives is counts flushes after-it noted =
       let one = rw is at gives (progress from to ran.octets ran.pieces) ran.reached in
       let stays = rw is at counts in
       let p = one.0 ∷ [] in
@@ -168,13 +209,14 @@ module _ (reaches : Progress → Type 0) (from to : Input) (before mid : Writers
         few = omega (arith, length-append ran.pieces p, one.3);
         failures = ran.failures;
         flushes = (flushes.0 ∙ ran.flushes.0, flushes.1 ∙ ran.flushes.1);
+        handed = rw noted (piece-handed unflushed verdict before mid after one.2.3 ran.handed);
         same = (same-then _ _ _ _ _ _ ran.same.0 stays.0, same-then _ _ _ _ _ _ ran.same.1 stays.1);
       }
 
   -- a read is needed
   pub read-needed : (pieces : RunPieces) (on : Progress → Type 0) (after : Writers) (r : Result RunStep RunFault)
       → ((so : Progress) → reaches so → TakesStep pieces on so mid after r) → r ≡ Ok step.Read
-      → (now : RunSoFar on from to before after tally) × IsOpen pieces (progress from to now.octets now.pieces)
+      → (now : RunSoFar on from to before after tally unflushed) × IsOpen pieces (progress from to now.octets now.pieces)
   read-needed pieces on after r gives is =
       let one = rw is at gives (progress from to ran.octets ran.pieces) ran.reached in
       rw one.0 (
@@ -187,6 +229,7 @@ module _ (reaches : Progress → Type 0) (from to : Input) (before mid : Writers
           few = ran.few;
           failures = ran.failures;
           flushes = ran.flushes;
+          handed = ran.handed;
           same = ran.same;
         },
         one.2,
@@ -195,17 +238,17 @@ module _ (reaches : Progress → Type 0) (from to : Input) (before mid : Writers
   -- nothing comes any more
   pub nothing-left : (pieces : RunPieces) (on : Progress → Type 0) (after : Writers) (r : Result RunStep RunFault)
       → ((so : Progress) → reaches so → TakesStep pieces on so mid after r) → r ≡ Ok step.End
-      → (now : RunSoFar reaches from to before after tally) × IsDone pieces (progress from to now.octets now.pieces)
+      → (now : RunSoFar reaches from to before after tally unflushed) × IsDone pieces (progress from to now.octets now.pieces)
   nothing-left pieces on after r gives is =
       let one = rw is at gives (progress from to ran.octets ran.pieces) ran.reached in
       rw one.0 (ran, one.1)
 
   -- what was written was handed on, and octets were read
-  pub octets-read : (on : Progress → Type 0) (must : Type 0) (to' : Input) (after : Writers) (handed : Result (Unit {0}) RunFault) (r : Result (Unit {0}) RunFault)
-      → HandsOnBoth mid after must handed → handed ≡ Ok tt
+  pub octets-read : (on : Progress → Type 0) (waits : Bool) (unflushed' : Unflushed) (to' : Input) (after : Writers) (handed : Result (Unit {0}) RunFault) (r : Result (Unit {0}) RunFault)
+      → HandsOnWritten waits unflushed unflushed' mid after handed → handed ≡ Ok tt
       → ((so : Progress) → so.left ≡ to.left → reaches so → ReadsOctets on so to'.left r) → r ≡ Ok tt → to'.failures ≡ to.failures
-      → RunSoFar on from to' before after tally
-  octets-read on must to' after handed r hands well reads is failures =
+      → RunSoFar on from to' before after tally unflushed'
+  octets-read on waits unflushed' to' after handed r hands well reads is failures =
       let more = rw is at reads (progress from to ran.octets ran.pieces) refl ran.reached in
       let none = rw well at hands.none in
       let stays = rw well at hands.counts in
@@ -218,6 +261,7 @@ module _ (reaches : Progress → Type 0) (from to : Input) (before mid : Writers
         few = ran.few;
         failures = failures ∙ ran.failures;
         flushes = (none.0 ∙ ran.flushes.0, none.1 ∙ ran.flushes.1);
+        handed = read-handed waits unflushed unflushed' before mid after handed hands well ran.handed;
         same = (same-then _ _ _ _ _ _ ran.same.0 stays.0, same-then _ _ _ _ _ _ ran.same.1 stays.1);
       }
 
@@ -230,7 +274,8 @@ known-whole None left' octets ended P read at_end whole = tt
 known-whole (Some s) None octets ended P read at_end whole = absurd read
 known-whole (Some s) (Some t) octets ended P read at_end whole = subst P (sym read) (whole t at_end)
 
-module _ (reaches : Progress → Type 0) (from to : Input) (before mid : Writers) (tally : Tally) (ran : RunSoFar reaches from to before mid tally) (pieces : RunPieces) (n : ℕ)
+module _ (reaches : Progress → Type 0) (from to : Input) (before mid : Writers) (tally : Tally) (unflushed : Unflushed) (ran : RunSoFar reaches from to before mid tally unflushed) (pieces : RunPieces)
+    (n : ℕ)
     (counts : AddsReads from.reads to.reads 0 n) where
   abbrev pub so : Progress
   so = progress from to ran.octets ran.pieces
@@ -282,10 +327,10 @@ module _ (reaches : Progress → Type 0) (from to : Input) (before mid : Writers
       }
 
   -- a flush failed before a read
-  pub leaves-held : (must : Type 0) (after : Writers) (handed : Result (Unit {0}) RunFault) (f : RunFault) (result : Result Tally RunFault)
-      → IsOpen pieces so → HandsOnBoth mid after must handed → handed ≡ Err f → result ≡ Err f
+  pub leaves-held : (waits : Bool) (unflushed' : Unflushed) (after : Writers) (handed : Result (Unit {0}) RunFault) (f : RunFault) (result : Result Tally RunFault)
+      → IsOpen pieces so → HandsOnWritten waits unflushed unflushed' mid after handed → handed ≡ Err f → result ≡ Err f
       → LeavesDevices pieces from to before after result
-  leaves-held must after handed f result open' hands is same =
+  leaves-held waits unflushed' after handed f result open' hands is same =
       let write : f ≡ Write = rw is at hands.fault in
       rw (same ∙ ap Err write) (record {
         ran = record {
@@ -297,7 +342,7 @@ module _ (reaches : Progress → Type 0) (from to : Input) (before mid : Writers
         };
         ends = λ fails. (refl, refl);
         whole = tt;
-        order = λ fails. hands.order (λ none. fails (none ∙ ran.flushes.1));
+        order = λ fails. flushed-handed unflushed.output before.output mid.output after.output ran.handed.0 (hands.order (λ none. fails (none ∙ ran.flushes.1)));
         flushed = tt;
         failures = ran.failures;
         reads = reads-at-most from.reads to.reads n (Err Write) counts (λ long. cc);
@@ -305,13 +350,13 @@ module _ (reaches : Progress → Type 0) (from to : Input) (before mid : Writers
       })
 
   -- a read failed, or was not made
-  pub leaves-unread : (on : Progress → Type 0) (waits : Bool) (to' : Input) (after : Writers) (handed : Result (Unit {0}) RunFault) (r : Result (Unit {0}) RunFault) (n' : ℕ) (f : RunFault)
+  pub leaves-unread : (on : Progress → Type 0) (waits : Bool) (unflushed' : Unflushed) (to' : Input) (after : Writers) (handed : Result (Unit {0}) RunFault) (r : Result (Unit {0}) RunFault) (n' : ℕ) (f : RunFault)
       (result : Result Tally RunFault)
-      → IsOpen pieces so → HandsOnBoth mid after (waits ≡ true) handed → handed ≡ Ok tt
+      → IsOpen pieces so → HandsOnWritten waits unflushed unflushed' mid after handed → handed ≡ Ok tt
       → ((so : Progress) → so.left ≡ to.left → reaches so → ReadsOctets on so to'.left r) → AddsReads to.reads to'.reads n n' → CountsRead n n' r
       → to'.failures ≡ read_failures_after to.failures r → (waits ≡ false → r ≢ Err Read) → r ≡ Err f → result ≡ Err f
       → LeavesDevices pieces from to' before after result
-  leaves-unread on waits to' after handed r n' f result open' hands well reads more made failures sure is same =
+  leaves-unread on waits unflushed' to' after handed r n' f result open' hands well reads more made failures sure is same =
       rw same (by f is (rw is at made) (rw is at failures))
     where
       stays : IsSame mid.output after.output × IsSame mid.errors after.errors
@@ -339,9 +384,15 @@ module _ (reaches : Progress → Type 0) (from to : Input) (before mid : Writers
         written = all-written before mid after _ ran.pieces open'.certain hands.output hands.errors ran.written;
       }
 
-      on-hand : (b : Bool) → waits ≡ b → r ≡ Err Read → AllHandedOn after
-      on-hand true is' read = (rw well at hands.handed) is'
-      on-hand false is' read = absurd (sure is' read)
+      on-hand : r ≡ Err Read → HandsOn {X = Tally} before after (Err Read)
+      on-hand read =
+          elim (rw well at hands.handed) [
+            | inl flushed ↦ (
+              flushed-handed unflushed.output before.output mid.output after.output ran.handed.0 flushed.0,
+              flushed-handed unflushed.errors before.errors mid.errors after.errors ran.handed.1 flushed.1,
+            )
+            | inr still ↦ absurd (sure still.0 read)
+          ]
 
       fewer : n' < max_reads → ReadsFewer from.reads to'.reads
       fewer few = let e : n' - 0 ≡ n' = omega arith in (n', few, all-counts.made ∙ ap (counted from.reads) e)
@@ -352,7 +403,7 @@ module _ (reaches : Progress → Type 0) (from to : Input) (before mid : Writers
         ends = (refl, (refl, refl), open'.accepted);
         whole = tt;
         order = λ fails. absurd (fails none.1);
-        flushed = on-hand waits refl is';
+        flushed = on-hand is';
         failures = failures' ∙ ap (λ k. read_failures_after {X = Unit {0}} k (Err Read)) ran.failures;
         reads = reads-at-most from.reads to'.reads n' (Err Read) all-counts (λ long. cc);
         writers = writers;
@@ -380,7 +431,7 @@ module _ (reaches : Progress → Type 0) (from to : Input) (before mid : Writers
       }
 
   -- nothing comes any more
-  module _ (done : IsDone pieces so) (after : Writers) (handed : Result (Unit {0}) RunFault) (hands : HandsOnBoth mid after (Unit {0}) handed) where
+  module _ (done : IsDone pieces so) (after : Writers) (handed : Result (Unit {0}) RunFault) (hands : HandsOnBoth mid after handed) where
     abbrev all : ReadsAndWrites pieces from to before after
     all = record {
       octets = ran.octets;
@@ -398,7 +449,7 @@ module _ (reaches : Progress → Type 0) (from to : Input) (before mid : Writers
           ran = all;
           ends = λ fails. (refl, refl);
           whole = tt;
-          order = λ fails. hands.order (λ none. fails (none ∙ ran.flushes.1));
+          order = λ fails. inr (hands.order (λ none. fails (none ∙ ran.flushes.1)));
           flushed = tt;
           failures = ran.failures;
           reads = reads-at-most from.reads to.reads n (Err Write) counts (λ long. cc);
@@ -418,7 +469,7 @@ module _ (reaches : Progress → Type 0) (from to : Input) (before mid : Writers
           ends = (done.all, (refl, refl), whole);
           whole = known-whole from.left to.left ran.octets done.ended (λ s. W (pieces.whole s)) done.read done.at_end whole;
           order = λ fails. absurd (fails (flushes.1 ∙ ran.flushes.1));
-          flushed = (rw well at hands.handed) tt;
+          flushed = rw well at hands.handed;
           failures = ran.failures;
           reads = reads-at-most from.reads to.reads n (Ok tally) counts (λ long. cc);
           writers = (same-then _ _ _ _ _ _ ran.same.0 stays.0, same-then _ _ _ _ _ _ ran.same.1 stays.1);
@@ -493,3 +544,27 @@ pub help-in-part : (text : List ℕ) (before after : Writers) (status : ℕ) (fa
     → WritesLine before.errors after.errors (run_line fault) → status ≡ 2 → WritesHelp text before after status
 help-in-part text before after status fault writes counts line is =
     InPart writes.1 counts (rw writes.0 at line) is
+
+-- ---- What was opened.
+
+pub opens-none : (before : Option (List InputName)) → Opens before before []
+opens-none None = tt
+opens-none (Some names) = sym (append-nil names)
+
+pub opens-then : (before mid after : Option (List InputName)) (names more : List InputName) → Opens before mid names → Opens mid after more → Opens before after (names ++ more)
+opens-then None mid after names more one two = tt
+opens-then (Some before) None after names more one two = absurd one
+opens-then (Some before) (Some mid) None names more one two = absurd two
+opens-then (Some before) (Some mid) (Some after) names more one two = two ∙ ap (λ l. l ++ more) one ∙ append_assoc before names more
+
+-- all of them, and the first of them and of more
+pub opens-all : (before after : Option (List InputName)) (names : List InputName) → Opens before after names → OpensInOrder before after names
+opens-all before after names opens = record { first = names; rest = []; parts = sym (append-nil names); opens = opens }
+
+pub opens-first : (before after : Option (List InputName)) (names more : List InputName) → OpensInOrder before after names → OpensInOrder before after (names ++ more)
+opens-first before after names more some = record {
+  first = some.first;
+  rest = some.rest ++ more;
+  parts = ap (λ l. l ++ more) some.parts ∙ append_assoc some.first some.rest more;
+  opens = some.opens;
+}

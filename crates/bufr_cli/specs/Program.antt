@@ -1,6 +1,6 @@
 -- What comes of a job by its input, and of a call of the program. (a choice of this project)
 -- Cited by public contracts.
-use Rattle.std.specs.Prelude.{◌≡◌, ◌≢◌, ◌⊎◌, ℕ, List, Option, Some, None, Result, Ok, Err, IfSome, true, string_bytes}
+use Rattle.std.specs.Prelude.{◌≡◌, ◌≢◌, ◌⊎◌, ℕ, List, Option, Some, None, Result, Ok, Err, IfSome, [], ◌∷◌, ◌++◌, true, string_bytes}
 use Rattle.std.specs.Borrow.{Bor}
 use Rattle.bufr_frame.specs.declared.fault.RunFault.{RunFault}
 use Rattle.bufr_frame.specs.Prelude.{MakesReads, read_failures_after}
@@ -25,6 +25,30 @@ use Rattle.bufr_text.specs.Prelude.{GrowsByPrefix}
 use Rattle.bufr_cli.specs.Line.{IsJobOf, SaysWhy, bufr_app}
 use Rattle.bufr_cli.specs.declared.job.LineFault.{LineFault}
 use Rattle.bufr_cli.specs.declared.job.LineFault.TheVariants.{Help, Usage, Memory}
+
+-- The name of what is opened: of a file, or none for standard input.
+pub record InputName : Type 0 where
+  pub name : Option (List ℕ)
+
+abbrev pub standard_name : InputName
+standard_name = record { name = None }
+
+abbrev pub file_name : List ℕ → InputName
+file_name name = record { name = Some name }
+
+-- where it is known what was opened before, these were opened after it
+abbrev pub Opens : (before after : Option (List InputName)) → List InputName → Type 0
+Opens None after names = Unit {0}
+Opens (Some before) None names = ⊥
+Opens (Some before) (Some after) names = after ≡ before ++ names
+
+-- The first of these were opened, and no others.
+pub record OpensInOrder (before after : Option (List InputName)) (names : List InputName) : Type 0
+  where
+    pub first : List InputName
+    pub rest : List InputName
+    pub parts : names ≡ first ++ rest
+    pub opens : Opens before after first
 
 -- What is known of the inputs: the octets of standard input, and of files known to open; and what
 -- an input of either type has counted.
@@ -171,14 +195,37 @@ AnswersFault Memory before after status =
     (after.output ≡ before.output)
     × WritesLine before.errors after.errors (run_line ended.Memory) × (status ≡ 2)
 
--- A job was done, and the last line and the status say how; or there is none, and that is answered.
+-- the names of tables, in the order in which they are opened
+abbrev pub table_names : TableNames → List InputName
+table_names tables = file_name tables.table_b.now ∷ file_name tables.table_d.now ∷ []
+
+-- the name of an input
+abbrev pub input_name : Option (Bor (List ℕ)) → InputName
+input_name None = standard_name
+input_name (Some name) = file_name name.now
+
+-- what a command opens before its input
+abbrev pub names_first : Subcommand → List InputName
+names_first Ls = []
+names_first (Dump tables) = table_names tables
+names_first (Encode tables form) = table_names tables
+
+-- what a job opens, each once: the tables, and then the input
+-- rule: tables-before-input
+abbrev pub names_of : Job → List InputName
+names_of job = names_first job.command ++ input_name job.file ∷ []
+
+-- A job was done, and the last line and the status say how; or there is none, and that is answered,
+-- and nothing is opened.
 -- rule: status-of-help
 pub data RunsProgram {Standard File : Type 0} (words : List Text) (inputs : Known Standard File)
-    (before after : Writers) (status : ℕ) : Type 0 where
+    (opened opened' : Option (List InputName)) (before after : Writers) (status : ℕ) : Type 0 where
   Does : (job : Job) → IsJobOf (subcommand_of bufr_app words) job → (outcome : Outcome)
       → (between : Writers) → CommandOutcome inputs job.command job.file before between outcome
+      → OpensInOrder opened opened' (names_of job)
       → after.output ≡ between.output
       → WritesLine between.errors after.errors (last_line outcome) → status ≡ status_of outcome
-      → RunsProgram words inputs before after status
+      → RunsProgram words inputs opened opened' before after status
   Answers : (why : LineFault) → SaysWhy (fault_of bufr_app words) (subcommand_of bufr_app words) why
-      → AnswersFault why before after status → RunsProgram words inputs before after status
+      → Opens opened opened' [] → AnswersFault why before after status
+      → RunsProgram words inputs opened opened' before after status

@@ -10,6 +10,9 @@ use Rattle.bufr_bits.specs.Prelude.{counted}
 use Rattle.bufr_frame.specs.Prelude.{max_reads, StreamEvent, scan, open_scan, read_failures_after}
 use Rattle.bufr_cli.specs.Pieces.{Piece, output_of, errors_of, is_accepted, is_refused, encode_pieces}
 use Rattle.bufr_cli.specs.declared.outcome.Tally.{Tally}
+use Rattle.bufr_cli.specs.declared.outcome.Verdict.{Verdict}
+use Rattle.bufr_cli.specs.declared.outcome.Verdict.TheVariants.{Accepted, Refused}
+use Rattle.bufr_cli.specs.declared.run_pieces.Unflushed.{Unflushed}
 use Rattle.bufr_tables.specs.Prelude.{Row, Sequence}
 use Rattle.bufr_text.specs.declared.encode.Form.{Form}
 use Rattle.std.specs.Global.{Global}
@@ -174,30 +177,71 @@ abbrev pub read_pieces : RunPieces → (ended : Bool) → List ℕ → List Piec
 read_pieces pieces true bs = pieces.whole bs
 read_pieces pieces false bs = pieces.certain bs
 
--- all is handed on where the run went through, or a read of it failed
--- rule: output-held-back
-abbrev pub HandsOn : {X : Type 0} → Result X RunFault → (all : Type 0) → Type 0
-HandsOn (Ok x) all = all
-HandsOn (Err Read) all = all
-HandsOn (Err fault) all = Unit {0}
-
 -- All that both writers took is handed on.
 abbrev pub AllHandedOn : Writers → Type 0
 AllHandedOn after = (after.output.all_flushed ≡ true) × (after.errors.all_flushed ≡ true)
 
--- Both writers keep what they took, and where it must be all of it was handed on, the output first;
--- or a flush failed.
-pub record HandsOnBoth {X : Type 0} (before after : Writers) (must : Type 0)
-    (result : Result X RunFault) : Type 0 where
+-- what was written to a writer is handed on: nothing was, or all that the writer took is
+abbrev pub IsHandedOn : (before after : Writer) → Type 0
+IsHandedOn before after = (after ≡ before) ⊎ (after.all_flushed ≡ true)
+
+-- where a run went through all is handed on; where a read of it failed, all that it wrote
+-- rule: output-held-back
+abbrev pub HandsOn : {X : Type 0} → (before after : Writers) → Result X RunFault → Type 0
+HandsOn before after (Ok x) = AllHandedOn after
+HandsOn before after (Err Read) =
+    IsHandedOn before.output after.output × IsHandedOn before.errors after.errors
+HandsOn before after (Err fault) = Unit {0}
+
+-- Both writers keep what they took, and all of it was handed on, the output first; or a flush
+-- failed.
+pub record HandsOnBoth {X : Type 0} (before after : Writers) (result : Result X RunFault) : Type 0
+  where
+    pub output : Keeps before.output.taken after.output.taken
+    pub errors : Keeps before.errors.taken after.errors.taken
+    pub handed : OnOk result (AllHandedOn after)
+    pub none : OnOk result ((after.output.failed_flushes ≡ before.output.failed_flushes)
+        × (after.errors.failed_flushes ≡ before.errors.failed_flushes))
+    pub order : after.errors.failed_flushes ≢ before.errors.failed_flushes
+        → after.output.all_flushed ≡ true
+    pub fault : IfErr result (λ fault. fault ≡ Write)
+    pub counts : BlamesWriter before after result
+
+-- a writer was flushed if something was written, else it stays
+abbrev pub IsFlushedIf : (written : Bool) → (before after : Writer) → Type 0
+IsFlushedIf true before after = after.all_flushed ≡ true
+IsFlushedIf false before after = after ≡ before
+
+-- A writer was flushed if something was written to it: it keeps what it took, and all of it is
+-- handed on, or the flush failed. Else it stays.
+pub record FlushesIf (written : Bool) (before after : Writer)
+    (result : Result (Unit {0}) RunFault) : Type 0 where
+  pub keeps : Keeps before.taken after.taken
+  pub flushed : OnOk result (IsFlushedIf written before after)
+  pub none : OnOk result (after.failed_flushes ≡ before.failed_flushes)
+  pub fault : IfErr result (λ fault. fault ≡ Write)
+  pub counts : CountsCalls before after result
+
+-- Before a read each writer was flushed if something was written to it, the output first, or a
+-- flush failed. Where the read does not wait, both may stay.
+pub record HandsOnWritten (waits : Bool) (unflushed unflushed' : Unflushed)
+    (before after : Writers) (result : Result (Unit {0}) RunFault) : Type 0 where
   pub output : Keeps before.output.taken after.output.taken
   pub errors : Keeps before.errors.taken after.errors.taken
-  pub handed : OnOk result (must → AllHandedOn after)
+  pub handed : OnOk result ((IsFlushedIf unflushed.output before.output after.output
+      × IsFlushedIf unflushed.errors before.errors after.errors)
+      ⊎ ((waits ≡ false) × (unflushed' ≡ unflushed) × (after ≡ before)))
   pub none : OnOk result ((after.output.failed_flushes ≡ before.output.failed_flushes)
       × (after.errors.failed_flushes ≡ before.errors.failed_flushes))
   pub order : after.errors.failed_flushes ≢ before.errors.failed_flushes
-      → after.output.all_flushed ≡ true
+      → IsFlushedIf unflushed.output before.output after.output
   pub fault : IfErr result (λ fault. fault ≡ Write)
   pub counts : BlamesWriter before after result
+
+-- what is not flushed after one more piece was written
+abbrev pub unflushed_after : Unflushed → Verdict → Unflushed
+unflushed_after unflushed Accepted = record unflushed { output = true }
+unflushed_after unflushed Refused = record unflushed { errors = true }
 
 -- fewer than 2^32 reads were made
 abbrev pub ReadsFewer : (reads reads' : ℕ) → Type 0
@@ -254,8 +298,9 @@ RunEnds {pieces} {from} {to} {before} {after} so (Err Memory) =
 RunEnds {pieces} {from} {to} {before} {after} so (Err fault) =
     (so.ended ≡ false) × IsAllWritten so.written × IsUnrefused pieces so.written.given
 
--- What a run with these pieces leaves of its devices. At its end all is handed on, the errors only
--- after the output. The input counts a read fault, a writer a write fault.
+-- What a run with these pieces leaves of its devices. At its end all is handed on, and where a read
+-- failed all that the run wrote, the errors only after the output. The input counts a read fault, a
+-- writer a write fault.
 pub record LeavesDevices (pieces : RunPieces) (from to : Input) (before after : Writers)
     (result : Result Tally RunFault) : Type 0 where
   pub ran : ReadsAndWrites pieces from to before after
@@ -263,8 +308,8 @@ pub record LeavesDevices (pieces : RunPieces) (from to : Input) (before after : 
   -- where the whole input is known, its pieces were written and counted
   pub whole : IfOk result (λ tally. IfSome from.left (WritesWhole pieces before after tally))
   pub order : after.errors.failed_flushes ≢ before.errors.failed_flushes
-      → after.output.all_flushed ≡ true
-  pub flushed : HandsOn result (AllHandedOn after)
+      → IsHandedOn before.output after.output
+  pub flushed : HandsOn before after result
   pub failures : to.failures ≡ read_failures_after from.failures result
   pub reads : ReadsAtMost from.reads to.reads result
   pub writers : BlamesWriter before after result

@@ -33,12 +33,18 @@ tally_after tally verdict =
       refused = tally.refused + counted_refused verdict;
     }
 
+-- the writer to which a piece does not go stays
+abbrev pub LeavesOther : (before after : Writers) → Verdict → Type 0
+LeavesOther before after Accepted = after.errors ≡ before.errors
+LeavesOther before after Refused = after.output ≡ before.output
+
 -- the text of a piece was written and counted, or a prefix of it
 abbrev pub LeavesPiece : (before after : Writers) → Piece → Result Verdict RunFault → Type 0
 LeavesPiece before after piece (Ok verdict) =
     WritesPieces before after (piece ∷ [])
     × (counted_accepted verdict ≡ count_by is_accepted (piece ∷ []))
     × (counted_refused verdict ≡ count_by is_refused (piece ∷ []))
+    × LeavesOther before after verdict
 LeavesPiece before after piece (Err fault) = WritesPrefixes before after (piece ∷ [])
 
 -- a piece is stopped by a writer, or by want of memory where its text takes memory

@@ -1,12 +1,11 @@
 //! The lines that report the faults of a stream, its messages, and a text and its documents.
-ghost use Rattle.std.specs.Prelude.{◌≡◌, ℕ, [], ◌∷◌, ◌++◌, Err, IfErr, codes, decimal};
+ghost use Rattle.std.specs.Prelude.{◌≡◌, [], ◌∷◌, ◌++◌, IfErr, codes, decimal};
 ghost use Rattle.bufr_frame.specs.Prelude.{cause_report, section_report};
 ghost use Rattle.bufr_tables.specs.Prelude.{fxy_text, template_report};
 ghost use Rattle.bufr_walk.specs.Prelude.{data_report, spot_text};
 ghost use Rattle.bufr_fill.specs.Prelude.{expected_text, item_report};
-ghost use Rattle.bufr_text.specs.declared.fault.TextLineFault.{TextLineFault};
-ghost use Rattle.bufr_text.specs.Prelude.{line_report, Refused, parse_results, Pushes, Writes, joined};
-ghost use Rattle.bufr_cli.specs.Prelude.{fault_line, stream_report, prefix_texts, document_line, line_of_read_fault, refusal_line, refused_line, OnlyWrites, writer_of};
+ghost use Rattle.bufr_text.specs.Prelude.{line_report, Pushes, Writes, joined};
+ghost use Rattle.bufr_cli.specs.Prelude.{fault_line, stream_report, prefix_texts, document_line, line_of_read_fault, refusal_line, OnlyWrites, writer_of};
 
 use bufr_bits::Sink;
 use bufr_fill::{Expected, ItemFault, WalkRefusal};
@@ -310,9 +309,7 @@ fn push_read_fault<E: Sink>(line: &mut LineWriter<'_, '_, E>, fault: ReadFault)
 /// [`RunFault::Write`] where the writer fails or takes nothing; a prefix of the line was taken.
 // rule: fault-lines-of-reading
 pub fn write_read_fault<E: Sink>(fault: ReadFault, e: &mut E) -> Result<(), RunFault>
-    ensures writes { (line : ℕ) (why : TextLineFault) → parse_results (Err fault) ≡ Refused line why
-        ∷ []
-        → Writes (E.taken e.old) (E.taken e.new) (refused_line line why) result }
+    ensures writes { Writes (E.taken e.old) (E.taken e.new) (line_of_read_fault fault) result }
     ensures err { IfErr result (λ why. why ≡ RunFault.Write) }
     ensures counts { OnlyWrites (writer_of E.Sink e.old) (writer_of E.Sink e.new) result }
 {

@@ -1,10 +1,10 @@
 //! The program below `main`: what it does with a command line, its inputs and its writers.
-ghost use Rattle.std.specs.Prelude.{◌≡◌, ◌⊎◌, ℕ, true, List, Option, None, Ok, IfOk, IfErr, IfSome, OnOk, map};
+ghost use Rattle.std.specs.Prelude.{◌≡◌, ◌⊎◌, ℕ, true, List, Option, None, [], ◌∷◌, Ok, IfOk, IfErr, IfSome, OnErr, OnOk, map};
 ghost use Rattle.bufr_frame.specs.Prelude.{read_failures_after, MakesReads};
 ghost use Rattle.bufr_tables.specs.Prelude.{Record, AreRows};
 ghost use Rattle.bufr_text.specs.Prelude.{Writes};
 ghost use Rattle.bufr_cli.specs.declared.program.OpenFault.TheVariants.{CannotOpen};
-ghost use Rattle.bufr_cli.specs.Prelude.{LeavesDevices, CountsCalls, input_of, writer_of, writers_of, ReadsAll, EndsRun, FlushesRest, AreTables, AreUnread, IsClosed, IsUnread, CommandOutcome, RunOutcome, known, command_pieces, ran_outcome, RunsProgram};
+ghost use Rattle.bufr_cli.specs.Prelude.{LeavesDevices, CountsCalls, input_of, writer_of, writers_of, ReadsAll, EndsRun, FlushesRest, AreTables, AreUnread, IsClosed, IsUnread, CommandOutcome, InputName, Opens, OpensInOrder, RunOutcome, file_name, input_name, known, command_pieces, names_of, ran_outcome, standard_name, table_names, RunsProgram};
 
 use crate::dump::run_dump;
 use crate::encode::run_encode_form;
@@ -46,24 +46,32 @@ pub trait Inputs {
     /// The octets of the file of a name, where it is known that it can be opened and what it holds.
     ghost file_octets: { Self → List ℕ → Option (List ℕ) };
 
+    /// What was opened so far, in order, where it is known. A call that fails counts too.
+    ghost opened: { Self → Option (List InputName) } = { λ _. None };
+
     /// Standard input.
     ///
     /// # Errors
     ///
     /// [`AllocError`] where memory ran out.
-    fn standard(&self) -> Result<Self::Standard, AllocError>
-        ensures { IfOk result (λ input. Self.Standard.left input ≡ standard_octets self.now) };
+    fn standard(&mut self) -> Result<Self::Standard, AllocError>
+        ensures octets { IfOk result
+            (λ input. Self.Standard.left input ≡ standard_octets self.old) }
+        ensures opens { Opens (opened self.old) (opened self.new) (standard_name ∷ []) };
 
     /// The file of this name.
     ///
     /// # Errors
     ///
     /// [`OpenFault::CannotOpen`] where it cannot be opened, and [`OpenFault::Memory`].
-    fn open(&self, name: &str) -> Result<Self::File, OpenFault>
+    fn open(&mut self, name: &str) -> Result<Self::File, OpenFault>
         ensures octets { IfOk result
-            (λ file. Self.File.left file ≡ file_octets self.now name.now) }
+            (λ file. Self.File.left file ≡ file_octets self.old name.now) }
         ensures unknown { IfErr result
-            (λ fault. fault ≡ CannotOpen → file_octets self.now name.now ≡ None) };
+            (λ fault. fault ≡ CannotOpen → file_octets self.old name.now ≡ None) }
+        ensures opens { Opens (opened self.old) (opened self.new) (file_name name.now ∷ []) }
+        ensures files { file_octets self.new ≡ file_octets self.old }
+        ensures standard { standard_octets self.new ≡ standard_octets self.old };
 }
 
 /// The octets of `r` to its end.
@@ -89,15 +97,16 @@ pub fn read_all<R: Source>(alloc: Global, r: &mut R) -> Result<Vec<u8>, RunFault
 pub fn run<'a, S: AsStr, I: Inputs, W: Sink, E: Sink>(
     alloc: Global,
     words: &'a [S],
-    inputs: &I,
+    inputs: &mut I,
     w: &mut W,
     e: &mut E,
 ) -> u8
     // What the words ask for was done, or help was written and handed on, or the errors say why
-    // not; the status says which.
+    // not; the status says which. The tables were opened once each, and then the input once.
     ensures { RunsProgram (map S.text words.entry.now)
-        (known (I.standard_octets inputs.now) (I.file_octets inputs.now)
+        (known (I.standard_octets inputs.old) (I.file_octets inputs.old)
         (input_of I.Standard.Source) (input_of I.File.Source))
+        (I.opened inputs.old) (I.opened inputs.new)
         (writers_of W.Sink w.old E.Sink e.old) (writers_of W.Sink w.new E.Sink e.new) result }
 {
     match parse_line(alloc, words) {
@@ -124,11 +133,10 @@ fn write_and_flush<W: Sink>(text: &[u8], w: &mut W) -> Result<(), RunFault>
     flush(w)
 }
 
-/// What a command works with: memory, the inputs, and the name of its input.
-#[derive(Drop)]
-struct Call<'a, 'i, I: Inputs> {
+/// What a command works with: memory, and the name of its input.
+#[derive(Clone, Copy, Drop)]
+struct Call<'a> {
     alloc: Global,
-    inputs: &'i I,
     file: Option<&'a str>,
 }
 
@@ -137,44 +145,46 @@ struct Call<'a, 'i, I: Inputs> {
 fn run_job<'a, I: Inputs, W: Sink, E: Sink>(
     alloc: Global,
     job: Job<'a>,
-    inputs: &I,
+    inputs: &mut I,
     w: &mut W,
     e: &mut E,
 ) -> Outcome<'a>
-    ensures { CommandOutcome (known (I.standard_octets inputs.now) (I.file_octets inputs.now)
+    ensures comes { CommandOutcome (known (I.standard_octets inputs.old) (I.file_octets inputs.old)
         (input_of I.Standard.Source) (input_of I.File.Source))
         job.entry.command job.entry.file (writers_of W.Sink w.old E.Sink e.old)
         (writers_of W.Sink w.new E.Sink e.new) result }
+    ensures opens { OpensInOrder (I.opened inputs.old) (I.opened inputs.new)
+        (names_of job.entry) }
 {
     let Job { command, file } = job;
-    let call = Call {
-        alloc,
-        inputs,
-        file,
-    };
+    let call = Call { alloc, file };
     match command {
-        Subcommand::Ls => run_input(&call, Command::Ls, w, e),
+        Subcommand::Ls => run_input(call, inputs, Command::Ls, w, e),
         Subcommand::Dump(names) => match read_tables(alloc, names, inputs) {
             Ok(tables) => {
                 let command = Command::Dump(&tables.table_b, &tables.table_d);
-                run_input(&call, command, w, e)
+                run_input(call, inputs, command, w, e)
             }
             Err(outcome) => outcome,
         },
         Subcommand::Encode(names, form) => match read_tables(alloc, names, inputs) {
             Ok(tables) => {
                 let command = Command::Encode(form, &tables.table_b, &tables.table_d);
-                run_input(&call, command, w, e)
+                run_input(call, inputs, command, w, e)
             }
             Err(outcome) => outcome,
         },
     }
 }
 
-fn open_file<'a, I: Inputs>(name: &'a str, inputs: &I) -> Result<I::File, Outcome<'a>>
+fn open_file<'a, I: Inputs>(name: &'a str, inputs: &mut I) -> Result<I::File, Outcome<'a>>
     ensures file { IfOk result
-        (λ file. I.File.left file ≡ I.file_octets inputs.now name.entry.now) }
-    ensures closed { IfErr result (IsClosed (I.file_octets inputs.now) name.entry) }
+        (λ file. I.File.left file ≡ I.file_octets inputs.old name.entry.now) }
+    ensures closed { IfErr result (IsClosed (I.file_octets inputs.old) name.entry) }
+    ensures opens { Opens (I.opened inputs.old) (I.opened inputs.new)
+        (file_name name.entry.now ∷ []) }
+    ensures files { I.file_octets inputs.new ≡ I.file_octets inputs.old }
+    ensures standard { I.standard_octets inputs.new ≡ I.standard_octets inputs.old }
 {
     match inputs.open(name) {
         Ok(file) => Ok(file),
@@ -187,13 +197,17 @@ fn open_file<'a, I: Inputs>(name: &'a str, inputs: &I) -> Result<I::File, Outcom
 fn read_file<'a, I: Inputs>(
     alloc: Global,
     name: &'a str,
-    inputs: &I,
+    inputs: &mut I,
 ) -> Result<Vec<u8>, Outcome<'a>>
     ensures octets { IfOk result
-        (λ octets. IfSome (I.file_octets inputs.now name.entry.now) (λ text. octets.items ≡ text)) }
+        (λ octets. IfSome (I.file_octets inputs.old name.entry.now) (λ text. octets.items ≡ text)) }
     ensures unread { IfErr result (λ outcome.
-        IsClosed (I.file_octets inputs.now) name.entry outcome
-        ⊎ IsUnread (input_of I.File.Source) (I.file_octets inputs.now name.entry.now) outcome) }
+        IsClosed (I.file_octets inputs.old) name.entry outcome
+        ⊎ IsUnread (input_of I.File.Source) (I.file_octets inputs.old name.entry.now) outcome) }
+    ensures opens { Opens (I.opened inputs.old) (I.opened inputs.new)
+        (file_name name.entry.now ∷ []) }
+    ensures files { I.file_octets inputs.new ≡ I.file_octets inputs.old }
+    ensures standard { I.standard_octets inputs.new ≡ I.standard_octets inputs.old }
 {
     let mut file = match open_file(name, inputs) {
         Ok(file) => file,
@@ -216,14 +230,20 @@ struct Tables {
 fn read_tables<'a, I: Inputs>(
     alloc: Global,
     names: TableNames<'a>,
-    inputs: &I,
+    inputs: &mut I,
 ) -> Result<Tables, Outcome<'a>>
     ensures tables { IfOk result
-        (λ tables. AreTables (I.file_octets inputs.now) names.entry tables.table_b tables.table_d) }
+        (λ tables. AreTables (I.file_octets inputs.old) names.entry tables.table_b tables.table_d) }
     ensures rows { IfOk result
         (λ tables. (records : List Record) × AreRows records tables.table_b) }
-    ensures unread { IfErr result (AreUnread (input_of I.File.Source) (I.file_octets inputs.now)
+    ensures unread { IfErr result (AreUnread (input_of I.File.Source) (I.file_octets inputs.old)
         names.entry) }
+    ensures opens { OnOk result (Opens (I.opened inputs.old) (I.opened inputs.new)
+        (table_names names.entry)) }
+    ensures opens_some { OnErr result (OpensInOrder (I.opened inputs.old) (I.opened inputs.new)
+        (table_names names.entry)) }
+    ensures files { I.file_octets inputs.new ≡ I.file_octets inputs.old }
+    ensures standard { I.standard_octets inputs.new ≡ I.standard_octets inputs.old }
 {
     let text = match read_file(alloc, names.table_b, inputs) {
         Ok(text) => text,
@@ -267,22 +287,25 @@ enum Command<'t> {
 /// Runs a command over a file, or over standard input.
 // rule: dash-is-a-name
 fn run_input<'a, I: Inputs, W: Sink, E: Sink>(
-    call: &Call<'a, '_, I>,
+    call: Call<'a>,
+    inputs: &mut I,
     command: Command<'_>,
     w: &mut W,
     e: &mut E,
 ) -> Outcome<'a>
-    ensures { RunOutcome (command_pieces command.entry)
-        (known (I.standard_octets call.now.inputs.now) (I.file_octets call.now.inputs.now)
-        (input_of I.Standard.Source) (input_of I.File.Source)) call.now.file
+    ensures comes { RunOutcome (command_pieces command.entry)
+        (known (I.standard_octets inputs.old) (I.file_octets inputs.old)
+        (input_of I.Standard.Source) (input_of I.File.Source)) call.entry.file
         (writers_of W.Sink w.old E.Sink e.old) (writers_of W.Sink w.new E.Sink e.new) result }
+    ensures opens { Opens (I.opened inputs.old) (I.opened inputs.new)
+        (input_name call.entry.file ∷ []) }
 {
     match call.file {
-        None => match call.inputs.standard() {
+        None => match inputs.standard() {
             Ok(mut input) => outcome_of(run_source(call.alloc, command, &mut input, w, e)),
             Err(_) => Outcome::Run(RunFault::Memory),
         },
-        Some(name) => match open_file(name, call.inputs) {
+        Some(name) => match open_file(name, inputs) {
             Ok(mut input) => outcome_of(run_source(call.alloc, command, &mut input, w, e)),
             Err(outcome) => outcome,
         },

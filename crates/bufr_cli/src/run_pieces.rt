@@ -2,7 +2,7 @@
 ghost use Rattle.std.specs.Prelude.{◌≡◌, ◌≢◌, ℕ, Bool, true, false, Ok, Err, OnOk, IfErr};
 ghost use Rattle.std.specs.Io.KnownBytes.{Keeps};
 ghost use Rattle.bufr_frame.specs.Prelude.{AddsReads, read_failures_after};
-ghost use Rattle.bufr_cli.specs.Prelude.{BlamesWriter, CountsCalls, CountsRead, HandsOnBoth, LeavesDevices, Progress, ReadsOctets, RunPieces, RunReads, StopsPiece, TakesStep, input_of, no_progress, writer_of, writers_of};
+ghost use Rattle.bufr_cli.specs.Prelude.{BlamesWriter, CountsCalls, CountsRead, FlushesIf, HandsOnBoth, HandsOnWritten, LeavesDevices, Progress, ReadsOctets, RunPieces, RunReads, StopsPiece, TakesStep, input_of, no_progress, unflushed_after, writer_of, writers_of};
 
 use crate::outcome::{Tally, Verdict};
 use bufr_bits::{Sink, Source};
@@ -91,29 +91,64 @@ pub(crate) fn flush<W: Sink>(w: &mut W) -> Result<(), RunFault>
 /// Hands on what was written: the output, then the errors.
 fn hand_on<W: Sink, E: Sink>(w: &mut W, e: &mut E) -> Result<(), RunFault>
     ensures handed { HandsOnBoth (writers_of W.Sink w.old E.Sink e.old)
-        (writers_of W.Sink w.new E.Sink e.new) (Unit {0}) result }
+        (writers_of W.Sink w.new E.Sink e.new) result }
 {
     flush(w)?;
     flush(e)
 }
 
-/// Hands on what was written, where the next read of `r` may wait.
-fn hand_on_before_read<R: Source, W: Sink, E: Sink>(
-    r: &R,
-    w: &mut W,
-    e: &mut E,
-) -> Result<(), RunFault>
-    ensures handed { HandsOnBoth (writers_of W.Sink w.old E.Sink e.old)
-        (writers_of W.Sink w.new E.Sink e.new) (R.waits r.now ≡ true) result }
+/// To which writers a run has written since it began or since its last flush of them.
+#[derive(Clone, Copy)]
+pub(crate) struct Unflushed {
+    output: bool,
+    errors: bool,
+}
+
+impl Unflushed {
+    fn note(&mut self, verdict: Verdict)
+        ensures { self.new ≡ unflushed_after self.old verdict }
+    {
+        match verdict {
+            Verdict::Accepted => self.output = true,
+            Verdict::Refused => self.errors = true,
+        }
+    }
+}
+
+/// Flushes a writer if something was written to it.
+fn flush_if<W: Sink>(written: bool, w: &mut W) -> Result<(), RunFault>
+    ensures { FlushesIf written (writer_of W.Sink w.old) (writer_of W.Sink w.new) result }
 {
-    if r.may_wait() {
-        return hand_on(w, e);
+    if written {
+        return flush(w);
     }
     Ok(())
 }
 
-/// Writes the pieces of `r`, each as soon as it is certain. Before a read that may wait, and at the
-/// end, all that was written is handed on.
+/// Hands on what was written since the last flush, where the next read of `r` may wait.
+fn hand_on_before_read<R: Source, W: Sink, E: Sink>(
+    r: &R,
+    unflushed: &mut Unflushed,
+    w: &mut W,
+    e: &mut E,
+) -> Result<(), RunFault>
+    ensures { HandsOnWritten (R.waits r.now) unflushed.old unflushed.new
+        (writers_of W.Sink w.old E.Sink e.old) (writers_of W.Sink w.new E.Sink e.new) result }
+{
+    if r.may_wait() {
+        flush_if(unflushed.output, w)?;
+        flush_if(unflushed.errors, e)?;
+        *unflushed = Unflushed {
+            output: false,
+            errors: false,
+        };
+    }
+    Ok(())
+}
+
+/// Writes the pieces of `r`, each as soon as it is certain. Before a read that may wait, what was
+/// written is handed on; a writer that took nothing since its last flush is not flushed again. At
+/// the end both are.
 // rule: output-in-order, fault-line-not-written, input-not-read, reader-gone
 pub(crate) fn run_pieces<P: PieceWriter, R: Source, W: Sink, E: Sink>(
     next: &mut P,
@@ -132,11 +167,18 @@ pub(crate) fn run_pieces<P: PieceWriter, R: Source, W: Sink, E: Sink>(
         accepted: 0,
         refused: 0,
     };
+    let mut unflushed = Unflushed {
+        output: false,
+        errors: false,
+    };
     loop {
         match next.write_next(w, e)? {
-            RunStep::Piece(verdict) => tally.count(verdict),
+            RunStep::Piece(verdict) => {
+                tally.count(verdict);
+                unflushed.note(verdict);
+            }
             RunStep::Read => {
-                hand_on_before_read(r, w, e)?;
+                hand_on_before_read(r, &mut unflushed, w, e)?;
                 next.read_more(r)?;
             }
             RunStep::End => break,

@@ -138,7 +138,7 @@ fn refuses_lines_with_tables(rt: HostRuntime) {
 fn call<'a, I: Inputs, W: Sink, E: Sink>(
     alloc: Global,
     words: &'a [&'static str],
-    inputs: &I,
+    inputs: &mut I,
     w: &mut W,
     e: &mut E,
 ) -> u8 {
@@ -162,7 +162,7 @@ struct Reply {
 fn reply_to<'a, I: Inputs>(
     rt: &impl Runtime,
     words: &'a [&'static str],
-    inputs: &I,
+    inputs: &mut I,
     end: End,
 ) -> Reply {
     let mut output = writer(rt, 4096, (4096, end));
@@ -183,7 +183,7 @@ fn assert_holds(rt: &impl Runtime, text: &str, part: &str) {
 fn assert_called<'a, I: Inputs>(
     rt: &impl Runtime,
     words: &'a [&'static str],
-    inputs: &I,
+    inputs: &mut I,
     (status, output): (u8, &[u8]),
     errors: &str,
 ) {
@@ -227,14 +227,14 @@ impl<'a> Inputs for Library<'a> {
 
     ghost file_octets = { λ _ _. None };
 
-    fn standard(&self) -> Result<Device<Page<'a>>, AllocError> {
+    fn standard(&mut self) -> Result<Device<Page<'a>>, AllocError> {
         Ok(Device::new(Page {
             octets: self.standard,
             torn: false,
         }))
     }
 
-    fn open(&self, name: &str) -> Result<Device<Page<'a>>, OpenFault> {
+    fn open(&mut self, name: &str) -> Result<Device<Page<'a>>, OpenFault> {
         let octets = match name.as_bytes() {
             b"b.csv" => table_b(),
             b"d.csv" => table_d(),
@@ -259,11 +259,12 @@ const ONE: Library<'static> = Library {
 const WRITE_FAILED: &str = "bufr: 71 write failed\n";
 
 fn assert_shown(rt: &impl Runtime, words: &'static [&'static str]) {
-    let reply = reply_to(rt, words, &ONE, End::Zero);
+    let mut inputs = ONE;
+    let reply = reply_to(rt, words, &mut inputs, End::Zero);
     assert_same(rt, &reply.status, &0, &words);
     assert_holds(rt, text_on(rt, &reply.output), "Exit status:");
     assert_same(rt, &text_on(rt, &reply.errors), &"", &words);
-    let reply = reply_to(rt, words, &ONE, End::Flush);
+    let reply = reply_to(rt, words, &mut inputs, End::Flush);
     assert_same(rt, &reply.status, &2, &words);
     assert_same(rt, &text_on(rt, &reply.errors), &WRITE_FAILED, &words);
 }
@@ -290,15 +291,27 @@ static CALLED: &[(&[&str], u8, &str, &str)] = &[
 // rule: dash-is-a-name, status-of-help, status-of-usage, version
 fn runs_lines(rt: HostRuntime) {
     let one = joined(&rt, &[b"BUFR", ONE_BLOCK_NUMBER]);
-    let library = Library { one: &one, ..ONE };
+    let mut library = Library { one: &one, ..ONE };
     let (first, fourth) = (line_of_one(&rt, "0"), line_of_one(&rt, "4"));
     let words = ["bufr", "ls"];
-    assert_called(&rt, words.as_slice(), &library, (0, first.as_bytes()), "");
+    assert_called(
+        &rt,
+        words.as_slice(),
+        &mut library,
+        (0, first.as_bytes()),
+        "",
+    );
     let words = ["bufr", "ls", "one"];
     let (want, errors) = ((1, fourth.as_bytes()), "offset 0: 1 cut\n");
-    assert_called(&rt, words.as_slice(), &library, want, errors);
+    assert_called(&rt, words.as_slice(), &mut library, want, errors);
     for (words, status, output, errors) in CALLED {
-        assert_called(&rt, *words, &library, (*status, output.as_bytes()), *errors);
+        assert_called(
+            &rt,
+            *words,
+            &mut library,
+            (*status, output.as_bytes()),
+            *errors,
+        );
     }
 }
 
@@ -326,7 +339,7 @@ fn assert_runs(
     rt: &impl Runtime,
     runs: &[(&'static [&'static str], u8, bool, Option<&'static str>)],
     command: &'static str,
-    library: &Library<'_>,
+    library: &mut Library<'_>,
     (output, errors): (&[u8], &str),
 ) {
     for (arguments, status, written, other) in runs {
@@ -342,10 +355,10 @@ fn assert_runs(
 // rule: tables-before-input, table-not-read
 fn runs_dump_lines(rt: HostRuntime) {
     let one = joined(&rt, &[b"BUFR", ONE_BLOCK_NUMBER]);
-    let library = Library { one: &one, ..ONE };
+    let mut library = Library { one: &one, ..ONE };
     let text = text_of_one(&rt);
     let want: (&[u8], &str) = (text.as_bytes(), "offset 0: 1 cut\n");
-    assert_runs(&rt, RUNS, "dump", &library, want)
+    assert_runs(&rt, RUNS, "dump", &mut library, want)
 }
 
 /// The file has a line after the document that may not come there.
@@ -354,19 +367,19 @@ fn runs_dump_lines(rt: HostRuntime) {
 fn runs_encode_lines(rt: HostRuntime) {
     let text = text_of_one(&rt);
     let one = joined(&rt, &[text.as_bytes(), b"subset 1\n"]);
-    let library = Library {
+    let mut library = Library {
         one: &one,
         standard: text.as_bytes(),
     };
     let want = (ONE_BLOCK_NUMBER, "line 26: 50 line\n");
-    assert_runs(&rt, RUNS, "encode", &library, want)
+    assert_runs(&rt, RUNS, "encode", &mut library, want)
 }
 
 /// The status of a call over the program's own writer on octets in memory.
 fn status_on(
     rt: &impl Runtime,
     words: &[&'static str],
-    inputs: &Library<'_>,
+    inputs: &mut Library<'_>,
     octets: &mut Vec<u8>,
 ) -> u8 {
     let output = BufWriter::with_capacity(rt.alloc(), BUFFERED, octets);
@@ -383,12 +396,12 @@ fn assert_handed_on(
     output: &[u8],
 ) {
     let words = line_of(rt, command, arguments);
-    let torn = Library {
+    let mut torn = Library {
         one: b"",
         standard: input,
     };
     let mut octets = Vec::new(rt.alloc());
-    let status = status_on(rt, words.as_slice(), &torn, &mut octets);
+    let status = status_on(rt, words.as_slice(), &mut torn, &mut octets);
     assert_same(rt, &status, &2, &command);
     assert_same(rt, &octets.as_slice(), &output, &command);
 }
@@ -429,7 +442,7 @@ impl<'a> Write for Full<'a> {
 fn status_if_full(
     rt: &impl Runtime,
     words: &[&'static str],
-    inputs: &Library<'_>,
+    inputs: &mut Library<'_>,
     capacity: usize,
     calls: &Cell<usize>,
 ) -> u8 {
@@ -445,7 +458,7 @@ fn status_if_full(
 fn assert_one_call(
     rt: &impl Runtime,
     words: &[&'static str],
-    inputs: &Library<'_>,
+    inputs: &mut Library<'_>,
     capacity: usize,
 ) {
     let calls = Cell::new(0);
@@ -460,9 +473,9 @@ fn assert_tried_once(
     standard: &[u8],
 ) {
     let words = line_of(rt, command, arguments);
-    let inputs = Library { one: b"", standard };
-    assert_one_call(rt, words.as_slice(), &inputs, 10);
-    assert_one_call(rt, words.as_slice(), &inputs, 1000);
+    let mut inputs = Library { one: b"", standard };
+    assert_one_call(rt, words.as_slice(), &mut inputs, 10);
+    assert_one_call(rt, words.as_slice(), &mut inputs, 1000);
 }
 
 /// A write that failed is not tried again: not by the run, a flush, nor the drop of the writer.

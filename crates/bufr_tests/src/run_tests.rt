@@ -6,8 +6,8 @@ use crate::messages::{
 };
 use crate::runs::Command::{Dump, Encode, Ls};
 use crate::runs::{
-    Command, Task, Watched, accepted, assert_cut_anywhere, assert_ran, assert_run,
-    assert_stops_after_a_stray, assert_stops_at_errors, assert_stops_at_output,
+    Command, Task, Watched, accepted, assert_cut_anywhere, assert_fails_to_flush, assert_ran,
+    assert_run, assert_stops_after_a_stray, assert_stops_at_errors, assert_stops_at_output,
     assert_stops_at_reads, list, refused, roomy, run_whole, tally, writer,
 };
 use crate::support::{Runtime, assert_same, assert_that, from_hex, joined, ok};
@@ -180,6 +180,21 @@ fn keeps_all_after_a_failed_flush(rt: HostRuntime) {
     let mut devices = roomy(4096);
     devices.output = (48, End::Flush);
     assert_ran(&rt, &Task::new(&rt, Encode), run, devices)
+}
+
+/// The end of an input flushes both writers, whether something was written to them or not.
+#[test]
+fn ends_where_a_writer_cannot_be_flushed(rt: HostRuntime) {
+    for command in [Ls, Dump, Encode] {
+        assert_fails_to_flush(&rt, accepted(command, "nothing", b"", b""));
+    }
+    let (line, text) = (line_of_one(&rt, "0"), text_of_one(&rt));
+    let (line, text) = (line.as_bytes(), text.as_bytes());
+    assert_fails_to_flush(&rt, accepted(Ls, "one", ONE_BLOCK_NUMBER, line));
+    assert_fails_to_flush(&rt, accepted(Dump, "one", ONE_BLOCK_NUMBER, text));
+    assert_fails_to_flush(&rt, accepted(Encode, "one", text, ONE_BLOCK_NUMBER));
+    let stray = refused(Ls, "stray", b"BUFR", b"offset 0: 1 cut\n");
+    assert_fails_to_flush(&rt, stray)
 }
 
 /// A message of edition 3 of 16,777,214 octets with an odd section 3, up to its data.

@@ -263,6 +263,14 @@ pub(crate) fn assert_stops_at_errors(rt: &impl Runtime, run: Run<'_>, before: &[
     }
 }
 
+/// An output that cannot be flushed ends the run with 71 after all was taken, and so do errors.
+pub(crate) fn assert_fails_to_flush(rt: &impl Runtime, run: Run<'_>) {
+    let task = Task::new(rt, run.command);
+    let (flushed, unflushed) = ((65_536, End::Fail), (65_536, End::Flush));
+    assert_room(rt, &task, run, b"", (unflushed, flushed));
+    assert_room(rt, &task, run, b"", (flushed, unflushed));
+}
+
 /// A read that fails at this place ends the run.
 fn assert_read_fails(rt: &impl Runtime, task: &Task, run: Run<'_>, place: usize) {
     let outcome = Err(RunFault::Read);

@@ -1,10 +1,8 @@
 use Rattle.std.proofs.Common.{rules}
 use Rattle.bufr_text.proofs.PushLemmas.{all_written}
-use Rattle.bufr_cli.proofs.FaultLineLemmas.{as_read}
 use Rattle.bufr_cli.proofs.fault_line.write_read_fault.Goals as goal
 
 pub returns-clause-writes : goal.returns-clause-writes
-returns-clause-writes g c line why is =
+returns-clause-writes g c =
     let before = c.new-line.ensures in
-    as_read _ _ _ c.args.fault line why is
-    (all_written tt c.push_read_fault.ensures c.hand_on.ensures.pushes before.status before.held c.hand_on.ensures.none before.taken (search rules) c.status-outcome.ensures)
+    all_written tt c.push_read_fault.ensures c.hand_on.ensures.pushes before.status before.held c.hand_on.ensures.none before.taken (search rules) c.status-outcome.ensures

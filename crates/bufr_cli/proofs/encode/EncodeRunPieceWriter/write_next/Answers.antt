@@ -6,6 +6,7 @@ use Rattle.bufr_frame.specs.declared.fault.RunFault.{RunFault}
 use Rattle.bufr_text.specs.Prelude.{Complete, Refused}
 use Rattle.bufr_cli.specs.Prelude.{OnErrors, refused_line, writers_of}
 use Rattle.bufr_cli.proofs.DumpLemmas.{errors-reported, line-stopped}
+use Rattle.bufr_cli.proofs.FaultLineLemmas.{as_read}
 use Rattle.bufr_text.specs.declared.fault.ReadFault.TheVariants.{Run}
 use Rattle.bufr_cli.proofs.EncodeLemmas.{accepted-else, blames-none, document-cut, document-few, document-written, no-write-fault, read-refusal, text-done, text-held, text-open, text-wants}
 use Rattle.bufr_cli.proofs.encode.EncodeRunPieceWriter.write_next.Goals as goal
@@ -61,7 +62,7 @@ returns-in_err-write_read_fault-in-Some-Err g c =
     let some : (run : RunFault) → here.fault ≡ Run run → ⊥ = λ run is. search rules in
     let refusal = read-refusal here.fault some in
     let fault = c.in_err-write_read_fault-in-Some-Err.field-0.0 in
-    let cut = line-stopped _ _ _ c.write_read_fault.result fault (Err fault) (OnErrors (refused_line refusal.0 refusal.1)) refl (c.write_read_fault.ensures.writes refusal.0 refusal.1 refusal.2) refl
+    let cut = line-stopped _ _ _ c.write_read_fault.result fault (Err fault) (OnErrors (refused_line refusal.0 refusal.1)) refl (as_read _ _ _ here.fault refusal.0 refusal.1 refusal.2 c.write_read_fault.ensures.writes) refl
     c.in_err-write_read_fault-in-Some-Err.was refl in
     record {
       next = λ so reached.
@@ -100,7 +101,7 @@ returns-in_ok-write_read_fault-in-Some-Err g c =
     let refusal = read-refusal here.fault some in
     let reported = errors-reported (writers_of g.W.Sink c.args.w.now g.E.Sink c.args.e.now) (writers_of g.W.Sink c.args.w.now g.E.Sink c.write_read_fault.new.e) _
     (OnErrors (refused_line refusal.0 refusal.1)) refl
-    ((rw c.in_ok-write_read_fault-in-Some-Err.was at c.write_read_fault.ensures.writes) refusal.0 refusal.1 refusal.2) refl in
+    (rw c.in_ok-write_read_fault-in-Some-Err.was at (as_read _ _ _ here.fault refusal.0 refusal.1 refusal.2 c.write_read_fault.ensures.writes)) refl in
     record {
       next = λ so reached.
           let wrote = rw (accepted-else c.args.self.now.last c.in_default.not-Refused) at reached in
