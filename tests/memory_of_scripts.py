@@ -16,7 +16,7 @@ import lib
 from lib import TABLES, TOP, finish, program
 
 MOST = 40_000
-SCRIPTS = {"bufr-auto": [], "bufr-extract": [], "bufr-lacks": [], "bufr-parallel": ["-P", "32", "dump", *TABLES]}
+SCRIPTS = {"bufr-auto": [], "bufr-csv": ["-c", "offset,001001"], "bufr-extract": [], "bufr-lacks": [], "bufr-parallel": ["-P", "32", "dump", *TABLES]}
 
 
 def main() -> None:
