@@ -93,7 +93,7 @@ def take_descriptors() -> None:
         try:
             os.fstat(number)
         except OSError:
-            os.set_inheritable(os.open(os.devnull, mode), True)
+            os.open(os.devnull, mode)
     # Python has None for these, and would print on standard output what belongs on standard error.
     if sys.stdin is None:
         sys.stdin = open(0, closefd=False)

@@ -177,15 +177,15 @@ def is_local(fxy: str) -> bool:
 
 def advice(tables: TableSet, centre: int, version: int, local: int) -> str:
     """How to get the set with a centre's rows that belongs to a WMO set: the command that makes it, or whom to ask."""
-    eccodes = os.environ.get("ECCODES_DEFINITION_PATH", ECCODES).split(":")
-    of_eccodes = [f"{folder}/bufr/tables/0/local/{local}/{centre}/0" for folder in eccodes]
+    folders = [*os.environ.get("ECCODES_DEFINITION_PATH", "").split(":"), ECCODES]
+    of_eccodes = [f"{folder}/bufr/tables/0/local/{local}/{centre}/0" for folder in folders if folder]
     of_wreport = f"{WREPORT}/B00000000{centre:05}{version:03}{local:03}.txt"
     for source in filter(os.path.isdir, of_eccodes):
         return "to make it: " + command(tables, centre, local, tables.folder, source)
     if os.path.isfile(of_wreport):
         return "to make it: " + command(tables, centre, local, of_wreport, tables.folder)
     if (centre, local) in ECCODES_HAS:
-        words = command(tables, centre, local, tables.folder, of_eccodes[0])
+        words = command(tables, centre, local, tables.folder, of_eccodes[-1])
         return f"to make it, install libeccodes-data (Debian), then: {words}"
     if (version, centre, local) in WREPORT_HAS:
         words = command(tables, centre, local, of_wreport, tables.folder)
@@ -199,8 +199,7 @@ def command(tables: TableSet, centre: int, local: int, *sources: str) -> str:
 
     out = os.path.join(os.path.dirname(tables.folder), own_name(tables, centre, local))
     here = os.path.dirname(os.path.realpath(__file__))
-    places = [os.path.dirname(tables.folder), f"{here}/tables", f"{here}/../tables"]
-    programs = [os.path.abspath(f"{place}/convert.py") for place in places]
+    programs = [os.path.abspath(f"{place}/convert.py") for place in (f"{here}/tables", f"{here}/../tables")]
     program = next(filter(os.path.isfile, programs), "tables/convert.py")
     return " ".join(map(shlex.quote, (program, out, *sources)))
 

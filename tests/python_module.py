@@ -597,7 +597,7 @@ class Runs(unittest.TestCase):
     @unittest.skipUnless(shutil.which("mypy"), "mypy is not installed")
     def test_its_types_hold(self):
         with tempfile.TemporaryDirectory() as cache:
-            words = ["mypy", "--strict", "--cache-dir", cache, TOP / "scripts/bufr_text.py"]
+            words = ["mypy", "--strict", "--cache-dir", cache, *sorted((TOP / "scripts").glob("*.py"))]
             done = subprocess.run(words, stdout=subprocess.PIPE, stderr=subprocess.STDOUT)
         self.assertEqual(done.returncode, 0, done.stdout.decode())
 
