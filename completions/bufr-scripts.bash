@@ -6,10 +6,7 @@ _bufr_scripts() {
     COMPREPLY=()
     case ${COMP_WORDS[0]##*/} in
         bufr-auto) options='--encode --max-length' ;;
-<<<<<<< HEAD
         bufr-csv) options='-c --levels --keep --names --json --where --max-length' ;;
-=======
->>>>>>> s1
         bufr-extract)
             options='--awk'
             words=$keys
@@ -29,12 +26,8 @@ _bufr_scripts() {
             mapfile -t COMPREPLY < <(compgen -d -- "$word"; compgen -f -X '!*.csv' -- "$word")
             return
             ;;
-<<<<<<< HEAD
         --where) options='' words=$keys ;;
         -c | --keep | --max-length | -P | --awk | --value | --message | --subset) return ;;
-=======
-        -P | --awk | --max-length | --value | --message | --subset) return ;;
->>>>>>> s1
     esac
     if [[ $word == -* ]]; then
         mapfile -t COMPREPLY < <(compgen -W "$options --help --version" -- "$word")

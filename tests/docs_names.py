@@ -153,13 +153,9 @@ def scripts() -> None:
         want(options <= told, f"man/{path.name}: it has no {sorted(options - told)}")
         want(f".Xr {name} 1" in read("man/bufr.1"), f"man/bufr.1: {name} is not among the other pages")
         of_zsh = re.search(rf"^        {name}\)(.*?);;$", zsh, re.M | re.S)
-<<<<<<< HEAD
         offered = of_zsh[1] if of_zsh else ""
         for variable in ("tables", "longest"):
             offered = offered.replace(f"${variable}", zsh.partition(f" {variable}=")[2].partition("\n")[0])
-=======
-        offered = of_zsh[1].replace("$tables", zsh.partition("tables=(")[2].partition("\n")[0]) if of_zsh else ""
->>>>>>> s1
         offered = set(re.findall(r"'\*?(--?[\w-]+)\[", offered))
         want(offered == options - {"--help", "--version"}, f"completions/_bufr_scripts: {name} has {sorted(offered)}")
         completing = f". completions/bufr-scripts.bash; COMP_WORDS=({name} -) COMP_CWORD=1; complete -p {name}; _bufr_scripts"
