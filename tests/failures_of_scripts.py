@@ -26,7 +26,7 @@ SYNOP = TOP / "examples/synop.bufr"
 FAULTY = TOP / "examples/bulletins.bufr"
 DUMP = ["dump", *TABLES]
 # The words of each script in front of a stream.
-SCRIPTS = {"bufr-auto": [], "bufr-extract": [], "bufr-lacks": [], "bufr-parallel": ["-P", "2", *DUMP]}
+SCRIPTS = {"bufr-auto": [], "bufr-csv": ["--json", "-c", "001001"], "bufr-extract": [], "bufr-lacks": [], "bufr-parallel": ["-P", "2", *DUMP]}
 # Scripts that need packages: of them it is tried how they begin; tests/pictures.py and tests/dask_table.py have the rest.
 OTHERS = {"bufr-plot": ["map", "a.png"], "bufr-dask": ["2", "001001"]}
 complaints = []
