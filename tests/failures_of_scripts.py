@@ -321,6 +321,8 @@ def options(trial: Trial) -> None:
     for words in (["--help"], ["-h"]):
         done = trial.run(words)
         holds(f"{trial.name} {words}", done.returncode == 0 and trial.name in done.stdout.decode(), done)
+        other = trial.run(words, environment={"PYTHONIOENCODING": "utf-16"})
+        holds(f"{trial.name} {words} with another encoding", other.stdout == done.stdout, other)
     trial.words = [kept[0], "-I", *kept[1:2]]
     done = trial.run(["--version"], cwd=trial.place)
     holds(f"{trial.name} in an isolated Python", done.returncode == 0, done)
