@@ -588,10 +588,14 @@ class Work:
                 if not self.is_over:
                     self.serve(file)
         finally:
-            note = self.conditions.note() if self.conditions else ""
-            told = [f"{bufr_guard.name()}: {note}\n".encode()] if note else []
-            bufr_guard.say(b"".join([*self.notes.lines(self.kind.PIECE), *told, *self.last]))
+            self.report_last()
         return self.status
+
+    def report_last(self) -> None:
+        """Reports the notes, and what the files and programs failed by."""
+        note = self.conditions.note() if self.conditions else ""
+        told = [f"{bufr_guard.name()}: {note}\n".encode()] if note else []
+        bufr_guard.say(b"".join([*self.notes.lines(self.kind.PIECE), *told, *self.last]))
 
     def fail(self, unread: Unread) -> None:
         """Retains why a file failed. The work continues with the next one."""
