@@ -217,7 +217,7 @@ MUTATIONS = [
         'sub(/^.{7}/, "")\n    if ($0 !~ /^"/) {\n        sub(/ .*/, "")\n        return $0 == "MISSING" ? "" : $0\n    }\n',
         "tests/csv_by_awk.py",
     ),
-    ("scripts/table.awk", "if (subset && /^[0-3R]/)", "if (subset)", "tests/csv_by_awk.py"),
+    ("scripts/table.awk", "if (subset && /^[0-3R]/)", "if (subset)", "tests/awk_scripts.py"),
     ("scripts/table.awk", 'gsub(/\\\\x/, "\\\\u00", parts[part])', 'gsub(/\\\\x/, "\\\\u01", parts[part])', "tests/awk_scripts.py"),
     ("scripts/table.awk", 'is_plain ? "\\\\\\\\" : "\\\\\\\\\\\\\\\\"', '"\\\\\\\\\\\\\\\\"', "tests/awk_scripts.py"),
     ("scripts/table.awk", 'sub(/^ *# ?/, "", comment)', 'sub(/^ *# */, "", comment)', "tests/awk_scripts.py"),
