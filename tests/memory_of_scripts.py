@@ -33,8 +33,8 @@ GROWTH = 2000
 
 
 def strays():
-    """300,000 stray words."""
-    return 30 * [b"BUFR\0\0\0\0" * 10_000]
+    """300,000 stray words, with bytes between them."""
+    return 30 * [(b"BUFR\0\0\0\0" + bytes(24)) * 10_000]
 
 
 def messages():
