@@ -578,6 +578,7 @@ class Work:
         self.remembered: Dict[Tuple[bufr_sets.TableSet, Callable[[str], bool], bytes], bool] = {}
         self.notes, self.status, self.is_over, self.done = Notes(), 0, False, 0
         self.last: List[bytes] = []
+        self.part = Part()
         sizes = [os.path.getsize(file) for file in files if file is not None and os.path.isfile(file)]
         self.progress = bufr_guard.Progress(sum(sizes))
 
@@ -587,10 +588,14 @@ class Work:
                 if not self.is_over:
                     self.serve(file)
         finally:
-            note = self.conditions.note() if self.conditions else ""
-            told = [f"{bufr_guard.name()}: {note}\n".encode()] if note else []
-            bufr_guard.say(b"".join([*self.notes.lines(self.kind.PIECE), *told, *self.last]))
+            self.report_last()
         return self.status
+
+    def report_last(self) -> None:
+        """Reports the notes, and what the files and programs failed by."""
+        note = self.conditions.note() if self.conditions else ""
+        told = [f"{bufr_guard.name()}: {note}\n".encode()] if note else []
+        bufr_guard.say(b"".join([*self.notes.lines(self.kind.PIECE), *told, *self.last]))
 
     def fail(self, unread: Unread) -> None:
         """Retains why a file failed. The work continues with the next one."""
@@ -622,30 +627,40 @@ class Work:
         feed.close()
 
     def parts(self, feed: Feed) -> Iterator[Optional[Part]]:
-        """The parts of a file. None comes when the part before must be written: a read may block, or all was read."""
-        part, count, source = Part(), 0, self.kind.SOURCE(feed, self.longest)
-        pieces = iter(source)  # freed after `part`: without memory Python would report that it cannot close it
+        """The parts of a file. None comes when the part before must be written: a read may block, or all was read.
+
+        It is short: without memory for a number over 256, Python 3.11 does not get out of a `try` that ends after that
+        many instructions.
+        """
+        source = self.kind.SOURCE(feed, self.longest)
+        pieces = iter(source)  # freed after the part: without memory Python would report that it cannot close it
+        self.part = Part()
         try:
-            for piece in pieces:
-                count += piece is not None and not is_stray(piece[2])
-                if piece and source.is_long:
-                    yield part
-                    yield None
-                    part = Part()
-                    self.feed(part, source, feed, piece)
-                elif piece:
-                    self.add(part, *piece)
-                if part.pieces and (part.is_full() or part.is_started or not piece):
-                    yield self.selected(part)
-                    part = Part()
-                if not piece:
-                    yield None
-            if not count:
-                self.last.append(bufr_guard.bare(feed.file, feed.begin, self.kind.PIECE))
+            yield from self.full_parts(feed, source, pieces)
         except Unread as unread:
             self.fail(unread)
-        yield self.selected(part)
+        yield self.selected(self.part)
         yield None
+
+    def full_parts(self, feed: Feed, source: Source, pieces: Iterator[Optional[Piece]]) -> Iterator[Optional[Part]]:
+        """The parts of a file but for the last one, which is begun."""
+        count = 0
+        for piece in pieces:
+            count += piece is not None and not is_stray(piece[2])
+            if piece and source.is_long:
+                yield self.part
+                yield None
+                self.part = Part()
+                self.feed(self.part, source, feed, piece)
+            elif piece:
+                self.add(self.part, *piece)
+            if self.part.pieces and (self.part.is_full() or self.part.is_started or not piece):
+                yield self.selected(self.part)
+                self.part = Part()
+            if not piece:
+                yield None
+        if not count:
+            self.last.append(bufr_guard.bare(feed.file, feed.begin, self.kind.PIECE))
 
     def add(self, part: Part, place: int, octets: Octets, fault: bytes) -> None:
         if fault:

@@ -34,7 +34,7 @@ TYPE_CHECKING = False
 if TYPE_CHECKING:
     import signal
     from types import FrameType, TracebackType
-    from typing import Any, BinaryIO, Callable, Dict, Iterator, List, NoReturn, Optional, Sequence, Type, Union
+    from typing import Any, BinaryIO, Callable, Dict, Iterable, Iterator, List, NoReturn, Optional, Sequence, Type, Union
 else:
     import _signal as signal  # Python's own module loads enumerations, which take longer than everything else here
 
@@ -334,20 +334,26 @@ def is_program(path: str) -> bool:
 
 def start(words: Sequence[str], given: int = 0, output: int = 1, errors: int = 2) -> int:
     """Starts a program with these descriptors, and returns its process."""
-    actions = [(os.POSIX_SPAWN_DUP2, source, target) for target, source in enumerate((given, output, errors))]
     ending = (signal.SIGINT, signal.SIGTERM, signal.SIGHUP, signal.SIGPIPE)
     # Signals are delivered once the process is known.
     before = signal.pthread_sigmask(signal.SIG_BLOCK, ending)
     try:
-        process = os.posix_spawnp(
-            words[0], list(words), os.environ, file_actions=actions, setsigmask=before, setsigdef=[signal.SIGPIPE]
-        )
+        process = spawned(words, (given, output, errors), before)
         RUNNING.add(process)
-    except OSError as error:
-        raise Failed(f"cannot run {words[0]}: {error.strerror}") from None
     finally:
         signal.pthread_sigmask(signal.SIG_SETMASK, before)
     return process
+
+
+def spawned(words: Sequence[str], descriptors: Sequence[int], mask: Iterable[int]) -> int:
+    """A new process with these descriptors as 0, 1 and 2."""
+    actions = [(os.POSIX_SPAWN_DUP2, source, target) for target, source in enumerate(descriptors)]
+    try:
+        return os.posix_spawnp(
+            words[0], list(words), os.environ, file_actions=actions, setsigmask=mask, setsigdef=[signal.SIGPIPE]
+        )
+    except OSError as error:
+        raise Failed(f"cannot run {words[0]}: {error.strerror}") from None
 
 
 def wait(process: int) -> int:

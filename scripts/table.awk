@@ -30,9 +30,9 @@
 #     bufr dump -B B.csv -D D.csv FILE 2> faults |
 #       awk -v columns=offset,012101 -v listing=listing -v faults=faults -f scripts/table.awk
 #
-# Notes at the end name the columns that no row has, and count the subsets that were skipped. The status is 1 if a subset
-# was skipped because its levels cannot be told apart. It is 2 if a column is neither a descriptor nor a key, if the text
-# ends inside a message, or if the listing and the fault lines do not match the text. Any awk will do.
+# Notes at the end name the columns that no row of a message has, and count the subsets that were skipped. The status is 1
+# if a subset was skipped because its levels cannot be told apart. It is 2 if a column is neither a descriptor nor a key,
+# if the text ends inside a message, or if the listing and the fault lines do not match the text. Any awk will do.
 #
 # bufr-csv also sets: name, which begins the messages; placed=1 if a comment before each message has its offset, length
 # and file, which are then columns too; feed=0 if rows need not be flushed at the end of each message; and in the
@@ -375,6 +375,8 @@ END {
         fail("the text ends inside a message")
     if (is_joined && next_listed())
         fail("the listing has more messages than the text and the fault lines")
+    if (!message)
+        exit
     for (column = 1; column <= kept_count; column++)
         if (!(item_of[column] in had))
             print name ": no row has " kept[column] | "cat >&2"

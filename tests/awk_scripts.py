@@ -17,12 +17,15 @@ import subprocess
 from lib import TOP, finish
 
 AWKS = (["awk"], ["mawk"], ["gawk", "--posix"], ["gawk"], ["original-awk"], ["busybox", "awk"])
-# names and units whose octets are no characters of UTF-8, and with brackets; a text with all that could end it
+# names and units whose octets are no characters of UTF-8, and with brackets; a text with all that could end it; lines
+# that are no items
 ODD = b"""message
 subset 1
 012101 28.5  # T\xdf [a] [\xb0C]
 001015 "A \\"B\\\\ # [  "  # N\xdf []
 R 012101 -400
+# a note
+
 205001 "\\\\"
 012101 MISSING  # \xdf
 end

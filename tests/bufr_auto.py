@@ -530,6 +530,13 @@ class Trial:
         """
         environment = {**self.environment, "PYTHONPYCACHEPREFIX": str(self.place / "cache")}
         environment.pop("PYTHONDONTWRITEBYTECODE", None)
+        # It reads a table of its own accord only for a note, and only if the list of the message does not decide that.
+        for list_of, is_read in (("012101", False), ("048001 301001", False), ("301001", True)):
+            words = [sys.executable, "-S", "-X", "importtime", AUTO[1]]
+            stream = made(13, list_of, b"", local=102)
+            done = subprocess.run(words, input=stream, capture_output=True, env=environment)
+            read = re.search(rb"\| +csv$", done.stderr, re.M) is not None
+            self.holds(f"tables are read for {list_of}", read == is_read, done.stderr)
         synop, python = TOP / "examples/synop.bufr", [sys.executable, "-S"]
         alone = ([*python, "-c", "pass"], [self.program, "ls", synop], [self.program, "dump", *self.tables_of(39), synop])
         runs = [[*python, AUTO[1], synop], *alone]

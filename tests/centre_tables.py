@@ -121,6 +121,9 @@ def limits(script, holds) -> None:
     holds("the kinds that are listed", (status, output.count("\n"), output.count("2 messages")), (1, 1000, 1000))
     first = "bufr-lacks: messages of further kinds that lack rows: 6; only 1000 kinds are listed"
     holds("the notes on kinds", (errors.splitlines()[0], errors.count("\n")), (first, 1001))
+    # Two kinds whose missing set is the same.
+    _, output, errors = script("bufr-lacks", made(12, 1, 7, "063255", b"") + made(13, 1, 7, "063255", b""))
+    holds("one note for a set", (output.count("\n"), errors.count("\n")), (2, 1))
     many = " ".join(f"0{x}{y:03}" for x in range(48, 64) for y in range(256))
     status, output, errors = script("bufr-lacks", b"".join(made(13, 1, centre, many, b"") for centre in range(1, 15)))
     rows = sum(len(line.partition("lacks")[2].split()) for line in output.splitlines())

@@ -470,6 +470,8 @@ def feed(awk: list) -> None:
                 holds(f"{awk} {words}: a live feed", last in read, read[-100:])
             process.stdin.close()
             process.stdout.read()
+        if complaints:
+            return  # each wait for rows that do not come is long
 
 
 def seconds(words: list, folder: pathlib.Path) -> None:
@@ -501,7 +503,8 @@ def main() -> None:
         failures(folder)
         for awk in AWKS:
             if shutil.which(awk[0]):
-                feed(awk)
+                if not complaints:
+                    feed(awk)
             else:
                 print(f"csv_command: skipped, {awk[0]} is not installed")
         seconds(["-c", "001015,012101"], folder)

@@ -26,7 +26,9 @@ SYNOP = TOP / "examples/synop.bufr"
 FAULTY = TOP / "examples/bulletins.bufr"
 DUMP = ["dump", *TABLES]
 # The words of each script in front of a stream.
-SCRIPTS = {"bufr-auto": [], "bufr-extract": [], "bufr-lacks": [], "bufr-parallel": ["-P", "2", *DUMP]}
+SCRIPTS = {"bufr-auto": [], "bufr-csv": ["--json", "-c", "001001"], "bufr-extract": [], "bufr-lacks": [], "bufr-parallel": ["-P", "2", *DUMP]}
+# Scripts that read a stream themselves.
+READERS = ("bufr-auto", "bufr-csv")
 # Scripts that need packages: of them it is tried how they begin; tests/pictures.py and tests/dask_table.py have the rest.
 OTHERS = {"bufr-plot": ["map", "a.png"], "bufr-dask": ["2", "001001"]}
 complaints = []
@@ -91,7 +93,7 @@ def descriptors(trial: Trial) -> None:
     holds(f"{trial.name}: a file is written", stream.read_bytes() == gives.read_bytes())
     done = trial.run([os.devnull], closed=[1])
     holds(f"{trial.name}: nothing to a closed output", done.returncode == 0, done)
-    trial.fails("a closed input", trial.run(closed=[0]), "read failed" if trial.name != "bufr-auto" else "read")
+    trial.fails("a closed input", trial.run(closed=[0]), "read" if trial.name in READERS else "read failed")
     done = trial.run([gives], closed=[0])
     holds(f"{trial.name}: a closed input beside a file", done.stdout == whole.stdout, done)
     for kind in ("closed", "full"):
@@ -170,7 +172,7 @@ def room(trial: Trial) -> None:
 def shorter(trial: Trial) -> None:
     """The file becomes shorter while it is read: before `bufr ls` reads it, behind that, or before a dump."""
     stream = trial.place / "stream"
-    octets = lib.asking(lib.message(bytes(60_000)), 39) * (200 if trial.name == "bufr-auto" else 40)
+    octets = lib.asking(lib.message(bytes(60_000)), 39) * (200 if trial.name in READERS else 40)
     stream.write_bytes(octets)
     whole = trial.run([stream]).stdout
     # Before, so much is left that all that `bufr ls` lists can be read: four messages and a part of the fifth.
@@ -180,8 +182,8 @@ def shorter(trial: Trial) -> None:
         ("before", f'if [ "$1" = ls ]; then {cut.format(stream, 300_000)}; fi'),
         ("without", f'if [ "$1" = dump ]; then {cut.format(stream, 300_000)}; fi'),
     ):
-        if (what == "without") != (trial.name == "bufr-auto"):
-            continue  # bufr-auto alone reads the stream itself
+        if (what == "without") != (trial.name in READERS):
+            continue  # the others read what `bufr ls` lists
         stream.write_bytes(octets)
         done = trial.run([stream], environment=trial.program(lines))
         if what == "before" and trial.name in ("bufr-extract", "bufr-lacks"):
@@ -270,6 +272,8 @@ def signals(trial: Trial) -> None:
     told, status = run.stderr.read(), run.wait(timeout=60)
     if trial.name == "bufr-lacks":
         holds("bufr-lacks without a reader", (status, told) == (0, b""), (status, told))
+    elif trial.name == "bufr-csv":
+        holds("bufr-csv without a reader", (status, told) == (-signal.SIGPIPE, b""), (status, told))
     elif trial.name == "bufr-auto":
         holds("bufr-auto without a reader", status in (2, -signal.SIGPIPE), (status, told))
     else:
@@ -317,6 +321,8 @@ def options(trial: Trial) -> None:
     for words in (["--help"], ["-h"]):
         done = trial.run(words)
         holds(f"{trial.name} {words}", done.returncode == 0 and trial.name in done.stdout.decode(), done)
+        other = trial.run(words, environment={"PYTHONIOENCODING": "utf-16"})
+        holds(f"{trial.name} {words} with another encoding", other.stdout == done.stdout, other)
     trial.words = [kept[0], "-I", *kept[1:2]]
     done = trial.run(["--version"], cwd=trial.place)
     holds(f"{trial.name} in an isolated Python", done.returncode == 0, done)

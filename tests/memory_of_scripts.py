@@ -4,8 +4,8 @@
     tests/memory_of_scripts.py [PROGRAM [SCRIPT..]]
 
 The bound is a number of megabytes for each process, plus the longest message or document if --help says so. The streams
-have a million words `BUFR` that begin no message, a million small messages with bytes between them, 30,000 kinds of
-messages whose tables are missing, or messages of 16 MB; a text has no end.
+have 300,000 words `BUFR` that begin no message, 300,000 small messages with bytes between them, 30,000 kinds of messages
+whose tables are missing, or messages of 16 MB; a text has no end. Of the first two a third takes almost as much memory.
 """
 import os
 import pathlib
@@ -25,19 +25,21 @@ SCRIPTS = {
     "bufr-extract": [],
     "bufr-extract --max-length=16777215": [],
     "bufr-lacks": [],
-    "bufr-parallel": ["-P", "32", "dump", *TABLES],
+    "bufr-parallel": ["-P", "2", "dump", *TABLES],
 }
 LONGEST = 16_700_000
+# At most this many kilobytes more the whole of a stream may take than a third of it.
+GROWTH = 2000
 
 
 def strays():
-    """A million stray words."""
-    return 100 * [b"BUFR\0\0\0\0" * 10_000]
+    """300,000 stray words, with bytes between them."""
+    return 30 * [(b"BUFR\0\0\0\0" + bytes(24)) * 10_000]
 
 
 def messages():
-    """A million messages."""
-    return 100 * [(lib.message(b"\x14") + b"\r\n") * 10_000]
+    """300,000 messages."""
+    return 30 * [(lib.message(b"\x14") + b"\r\n") * 10_000]
 
 
 def kinds():
@@ -73,7 +75,7 @@ def no_end():
 
 
 # Each stream, with the status that a script gives and how many fault lines.
-STREAMS = {strays: (1, 1_000_000), messages: (0, 0), kinds: (1, 30_040), long: (0, 0)}
+STREAMS = {strays: (1, 300_000), messages: (0, 0), kinds: (1, 30_040), long: (0, 0)}
 TEXTS = {no_end: (1, 1)}
 
 
@@ -85,44 +87,67 @@ def stated(script: str) -> tuple:
     return (int(found[2]), bool(found[1])) if found else (0, False)
 
 
+def is_tried(name: str, stream) -> bool:
+    """Whether a script is measured on a stream."""
+    option = "".join(name.split()[1:])
+    if stream in TEXTS:
+        return option == "--encode"
+    return not option or (stream is long and option != "--encode")
+
+
+def measured(name: str, path: pathlib.Path) -> tuple:
+    """The status, the count of fault lines, and the kilobytes of a run."""
+    script, *option = name.split()
+    words = [sys.executable, TOP / "scripts" / script, *option, *SCRIPTS[name], path]
+    with tempfile.TemporaryFile() as errors:
+        status, usage = lib.usage_of(words, stdout=subprocess.DEVNULL, stderr=errors)
+        errors.seek(0)
+        lines = subprocess.run(["grep", "-cE", "^(offset|line)"], stdin=errors, stdout=subprocess.PIPE).stdout
+    seconds = usage.ru_utime + usage.ru_stime
+    print(f"memory_of_scripts: {name}, {path.name}: {usage.ru_maxrss // 1000} MB in {seconds:.1f} s")
+    return status, int(lines), usage.ru_maxrss
+
+
+def wanted(name: str, stream) -> tuple:
+    """The status and the count of fault lines that a script gives."""
+    script, *option = name.split()
+    if stream is long and option == ["--max-length"]:
+        return 1, 0
+    if stream is kinds and script in ("bufr-extract", "bufr-lacks"):  # which do not dump
+        return int(script == "bufr-lacks"), 0
+    return {**STREAMS, **TEXTS}[stream]
+
+
 def main() -> None:
     wrongs = []
     os.environ["BUFR"] = program()
     asked = sys.argv[2:]
     scripts = [name for name in SCRIPTS if not asked or name.split()[0] in asked]
     scripts = [name for name in scripts if (TOP / "scripts" / name.split()[0]).exists()]
+    for name in scripts:
+        if not stated(name.split()[0])[0]:
+            wrongs.append(f"{name} --help states no bound")
     with tempfile.TemporaryDirectory() as place:
-        for stream, (status, faults) in {**STREAMS, **TEXTS}.items():
-            path = pathlib.Path(place) / stream.__name__
+        for stream in [*STREAMS, *TEXTS]:
+            path, third = (pathlib.Path(place) / name for name in (stream.__name__, f"a third of {stream.__name__}"))
             # In pieces, since a child's measure begins with the memory of this process.
-            with open(path, "wb") as file:
-                for piece in stream():
+            with open(path, "wb") as file, open(third, "wb") as less:
+                for number, piece in enumerate(stream()):
                     file.write(piece)
+                    if number < 10:
+                        less.write(piece)
             for name in scripts:
-                script, *option = name.split()
-                is_for_long = option[:1] != [] and option[0].startswith("--max-length")
-                if (stream in TEXTS) != (option == ["--encode"]) or is_for_long and stream is not long:
+                if not is_tried(name, stream):
                     continue
-                megabytes, has_longest = stated(script)
-                words = [sys.executable, TOP / "scripts" / script, *option, *SCRIPTS[name], path]
-                with open(pathlib.Path(place) / "errors", "wb") as errors:
-                    told, usage = lib.usage_of(words, stdout=subprocess.DEVNULL, stderr=errors)
-                seconds = usage.ru_utime + usage.ru_stime
-                what = f"{name}, {stream.__name__}"
-                print(f"memory_of_scripts: {what}: {usage.ru_maxrss // 1000} MB in {seconds:.1f} s")
-                lines = subprocess.run(["grep", "-cE", "^(offset|line)", errors.name], stdout=subprocess.PIPE).stdout
-                # The first two only list the messages, or look at their descriptors.
-                is_refused = stream is not kinds or script not in ("bufr-extract", "bufr-lacks")
-                wanted = (status if is_refused or script == "bufr-lacks" else 0, faults * is_refused)
-                if option == ["--max-length"] and stream is long:
-                    wanted = (1, 0)
-                if (told, int(lines)) != wanted:
-                    wrongs.append(f"{what}: status {told}, {int(lines)} fault lines, not {wanted}")
-                if not megabytes:
-                    wrongs.append(f"{script} --help states no bound")
+                *told, kilobytes = measured(name, path)
+                if tuple(told) != wanted(name, stream):
+                    wrongs.append(f"{name}, {path.name}: status and fault lines {told}, not {wanted(name, stream)}")
+                megabytes, has_longest = stated(name.split()[0])
                 most = 1000 * megabytes + (LONGEST // 1000 if has_longest and stream is long else 0)
-                if usage.ru_maxrss > most:
-                    wrongs.append(f"{what}: {usage.ru_maxrss} KB, and --help states {most}")
+                if kilobytes > most:
+                    wrongs.append(f"{name}, {path.name}: {kilobytes} KB, and --help states {most}")
+                if stream in (strays, messages) and kilobytes > measured(name, third)[2] + GROWTH:
+                    wrongs.append(f"{name}, {path.name}: {kilobytes} KB, more than for a third")
             path.unlink()
     finish(wrongs)
 
