@@ -96,12 +96,20 @@ short-length-before-no-end = (refl, refl)
 
 -- ---- The search continues four octets after a stray, and after the last octet of a frame.
 
+-- a word that begins within the eight octets of a stray
+-- rule: after-a-stray
+search-after-strays :
+    (events (codes "BUFRBUFR") ≡ StrayAt 0 Cut ∷ StrayAt 4 Cut ∷ [])
+    × (events (codes "BUFR" ++ 0 ∷ 0 ∷ 5 ∷ codes "BUFR") ≡ StrayAt 0 ShortLength ∷ StrayAt 7 Cut ∷ [])
+    × (events (codes "BUFR" ++ 0 ∷ 0 ∷ 12 ∷ codes "BUFRx") ≡ StrayAt 0 NoEnd ∷ StrayAt 7 Cut ∷ [])
+unfolding events
+search-after-strays = (refl, refl, refl)
+
 -- rule: after-a-stray, frame
 search-goes-on :
-    (events (codes "BUFRBUFR") ≡ StrayAt 0 Cut ∷ StrayAt 4 Cut ∷ [])
     -- inside the stated length of a stray, but not inside a frame
-    × (events (section_0 20 ++ section_0 8) ≡ StrayAt 0 Cut ∷ StrayAt 8 ShortLength ∷ [])
+    (events (section_0 20 ++ section_0 8) ≡ StrayAt 0 Cut ∷ StrayAt 8 ShortLength ∷ [])
     × (events (section_0 20 ++ section_0 8 ++ codes "7777") ≡ FrameAt 0 (section_0 20 ++ section_0 8 ++ codes "7777") ∷ [])
     × (events (frame 12 12 ++ frame 12 12) ≡ FrameAt 0 (frame 12 12) ∷ FrameAt 12 (frame 12 12) ∷ [])
 unfolding events section_0 frame
-search-goes-on = (refl, refl, refl, refl)
+search-goes-on = (refl, refl, refl)
