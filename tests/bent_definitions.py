@@ -263,34 +263,54 @@ def is_refused_refl(copy: Copy, error: tuple) -> bool:
 
 
 @functools.lru_cache(None)
-def computed_names() -> frozenset:
-    """The words that a value has no more once it is computed: names of definitions, of ours and those that we import."""
-    ours, others, built = set(), set(), {"true", "false", "zero", "suc", "pos", "negsuc", "tt", "∷", "[]", "refl"}
+def words_of_antt() -> tuple:
+    """The constructors that do not begin with a capital, and the definitions: ours, and those that our modules import."""
+    built, defined = {"true", "false", "zero", "suc", "pos", "negsuc", "tt", "∷", "[]", "refl"}, set()
     for crate, folder, name in modules():
         for block in blocks(source((crate, folder, f"{name}.antt"))):
-            if block.declares and DECLARATION.match(block.lines[0])[1] not in ("data", "record"):
-                ours |= block.names
-            elif block.declares:
+            if not block.declares:
+                ours = "Rattle.bufr" in block.text
+                defined |= set() if ours else {part for one in block.imported() for part in parts_of(one.rpartition(" as ")[2])}
+            elif DECLARATION.match(block.lines[0])[1] in ("data", "record"):
                 built |= block.names
-            elif "Rattle.bufr" not in block.text:
-                others |= {part for name in block.imported() for part in parts_of(name.rpartition(" as ")[2])}
-    return frozenset(name for name in (ours | others) - built if not name[:1].isupper())
+            else:
+                defined |= block.names
+    return frozenset(built), frozenset(name for name in defined - built if not name[:1].isupper())
 
 
 DIFFER = re.compile(r"computed as far as they go, the two types .*? `(.*?)`\s+\(expected\).*? `(.*?)`\s+\(found\)")
+PRINTED = re.compile(r"[()]|[^\s(){}\[\],;]+")
 
 
-def is_computed(side: str) -> bool:
-    """Whether a side of an equation, as the checker prints it, is a value: no call in it waits."""
-    labels = set(re.findall(r"(\S+) =", side))
-    whole = {name.rpartition(".")[2] for name in re.findall(r"\bRattle(?:\.\S+)+", side)}
-    return not (tokens(side) - labels) & computed_names() and "elim" not in tokens(side) and not any(name[:1].islower() for name in whole)
+def waits(word: str) -> bool:
+    """Whether a word that the checker prints is a call that computes no further."""
+    built, defined = words_of_antt()
+    name = word.rpartition(".")[2]
+    is_elsewhere = "." in word and not name[:1].isupper() and name not in built
+    return bool(parts_of(name) & defined) or name == "elim" or is_elsewhere
+
+
+def constructor(side: str) -> str:
+    """The constructor with which a side of an equation begins, as the checker prints it, or nothing."""
+    outer, depth = [], 0
+    for word in PRINTED.findall(side):
+        depth += (word == "(") - (word == ")")
+        outer += [word] if depth == 0 and word != ")" else []
+    name = outer[0].rpartition(".")[2] if outer and not any(map(waits, outer)) else ""
+    return name if name[:1].isupper() or name in words_of_antt()[0] else ""
+
+
+def are_unequal(one: str, other: str) -> bool:
+    """Whether two sides that differ begin with two constructors, or are values as a whole."""
+    heads = {constructor(one), constructor(other)}
+    whole = PRINTED.findall(re.sub(r"\S+ = ", "", f"{one} {other}"))
+    return (len(heads) == 2 and "" not in heads) or not any(map(waits, whole))
 
 
 def differs(errors: list) -> bool:
     """Whether one of the refusals shows two values, and not a call that computes no further."""
     shown = [DIFFER.search(message) for *_, message, _ in errors]
-    return any(found and is_computed(found[1]) and is_computed(found[2]) for found in shown)
+    return any(found and are_unequal(found[1], found[2]) for found in shown)
 
 
 def shown(error: tuple) -> str:
