@@ -1,50 +1,49 @@
 #!/usr/bin/env python3
-"""Bends definitions on purpose, one rule at a time, and wants a worked example, a vector, a test or a law to notice.
+"""Makes rules of the definitions wrong, one at a time, and checks that an example, a vector, a test or a law fails.
 
-    tests/bent_definitions.py [PROGRAM]                      a sample of the entries; all entries are read
-    tests/bent_definitions.py --all                          all entries; fails also if a comparison has no entry
-    tests/bent_definitions.py --crate NAME | --only WORD     the entries of a crate, or those whose text has WORD
-    tests/bent_definitions.py --list [--crate NAME]          tries none, and lists each comparison with its entries
+    tests/bent_definitions.py [PROGRAM]                      try a sample of the entries
+    tests/bent_definitions.py --all                          try every entry, and fail if a comparison has none
+    tests/bent_definitions.py --crate NAME | --only WORD     try the entries of a crate, or those that contain WORD
+    tests/bent_definitions.py --list [--crate NAME]          try nothing, and list each comparison with its entries
 
-The program is proved equal to its definitions, so a wrong rule that stands in both is noticed only by what was
-computed by hand. Each crate has a file bent_definitions/CRATE.txt of wrong rules, whose entries are separated by blank
-lines:
+The program is proved equal to its definitions. A rule that is wrong in both therefore goes unnoticed unless an example
+that was computed by hand has the case. The file bent_definitions/CRATE.txt lists wrong rules for a crate. Blank lines
+separate its entries:
 
     # 33 groups and sequences may be open together.
     specs: Expansion.antt
     old: max_open = 32
     new: max_open = 33
-    fails: example TemplateExamples.faults
+    fails: example TemplateExamples.measures
 
-The comment is the wrong rule in words. `specs:` names a file of the crate's specs/, or CRATE/FILE, and the pairs below
-change it: the old text stands there exactly once. Lines `old:` after one another are one text of several lines, and so
-are lines `new:`. `fails:` names what must notice:
+The comment states the wrong rule. `specs:` names a file of the crate's specs/, or CRATE/FILE, and the pairs below it
+change that file. The old text must occur exactly once. Consecutive `old:` lines are one text of several lines, and so are
+consecutive `new:` lines. `fails:` names what must fail:
 
-    example MODULE.NAME    a worked example of proofs/, or CRATE/MODULE.NAME: its `refl` is refused
-    law MODULE::NAME       a law of src/ that speaks of definitions alone, or CRATE/MODULE::NAME: it is not proved
-    vector NAME            a case of vectors/cases.tsv, of a program that is changed in the same way
-    test FILE::NAME        a test of bufr_tests, of code that is changed in the same way
+    example MODULE.NAME    a worked example of proofs/, or CRATE/MODULE.NAME: one of its `refl` is refused
+    law MODULE::NAME       a law of src/ about definitions alone, or CRATE/MODULE::NAME: it is no longer proved
+    vector NAME            a case of vectors/cases.tsv, run by a program with the same change
+    test FILE::NAME        a test of bufr_tests, run on code with the same change
 
-For a vector and a test the entry has the change of the code too, by pairs below `code:`, a file of the crate's src/.
-A line `order: DEFINITION` says that the change turns round what the definition asks first, where no words show it.
-Lines `free: FILE: NAME, NAME` or ``free: FILE: `TEXT` `` below a comment say why definitions, or the comparison that a
-text holds, have no entry.
+An entry for a vector or a test contains that change of the code too: pairs below `code:`, which names a file of the
+crate's src/. `order: DEFINITION` says that the change reverses two checks of a definition, if that is not visible from
+the words. `free: FILE: NAME, NAME` and ``free: FILE: `TEXT` `` need no entry, for the reason in the comment above them:
+these definitions, or the comparison in this text.
 
-How examples are tried: for each entry a scratch copy of the crate gets a copy of every module between the changed
-definition and the example, reduced to what the example needs, and beside it the same without the change. One check
-judges all entries of a crate. An entry is caught only if in the changed copy the checker refuses a `refl` of the
-example, since its two sides differ, and nothing else; and refuses nothing in the unchanged copy. A change that does not
-compile is an error of the list. Each check also holds changes without effect, which must pass, and one that must not.
+How examples are tried: a scratch copy of the crate gets, for each entry, a copy of every module between the changed
+definition and the example, reduced to what the example needs, and the same modules without the change. One check judges
+all entries of a crate. An entry is caught only if the checker refuses nothing in the unchanged copy, and in the changed
+copy nothing but a `refl` of the example, whose two sides are different values. If the change does not compile, or the
+example no longer computes, the entry is invalid, which is an error. The entries of controls.txt state their verdicts.
 
-What needs an entry: each comparison of a computed definition (two, one a step to either side, for an order
-comparison), each number of a rule that refuses, and each two faults of which the first that applies is reported. An
-entry is for the comparison whose words it changes, and for an order if it turns it round. Propositions need
-none: they say what is proved, and refuse no input.
+What needs an entry: each comparison in a computed definition (two entries, one a step to either side, if it compares
+sizes), each number in a rule that refuses, and each two checks of which the first that fails is reported. An entry
+counts for the comparison whose words it changes, and for an order that it reverses. Propositions need none: they state
+what is proved, and refuse no input.
 """
 import argparse
 import collections
 import csv
-import difflib
 import functools
 import hashlib
 import itertools
@@ -61,227 +60,12 @@ from concurrent.futures import ThreadPoolExecutor
 
 from lib import TOP, finish
 
-HERE = TOP / "tests/bent_definitions"
-KINDS = ("example", "law", "vector", "test")
+sys.path.insert(0, str(TOP / "tests/bent_definitions"))
+from antt import DECLARATION, MODULE, Bad, Block, below, blocks, crates, modules, parts_of, source, tokens  # noqa: E402
+from entries import Entry, every_entry, read_entries  # noqa: E402
+from sites import cover, files, listed  # noqa: E402
 
-
-class Bad(Exception):
-    """What is wrong with a list, or why no verdict can be given."""
-
-
-# ---------------------------------------------------------------- the entries
-
-
-class Change:
-    """A text of a file that takes the place of another one."""
-
-    def __init__(self, folder: str, crate: str, file: str) -> None:
-        self.folder, self.crate, self.file = folder, crate, file
-        self.old, self.new = [], []
-
-    def place(self) -> tuple:
-        return self.crate, self.folder, self.file
-
-    def apply(self, text: str) -> str:
-        old, new = "\n".join(self.old), "\n".join(self.new)
-        if text.count(old) != 1:
-            raise Bad(f"crates/{'/'.join(self.place())} has {text.count(old)} times {old!r}")
-        return text.replace(old, new)
-
-
-class Entry:
-    """A wrong rule, and what must notice it."""
-
-    def __init__(self, crate: str, line: int) -> None:
-        self.crate, self.line = crate, line
-        self.words, self.changes, self.free, self.turned = [], [], [], set()
-        self.kind = self.of = self.name = ""
-        self.wanted, self.file = "caught", crate
-
-    def __str__(self) -> str:
-        return f"{self.file}.txt:{self.line}: {' '.join(self.words)}"
-
-    def text(self) -> str:
-        """All that an entry says."""
-        lines = [line for one in self.changes for line in (one.crate, one.file, *one.old, *one.new)]
-        return "\n".join([*self.words, *lines, self.kind, self.of, self.name])
-
-    def changed(self, places: set) -> dict:
-        """The texts that are changed, by place."""
-        texts = {}
-        for change in self.changes:
-            place = change.place()
-            if change.folder in places:
-                texts[place] = change.apply(texts[place] if place in texts else source(place))
-        return texts
-
-
-@functools.lru_cache(None)
-def source(place: tuple) -> str:
-    path = TOP / "crates" / "/".join(place)
-    if not path.is_file():
-        raise Bad(f"there is no {path.relative_to(TOP)}")
-    return path.read_text(encoding="utf-8")
-
-
-def read_entries(name: str, crate: str):
-    """The entries of a list, which are of this crate. What cannot be read is a Bad."""
-    path = HERE / f"{name}.txt"
-    lines = path.read_text(encoding="utf-8").splitlines() if path.is_file() else []
-    entry = None
-    for number, line in enumerate([*lines, ""], 1):
-        try:
-            if line.strip():
-                entry = entry or Entry(crate, number)
-                entry.file = name
-                read_line(entry, line)
-            elif entry:
-                if entry.changes or entry.free or entry.kind:
-                    finished(entry)
-                    yield entry
-                entry = None
-        except Bad as wrong:
-            raise Bad(f"{path.relative_to(TOP)}:{number if line.strip() else entry.line}: {wrong}") from None
-
-
-def every_entry() -> list:
-    """The entries of the lists of all crates."""
-    return [entry for crate in crates() for entry in read_entries(crate, crate)]
-
-
-def read_line(entry: Entry, line: str) -> None:
-    key, _, text = line.partition(":")
-    text = text[1:] if text.startswith(" ") else text
-    if line.startswith("#"):
-        entry.words.append(line[1:].strip())
-    elif key in ("specs", "code"):
-        of, _, file = text.strip().rpartition("/")
-        entry.changes.append(Change("specs" if key == "specs" else "src", of or entry.crate, file))
-    elif key in ("old", "new"):
-        if not entry.changes:
-            raise Bad(f"`{key}:` comes before `specs:`")
-        last = entry.changes[-1]
-        if key == "old" and last.new:
-            entry.changes.append(Change(last.folder, last.crate, last.file))
-        getattr(entry.changes[-1], key).append(text)
-    elif key == "fails":
-        entry.kind, _, name = text.strip().partition(" ")
-        of, _, entry.name = name.strip().rpartition("/")
-        entry.of = of or entry.crate
-        if entry.kind not in KINDS or not entry.name:
-            raise Bad(f"`fails:` names one of {', '.join(KINDS)}, and its name")
-    elif key == "order":
-        entry.turned.add(text.strip())
-    elif key == "verdict":
-        entry.wanted = text.strip()
-    elif key == "free":
-        file, _, names = text.partition(":")
-        entry.free.append((file.strip(), names.strip()))
-    else:
-        raise Bad(f"a line begins with {key!r}")
-
-
-def finished(entry: Entry) -> None:
-    """An entry is whole, and its texts are there."""
-    if not entry.words:
-        raise Bad("a comment must say the wrong rule, or the reason, in words")
-    if entry.free:
-        if entry.changes or entry.kind:
-            raise Bad("`free:` stands in an entry of its own")
-        return
-    if not entry.kind:
-        raise Bad("`fails:` is missing")
-    for change in entry.changes:
-        if not change.old or not change.new or change.old == change.new:
-            raise Bad(f"a pair of {change.file} lacks `old:` or `new:`, or changes nothing")
-    folders = {change.folder for change in entry.changes}
-    wanted = {"specs", "src"} if entry.kind in ("vector", "test") else {"specs"}
-    if folders != wanted:
-        raise Bad(f"for `fails: {entry.kind}` the changes must be of {' and '.join(sorted(wanted))}")
-    entry.changed(wanted)
-
-
-# ---------------------------------------------------------------- modules and declarations of antt
-
-MODULE = re.compile(r"Rattle\.(bufr\w*)\.(specs|proofs)\.(\w+)")
-NO_DECLARATION = re.compile(r"(?:unfoldable |pub )*(?:use|mod|infixl|infixr|infix|ruleset|open) ")
-DECLARATION = re.compile(r"(?:(?:unfoldable|abbrev|pattern|pub) )*(?:(data|record|module) )?([^\s:]+)")
-SIGNATURE = re.compile(r"(?:(?:unfoldable|abbrev|pattern|pub|data|record|module) |[^\s:=]+(?: \{[^}]*\})? :(?: |$))")
-
-
-def parts_of(name: str) -> set:
-    """The parts of a name: of an operator's those between its places."""
-    return {part for part in name.split("◌") if part}
-
-
-def tokens(text: str) -> set:
-    return {part for word in re.split(r"[\s(){}.;,@\"«»]+", text) for part in parts_of(word)}
-
-
-class Block:
-    """A declaration, or a line that imports: its text, and the names that it declares."""
-
-    def __init__(self, line: str) -> None:
-        self.lines, self.declares = [line], not NO_DECLARATION.match(line)
-
-    @functools.cached_property
-    def text(self) -> str:
-        return "\n".join(self.lines)
-
-    @functools.cached_property
-    def names(self) -> set:
-        if not self.declares:
-            return set()
-        kind, name = DECLARATION.match(self.lines[0]).groups()
-        if kind == "module":
-            inner = re.findall(r"(?m)^  (?:(?:unfoldable|abbrev|pub) )*([^\s:=]+)(?: \{[^}]*\})? :", self.text)
-            return set().union(*map(parts_of, inner))
-        inner = re.findall(r"(?m)^  ([^\s:]+) :", self.text) if kind == "data" else []
-        return set().union(*map(parts_of, [name, *inner]))
-
-    @functools.cached_property
-    def tokens(self) -> frozenset:
-        return frozenset(tokens(self.text))
-
-    def imported(self) -> list:
-        return [name.strip() for name in self.text.partition("{")[2].rpartition("}")[0].split(",")]
-
-
-@functools.lru_cache(None)
-def blocks(text: str) -> list:
-    """The declarations and imports of a module, without comments."""
-    found = []
-    for line in text.splitlines():
-        if line.startswith("--"):
-            continue
-        if line[:1] not in ("", " ", ")", "}") and (NO_DECLARATION.match(line) or SIGNATURE.match(line)):
-            found.append(Block(line))
-        elif line.strip() and found:
-            found[-1].lines.append(line)
-    return found
-
-
-@functools.lru_cache(None)
-def modules() -> dict:
-    """The modules of specs/ and proofs/, with those that each imports."""
-    texts = {}
-    for path in (TOP / "crates").glob("*/*/*.antt"):
-        crate, folder, _ = path.parts[-3:]
-        if folder in ("specs", "proofs"):
-            texts[crate, folder, path.stem] = path.read_text(encoding="utf-8")
-    return {place: {one for one in MODULE.findall(text) if one in texts} for place, text in texts.items()}
-
-
-@functools.lru_cache(None)
-def below(place: tuple) -> frozenset:
-    """A module and those that it imports, and so on."""
-    seen, todo = set(), [place]
-    while todo:
-        one = todo.pop()
-        if one not in seen:
-            seen.add(one)
-            todo += modules()[one]
-    return frozenset(seen)
+# ---------------------------------------------------------------- copies of the modules
 
 
 class Copy:
@@ -332,29 +116,30 @@ class Copy:
                 found |= set().union(*(parts_of(name.rpartition(" as ")[2]) for name in block.imported()))
         return found & self.needed
 
+    def imports(self, of: dict, block: Block) -> str:
+        """A line that imports, reduced to what the copy needs, or nothing."""
+        head, braces, _ = block.text.partition("{")
+        used = MODULE.search(head)
+        if not braces:
+            return block.text if parts_of(head.rpartition(" as ")[2]) & self.needed or " as " not in head else ""
+        wanted = self.kept(of, used.groups()) if used and used.groups() in self.places else self.needed
+        names = [name for name in block.imported() if parts_of(name.partition(" as ")[0]) & wanted]
+        names = [name for name in names if parts_of(name.rpartition(" as ")[2]) & self.needed]
+        return f"{head}{{{', '.join(names)}}}" if names else ""
+
     def texts(self, of: dict, crate: str, tag: str) -> dict:
         """The files of the copy, by their names, below a folder TAG of the proofs of a crate."""
         made = {}
         for place in self.places:
-            lines = []
-            for block in of[place]:
-                if block.declares:
-                    if block.names & self.needed:
-                        lines.append(block.text)
-                    continue
-                text, used = block.text, MODULE.search(block.text)
-                if used and used.groups() in self.places and "{" in text:
-                    there = self.kept(of, used.groups())
-                    names = [name for name in block.imported() if parts_of(name.partition(" as ")[0]) & there]
-                    if not names:
-                        continue
-                    text = f"{text.partition('{')[0]}{{{', '.join(names)}}}"
-                lines.append(text)
-            made["_".join(place)] = MODULE.sub(
-                lambda one: f"Rattle.{crate}.proofs.variants.{tag}.{'_'.join(one.groups())}" if one.groups() in self.places else one[0],
-                "\n".join(lines) + "\n",
-            )
-        return made
+            lines = [block.text if block.declares else self.imports(of, block) for block in of[place] if block.names & self.needed or not block.declares]
+            if any(line and not re.match("(use|infix)", line) for line in lines):
+                made["_".join(place)] = "\n".join(filter(None, lines)) + "\n"
+        copied = {name: f"Rattle.{crate}.proofs.variants.{tag}.{name}" for name in made}
+
+        def moved(one: re.Match) -> str:
+            return copied.get("_".join(one.groups()), one[0])
+
+        return {name: MODULE.sub(moved, text) for name, text in made.items()}
 
     def file(self) -> str:
         return "_".join(self.place)
@@ -391,13 +176,6 @@ def kit() -> pathlib.Path:
     if status:
         raise Bad(f"rt doc does not say where the toolchain is: {errors.decode()}")
     return pathlib.Path(output.decode().split()[-1]).parent
-
-
-@functools.lru_cache(None)
-def crates() -> dict:
-    """What each crate of crates.txt stands on."""
-    lines = [line.partition("#")[0] for line in (TOP / "crates.txt").read_text(encoding="utf-8").splitlines()]
-    return {name.split()[0]: uses.split() for name, _, uses in (line.partition(":") for line in lines if line.strip())}
 
 
 def libraries(crate: str) -> list:
@@ -485,33 +263,54 @@ def is_refused_refl(copy: Copy, error: tuple) -> bool:
 
 
 @functools.lru_cache(None)
-def computed_names() -> frozenset:
-    """The words that a value has no more once it is computed: names of definitions, of ours and those that we import."""
-    ours, others, built = set(), set(), {"true", "false", "zero", "suc", "pos", "negsuc", "tt", "∷", "[]", "refl"}
+def words_of_antt() -> tuple:
+    """The constructors that do not begin with a capital, and the definitions: ours, and those that our modules import."""
+    built, defined = {"true", "false", "zero", "suc", "pos", "negsuc", "tt", "∷", "[]", "refl"}, set()
     for crate, folder, name in modules():
         for block in blocks(source((crate, folder, f"{name}.antt"))):
-            if block.declares and DECLARATION.match(block.lines[0])[1] not in ("data", "record"):
-                ours |= block.names
-            elif block.declares:
+            if not block.declares:
+                ours = "Rattle.bufr" in block.text
+                defined |= set() if ours else {part for one in block.imported() for part in parts_of(one.rpartition(" as ")[2])}
+            elif DECLARATION.match(block.lines[0])[1] in ("data", "record"):
                 built |= block.names
-            elif "Rattle.bufr" not in block.text:
-                others |= {part for name in block.imported() for part in parts_of(name.rpartition(" as ")[2])}
-    return frozenset(name for name in (ours | others) - built if not name[:1].isupper())
+            else:
+                defined |= block.names
+    return frozenset(built), frozenset(name for name in defined - built if not name[:1].isupper())
 
 
 DIFFER = re.compile(r"computed as far as they go, the two types .*? `(.*?)`\s+\(expected\).*? `(.*?)`\s+\(found\)")
+PRINTED = re.compile(r"[()]|[^\s(){}\[\],;]+")
 
 
-def is_computed(side: str) -> bool:
-    """Whether a side of an equation, as the checker prints it, is a value: no call in it waits."""
-    labels = set(re.findall(r"(\S+) =", side))
-    return not (tokens(side) - labels) & computed_names() and "elim" not in tokens(side)
+def waits(word: str) -> bool:
+    """Whether a word that the checker prints is a call that computes no further."""
+    built, defined = words_of_antt()
+    name = word.rpartition(".")[2]
+    is_elsewhere = "." in word and not name[:1].isupper() and name not in built
+    return bool(parts_of(name) & defined) or name == "elim" or is_elsewhere
+
+
+def constructor(side: str) -> str:
+    """The constructor with which a side of an equation begins, as the checker prints it, or nothing."""
+    outer, depth = [], 0
+    for word in PRINTED.findall(side):
+        depth += (word == "(") - (word == ")")
+        outer += [word] if depth == 0 and word != ")" else []
+    name = outer[0].rpartition(".")[2] if outer and not any(map(waits, outer)) else ""
+    return name if name[:1].isupper() or name in words_of_antt()[0] else ""
+
+
+def are_unequal(one: str, other: str) -> bool:
+    """Whether two sides that differ begin with two constructors, or are values as a whole."""
+    heads = {constructor(one), constructor(other)}
+    whole = PRINTED.findall(re.sub(r"\S+ = ", "", f"{one} {other}"))
+    return (len(heads) == 2 and "" not in heads) or not any(map(waits, whole))
 
 
 def differs(errors: list) -> bool:
     """Whether one of the refusals shows two values, and not a call that computes no further."""
     shown = [DIFFER.search(message) for *_, message, _ in errors]
-    return any(found and is_computed(found[1]) and is_computed(found[2]) for found in shown)
+    return any(found and are_unequal(found[1], found[2]) for found in shown)
 
 
 def shown(error: tuple) -> str:
@@ -636,302 +435,14 @@ def judge_alone(room: pathlib.Path, entry: Entry, known: dict) -> str:
     return {"yes": "survives", "no": "caught"}.get(told, f"invalid: the changed text is refused: {told}")
 
 
-
-
-# ---------------------------------------------------------------- what needs an entry
-
-WORD = re.compile(r"[(){};,\[\]]|[^\s(){};,\[\]]+")
-INFIX = {"==", "≤", "<"}
-ORDERED = {"nat_lt", "nat_le"}
-PREFIX = ORDERED | {"int_eq", "bytes_eq"}
-ENDS = set("( ) [ ] { } , ; && || = if then else in let → λ ∷ ++ ↦ | ← × ⊎ >>= : do ≡ ↔".split())
-NUMBER = re.compile(r"\d[\d_]*$|0x[\dA-Fa-f_]+$")
-REFUSALS = set("Err None Wrong Refuses Stray unless only_if".split())
-ACCEPTED = set("Ok Some Continues true".split())
-
-
-PROVED = "a proposition says what is proved, and refuses no input"
-
-
-class Site:
-    """A comparison, a number or an order of a definition, by its words from `first` up to `last`. Of an order `after`
-    has the words of what is asked second."""
-
-    def __init__(self, kind: str, words: list, first: int, last: int, after=()) -> None:
-        self.kind, self.first, self.last, self.after = kind, first, last, after
-        self.words = words[first:last]
-        self.entries, self.reason = [], PROVED if kind == "proposition" else ""
-
-    def __str__(self) -> str:
-        told = " ".join(self.words)
-        return f"{self.kind} {told}" + (f"  BEFORE  {' '.join(self.after)}" if self.after else "")
-
-    def wanted(self) -> int:
-        return 2 if self.kind == "comparison" and ORDERED & set(self.words) else 1
-
-    def is_covered(self) -> bool:
-        return bool(self.reason) or len(self.entries) >= self.wanted()
-
-
-class Definition:
-    """A definition of specs/: its words, those of its comments left out, and its sites."""
-
-    def __init__(self, place: tuple, line: int, start: int, text: str) -> None:
-        self.place, self.line, self.start, self.text = place, line, start, text
-        self.name = DECLARATION.match(text)[2]
-        bare = re.sub(r"(?m)(^| )--( .*)?$", lambda one: " " * len(one[0]), text)
-        found = list(WORD.finditer(bare))
-        self.words, self.starts = [one[0] for one in found], [start + one.start() for one in found]
-        self.body = next((at for at, word in enumerate(self.words) if word == "=" and not self.depth(at)), len(self.words))
-        result = self.words[: self.body]
-        is_type = DECLARATION.match(text)[1] or "Type" in result
-        self.sites = list(self.propositions() if is_type else self.computed())
-
-    def depth(self, at: int) -> int:
-        return sum(word in "([{" for word in self.words[:at]) - sum(word in ")]}" for word in self.words[:at])
-
-    def argument(self, at: int) -> int:
-        """The end of an argument that begins at a word."""
-        opened = 0
-        while at < len(self.words):
-            opened += (self.words[at] in "([{") - (self.words[at] in ")]}")
-            at += 1
-            if opened <= 0 and not self.words[at : at + 1] == [".0"]:
-                break
-        return at
-
-    def begins_clause(self, at: int) -> bool:
-        return at == len(self.words) or self.text[: self.starts[at] - self.start].rpartition("\n")[2] == "" and at > 0
-
-    def comparison(self, at: int) -> tuple:
-        """The first word of a comparison, and the end."""
-        if self.words[at] in PREFIX:
-            return at, self.argument(self.argument(at + 1))
-        first, opened = at, 0
-        while first and not (opened == 0 and self.words[first - 1] in ENDS - {")", "]", "}"}):
-            first -= 1
-            opened += (self.words[first] in ")]}") - (self.words[first] in "([{")
-        last, opened = at + 1, 0
-        while not self.begins_clause(last) and not (opened == 0 and self.words[last] in ENDS - {"(", "[", "{"}):
-            opened += (self.words[last] in "([{") - (self.words[last] in ")]}")
-            last += 1
-        return first, last
-
-    def propositions(self):
-        for at, word in enumerate(self.words):
-            if word in INFIX | PREFIX:
-                yield Site("proposition", self.words, *self.comparison(at))
-
-    def computed(self):
-        words, inside = self.words, set()
-        for at, word in enumerate(words):
-            if at > 0 and word in INFIX | PREFIX and words[at - 1 : at] != ["{"]:
-                first, last = self.comparison(at)
-                inside |= set(range(first, last))
-                yield Site("comparison", words, first, last)
-        bare = all(NUMBER.match(word) or word in ("∷", "[]", "=", "(", ")", self.name) for word in words[self.body + 1 :])
-        if bare or REFUSALS & set(words):
-            for at, word in enumerate(words):
-                if at > self.body and at not in inside and NUMBER.match(word) and self.is_value(at):
-                    yield Site("number", words, at, at + 1)
-        yield from self.orders()
-
-    def is_value(self, at: int) -> bool:
-        """Whether a number is on the right of its clause, and not in a pattern or a signature."""
-        line = self.text.rfind("\n", 0, self.starts[at] - self.start) + 1
-        head = self.text[line : self.starts[at] - self.start]
-        return head.startswith(" ") or " = " in head
-
-    def orders(self):
-        """What is asked after one another where both can refuse: statements of a `do` block of which the second does not
-        need the first, and conditions of a chain."""
-        steps, bound, is_open = [], [], False
-        for line in self.text.split("\n") if "Result" in self.words[: self.body] else []:
-            told = re.match(r"  (?:(\S+) ← )?(\S.*)$", line)
-            if re.search(r"(^|\s)do$", line):
-                steps, bound, is_open = [], [], True
-            elif is_open and told:
-                steps.append(WORD.findall(told[2]))
-                bound.append(told[1] or (steps[-1][1] if steps[-1][0] == "let" else "_"))
-            elif is_open and line.startswith("   "):
-                steps[-1] += WORD.findall(line)
-        for name, one, other in zip(bound, steps, steps[1:]):
-            needs = {part for word in other for part in word.split(".")}
-            if name not in needs and one[0] != "let":
-                yield from self.pairs([one, other])
-        for at, word in enumerate(self.words):
-            if word == "if":
-                yield from self.pairs(self.choice(at))
-
-    def end_of(self, at: int, word: str) -> int:
-        """The end of an expression that begins at a word: where another word of its own `if` stands, or where it is closed."""
-        opened = inner = 0
-        while not self.begins_clause(at) and not (opened == 0 and self.words[at] in (")", ",", ";")):
-            if opened == 0 and self.words[at] == word:
-                if not inner:
-                    break
-                inner -= 1
-            opened += (self.words[at] in "([{") - (self.words[at] in ")]}")
-            inner += opened == 0 and self.words[at] == "if" and word == "else"
-            at += 1
-        return at
-
-    def choice(self, at: int) -> list:
-        """The condition of an `if` that refuses, and what is asked if it does not."""
-        then = self.end_of(at + 1, "then")
-        other = self.end_of(then + 1, "else")
-        branches = self.words[then + 1 : other], self.words[other + 1 : self.end_of(other + 1, "")]
-        refuses = [bool(REFUSALS - {"None"} & set(words[:3])) for words in branches]
-        if refuses[0] == refuses[1]:
-            return []
-        asked = [word for word in branches[refuses[0]]]
-        while asked[:1] in (["("], ["if"]):
-            begins_if = asked[0] == "if"
-            asked = asked[1 : asked.index("then")] if begins_if else asked[1:-1]
-            if begins_if:
-                break
-        is_asked = len(asked) > 1 and not (asked[0] in ACCEPTED | {"record", "let"} or asked[0][:1].isupper() or "∷" in asked)
-        return [self.words[at + 1 : then], asked] if is_asked else []
-
-    def pairs(self, steps: list):
-        for one, other in zip(steps, steps[1:]):
-            at = place_in(self.words, one)
-            if at is not None and other[0] not in ACCEPTED:
-                yield Site("order", self.words, at, at + len(one), tuple(other))
-
-
-def place_in(words: list, part) -> int | None:
-    """Where the words of a part stand among others."""
-    part = list(part)
-    return next((at for at in range(len(words) - len(part) + 1) if words[at : at + len(part)] == part), None)
-
-
-def times(words: list, part: list, is_open: bool) -> int:
-    """How often words have a part, after which an expression ends if the part is no open one."""
-    ends = (at + len(part) for at in range(len(words)) if words[at : at + len(part)] == part)
-    return sum(is_open or words[end : end + 1] == [] or words[end] in ENDS for end in ends)
-
-
-@functools.lru_cache(None)
-def definitions(place: tuple) -> list:
-    """The definitions of a file of specs/."""
-    found, start, lines = [], 0, source(place).split("\n")
-    opened = None
-    for number, line in enumerate([*lines, "use end"], 1):
-        begins = line[:1] not in ("", " ", ")", "}") and (line.startswith("--") or NO_DECLARATION.match(line) or SIGNATURE.match(line))
-        if begins:
-            if opened:
-                text = "\n".join(lines[opened[0] - 1 : number - 1])
-                found.append(Definition(place, opened[0], opened[1], text))
-            is_declared = not line.startswith("--") and not NO_DECLARATION.match(line)
-            opened = (number, start) if is_declared else None
-        start += len(line) + 1
-    return found
-
-
-def files() -> list:
-    return [(crate, "specs", path.name) for crate in crates() for path in sorted((TOP / "crates" / crate / "specs").glob("*.antt"))]
-
-
-def cover(entries: list) -> list:
-    """Gives each site the entries that change it, or the reason why it has none. The answer are complaints."""
-    for entry in entries:
-        for change in entry.changes:
-            if change.folder == "specs":
-                note(entry, change)
-    return [
-        f"{entry.file}.txt:{entry.line}: in {file} nothing of {names} is without an entry"
-        for entry in entries
-        for file, names in entry.free
-        if not set_free(entry, (entry.crate, "specs", file), names)
-    ]
-
-
-def note(entry: Entry, change: Change) -> None:
-    """Gives the sites that a change touches their entry."""
-    before = source(change.place())
-    start = before.find("\n".join(change.old))
-    if start < 0:
-        return  # a text that an earlier pair of the entry made
-    old, new = WORD.findall("\n".join(change.old)), WORD.findall("\n".join(change.new))
-    places = [start + one.start() for one in WORD.finditer("\n".join(change.old))]
-    touched = set()
-    for what, first, last, *_ in difflib.SequenceMatcher(None, old, new, autojunk=False).get_opcodes():
-        if what != "equal":
-            touched |= set(places[first : max(last, first + 1)])
-            if first == last and first:
-                touched.add(places[first - 1])
-    end = start + len("\n".join(change.old))
-    for definition in definitions(change.place()):
-        if definition.start + len(definition.text) < start or definition.start > end:
-            continue
-        for site in definition.sites:
-            if site.kind == "order":
-                one, other = place_in(new, site.words), place_in(new, site.after)
-                is_told = definition.name in entry.turned and touched & set(definition.starts[site.first :])
-                turned = is_told or one is not None and other is not None and other < one
-                if turned and entry not in site.entries:
-                    site.entries.append(entry)
-            elif touched & set(definition.starts[site.first : site.last]) and entry not in site.entries:
-                beside = site.kind == "number"  # a number is told from others by the words beside it
-                words = definition.words[site.first - beside : site.last + beside]
-                if not 0 < times(old, words, beside) <= times(new, words, beside):  # and not only moved
-                    site.entries.append(entry)
-
-
-def set_free(entry: Entry, place: tuple, names: str) -> list:
-    """Gives the sites of definitions, or of a text, that have no entry the reason for it. The answer are these sites."""
-    text, found = names.strip("`"), definitions(place)
-    if names.startswith("`"):
-        start = source(place).find(text)
-        if source(place).count(text) != 1:
-            return []
-        hit = [
-            site
-            for one in found
-            for site in one.sites
-            if any(start <= at < start + len(text) for at in one.starts[site.first : site.last])
-        ]
-    else:
-        wanted = {name.strip() for name in names.split(",")}
-        hit = [site for one in found if one.name in wanted for site in one.sites]
-        if not wanted <= {one.name for one in found if any(not site.is_covered() for site in one.sites)}:
-            return []
-    hit = [site for site in hit if not site.is_covered()]
-    for site in hit:
-        site.reason = " ".join(entry.words)
-    return hit
-
-
-def boundaries(place: tuple, name: str) -> list:
-    """The sites of a definition that is computed."""
-    return [site for one in definitions(place) if one.name == name for site in one.sites if site.kind != "proposition"]
-
-
-def listed(crate: str, is_whole: bool) -> list:
-    """The lines for each site, and those that are not covered."""
-    lines, missing = [], []
-    for place in files():
-        if crate and place[0] != crate:
-            continue
-        for one in definitions(place):
-            for site in one.sites:
-                at = f"crates/{'/'.join(place)}:{source(place).count(chr(10), 0, one.starts[site.first]) + 1}: {one.name}: {site}"
-                if not site.is_covered():
-                    missing.append(f"{at}: has {len(site.entries)} of {site.wanted()} entries")
-                told = f"free: {site.reason}" if site.reason else ", ".join(f"{entry.crate}.txt:{entry.line}" for entry in site.entries)
-                lines.append(f"{at}: {told or 'no entry'}")
-    return lines if is_whole else missing
-
-
 # ---------------------------------------------------------------- the run
 
-SAMPLE = 24  # of the examples of each crate
-CONTROLS = "controls", "bufr_tables"  # the list that says its verdicts, and the crate that it changes
+SAMPLE = 24  # entries of each crate
+CONTROLS = "controls", "bufr_tables"  # the list whose entries state their verdicts, and the crate that it changes
 
 
 def sampled(entries: list) -> list:
-    """Some entries with an example of each crate. Which ones is decided by the definitions, and so the same until one changes."""
+    """Some entries of each crate whose examples are tried, and the controls. They stay the same until a definition changes."""
     seed = "".join(source(place) for place in files())
 
     def rank(entry: Entry) -> str:
@@ -991,11 +502,11 @@ def main() -> None:
     missing = listed(asked.crate, False)
     if asked.list:
         print("\n".join(listed(asked.crate, True)))
-        print(f"bent_definitions: {len(missing)} lack an entry")
+        print(f"bent_definitions: {len(missing)} comparisons, numbers and orders lack an entry")
         finish(wrongs)
     wrongs += missing if asked.all else []
     if not shutil.which("rt"):
-        print("bent_definitions: skipped, as the toolchain's rt is not on the PATH; the lists were read")
+        print("bent_definitions: skipped, because rt is not on the PATH; only the lists were checked")
         finish(wrongs)
     every = [entry for entry in [*entries, *read_entries(*CONTROLS)] if entry.kind]
     tried = chosen(asked, every)
@@ -1011,10 +522,10 @@ def main() -> None:
         sys.exit(130)
     for entry, verdict in verdicts.items():
         if verdict.partition(":")[0] != entry.wanted:
-            wrongs.append(f"{entry}: {verdict}" + (f"; {entry.kind} {entry.of}/{entry.name} passes all the same" if verdict == "survives" else ""))
-    counts = collections.Counter(verdict.partition(":")[0] for entry, verdict in verdicts.items() if entry.wanted == "caught")
-    told = ", ".join(f"{counts[verdict]} {verdict}" for verdict in ("caught", "survives", "invalid"))
-    print(f"bent_definitions: {len(tried)} of {len(every)} entries tried in {time.monotonic() - start:.0f} s: {told}; {len(missing)} lack an entry")
+            passes = f": {entry.kind} {entry.of}/{entry.name} does not fail" if verdict == "survives" else ""
+            wrongs.append(f"{entry}: {verdict}{passes}")
+    right = sum(verdict.partition(":")[0] == entry.wanted for entry, verdict in verdicts.items())
+    print(f"bent_definitions: {right} of {len(tried)} entries have their verdict ({len(every)} in all), in {time.monotonic() - start:.0f} s")
     finish(wrongs)
 
 
