@@ -1,4 +1,4 @@
-"""Builds the wheel that `pip install .` installs, by Python alone: pip calls `build_wheel` (pyproject.toml)."""
+"""Builds the wheels of `pip install .` and `pip install -e .`, which call `build_wheel` and `build_editable`."""
 import base64
 import hashlib
 import pathlib
@@ -33,20 +33,39 @@ def files():
             yield f"{NAME}.data/data/{folder}/{path.name}", path.read_bytes()
     for path in TOP.glob("tables/wmo-*/*.csv"):
         yield f"{NAME}.data/data/share/bufr/{path.relative_to(TOP)}", path.read_bytes()
-    yield f"{NAME}.dist-info/METADATA", METADATA.encode()
-    yield f"{NAME}.dist-info/WHEEL", WHEEL.encode()
 
 
-def build_wheel(folder: str, config_settings=None, metadata_directory=None) -> str:
-    """Writes the wheel into this folder, and returns its name."""
+def linked_files():
+    """The name and the octets of each file in the wheel of an editable installation, which runs the files here."""
+    yield "bufr_text.pth", f"{TOP / 'scripts'}\n".encode()
+    for path in TOP.glob("scripts/bufr-*"):
+        words = f"#!python\nimport runpy, sys\n\nsys.argv[0] = {str(path)!r}\nrunpy.run_path(sys.argv[0], run_name='__main__')\n"
+        yield f"{NAME}.data/scripts/{path.name}", words.encode()
+
+
+def write_wheel(folder: str, contents) -> str:
+    """Writes a wheel with these files into a folder, and returns its name. The same files give the same octets."""
     name, record = f"{NAME}-py3-none-any.whl", f"{NAME}.dist-info/RECORD"
+    about = [(f"{NAME}.dist-info/METADATA", METADATA.encode()), (f"{NAME}.dist-info/WHEEL", WHEEL.encode())]
+    rows = []
     with zipfile.ZipFile(pathlib.Path(folder) / name, "w") as wheel:
-        rows = []
-        for path, octets in sorted(files()):
+
+        def put(path: str, octets: bytes) -> None:
             info = zipfile.ZipInfo(path)
             info.external_attr = (0o100755 if "/scripts/" in path else 0o100644) << 16
             wheel.writestr(info, octets, zipfile.ZIP_DEFLATED)
+
+        for path, octets in sorted([*contents, *about]):
+            put(path, octets)
             digest = base64.urlsafe_b64encode(hashlib.sha256(octets).digest()).rstrip(b"=").decode()
             rows.append(f"{path},sha256={digest},{len(octets)}\n")
-        wheel.writestr(record, "".join([*rows, f"{record},,\n"]))
+        put(record, "".join([*rows, f"{record},,\n"]).encode())
     return name
+
+
+def build_wheel(folder: str, config_settings=None, metadata_directory=None) -> str:
+    return write_wheel(folder, files())
+
+
+def build_editable(folder: str, config_settings=None, metadata_directory=None) -> str:
+    return write_wheel(folder, linked_files())

@@ -2,12 +2,14 @@
 
 _bufr_scripts() {
     local word=${COMP_WORDS[COMP_CWORD]} before=${COMP_WORDS[COMP_CWORD - 1]} options='' words=''
+    local keys='offset= length= edition= centre= update= category= tables= time= subsets= observed= compressed= optional= descriptors='
     COMPREPLY=()
     case ${COMP_WORDS[0]##*/} in
-        bufr-auto) options='--encode' ;;
+        bufr-auto) options='--encode --max-length' ;;
+        bufr-csv) options='-c --levels --keep --names --json --where --max-length' ;;
         bufr-extract)
-            options='--awk'
-            words='offset= length= edition= centre= update= category= tables= time= subsets= observed= compressed= optional= descriptors='
+            options='--awk --max-length'
+            words=$keys
             ;;
         bufr-parallel)
             options='-P -B -D'
@@ -24,7 +26,8 @@ _bufr_scripts() {
             mapfile -t COMPREPLY < <(compgen -d -- "$word"; compgen -f -X '!*.csv' -- "$word")
             return
             ;;
-        -P | --awk | --value | --message | --subset) return ;;
+        --where) options='' words=$keys ;;
+        -c | --keep | --max-length | -P | --awk | --value | --message | --subset) return ;;
     esac
     if [[ $word == -* ]]; then
         mapfile -t COMPREPLY < <(compgen -W "$options --help --version" -- "$word")
@@ -38,4 +41,4 @@ _bufr_scripts() {
         fi
     fi
 }
-complete -F _bufr_scripts bufr-auto bufr-dask bufr-extract bufr-lacks bufr-parallel bufr-plot
+complete -F _bufr_scripts bufr-auto bufr-csv bufr-dask bufr-extract bufr-lacks bufr-parallel bufr-plot

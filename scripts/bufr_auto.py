@@ -1,23 +1,43 @@
-"""What bufr-auto does: it finds the messages of a stream, or the documents of a text, and gives each to its set.
+"""The work of bufr-auto: it finds the messages of a stream, or the documents of a text, and chooses a table set for each.
 
-It frames them itself, so that no listing is waited for, and leaves all else to `bufr`: a run for each set of a part of
-the stream. Parts are written in order, each whole before the next read that may wait.
+    status = bufr_auto.dump(["a.bufr", None], output=pipe)  # None is standard input
+
+It finds them itself, so that it need not wait for a listing, and leaves everything else to `bufr`: it runs that once
+for each set of a part of the stream. Parts are written in order, each of them before the next read that may block.
 """
+from __future__ import annotations
+
 import os
 import stat
 
 import bufr_guard
+import bufr_options
 import bufr_sets
 
-# A part has at most about so many octets, and so many pieces: what is held does not grow with the stream.
+TYPE_CHECKING = False
+if TYPE_CHECKING:
+    import select
+    from typing import Callable, Dict, FrozenSet, Iterator, List, Optional, Sequence, Tuple, Type, Union
+
+    from bufr_conditions import Conditions
+
+    Octets = Union[bytes, memoryview]
+    # A message or a document: its place (an offset or a line), its octets, and a fault if it is none.
+    Piece = Tuple[int, Octets, bytes]
+    Bytes = bufr_sets.Bytes
+    # What a message asks for: its centre, master table, version and local version.
+    Tables = Tuple[int, int, int, int]
+
+# A part has at most about this many bytes, and this many pieces, so what is buffered does not grow with the stream.
 PART, PIECES = 1 << 22, 1 << 14
 BLOCK = 1 << 18
-# A line has at most so many octets, and the header of a document so many in all.
-LINE, HEADER = 4096, 1 << 16
+# A line has at most this many bytes, and the beginning of a document with its header and its descriptors.
+LINE, HEADER = 4096, 1 << 20
 END = b"\nend\n"
-# So many kinds of notes are told apart.
+# Notes of this many kinds are told apart, and descriptor lists of this length and number are remembered.
 KINDS_OF_NOTES = 1000
-# The descriptors of versions up to 6 that version 13 has otherwise.
+REMEMBERED = 1 << 8
+# The descriptors of versions up to 6 that version 13 defines differently.
 CHANGED_SINCE_6 = set(
     """
     001003 001022 002028 002160 004024 008006 008065 008066 012073 015003 015004 021017 022004 022062 025030 029002
@@ -31,16 +51,17 @@ class Unread(Exception):
 
 
 class Feed:
-    """The octets of a file, or of standard input, as they come."""
+    """The bytes of a file, or of standard input, as they arrive."""
 
-    def __init__(self, name) -> None:
-        self.name, self.begin, self.taken = bufr_guard.shown(name or "standard input"), b"", 0
+    def __init__(self, file: Optional[str]) -> None:
+        self.file, self.name, self.begin, self.taken = file, bufr_guard.named(file), b"", 0
         try:
-            self.descriptor = 0 if name is None else os.open(name, os.O_RDONLY)
-        except OSError:
-            raise Unread(f"cannot open {self.name}") from None
+            self.descriptor = 0 if file is None else os.open(file, os.O_RDONLY)
+        except OSError as error:
+            raise Unread(f"cannot open {self.name}: {error.strerror}") from None
         about = os.fstat(self.descriptor)
-        self.length, self.poll = 0, None
+        self.length = 0
+        self.poll: Optional[select.poll] = None
         if stat.S_ISREG(about.st_mode):
             self.length = about.st_size - os.lseek(self.descriptor, 0, os.SEEK_CUR)
         else:
@@ -74,7 +95,7 @@ class Feed:
 
 
 def widen(pipe: int) -> None:
-    """Has a pipe hold a megabyte, so that its two ends wait for one another less often."""
+    """Gives a pipe a buffer of a megabyte, so that its two ends wait for each other less often."""
     import fcntl
 
     try:
@@ -83,94 +104,287 @@ def widen(pipe: int) -> None:
         pass
 
 
-def messages(feed: Feed):
-    """Each message and each stray of a stream: its offset, its octets, and the fault of a stray.
+class Finder:
+    """Finds the messages of a stream, block by block. It buffers the message that has begun, and a block.
 
-    None comes before a read that may wait.
+    A message that declares more than `longest` bytes is skipped: the search continues after its first four bytes.
     """
-    held, passed, at, has_ended = bytearray(), 0, 0, False
-    while True:
-        found = held.find(b"BUFR", at)
-        at = found if found >= 0 else max(at, len(held) - 3)
-        end = at + int.from_bytes(held[at + 4 : at + 7], "big")
-        is_cut = max(end, at + 8) > len(held)
-        if is_cut and not has_ended:
-            if feed.may_wait():
-                yield None
-            octets = feed.read()
-            del held[:at]
-            held += octets
-            passed, at, has_ended = passed + at, 0, not octets
-            continue
-        if found < 0:
-            return
+
+    def __init__(self, longest: Optional[int] = None) -> None:
+        self.longest = 1 << 24 if longest is None else longest
+        # What is buffered ends at `end`, and the search continues at `at`. Offset `passed` of the stream is held[0].
+        # The buffer never shrinks: giving its memory back and taking it again would fragment the heap.
+        self.held, self.at, self.end, self.passed, self.has_ended = bytearray(), 0, 0, 0, False
+
+    def put(self, octets: bytes) -> None:
+        """Takes the next block, which is empty at the end of the stream."""
+        if self.at > BLOCK:
+            with memoryview(self.held) as held:
+                held[: self.end - self.at] = held[self.at : self.end]
+            self.passed, self.at, self.end = self.passed + self.at, 0, self.end - self.at
+        self.held[self.end : self.end + len(octets)] = octets
+        self.end += len(octets)
+        self.has_ended = not octets
+
+    def find(self) -> Optional[Tuple[int, int, bytes]]:
+        """Where the next message begins and ends; or of a stray `BUFR` its fault. None if more bytes must decide."""
+        at = self.held.find(b"BUFR", self.at, self.end)
+        if at < 0:
+            self.at = max(self.at, self.end - 3)
+            return None
+        self.at = at
+        length = int.from_bytes(self.held[at + 4 : at + 7], "big")
         fault = b""
-        if is_cut:
+        if at + 8 > self.end or at + length > self.end and length <= self.longest:
+            if not self.has_ended:
+                return None
             fault = b"1 cut"
-        elif end < at + 12:
+        elif length > self.longest:
+            fault = b"skipped a message that declares %d bytes" % length
+        elif length < 12:
             fault = b"2 short length"
-        elif not held.startswith(b"7777", end - 4):
+        elif not self.held.startswith(b"7777", at + length - 4):
             fault = b"3 no end"
-        yield passed + at, b"" if fault else bytes(held[at:end]), fault
-        at = at + 4 if fault else end
+        self.at = at + 4 if fault else at + length
+        return at, self.at, fault
 
 
-def documents(feed: Feed):
-    """Each document of a text, with what stands before it: the number of its first line, its octets, and no fault.
+def is_stray(fault: bytes) -> bool:
+    """Whether a fault is that of a stray `BUFR`, rather than nothing or a note on a message that was skipped."""
+    return fault[:1].isdigit()
 
-    None comes before a read that may wait. What follows the last document is one more.
+
+def stray_line(offset: int, fault: bytes, prefix: bytes = b"") -> bytes:
+    """The line about a stray `BUFR`, or the note on a message that was skipped."""
+    line = b"%soffset %d: %s\n" % (prefix, offset, fault)
+    return line if is_stray(fault) else os.fsencode(bufr_guard.name()) + b": " + line
+
+
+class Masker:
+    """Hides the messages that declare more than `longest` bytes from a program that reads the stream.
+
+    Of each the first four bytes become zeros, so that all offsets stay. A note says so.
     """
-    held, number, at, has_ended = bytearray(b"\n"), 1, 0, False
-    while True:
-        found = held.find(END, at)
-        if found < 0 and not has_ended:
-            if feed.may_wait():
-                yield None
-            at = max(0, len(held) - len(END))
-            octets = feed.read()
-            held += octets
-            has_ended = not octets or not may_begin(held)
-            continue
-        # The line feed before a document is that which ends the one before.
-        text = bytes(held[1 : found + len(END) if found >= 0 else len(held)])
-        if text:
-            yield number, text, b""
-        if found < 0:
-            return
-        number += text.count(b"\n")
-        del held[: len(text)]
-        at = 0
+
+    def __init__(self, longest: int) -> None:
+        self.finder, self.count = Finder(longest), 0
+
+    def take(self, octets: bytes) -> Iterator[bytes]:
+        """Takes the next block, which is empty at the end, and yields what the program may read by now."""
+        finder = self.finder
+        finder.put(octets)
+        first = finder.at
+        while found := finder.find():
+            begin, _, fault = found
+            if fault and not is_stray(fault):
+                finder.held[begin : begin + 4] = bytes(4)
+                self.count += 1
+                bufr_guard.say(stray_line(finder.passed + begin, fault))
+        end = finder.end if finder.has_ended else finder.at
+        for begin in range(first, end, bufr_guard.BLOCK):
+            yield bytes(finder.held[begin : min(begin + bufr_guard.BLOCK, end)])
+
+
+class Source:
+    """The pieces of a file, in order. Each is valid until the next one is asked for.
+
+    None comes before a read that may block. If the last piece `is_long`, it is only a beginning, and `rest` gives the
+    whole of it, block by block, and then its size in `lines`.
+    """
+
+    is_long = False
+    lines = 0
+
+    def __iter__(self) -> Iterator[Optional[Piece]]:
+        raise NotImplementedError
+
+    def rest(self) -> Iterator[bytes]:
+        raise NotImplementedError
+
+
+class Messages(Source):
+    """The messages and strays of a stream, at their offsets."""
+
+    def __init__(self, feed: Feed, longest: Optional[int]) -> None:
+        self.feed, self.finder = feed, Finder(longest)
+
+    def __iter__(self) -> Iterator[Optional[Piece]]:
+        finder = self.finder
+        while True:
+            found = finder.find()
+            if found:
+                begin, end, fault = found
+                octets = memoryview(finder.held)[begin:end]
+                yield finder.passed + begin, octets, fault
+                octets.release()
+            elif finder.has_ended:
+                return
+            else:
+                if self.feed.may_wait():
+                    yield None
+                finder.put(self.feed.read())
+
+
+class Documents(Source):
+    """The documents of a text, at their first lines, each with what precedes it. What follows the last is one more."""
+
+    def __init__(self, feed: Feed, _longest: Optional[int]) -> None:
+        self.feed, self.held, self.has_ended = feed, bytearray(b"\n"), False
+
+    def __iter__(self) -> Iterator[Optional[Piece]]:
+        # The line feed before a document is the one that ends the document before it.
+        held, number, at = self.held, 1, 0
+        while True:
+            found = held.find(END, at)
+            begin = begin_of(held) if found < 0 else 1
+            if found < 0 and not self.has_ended and (begin > 1 or len(held) <= PART):
+                if len(held) > PART:
+                    number += held.count(b"\n", 1, begin)
+                    del held[1:begin]
+                at = max(0, len(held) - len(END))
+                if self.feed.may_wait():
+                    yield None
+                self.read()
+                self.has_ended = self.has_ended or not may_begin(held)
+                continue
+            self.is_long = found < 0 and not self.has_ended
+            text = bytes(held[1 : HEADER if self.is_long else found + len(END) if found >= 0 else len(held)])
+            self.lines = text.count(b"\n")
+            if not self.is_long:
+                del held[: len(text)]
+            if text:
+                yield number, text, b""
+            if found < 0 and not self.is_long:
+                return
+            number += self.lines
+            at = 0
+
+    def read(self) -> None:
+        octets = self.feed.read()
+        self.held += octets
+        self.has_ended = not octets
+
+    def rest(self) -> Iterator[bytes]:
+        held, self.lines, found = self.held, 0, -1
+        while found < 0:
+            found = held.find(END)
+            # As long as there is no end, as much is retained as may begin one, and the byte before it.
+            kept = 0 if found >= 0 or self.has_ended else len(END) - 1
+            end = found + len(END) if found >= 0 else max(1, len(held) - kept)
+            text = bytes(held[1:end])
+            self.lines += text.count(b"\n")
+            yield text
+            del held[: end - 1]
+            if found < 0 and self.has_ended:
+                self.lines += 2
+                return
+            if found < 0:
+                self.read()
+
+
+def begin_of(text: bytearray) -> int:
+    """Where the first line begins that is neither empty nor a comment, after a line feed."""
+    at, end = 1, text.find(b"\n", 1)
+    while end == at or (at < end <= at + LINE and text.startswith(b"#", at)):
+        at, end = end + 1, text.find(b"\n", end + 1)
+    return at
 
 
 def may_begin(text: bytearray) -> bool:
-    """Whether a document may begin so, behind a line feed. Of what is no text, as an archive, no more is read."""
-    at, end = 1, text.find(b"\n", 1)
-    while end == at or (end > at and text.startswith(b"#", at)):
-        at, end = end + 1, text.find(b"\n", end + 1)
+    """Whether a document may begin like this. If not, as in an archive of messages, no more is read."""
+    at = begin_of(text)
+    end = text.find(b"\n", at)
     return len(text) - at <= LINE if end < 0 else text[at:end] == b"message"
 
 
+class Store:
+    """A temporary file that is filled in large blocks."""
+
+    def __init__(self) -> None:
+        self.file, self.block = bufr_guard.temporary(), bytearray()
+
+    def add(self, octets: Octets) -> None:
+        if len(octets) < BLOCK:
+            self.block += octets
+            if len(self.block) >= BLOCK:
+                self.flush()
+        else:
+            self.flush()
+            bufr_guard.keep(self.file, octets)
+
+    def flush(self) -> None:
+        bufr_guard.keep(self.file, self.block)
+        self.block.clear()
+
+    def descriptor(self) -> int:
+        """The file, at its start."""
+        self.flush()
+        os.lseek(self.file, 0, os.SEEK_SET)
+        return self.file
+
+
+class Reason:
+    """Why a set may not match a message exactly, for which descriptors, and how to get the missing set."""
+
+    def __init__(self, text: str, concerns: Callable[[str], bool], advice: Callable[[], str] = str) -> None:
+        self.text, self.concerns, self.advice = text, concerns, advice
+        self.count, self.first = 0, ""
+
+
 class Run:
-    """One run of `bufr`, over those pieces of a part that one set serves."""
+    """One run of `bufr`, over the pieces of a part that belong to one set."""
+
+    COMMAND: str
+    PLACE: bytes
+    FIRST: int
+    PIECE: str
+    SOURCE: Type[Union[Messages, Documents]]
 
     def __init__(self, tables: bufr_sets.TableSet) -> None:
-        self.tables, self.pieces = tables, []
+        words = [self.COMMAND, "-B", tables.file("B.csv"), "-D", tables.file("D.csv")]
+        self.tables, self.words = tables, [bufr_guard.program(), *words]
+        self.pieces = Store()
 
-    def start(self, is_only: bool) -> None:
-        """Starts it. Where it is the only one of its part it writes in order, and nothing is copied."""
-        words = [bufr_guard.program(), self.COMMAND, "-B", self.tables.file("B.csv"), "-D", self.tables.file("D.csv")]
-        given, errors = bufr_guard.put_aside(b"".join(self.pieces)), bufr_guard.temporary()
-        output = 1 if is_only else bufr_guard.temporary()
-        self.process = bufr_guard.start(words, given, output, errors)
+    @staticmethod
+    def size_of(octets: Octets) -> int:
+        """How far a piece extends, in the units of the place of a fault."""
+        raise NotImplementedError
+
+    @staticmethod
+    def asked_by(piece: Bytes) -> Tables:
+        """What a piece asks for."""
+        raise NotImplementedError
+
+    @staticmethod
+    def words_of(piece: Bytes) -> bytes:
+        """The descriptor list of a piece, as it is written there."""
+        raise NotImplementedError
+
+    @staticmethod
+    def descriptors(words: bytes) -> Tuple[str, ...]:
+        """The descriptors of such a list."""
+        raise NotImplementedError
+
+    def copy_piece(self) -> bool:
+        """Copies the output for the next piece, and returns whether it is whole."""
+        raise NotImplementedError
+
+    def start(self, output: Optional[int]) -> None:
+        """Starts it. Its output goes to a descriptor, or into a file from which it is copied piece by piece."""
+        self.start_on(self.pieces.descriptor(), output)
+
+    def start_on(self, given: int, output: Optional[int]) -> None:
+        errors, copied = bufr_guard.temporary(), bufr_guard.temporary() if output is None else output
+        self.process = bufr_guard.start(self.words, given, copied, errors)
         os.close(given)
-        self.pieces = []
-        self.errors, self.output = open(errors, "rb"), None if is_only else open(output, "rb", 0)
+        self.errors = open(errors, "rb")
+        self.output = open(copied, "rb", 0) if output is None else None
 
     def finish(self) -> None:
         """Waits for its end."""
         self.status = bufr_guard.wait(self.process)
-        self.others = []  # lines that are no faults of pieces
-        self.passed = 0  # what is before the next piece, in octets or lines
+        self.others: List[bytes] = []  # lines that are no faults of pieces
+        self.passed = 0  # what precedes the next piece, in bytes or lines
         self.errors.seek(0)
         self.take_fault()
         if self.output is not None:
@@ -178,11 +392,11 @@ class Run:
             self.read, self.at = b"", 0
 
     def take_fault(self) -> None:
-        """Takes the next fault: its place, and what stands behind that."""
+        """Takes the next fault: its place, and what follows that."""
         for line in self.errors:
             word, _, self.told = line.partition(b": ")
             if word.startswith(self.PLACE) and word[len(self.PLACE) :].isdigit():
-                self.place = int(word[len(self.PLACE) :]) - self.FIRST
+                self.place: float = int(word[len(self.PLACE) :]) - self.FIRST
                 return
             self.others.append(line)
         self.place = bufr_guard.NOWHERE
@@ -192,23 +406,25 @@ class Run:
         begin, self.passed = self.passed, self.passed + size
         if self.place >= self.passed:
             return b""
-        line = b"%s%d: %s" % (self.PLACE, place + self.place - begin, self.told)
+        line = b"%s%d: %s" % (self.PLACE, place + int(self.place) - begin, self.told)
         self.take_fault()
         return line
 
-    def copy(self) -> bool:
-        """Copies what it wrote for the next piece, and says whether that is whole."""
+    def copy(self, target: bufr_guard.Output) -> bool:
+        """Copies its output for the next piece to the target, and returns whether that is whole."""
+        self.target = target
         return self.output is None or self.copy_piece()
 
     def take(self) -> bool:
-        """Reads more of what it wrote."""
+        """Reads more of its output."""
+        assert self.output is not None
         octets = self.output.read(BLOCK)
         self.read, self.at = self.read[self.at :] + octets, 0
         return bool(octets)
 
     def give(self, end: int) -> None:
         """Copies what was read up to here."""
-        bufr_guard.output().write(memoryview(self.read)[self.at : end])
+        self.target.write(memoryview(self.read)[self.at : end])
         self.at = end
 
     def close(self) -> None:
@@ -220,16 +436,16 @@ class Run:
 class Dump(Run):
     """Its pieces are messages, at their offsets."""
 
-    COMMAND, PLACE, FIRST, PIECE = "dump", b"offset ", 0, "message"
-    pieces_of, size_of, descriptors_of = staticmethod(messages), staticmethod(len), staticmethod(bufr_sets.descriptors)
+    COMMAND, PLACE, FIRST, PIECE, SOURCE = "dump", b"offset ", 0, "message", Messages
+    size_of, words_of = staticmethod(len), staticmethod(bufr_sets.words_of)
+    descriptors = staticmethod(bufr_sets.descriptors)
 
     @staticmethod
-    def asked_by(octets: bytes) -> tuple:
-        """The centre of a message, and its versions: the master table, its version, that of the local tables."""
-        octets = octets[:23].ljust(23, b"\0")
-        if octets[7] == 4:
-            return octets[12] << 8 | octets[13], octets[11], octets[21], octets[22]
-        return octets[13], octets[11], octets[18], octets[19]
+    def asked_by(piece: Bytes) -> Tables:
+        begin = piece(0, 23).ljust(23, b"\0")
+        if begin[7] == 4:
+            return begin[12] << 8 | begin[13], begin[11], begin[21], begin[22]
+        return begin[13], begin[11], begin[18], begin[19]
 
     def copy_piece(self) -> bool:
         while (found := self.read.find(END, self.at)) < 0:
@@ -242,36 +458,42 @@ class Dump(Run):
 
 
 class Encode(Run):
-    """Its pieces are documents, at their first lines. The first one that is refused ends all."""
+    """Its pieces are documents, at their first lines. The first invalid one stops everything."""
 
-    COMMAND, PLACE, FIRST, PIECE = "encode", b"line ", 1, "document"
-    pieces_of = staticmethod(documents)
+    COMMAND, PLACE, FIRST, PIECE, SOURCE = "encode", b"line ", 1, "document", Documents
 
     @staticmethod
-    def size_of(text: bytes) -> int:
-        """The lines of a document, and where it does not end the line where that is told."""
+    def size_of(octets: Octets) -> int:
+        """The lines of a document; if it has no end, also the line at which that is reported."""
+        text = bytes(octets)
         return text.count(b"\n") + 2 * (not text.endswith(END))
 
     @staticmethod
-    def asked_by(text: bytes) -> tuple:
-        """The centre of a document, and its versions."""
+    def asked_by(piece: Bytes) -> Tables:
+        text = piece(0, HEADER)
         found = []
         for key in (b"\ncentre ", b"\nmaster ", b"\nmasterversion ", b"\nlocalversion "):
-            at = text.find(key, 0, HEADER) + len(key)
+            at = text.find(key) + len(key)
             number = text[at : text.find(b"\n", at)] if at >= len(key) else b""
             found.append(int(number) if number.isdigit() and len(number) < 9 else 0)
-        return tuple(found)
+        centre, master, version, local = found
+        return centre, master, version, local
 
     @staticmethod
-    def descriptors_of(text: bytes) -> tuple:
+    def words_of(piece: Bytes) -> bytes:
+        text = piece(0, HEADER)
         begin = text.find(b"\ndescriptors ")
-        lines = text[begin : text.find(b"\nsubset ", begin)].decode("ascii", "replace").splitlines()
+        return text[begin : text.find(b"\nsubset ", begin)]
+
+    @staticmethod
+    def descriptors(words: bytes) -> Tuple[str, ...]:
+        lines = words.decode("ascii", "replace").splitlines()
         return tuple(word for line in lines if line.startswith("descriptors ") for word in line.split()[1:])
 
     def copy_piece(self) -> bool:
         while len(self.read) < self.at + 7:
             if not self.take():
-                # Behind the last document there may be comments alone.
+                # After the last document there may be nothing but comments.
                 return self.status == 0 and self.at == len(self.read)
         left = int.from_bytes(self.read[self.at + 4 : self.at + 7], "big")
         while left > len(self.read) - self.at:
@@ -284,171 +506,273 @@ class Encode(Run):
 
 
 class Part:
-    """Pieces that follow one another: a run for each set; and of each piece its place, its size and its run."""
+    """Consecutive pieces: a run for each set; and of each piece its place, its size, and its run or its fault.
+
+    If there are conditions, the pieces first go to `candidates`, without a run.
+    """
 
     def __init__(self) -> None:
-        self.runs, self.pieces, self.held = {}, [], 0
+        self.runs: Dict[bufr_sets.TableSet, Run] = {}
+        self.pieces: List[Tuple[int, int, Optional[Run], List[Reason], bytes]] = []
+        self.size, self.is_started = 0, False
+        self.candidates: Optional[Store] = None
 
-    def start(self) -> None:
-        for run in self.runs.values():
-            run.start(len(self.runs) == 1)
+    def is_full(self) -> bool:
+        return self.size >= PART or len(self.pieces) == PIECES
+
+    def start(self, output: Optional[int]) -> None:
+        if not self.is_started:
+            for run in self.runs.values():
+                run.start(output)
 
 
 class Notes:
-    """How many pieces no set serves exactly, by the reason, and where the first is."""
+    """How many pieces no set matches exactly, by the reason, and where the first one is."""
 
     def __init__(self) -> None:
-        self.found = {}
+        self.reasons: Dict[str, Reason] = {}
+        self.others = Reason("no set matches these exactly, for other reasons", bool)
 
-    def add(self, reason: str, place: str) -> None:
-        if reason not in self.found and len(self.found) >= KINDS_OF_NOTES:
-            reason = "no set serves these exactly, for other reasons"
-        self.found.setdefault(reason, [0, place])[0] += 1
+    def known(self, reason: Reason) -> Reason:
+        """The reason with this text, so that each is retained once; if there are too many, that of all others."""
+        if reason.text not in self.reasons and len(self.reasons) >= KINDS_OF_NOTES:
+            return self.others
+        return self.reasons.setdefault(reason.text, reason)
 
-    def lines(self, piece: str):
-        for reason, (count, first) in self.found.items():
-            pieces = f"1 {piece}," if count == 1 else f"{count} {piece}s, the first"
-            yield f"bufr-auto: {pieces} {first}: {reason}\n".encode()
+    def lines(self, piece: str) -> Iterator[bytes]:
+        for reason in [*self.reasons.values(), self.others]:
+            if reason.count:
+                pieces = f"1 {piece}," if reason.count == 1 else f"{reason.count} {piece}s, the first"
+                advice = reason.advice()
+                line = f"{bufr_guard.name()}: {pieces} {reason.first}: {reason.text}{'; ' + advice if advice else ''}\n"
+                yield line.encode("utf-8", "surrogateescape")
 
 
-def is_local(fxy: str) -> bool:
-    """Whether a descriptor is for local use, which a centre defines."""
-    return int(fxy[1:3]) >= 48 or int(fxy[3:]) >= 192
-
-
-def reasons(asked: tuple, tables: bufr_sets.TableSet) -> list:
-    """Why a set may not serve exactly what asks so, and which descriptors that concerns."""
+def reasons(asked: Tables, tables: bufr_sets.TableSet) -> List[Reason]:
+    """Why a set may not match exactly what a message asks for."""
     centre, master, version, local = asked
     found = []
     if master != 0:
-        found.append((f"master table {master} is not WMO's of meteorology", bool))
+        found.append(Reason(f"master table {master} is not WMO's table for meteorology", bool))
     if version > tables.version:
-        found.append((f"version {version} is later than {tables.name}", bool))
+        found.append(Reason(f"version {version} is later than {tables.name}", bool, lambda: bufr_sets.NEWER))
     if version <= 6 < tables.version:
-        reason = f"version {version} has some of its descriptors otherwise than {tables.name}"
-        found.append((reason, CHANGED_SINCE_6.__contains__))
+        text = f"version {version} defines some of its descriptors differently from {tables.name}"
+        found.append(Reason(text, CHANGED_SINCE_6.__contains__))
     if local != 0 and tables.own is None:
-        own = f"wmo-{tables.version:02}+{centre}-{local}"
-        found.append((f"local table {local} of centre {centre}: there is no {own}", is_local))
+        own = bufr_sets.own_name(tables, centre, local)
+        text = f"local table {local} of centre {centre}: there is no {own}"
+        found.append(Reason(text, bufr_sets.is_local, lambda: bufr_sets.advice(tables, centre, version, local)))
     return found
 
 
 class Work:
-    """The work on all files, which are dumped or encoded: its status, and what is told last."""
+    """The work on all files, which are dumped or encoded: its status, and what is reported last."""
 
-    def __init__(self, kind: type, names: list) -> None:
-        self.kind, self.sets, self.known = kind, bufr_sets.TableSets(), {}
-        self.notes, self.last, self.status, self.is_over = Notes(), [], 0, False
-        self.is_one, self.done = len(names) == 1, 0
-        self.progress = bufr_guard.Progress(sum(os.path.getsize(name) for name in names if os.path.isfile(name or "")))
+    def __init__(self, kind: Type[Run], files: Sequence[Optional[str]], output: int = 1) -> None:
+        self.kind, self.files, self.sets, self.target = kind, files, bufr_sets.TableSets(), bufr_guard.output(output)
+        self.longest: Optional[int] = None
+        self.conditions: Optional[Conditions] = None
+        self.has_places = False
+        self.known: Dict[Tables, Tuple[bufr_sets.TableSet, List[Reason]]] = {}
+        self.remembered: Dict[Tuple[bufr_sets.TableSet, Callable[[str], bool], bytes], bool] = {}
+        self.notes, self.status, self.is_over, self.done = Notes(), 0, False, 0
+        self.last: List[bytes] = []
+        sizes = [os.path.getsize(file) for file in files if file is not None and os.path.isfile(file)]
+        self.progress = bufr_guard.Progress(sum(sizes))
 
-    def do(self, names: list) -> int:
+    def do(self) -> int:
         try:
-            for name in names:
+            for file in self.files:
                 if not self.is_over:
-                    self.serve(name)
+                    self.serve(file)
         finally:
-            bufr_guard.say(b"".join([*self.notes.lines(self.kind.PIECE), *self.last]))
+            note = self.conditions.note() if self.conditions else ""
+            told = [f"{bufr_guard.name()}: {note}\n".encode()] if note else []
+            bufr_guard.say(b"".join([*self.notes.lines(self.kind.PIECE), *told, *self.last]))
         return self.status
 
     def fail(self, unread: Unread) -> None:
-        """Keeps what a file failed by. The run goes on with the next one."""
-        self.last.append(f"bufr-auto: {unread}\n".encode())
+        """Retains why a file failed. The work continues with the next one."""
+        self.last.append(os.fsencode(f"{bufr_guard.name()}: {unread}\n"))
         self.status = 2
 
-    def serve(self, name) -> None:
-        """Does the work for a file. A part of several runs is started while the part before it is written."""
+    def serve(self, file: Optional[str]) -> None:
+        """Does the work for a file. A part with several runs is started while the part before it is written."""
         try:
-            feed = Feed(name)
+            feed = Feed(file)
         except Unread as unread:
             self.fail(unread)
             return
         before = None
         for part in self.parts(feed):
-            if part and len(part.runs) > 1:
-                part.start()
+            is_copied = part is not None and (len(part.runs) > 1 or self.has_places)
+            if part and is_copied:
+                part.start(None)
             if before:
                 self.write(before, feed)
             if self.is_over:
                 bufr_guard.stop()
                 return
-            if part and len(part.runs) == 1:
-                part.start()
+            if part and not is_copied:
+                part.start(self.target.descriptor)
             before = part
             self.progress.at(self.done + feed.taken)
         self.done += feed.taken
         feed.close()
 
-    def parts(self, feed: Feed):
-        """The parts of a file. None comes where the part before is to be written: a read may wait, or all was read."""
-        part, count = Part(), 0
+    def parts(self, feed: Feed) -> Iterator[Optional[Part]]:
+        """The parts of a file. None comes when the part before must be written: a read may block, or all was read."""
+        part, count, source = Part(), 0, self.kind.SOURCE(feed, self.longest)
+        pieces = iter(source)  # freed after `part`: without memory Python would report that it cannot close it
         try:
-            for piece in self.kind.pieces_of(feed):
-                if piece:
-                    self.add(part, *piece)
-                    count += not piece[2]
-                is_full = part.held >= PART or len(part.pieces) == PIECES
-                if part.pieces and (is_full or not piece):
+            for piece in pieces:
+                count += piece is not None and not is_stray(piece[2])
+                if piece and source.is_long:
                     yield part
+                    yield None
+                    part = Part()
+                    self.feed(part, source, feed, piece)
+                elif piece:
+                    self.add(part, *piece)
+                if part.pieces and (part.is_full() or part.is_started or not piece):
+                    yield self.selected(part)
                     part = Part()
                 if not piece:
                     yield None
             if not count:
-                self.last.append(bufr_guard.bare(feed.name, feed.begin, self.kind.PIECE))
+                self.last.append(bufr_guard.bare(feed.file, feed.begin, self.kind.PIECE))
         except Unread as unread:
             self.fail(unread)
-        yield part
+        yield self.selected(part)
         yield None
 
-    def add(self, part: Part, place: int, octets: bytes, fault: bytes) -> None:
+    def add(self, part: Part, place: int, octets: Octets, fault: bytes) -> None:
         if fault:
-            part.pieces.append((place, 0, None, fault))
+            part.pieces.append((place, 0, None, [], fault))
             return
-        tables, notes = self.served(octets)
-        if notes:
-            used = tables.used(self.kind.descriptors_of(octets))
-            notes = [reason for reason, concerns in notes if any(map(concerns, used))]
-        run = part.runs.get(tables)
-        if run is None:
-            run = part.runs[tables] = self.kind(tables)
-        run.pieces.append(octets)
-        part.pieces.append((place, self.kind.size_of(octets), run, notes))
-        part.held += len(octets)
+        part.size += len(octets)
+        if self.conditions:
+            part.candidates = part.candidates or Store()
+            part.candidates.add(octets)
+            part.pieces.append((place, len(octets), None, [], b""))
+        else:
+            run, notes = self.assigned(part, lambda at, length: bytes(octets[at : at + length]))
+            run.pieces.add(octets)
+            part.pieces.append((place, self.kind.size_of(octets), run, notes, b""))
 
-    def served(self, octets: bytes) -> tuple:
-        """The set that serves a piece, and the reasons why it may not do so exactly."""
-        asked = self.kind.asked_by(octets)
+    def feed(self, part: Part, source: Source, feed: Feed, piece: Piece) -> None:
+        """Feeds a long piece to a run of its own as it arrives."""
+        place, begin, _ = piece
+        run, notes = self.assigned(part, lambda at, length: bytes(begin[at : at + length]))
+        os.close(run.pieces.descriptor())
+        given, pipe = os.pipe()
+        run.start_on(given, self.target.descriptor)
+        part.is_started = True
+        try:
+            for octets in source.rest():
+                bufr_guard.write_all(pipe, octets)
+                self.progress.at(self.done + feed.taken)
+        except BrokenPipeError:
+            pass  # it has refused the piece, and says so
+        except Unread as unread:
+            self.fail(unread)
+        finally:
+            os.close(pipe)
+        part.pieces.append((place, source.lines, run, notes, b""))
+
+    def selected(self, part: Part) -> Part:
+        """The part with those candidates that meet the conditions, and those that have no line in a listing."""
+        if part.candidates is None:
+            return part
+        candidates, chosen, begin = part.candidates.descriptor(), Part(), 0
+        refused = self.refused(candidates)
+        for place, size, run, notes, fault in part.pieces:
+            if not fault and begin not in refused:
+                run, notes = self.assigned(
+                    chosen, lambda at, length: bufr_guard.read_at(candidates, begin + at, max(0, min(length, size - at)))
+                )
+                for at in range(0, size, BLOCK):
+                    run.pieces.add(bufr_guard.read_at(candidates, begin + at, min(BLOCK, size - at)))
+            if run or fault:
+                chosen.pieces.append((place, size, run, notes, fault))
+            begin += size
+        os.close(candidates)
+        return chosen
+
+    def refused(self, candidates: int) -> FrozenSet[int]:
+        """The offsets of the candidates whose line of `bufr ls` does not meet the conditions."""
+        assert self.conditions
+        (listing, target), nothing = os.pipe(), os.open(os.devnull, os.O_WRONLY)
+        process = bufr_guard.start([bufr_guard.program(), "ls"], candidates, target, nothing)
+        os.close(target)
+        os.close(nothing)
+        found = set()
+        for lines in bufr_guard.lines_from(listing, bufr_guard.Progress(), lambda: 0):
+            for line in lines.splitlines():
+                if not self.conditions.are_met(line):
+                    found.add(int(line[len(b"offset=") : line.index(b" ")]))
+        os.close(listing)
+        bufr_guard.checked(bufr_guard.wait(process), False)
+        return frozenset(found)
+
+    def assigned(self, part: Part, piece: Bytes) -> Tuple[Run, List[Reason]]:
+        """The run for a piece, and why its set may not match it exactly."""
+        asked = self.kind.asked_by(piece)
         if asked not in self.known:
             if len(self.known) == KINDS_OF_NOTES:
                 self.known.clear()
-            tables = self.sets.asked(b"%d" % asked[0], b"%d/%d/%d" % asked[1:])
+            centre, _, version, local = asked
+            tables = self.sets.asked(centre, version, local)
             self.known[asked] = tables, reasons(asked, tables)
-        return self.known[asked]
+        tables, notes = self.known[asked]
+        if notes:
+            words = self.kind.words_of(piece)
+            notes = [self.notes.known(reason) for reason in notes if self.is_concerned(tables, reason, words)]
+        if tables not in part.runs:
+            part.runs[tables] = self.kind(tables)
+        return part.runs[tables], notes
+
+    def is_concerned(self, tables: bufr_sets.TableSet, reason: Reason, words: bytes) -> bool:
+        """Whether a reason concerns a descriptor that this list uses."""
+        key = tables, reason.concerns, words
+        if key in self.remembered:
+            return self.remembered[key]
+        is_concerned = any(map(reason.concerns, tables.used(self.kind.descriptors(words))))
+        if len(self.remembered) == REMEMBERED:
+            self.remembered.clear()
+        if len(words) <= 7 * REMEMBERED:
+            self.remembered[key] = is_concerned
+        return is_concerned
 
     def write(self, part: Part, feed: Feed) -> None:
         """Writes what the runs of a part gave, in the order of its pieces."""
         for run in part.runs.values():
             run.finish()
-        prefix, within = (b"", "") if self.is_one else (os.fsencode(feed.name) + b":", f"in {feed.name} ")
+        prefix, within = (b"", "") if len(self.files) == 1 else (os.fsencode(feed.name) + b":", f"in {feed.name} ")
         worst = max(part.runs.values(), key=lambda run: run.status, default=None)
-        lines, is_whole = [], True
-        for place, size, run, told in part.pieces:
-            if run is None:
-                lines.append(b"%soffset %d: %s\n" % (prefix, place, told))
+        is_whole = True
+        for place, size, one, notes, stray in part.pieces:
+            if one is None:
+                bufr_guard.say(stray_line(place, stray, prefix))
                 self.status = max(self.status, 1)
                 continue
-            fault = run.fault(place, size)
-            if fault.partition(b": ")[2][:1] != b"1":  # or else it is no message
-                for reason in told:
-                    self.notes.add(reason, f"{within}at {run.PLACE.decode()}{place}")
+            fault = one.fault(place, size)
+            if fault.partition(b": ")[2][:1] != b"1":  # otherwise it is no message
+                for reason in notes:
+                    reason.count += 1
+                    reason.first = reason.first or f"{within}at {one.PLACE.decode()}{place}"
             if fault:
-                lines.append(prefix + fault)
-                self.is_over = run.COMMAND == "encode"
-            elif not run.copy():
-                worst, is_whole, self.is_over = run, False, True
+                bufr_guard.say(prefix + fault)
+                self.is_over = one.COMMAND == "encode"
+            else:
+                if self.has_places:
+                    name = os.fsencode("-" if feed.file is None else feed.name)
+                    self.target.write(b"# offset=%d length=%d file=%s\n" % (place, size, name))
+                if not one.copy(self.target):
+                    worst, is_whole, self.is_over = one, False, True
             if self.is_over:
                 break
-        bufr_guard.say(b"".join(lines))
         bufr_guard.flush()
         for run in part.runs.values():
             run.close()
@@ -460,22 +784,33 @@ class Work:
         self.last += run.others
         status = bufr_guard.checked(run.status, bool(run.others))
         if not is_whole and status < 2:
-            raise bufr_guard.Failed("cannot go on: bufr gave less than it was to give")
+            raise bufr_guard.Failed("bufr wrote less than it should; output is incomplete")
         self.is_over = self.is_over or status == 2
         self.status = max(self.status, status)
 
 
-def work(words: list) -> int:
-    kind, names = Dump, []
-    while words:
-        word = words.pop(0)
-        if word == "--":
-            names += words
-            break
-        if word == "--encode":
-            kind = Encode
-        elif word.startswith("-") and word != "-":
-            raise bufr_guard.Failed(f"no option {word}; bufr-auto --help tells them")
-        else:
-            names.append(word)
-    return Work(kind, names or [None]).do(names or [None])
+def dump(
+    files: Sequence[Optional[str]],
+    output: int = 1,
+    longest: Optional[int] = None,
+    conditions: Optional[Conditions] = None,
+    has_places: bool = False,
+) -> int:
+    """Writes the dump of these files to a descriptor, and returns the status. None is standard input.
+
+    Faults, notes and progress go to standard error, as those of bufr-auto. A message that declares more than `longest`
+    bytes is skipped, and so is one whose line of `bufr ls` does not meet the conditions. With `has_places` a comment
+    precedes each document: `# offset=595 length=422 file=NAME`.
+    """
+    work = Work(Dump, files, output)
+    work.longest, work.conditions, work.has_places = longest, conditions, has_places
+    return work.do()
+
+
+def work(words: List[str]) -> int:
+    asked = bufr_options.Asked(words, flags=["--encode"], values={"--max-length": bufr_options.from_12})
+    if not asked.has("--encode"):
+        return dump(asked.files(), longest=asked.last("--max-length"))
+    if asked.has("--max-length"):
+        raise bufr_options.misused("--max-length is for messages, not for --encode")
+    return Work(Encode, asked.files()).do()

@@ -1,7 +1,7 @@
-"""What the scripts share: how they begin, end and fail, the programs that they start, and what they say meanwhile.
+"""What the scripts share: how they start, stop and fail, the programs that they run, and what they report.
 
-A script hands `run` its work: a function of the words of the command line that gives the status. It raises `Failed`
-where it cannot go on.
+A script passes `run` its work: a function from the words of the command line to the exit status. It raises `Failed` if
+it cannot continue.
 
     def work(words):
         source = bufr_guard.opened(words[0] if words else None)
@@ -12,26 +12,36 @@ where it cannot go on.
     sys.excepthook = bufr_guard.hook  # before the script imports anything else
     bufr_guard.run(work, __doc__)
 
-- `run` answers --help and --version, and calls the work for anything else. Its status is the script's, once all that
-  was written has gone out. Any exception is one line on standard error, and status 2.
-- `start` and `wait` run a program, which a signal ends with the script. `checked` tells one that did not end well.
-- `opened`, `temporary`, `put_aside` and `copied` give descriptors; where the folder of temporary files is full they
-  say so. `output` is standard output in large blocks.
-- `say` writes lines on standard error, `Progress` a line that goes away again. `bare` is one of a file without a message.
+- `run` calls the work, flushes the output and exits with the status. If the work raises `Question` it prints the help
+  or the version. Any other exception is reported in one line on standard error, with status 2.
+- `start` and `wait` run a program, which a signal ends together with the script. `checked` fails for one that crashed.
+- `opened`, `temporary`, `put_aside` and `copied` return descriptors, and report a full folder of temporary files.
+  `output` is a descriptor, standard output by default, that is written in large blocks.
+- `say` writes lines to standard error, `Progress` a line that disappears again. `bare` is a note on a file without a
+  message.
 
-It imports next to nothing, since it is loaded at each start.
+It imports next to nothing, since each script loads it.
 """
-import _signal as signal  # without the enumerations of Python's module, which take longer than all else here
+from __future__ import annotations
+
 import os
 import select
 import stat
 import sys
 import time
 
+TYPE_CHECKING = False
+if TYPE_CHECKING:
+    import signal
+    from types import FrameType, TracebackType
+    from typing import Any, BinaryIO, Callable, Dict, Iterator, List, NoReturn, Optional, Sequence, Type, Union
+else:
+    import _signal as signal  # Python's own module loads enumerations, which take longer than everything else here
+
 BLOCK = 1 << 20
 NOWHERE = float("inf")
-RUNNING = set()
-# How a file begins that has no message, and what it is.
+RUNNING: set[int] = set()
+# How files without a message begin, and what they are.
 KINDS_OF_FILES = {
     b"\x1f\x8b": "gzip data (zcat)",
     b"BZh": "bzip2 data (bzcat)",
@@ -49,38 +59,42 @@ KINDS_OF_FILES = {
 
 
 class Failed(Exception):
-    """What is told before status 2."""
+    """Why the script stops with status 2."""
 
 
-def run(work, text: str, ends_by_pipe: bool = False) -> None:
-    """Does the work of a script on the words of its command line, and leaves. The text is its help.
+class Question(Exception):
+    """The option --help or --version, which `run` answers."""
 
-    A signal ends the script, and what it runs. Where `ends_by_pipe` says so a reader of its output that has gone does
-    so too; or else that is a write that failed.
+
+def run(work: Callable[[List[str]], int], text: Optional[str], ends_by_pipe: bool = False) -> NoReturn:
+    """Does the work of a script on the words of its command line, and exits. The text is its help.
+
+    A signal ends the script and the programs that it runs. With `ends_by_pipe` it also ends quietly if the reader of
+    its output has gone; otherwise that is a failed write.
     """
     status = 2
     try:
         take_descriptors()
-        sys.unraisablehook = lambda _: None  # or else Python tells at the end of what could not be flushed
+        sys.unraisablehook = lambda _: None  # otherwise Python reports at its end what it could not flush
         signals = [signal.SIGINT, signal.SIGTERM, signal.SIGHUP, *[signal.SIGPIPE] * ends_by_pipe]
         for number in signals:
             if number == signal.SIGPIPE or signal.getsignal(number) != signal.SIG_IGN:
                 signal.signal(number, leave)
-        signal.signal(signal.SIGCHLD, signal.SIG_DFL)  # where it is ignored no program's status is known
-        status = int(guarded(work, text))
+        signal.signal(signal.SIGCHLD, signal.SIG_DFL)  # if it is ignored, no program's status is known
+        status = guarded(work, text or "")
         stop()
     finally:
         os._exit(status)
 
 
 def take_descriptors() -> None:
-    """Takes up a closed descriptor 0, 1 or 2, so that no file gets its number. Reading and writing it still fails."""
+    """Opens a closed descriptor 0, 1 or 2, so that no file gets its number. Reading or writing it still fails."""
     for number, mode in ((0, os.O_WRONLY), (1, os.O_RDONLY), (2, os.O_RDONLY)):
         try:
             os.fstat(number)
         except OSError:
-            os.set_inheritable(os.open(os.devnull, mode), True)
-    # Python has nothing in the place of these, and prints what is for standard error on standard output.
+            os.open(os.devnull, mode)
+    # Python has None for these, and would print on standard output what belongs on standard error.
     if sys.stdin is None:
         sys.stdin = open(0, closefd=False)
     if sys.stdout is None:
@@ -89,17 +103,15 @@ def take_descriptors() -> None:
         sys.stderr = open(2, "w", closefd=False, errors="backslashreplace")
 
 
-def guarded(work, text: str) -> int:
-    """The status of the work, or 2 behind a line that tells of an exception."""
+def guarded(work: Callable[[List[str]], int], text: str) -> int:
+    """The status of the work, or 2 after a line that reports an exception."""
     try:
         if sys.version_info < (3, 9):
-            raise Failed("Python 3.9 or a later one is needed")
+            raise Failed("Python 3.9 or later is needed")
         try:
-            status = answered(sys.argv[1:], text)
-            if status is None:
-                status = work(sys.argv[1:])
-        except SystemExit as end:  # argparse
-            status = end.code or 0
+            status = work(sys.argv[1:])
+        except Question as question:
+            status = answer(str(question), text)
         Progress.clear()
         flush()
         return status
@@ -113,18 +125,19 @@ def guarded(work, text: str) -> int:
 
 
 def end_badly(told: str) -> None:
-    """Tells what ends the script, behind what was written, as much of both as can be."""
+    """Reports what ends the script, after flushing its output; does as much of both as possible."""
     Progress.clear()
-    flushes = [file.flush for file in written()]
-    for attempt in [*flushes, lambda: os.write(2, os.fsencode(shown(f"{name()}: {told}") + "\n"))]:
+    line = Output(2)
+    line.write(os.fsencode(shown(f"{name()}: {told}") + "\n"))
+    for file in [*written(), line]:
         try:
-            attempt()
+            file.flush()
         except Exception:
             pass
 
 
-def hook(_kind, error: BaseException, _place) -> None:
-    """Python's hook for an exception outside of `run`, as while a script imports."""
+def hook(_kind: Type[BaseException], error: BaseException, _place: Optional[TracebackType]) -> None:
+    """Python's hook for an exception outside of `run`, for example while a script imports."""
     try:
         if isinstance(error, KeyboardInterrupt):
             leave(signal.SIGINT, None)
@@ -133,34 +146,41 @@ def hook(_kind, error: BaseException, _place) -> None:
         os._exit(2)
 
 
-def answered(words: list, text: str):
-    """The status, where help or the version is asked for."""
-    if words[:1] in (["-h"], ["--help"]):
-        print(text.strip())
+def answer(question: str, text: str) -> int:
+    """Prints the help or the version, and returns the status. Both are UTF-8, whatever Python would print."""
+    if question == "--help":
+        output().write(text.strip().encode() + b"\n")
         return 0
-    if words[:1] in (["-V"], ["--version"]):
-        source, target = os.pipe()
-        process = start([program(), "--version"], output=target)
-        os.close(target)
-        with open(source) as told:
-            print(f"{name()}, with {told.read().strip()}")
-        return checked(wait(process))
-    return None
+    source, target = os.pipe()
+    process = start([program(), "--version"], output=target)
+    os.close(target)
+    with open(source, "rb") as version:
+        output().write(f"{name()}, with ".encode() + version.read().strip() + f", {build()}\n".encode())
+    return checked(wait(process))
 
 
-def file_of(words: list):
-    """FILE of a command line without options, or nothing."""
-    if words[:1] == ["--"]:
-        words = words[1:]
-    elif words and words[0].startswith("-") and words[0] != "-":
-        raise Failed(f"no option {words[0]}; {name()} --help tells more")
-    if len(words) > 1:
-        raise Failed(f"one file a call: cat {' '.join(words)} | {name()}")
-    return words[0] if words else None
+def build() -> str:
+    """What is known of the program that runs: its commit, and whether it is proved.
+
+    install.sh recorded both, with the program's SHA-256, in a file beside the pages.
+    """
+    import hashlib
+    import shutil
+
+    try:
+        with open(os.path.join(os.path.dirname(os.path.realpath(__file__)), "../doc/bufr/BUILD")) as lines:
+            known = dict(line.rstrip("\n").split(": ", 1) for line in lines)
+        with open(shutil.which(program()) or program(), "rb") as file:
+            digest = hashlib.sha256(file.read()).hexdigest()
+        if digest == known["program"]:
+            return f"commit {known['commit'][:12]}, {known['proof']}"
+    except (OSError, ValueError, KeyError):
+        pass  # not installed by install.sh
+    return "unknown build"
 
 
 def reason(error: BaseException) -> str:
-    """What is told of an exception; of one that no script meant, its place too."""
+    """What is reported of an exception; if no script raised it on purpose, also where it came from."""
     if isinstance(error, Failed):
         return str(error)
     if isinstance(error, ModuleNotFoundError):
@@ -168,11 +188,11 @@ def reason(error: BaseException) -> str:
     if isinstance(error, OSError) and error.strerror:
         is_named = isinstance(error.filename, (str, bytes))
         return f"{os.fsdecode(error.filename)}: {error.strerror}" if is_named else error.strerror
-    place = error.__traceback__
-    while place.tb_next:
+    place, where = error.__traceback__, ""
+    while place:
+        where = f" ({os.path.basename(place.tb_frame.f_code.co_filename)}, line {place.tb_lineno})"
         place = place.tb_next
-    where = f"{os.path.basename(place.tb_frame.f_code.co_filename)}, line {place.tb_lineno}"
-    return f"cannot go on: {type(error).__name__}: {error} ({where})"
+    return f"internal error: {type(error).__name__}: {error}{where}"
 
 
 def name() -> str:
@@ -181,52 +201,72 @@ def name() -> str:
 
 
 def shown(text: str) -> str:
-    r"""A text without what a screen does not show: octets stand there as \xHH."""
+    r"""A text with \xHH for each byte that a screen does not show."""
     if text.isprintable():
         return text
     hidden = (sign if sign.isprintable() else "".join(f"\\x{octet:02X}" for octet in os.fsencode(sign)) for sign in text)
     return "".join(hidden)
 
 
-# What is written.
+# Output.
 
 
-def output():
-    """Standard output in large blocks, which `flush` hands on, and `run` at the end."""
-    if not hasattr(output, "file"):
-        output.file = open(1, "wb", BLOCK, closefd=False)
-    return output.file
+class Output:
+    """A descriptor that is written in large blocks, which `flush` passes on."""
+
+    def __init__(self, descriptor: int) -> None:
+        self.descriptor = descriptor
+        self.file: Optional[BinaryIO] = None
+
+    def write(self, octets: Union[bytes, memoryview]) -> None:
+        if self.file is None:
+            self.file = open(self.descriptor, "wb", BLOCK, closefd=False)
+        self.file.write(octets)
+
+    def flush(self) -> None:
+        if self.file is not None:
+            self.file.flush()
 
 
-def written() -> list:
-    """The files that may hold what was written, the output before the errors."""
-    files = (getattr(output, "file", None), sys.stdout, getattr(say, "file", None), sys.stderr)
-    return [file for file in files if file is not None]
+OUTPUTS: Dict[int, Output] = {}
+
+
+def output(descriptor: int = 1) -> Output:
+    """Standard output, or another descriptor, in large blocks. `run` flushes it at the end."""
+    if descriptor not in OUTPUTS:
+        OUTPUTS[descriptor] = Output(descriptor)
+    return OUTPUTS[descriptor]
+
+
+def written() -> List[Any]:
+    """The files that may buffer output, the errors last."""
+    ours = [file for descriptor, file in OUTPUTS.items() if descriptor != 2]
+    return [*ours, *filter(None, (sys.stdout, output(2), sys.stderr))]
 
 
 def flush() -> None:
-    """Hands on what was written, or raises that it cannot be."""
+    """Passes on what was written. Raises `OSError` if it cannot."""
     for file in written():
         file.flush()
 
 
-def write_all(descriptor: int, octets: bytes) -> None:
-    view = memoryview(octets)
-    while view:
-        view = view[os.write(descriptor, view) :]
+def write_all(descriptor: int, octets: Union[bytes, bytearray, memoryview]) -> None:
+    with memoryview(octets) as view:
+        done = 0
+        while done < len(view):
+            with view[done:] as rest:
+                done += os.write(descriptor, rest)
 
 
 def say(lines: bytes) -> None:
-    """Writes lines on standard error, at the next `flush` at the latest."""
+    """Writes lines to standard error, at the next `flush` at the latest."""
     if lines:
         Progress.clear()
-        if not hasattr(say, "file"):
-            say.file = open(2, "wb", BLOCK, closefd=False)
-        say.file.write(lines)
+        output(2).write(lines)
 
 
-def bare(file, begin: bytes, piece: str = "message") -> bytes:
-    """The line that a file, or standard input, has no message, and what it looks like by its beginning."""
+def bare(file: Optional[str], begin: bytes, piece: str = "message") -> bytes:
+    """The note that a file, or standard input, has no message, with a guess at its type from its first bytes."""
     head = begin.lstrip()
     if head[:1] == b"<":
         head = head.lower()
@@ -238,24 +278,24 @@ def bare(file, begin: bytes, piece: str = "message") -> bytes:
 
 
 class Progress:
-    """A line on standard error, at most once a second, where that is a terminal; the next thing said takes its place.
+    """A line on standard error, at most once a second, if that is a terminal; the next output replaces it.
 
-    Where standard output is a terminal too, texts show how far the work is; a script without any says so.
+    If standard output is a terminal too, the texts there show the progress; `has_texts` says whether there are any.
     """
 
-    is_shown = False
+    is_shown: bool = False
 
     def __init__(self, total: int = 0, has_texts: bool = True) -> None:
         self.total, self.next = total, time.monotonic() + 1
         self.is_on = os.isatty(2) and not (has_texts and os.isatty(1))
 
     def at(self, octets: int) -> None:
-        """So many octets of the total are done."""
+        """The given number of bytes is done."""
         if self.is_on and time.monotonic() >= self.next:
             self.next = time.monotonic() + 1
             total = f" of {self.total / 1e6:.0f}" if self.total else ""
             Progress.is_shown = True
-            # The fault line of a program that writes there too is longer, and stands over it.
+            # A fault line of a program that writes there too is longer, and covers it.
             self.put(f"\r\x1b[K{octets / 1e6:.0f}{total} MB\r".encode())
 
     @staticmethod
@@ -269,7 +309,7 @@ class Progress:
         try:
             os.write(2, octets)
         except OSError:
-            pass  # a terminal that has gone does not end the work
+            pass  # the work goes on without its terminal
 
 
 # The programs that a script runs.
@@ -292,15 +332,15 @@ def is_program(path: str) -> bool:
     return os.path.isfile(path) and os.access(path, os.X_OK)
 
 
-def start(words: list, given: int = 0, output: int = 1, errors: int = 2) -> int:
-    """Starts a program on these descriptors, and gives its process."""
+def start(words: Sequence[str], given: int = 0, output: int = 1, errors: int = 2) -> int:
+    """Starts a program with these descriptors, and returns its process."""
     actions = [(os.POSIX_SPAWN_DUP2, source, target) for target, source in enumerate((given, output, errors))]
     ending = (signal.SIGINT, signal.SIGTERM, signal.SIGHUP, signal.SIGPIPE)
-    # A signal waits until the process is known.
+    # Signals are delivered once the process is known.
     before = signal.pthread_sigmask(signal.SIG_BLOCK, ending)
     try:
         process = os.posix_spawnp(
-            words[0], words, os.environ, file_actions=actions, setsigmask=before, setsigdef=[signal.SIGPIPE]
+            words[0], list(words), os.environ, file_actions=actions, setsigmask=before, setsigdef=[signal.SIGPIPE]
         )
         RUNNING.add(process)
     except OSError as error:
@@ -311,15 +351,18 @@ def start(words: list, given: int = 0, output: int = 1, errors: int = 2) -> int:
 
 
 def wait(process: int) -> int:
-    """Waits for a program, and gives its status as a shell does."""
+    """Waits for a program, and returns its status as a shell does."""
     os.waitid(os.P_PID, process, os.WEXITED | os.WNOWAIT)
     RUNNING.discard(process)
     status = os.waitstatus_to_exitcode(os.waitpid(process, 0)[1])
     return status if status >= 0 else 128 - status
 
 
-def lines_from(pipe: int, progress: Progress, place):
-    """Blocks of whole lines, as a program writes them to a pipe. Meanwhile the progress is told by `place()`."""
+def lines_from(pipe: int, progress: Progress, place: Callable[[], int]) -> Iterator[bytes]:
+    """Blocks of whole lines, as a program writes them to a pipe, and at the end what it left of a last one.
+
+    Meanwhile `place()` is shown as progress.
+    """
     rest, block = b"", b" "
     while block:
         if progress.is_on:
@@ -328,18 +371,23 @@ def lines_from(pipe: int, progress: Progress, place):
             progress.at(place())
         block = os.read(pipe, BLOCK)
         lines, end, rest = (rest + block).rpartition(b"\n")
+        if len(rest) > BLOCK:
+            raise Failed("a line of the listing is over 1 MB long")
         yield lines + end
+    yield rest
 
 
 def checked(status: int, has_told: bool = True, what: str = "bufr") -> int:
-    """The status of a program: 0, 1, or 2 where it has told why. Of any other it is told that it cannot go on."""
+    """The status of a program: 0, 1, or 2 if it has reported why. Fails for any other."""
+    if status > 128:
+        raise Failed(f"{what} was killed (signal {status - 128}); output is incomplete")
     if status not in (0, 1, 2) or (status == 2 and not has_told):
-        raise Failed(f"cannot go on: {what} ended with {status}")
+        raise Failed(f"{what} stopped with status {status}; output is incomplete")
     return status
 
 
 def stop() -> None:
-    """Ends what runs."""
+    """Kills the programs that still run."""
     for process in list(RUNNING):
         try:
             os.kill(process, signal.SIGKILL)
@@ -347,30 +395,35 @@ def stop() -> None:
             pass
 
 
-def leave(number: int, _frame) -> None:
-    """Ends what runs, and then this script by that signal."""
+def leave(number: int, _frame: Optional[FrameType]) -> None:
+    """Kills the programs that still run, and then ends this script by that signal."""
     stop()
     Progress.clear()
     signal.signal(number, signal.SIG_DFL)
-    signal.pthread_sigmask(signal.SIG_UNBLOCK, [number])  # or else it ends the script behind the next start
+    signal.pthread_sigmask(signal.SIG_UNBLOCK, [number])  # otherwise it ends the script after the next start
     os.kill(os.getpid(), number)
 
 
 # Files.
 
 
-def opened(file) -> int:
-    """A descriptor of a file, or of standard input, that can be read at any place: of what cannot a copy is made."""
+def opened(file: Optional[str]) -> int:
+    """A descriptor of a file, or of standard input, that can be read at any offset; of a copy if need be."""
     descriptor = to_read(file)
     return descriptor if is_regular(descriptor) else copied(descriptor)
 
 
-def to_read(file) -> int:
+def to_read(file: Optional[str]) -> int:
     """A descriptor of a file, or of standard input."""
     try:
         return 0 if file is None else os.open(file, os.O_RDONLY)
-    except OSError:
-        raise Failed(f"cannot open {file}") from None
+    except OSError as error:
+        raise Failed(f"cannot open {named(file)}: {error.strerror}") from None
+
+
+def named(file: Optional[str]) -> str:
+    """A file as messages name it."""
+    return "standard input" if file is None else shown(file) or "''"
 
 
 def is_regular(descriptor: int) -> bool:
@@ -383,22 +436,22 @@ def temporary() -> int:
         return os.open(folder_of_temporary(), os.O_TMPFILE | os.O_RDWR, 0o600)
     except OSError:
         pass
-    # The folder cannot be written, or its file system has no files without a name.
+    # The folder cannot be written, or its file system has no unnamed files.
     import tempfile
 
     try:
         with tempfile.TemporaryFile() as file:
             return os.dup(file.fileno())
     except OSError as error:
-        raise Failed(f"no temporary file: {error.strerror}") from None
+        raise Failed(f"cannot make a temporary file: {error.strerror}; set TMPDIR to another folder") from None
 
 
 def folder_of_temporary() -> str:
     return os.environ.get("TMPDIR") or "/tmp"
 
 
-def keep(descriptor: int, octets: bytes) -> None:
-    """Writes octets to a temporary file."""
+def keep(descriptor: int, octets: Union[bytes, bytearray, memoryview]) -> None:
+    """Writes bytes to a temporary file."""
     try:
         write_all(descriptor, octets)
     except OSError:
@@ -406,11 +459,11 @@ def keep(descriptor: int, octets: bytes) -> None:
 
 
 def no_room() -> Failed:
-    return Failed(f"no room in {folder_of_temporary()} (TMPDIR)")
+    return Failed(f"no room in {folder_of_temporary()}; set TMPDIR to another folder")
 
 
 def put_aside(octets: bytes) -> int:
-    """A temporary file that holds these octets, at its beginning."""
+    """A temporary file with these bytes, at its start."""
     descriptor = temporary()
     keep(descriptor, octets)
     os.lseek(descriptor, 0, os.SEEK_SET)
@@ -418,7 +471,7 @@ def put_aside(octets: bytes) -> int:
 
 
 def copied(source: int) -> int:
-    """A temporary file that holds what comes of a descriptor, at its beginning."""
+    """A temporary file with everything that a descriptor gives, at its start."""
     descriptor, octets, progress, size = temporary(), b" ", Progress(has_texts=False), 0
     while octets:
         try:
@@ -434,7 +487,7 @@ def copied(source: int) -> int:
 
 
 def read_at(descriptor: int, offset: int, length: int) -> bytes:
-    """So many octets of a place in a file, of which a listing has said that they are there."""
+    """The bytes at an offset of a file, which a listing has found there."""
     pieces, end = [], offset + length
     while offset < end:
         try:
@@ -447,7 +500,7 @@ def read_at(descriptor: int, offset: int, length: int) -> bytes:
     return pieces[0] if len(pieces) == 1 else b"".join(pieces)
 
 
-def fault_lines(errors: int):
+def fault_lines(errors: int) -> Iterator[tuple[float, bytes]]:
     """The lines that a run of `bufr` wrote to a file, one by one, each with its offset.
 
     Those that are no fault of a message come last: their offset is `NOWHERE`.
@@ -456,15 +509,15 @@ def fault_lines(errors: int):
         lines.seek(0)
         for line in lines:
             if not line.endswith(b"\n"):
-                return  # there was no room for the rest
+                return  # there was no room for the remaining ones
             offset = line[7 : line.find(b":")]
             yield (int(offset) if line.startswith(b"offset ") and offset.isdigit() else NOWHERE), line
 
 
 class Faults:
-    """The lines of errors of a listing, one by one, so that they are told between those of its messages.
+    """The fault lines of a listing, one by one, so that they can be reported between its messages.
 
-    What its run told besides, as its last line, is told at the end; `has_told` says whether there was such a line.
+    Other lines, such as a last one, are reported at the end; `has_told` says whether there was one.
     """
 
     def __init__(self, errors: int) -> None:
@@ -472,7 +525,7 @@ class Faults:
         self.next = next(self.lines, (NOWHERE, b""))
 
     def tell_before(self, offset: float) -> None:
-        """Tells those before a place."""
+        """Reports those before an offset."""
         while self.next[0] < offset:
             say(self.next[1])
             self.next = next(self.lines, (NOWHERE, b""))

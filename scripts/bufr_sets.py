@@ -1,114 +1,209 @@
-"""What bufr-auto and bufr-lacks share: the sets of tables, which one a message asks for, and what a list uses."""
+"""What the scripts share about table sets: the set that a message asks for, and the entries that its descriptors use."""
+from __future__ import annotations
+
 import os
 import sys
 
 import bufr_guard
 
-# So many lists of descriptors are remembered, none of them longer.
-REMEMBERED = 1 << 8
-# A template has at most about so many descriptors.
+TYPE_CHECKING = False
+if TYPE_CHECKING:
+    from typing import Callable, Dict, FrozenSet, Iterator, List, Optional, Tuple
+
+    # The bytes of a message from an offset on, at most the given number of them.
+    Bytes = Callable[[int, int], bytes]
+
+# A template has at most about this many descriptors.
 LONGEST = 1 << 16
+# The tables of this many sets are cached.
+CACHED = 8
 
 
 class TableSet:
-    """A folder of tables: a version of WMO's and, where it is a centre's own, that centre and its local version."""
+    """A folder of tables: of a WMO version, and perhaps with the rows of a centre (its number, its local version)."""
 
-    def __init__(self, folder: str, version: int, own) -> None:
+    def __init__(self, folder: str, version: int, own: Optional[Tuple[int, int]]) -> None:
         self.folder, self.name, self.version, self.own = folder, os.path.basename(folder), version, own
-        self.tables, self.uses = {}, {}
+        self.elements: Optional[FrozenSet[str]] = None
+        self.sequences: Optional[Dict[str, Tuple[str, ...]]] = None
 
     def file(self, name: str) -> str:
         return os.path.join(self.folder, name)
 
-    def table(self, name: str) -> dict:
-        """The members of each descriptor of a table. What `bufr` refuses of it, `bufr` tells."""
-        if name not in self.tables:
-            import csv
+    def rows(self, name: str, *columns: str) -> Iterator[List[str]]:
+        """These columns of a table. `bufr` reports what it refuses in it."""
+        import csv
 
-            csv.field_size_limit(1 << 30)
-            found = self.tables[name] = {}
-            with open(self.file(name), encoding="utf-8", errors="replace", newline="") as file:
-                for row in csv.DictReader(line.replace("\0", "?") for line in file):
-                    found.setdefault(row.get("fxy") or "", []).append(row.get("member") or "")
-        return self.tables[name]
+        csv.field_size_limit(1 << 30)
+        with open(self.file(name), encoding="utf-8-sig", errors="replace", newline="") as file:
+            rows = csv.reader(line.replace("\0", "?") for line in file)
+            header: List[str] = next(rows, [])
+            if set(columns) <= set(header):
+                places = [header.index(column) for column in columns]
+                for row in rows:
+                    if len(row) > max(places):
+                        yield [row[place] for place in places]
 
-    def elements(self):
-        return self.table("B.csv").keys()
+    def names(self) -> Dict[str, Tuple[str, str]]:
+        """The name and the unit of each element."""
+        return {fxy: (name, unit) for fxy, name, unit in self.rows("B.csv", "fxy", "name", "unit")}
 
-    def sequences(self) -> dict:
-        return self.table("D.csv")
+    def has(self, fxy: str) -> bool:
+        """Whether the set has an element or a sequence."""
+        if self.elements is None:
+            self.elements = frozenset(fxy for [fxy] in self.rows("B.csv", "fxy"))
+            self.cached()
+        return fxy in self.elements or fxy in self.members()
 
-    def used(self, descriptors: tuple) -> frozenset:
-        """The elements and sequences of a list, and of its sequences; but elements behind 2 06 Y need no row."""
-        if descriptors in self.uses:
-            return self.uses[descriptors]
-        found, lists = set(), [descriptors]
-        for members in lists:
+    def members(self) -> Dict[str, Tuple[str, ...]]:
+        """The members of each sequence."""
+        if self.sequences is None:
+            found: Dict[str, List[str]] = {}
+            for fxy, member in self.rows("D.csv", "fxy", "member"):
+                found.setdefault(fxy, []).append(member)
+            self.sequences = {fxy: tuple(members) for fxy, members in found.items()}
+            self.cached()
+        return self.sequences
+
+    def cached(self) -> None:
+        """Counts the set as cached, and drops the tables of another one if there are too many."""
+        if self not in cache:
+            cache.append(self)
+        if len(cache) > CACHED:
+            first = cache.pop(0)
+            first.elements = first.sequences = None
+
+    def used(self, descriptors: Tuple[str, ...]) -> Iterator[str]:
+        """The elements and sequences of a descriptor list, and of its sequences. An element after 2 06 Y needs no row.
+
+        The tables are read only if the list has a sequence and its own descriptors have been used.
+        """
+        found = set()
+        sequences = [""]
+        for sequence in sequences:
+            members = self.members().get(sequence, ()) if sequence else descriptors
             for before, fxy in zip(("", *members), members):
-                needs_row = fxy[:1] == "3" or (fxy[:1] == "0" and before[:3] != "206")
-                if needs_row and fxy not in found:
+                if fxy not in found and (fxy[:1] == "3" or (fxy[:1] == "0" and before[:3] != "206")):
                     found.add(fxy)
-                    lists.append(self.sequences().get(fxy, ()))
-        if len(self.uses) == REMEMBERED:
-            self.uses.clear()
-        if len(descriptors) <= REMEMBERED:
-            self.uses[descriptors] = frozenset(found)
-        return frozenset(found)
+                    yield fxy
+                    if fxy[:1] == "3":
+                        sequences.append(fxy)
+
+
+cache: List[TableSet] = []
 
 
 class TableSets:
     """All sets of a folder: `wmo-13`, or with a centre's own rows `wmo-13+98-102` (centre 98, local version 102)."""
 
     def __init__(self) -> None:
-        place = folder_of_sets()
-        self.sets = {}
-        for name in os.listdir(place):
+        self.folder = folder_of_sets()
+        self.sets: Dict[Optional[Tuple[int, int]], Dict[int, TableSet]] = {}
+        for name in os.listdir(self.folder):
             version, plus, own = name[4:].partition("+")
             numbers = [version, *(own.split("-") if plus else [])]
             if name.startswith("wmo-") and len(numbers) in (1, 3) and all(map(is_number, numbers)):
-                version, *own = map(int, numbers)
-                tables = TableSet(os.path.join(place, name), version, tuple(own) or None)
-                self.sets.setdefault(tables.own, {})[version] = tables
+                key = (int(numbers[1]), int(numbers[2])) if plus else None
+                tables = TableSet(os.path.join(self.folder, name), int(version), key)
+                self.sets.setdefault(key, {})[tables.version] = tables
         if None not in self.sets:
-            raise bufr_guard.Failed(f"{place} has no set of tables such as wmo-39")
+            raise bufr_guard.Failed(f"{self.folder} has no set of tables such as wmo-39")
 
-    def asked(self, centre: bytes, tables: bytes) -> TableSet:
-        """The set that these words of a listing ask for: of their version, or the next later one, or the latest.
+    def latest(self) -> TableSet:
+        """WMO's latest set."""
+        return self.sets[None][max(self.sets[None])]
 
-        A centre's own comes first. One of another version would read WMO's rows otherwise, and is passed over.
+    def asked(self, centre: int, version: int, local: int) -> TableSet:
+        """The set for a centre, a version and a local version: of that version, else the next later one, else the latest.
+
+        A centre's own set takes precedence, unless it is of another version that would read WMO's rows differently.
         """
-        _, version, local = map(int, tables.split(b"/"))
         of_wmo = self.sets[None]
         nearest = min((number for number in of_wmo if number >= version), default=max(of_wmo))
-        own = self.sets.get((int(centre.split(b"/")[0]), local), {})
+        own = self.sets.get((centre, local), {})
         good = [number for number in own if min(version, nearest) <= number <= max(version, nearest)]
         return own[min(good, key=lambda number: abs(number - version))] if good else of_wmo[nearest]
 
 
 def is_number(word: str) -> bool:
-    return word.isascii() and word.isdigit()
+    return word.isascii() and word.isdigit() and len(word) < 10
 
 
 def folder_of_sets() -> str:
-    """BUFR_TABLES, or where the sets are installed by this module or the script, or where the repository has them."""
+    """BUFR_TABLES, or the folder that is installed with this module, the script or Python, or the repository's."""
     named = os.environ.get("BUFR_TABLES")
     if named:
         places = [named]
     else:
         here, bin = (os.path.dirname(os.path.realpath(name)) for name in (__file__, sys.argv[0]))
-        places = [f"{here}/tables", f"{bin}/../share/bufr/tables", f"{here}/../tables"]
+        places = [f"{here}/tables", f"{bin}/../share/bufr/tables", f"{here}/../tables", f"{sys.prefix}/share/bufr/tables"]
     for place in places:
         if os.path.isdir(place):
             return os.path.abspath(place)
     raise bufr_guard.Failed(f"there is no folder {places[0]}" + ", which BUFR_TABLES names" * bool(named))
 
 
-def descriptors(octets: bytes) -> tuple:
-    """The list of descriptors in section 3 of a message, as six digits each, but no more than a template has."""
-    at, flags = 8, octets[17 if octets[7] == 4 else 15 :][:1]
+def words_of(message: Bytes) -> bytes:
+    """The descriptor list in section 3 of a message, two bytes each, but no more than a template has."""
+    begin = message(0, 26)
+    at, flags = 8, begin[17 if begin[7:8] == b"\4" else 15 :][:1]
     for _ in range(2 if flags >= b"\x80" else 1):
-        at += int.from_bytes(octets[at : at + 3], "big")
-    end = at + min(int.from_bytes(octets[at : at + 3], "big"), 7 + 2 * LONGEST)
-    words = octets[at + 7 : end]
+        at += int.from_bytes(message(at, 3), "big")
+    length = int.from_bytes(message(at, 3), "big")
+    return message(at + 7, min(max(length - 7, 0), 2 * LONGEST))
+
+
+def descriptors(words: bytes) -> Tuple[str, ...]:
+    """The descriptors of such a list, six digits each."""
     pairs = (words[at] << 8 | words[at + 1] for at in range(0, len(words) - 1, 2))
     return tuple(f"{word >> 14}{word >> 8 & 63:02}{word & 255:03}" for word in pairs)
+
+
+# The table sets that can be made of public tables.
+
+WREPORT = "/usr/share/wreport"
+ECCODES = "/usr/share/eccodes/definitions"
+# What these packages of Debian have: versions, centres and local versions; centres and local versions.
+WREPORT_HAS = {(14, 85, 0), (14, 85, 1), (13, 98, 1), (13, 98, 102), (16, 98, 1), (19, 254, 1)}
+ECCODES_HAS = {(39, 1), *((78, local) for local in range(1, 9)), (98, 1), (98, 2), (98, 3), (98, 4), (98, 101), (254, 1)}
+
+NEWER = "WMO publishes newer tables (wmo-im/BUFR4 on GitHub), which tables/convert.py converts"
+
+
+def is_local(fxy: str) -> bool:
+    """Whether a descriptor is for local use, so that a centre defines it."""
+    return int(fxy[1:3]) >= 48 or int(fxy[3:]) >= 192
+
+
+def advice(tables: TableSet, centre: int, version: int, local: int) -> str:
+    """How to get the set with a centre's rows that belongs to a WMO set: the command that makes it, or whom to ask."""
+    folders = [*os.environ.get("ECCODES_DEFINITION_PATH", "").split(":"), ECCODES]
+    of_eccodes = [f"{folder}/bufr/tables/0/local/{local}/{centre}/0" for folder in folders if folder]
+    of_wreport = f"{WREPORT}/B00000000{centre:05}{version:03}{local:03}.txt"
+    for source in filter(os.path.isdir, of_eccodes):
+        return "to make it: " + command(tables, centre, local, tables.folder, source)
+    if os.path.isfile(of_wreport):
+        return "to make it: " + command(tables, centre, local, of_wreport, tables.folder)
+    if (centre, local) in ECCODES_HAS:
+        words = command(tables, centre, local, tables.folder, of_eccodes[-1])
+        return f"to make it, install libeccodes-data (Debian), then: {words}"
+    if (version, centre, local) in WREPORT_HAS:
+        words = command(tables, centre, local, of_wreport, tables.folder)
+        return f"to make it, install wreport-common (Debian), then: {words}"
+    return f"no source of it is known: ask centre {centre} (WMO's Common Code Table C-11 has its name)"
+
+
+def command(tables: TableSet, centre: int, local: int, *sources: str) -> str:
+    """The command that converts the sources into the set of a centre's rows beside a WMO set."""
+    import shlex
+
+    out = os.path.join(os.path.dirname(tables.folder), own_name(tables, centre, local))
+    here = os.path.dirname(os.path.realpath(__file__))
+    programs = [os.path.abspath(f"{place}/convert.py") for place in (f"{here}/tables", f"{here}/../tables")]
+    program = next(filter(os.path.isfile, programs), "tables/convert.py")
+    return " ".join(map(shlex.quote, (program, out, *sources)))
+
+
+def own_name(tables: TableSet, centre: int, local: int) -> str:
+    """The name of the set with a centre's rows that belongs to a WMO set."""
+    return f"wmo-{tables.version:02}+{centre}-{local}"

@@ -1,19 +1,22 @@
-"""Reads and writes the text of `bufr dump`, and runs `bufr`, by Python's standard library alone.
+"""Runs `bufr` from Python, and reads and writes the text of `bufr dump`. It needs only the standard library.
 
     import bufr_text
-    faults = []
-    for message in bufr_text.dump("synop.bufr", "B.csv", "D.csv", faults):
+    for row in bufr_text.rows("synop.bufr", ["001015", "012101"], ["year"], where=["category=0"]):
+        print(row)
+    for message in bufr_text.dump("synop.bufr"):
         for subset in message.subsets:
             air = bufr_text.find(subset, "012101")
             print(message.offset, air.value, air.unit)
 
-`read` and `write` take a text to messages and back. `listing`, `dump` and `encode` run the program. `rows` and `levels`
-make tuples for a table. Each message is read when it is asked for, so a text of any length is read in the memory of its
-longest message.
+`rows` and `levels` make tuples for a table. `dump` gives messages, `listing` their places and headers, and `encode`
+turns messages into BUFR. These run the program. `read` and `write` convert between a text and messages without it.
+
+Messages are read one at a time. However long a file is, the dump of its longest message bounds the memory: 48 MB
+including Python, 1 KB for each item of that message, and twice its text. The faults in your list and the result of
+`encode` come on top.
 """
 from __future__ import annotations
 
-import io
 import itertools
 import os
 import pathlib
@@ -26,26 +29,30 @@ import tempfile
 import warnings
 from dataclasses import dataclass, field, replace
 from decimal import Decimal
-from typing import IO, BinaryIO, Dict, Iterable, Iterator, List, NamedTuple, Optional, Sequence, Tuple, Union
+from typing import IO, Dict, Iterable, Iterator, List, NamedTuple, Optional, Sequence, Tuple, Union
+
+TYPE_CHECKING = False
+if TYPE_CHECKING:
+    from bufr_conditions import Conditions
 
 __all__ = (
-    "HEADER Cell DumpWarning Fault Item Message Place RunError TextError Value "
+    "HEADER Cell DumpWarning Fault Item Listed Message RunError TextError Value "
     "dump encode find levels listing parts read rows write"
 ).split()
 
-#: The value of an item: a number, a text of octets, or `None` where it is missing.
+#: The value of an item: a number, a text as bytes, or `None` if it is missing.
 Value = Union[Decimal, bytes, None]
 #: A value in a row: a whole number, another number, a text, or `None`.
 Cell = Union[int, float, str, None]
 _Path = Union[str, "os.PathLike[str]"]
 
-#: The keys of a message's header, in the order of their lines. Lines `optional` and `subsets` follow from the rest.
+#: The keys of a message's header, in the order of their lines. `optional` and `subsets` follow from the message.
 HEADER = (
     "edition master centre subcentre update category subcategory localsubcategory masterversion localversion "
     "year month day hour minute second observed compressed"
 ).split()
 
-# What stands between quotes: runs of plain octets, and escapes between them.
+# The text between two quotes: runs of plain bytes, with escapes between them.
 _QUOTED = rb'[ !#-\[\]-~]*(?:\\(?:["\\]|x[0-9A-F]{2})[ !#-\[\]-~]*)*'
 _FXY = rb"[0-3](?:[0-5]\d|6[0-3])(?:[01]\d\d|2[0-4]\d|25[0-5])"
 _COLUMN = re.compile(_FXY.decode() + r"(?::[1-9]\d*)?")
@@ -54,13 +61,16 @@ _HEX = re.compile(rb"(?:[0-9A-Fa-f]{2}){1,32}")
 _VALUE = rb'(?:(-?\d+(?:\.\d+)?)|"(' + _QUOTED + rb')"|MISSING)'
 _ITEM = re.compile(rb"(R )?(" + _FXY + rb") " + _VALUE + rb"(?: +#(?: (.*) \[(.*)\]|.*))?", re.DOTALL)
 _ESCAPE = re.compile(rb"\\(?:x(..)|(.))")
-_LISTED = re.compile(rb"offset=(\d+) length=(\d+) ")
+_LISTED = re.compile(
+    b"offset=N length=N edition=N centre=N/N update=N category=N/N/N tables=N/N/N time=N-N-NTN:N:N "
+    b"subsets=N observed=N compressed=N optional=N descriptors=N\n".replace(b"N", rb"(\d+)")
+)
 _FAULT = re.compile(rb"offset (\d+): (\d+) (.*)\n?")
 _NOTE = re.compile(rb"bufr-auto: (\d+) messages?,(?: the first)? at offset (\d+): (.*)")
 _UNPRINTED = re.compile(rb'["\\]|[^ -~]')
 
 
-# How a line may look that is refused, and why. The first that fits is told.
+# What an invalid line may look like, and its likely cause. The first that matches is reported.
 _CAUSES = [
     (re.compile(pattern, re.DOTALL), cause)
     for pattern, cause in [
@@ -77,14 +87,14 @@ _CAUSES = [
         (rb"[^\"#]* \+.*", "a plus before a number"),
         (rb"[^\"#]* -?[\d.]+[Ee].*", "an exponent in a number"),
         (rb"[^\"#]* -?\d*,.*", "a comma in place of the point"),
-        (rb"[^\"#]* -?(?:[Nn][Aa][Nn]|[Ii]nf)\b.*", "no number: what is missing is MISSING"),
+        (rb"[^\"#]* -?(?:[Nn][Aa][Nn]|[Ii]nf)\b.*", "no number: a missing value is written MISSING"),
         (rb"[^\"#]* (?!MISSING)(?i:missing)\b.*", "MISSING in small letters"),
         (rb"[^\"#]* -?(?:\d+\.|\.\d+)(?: .*)?", "no digit beside the point"),
-        (rb"\d{6} ?", "no value: what is missing is MISSING"),
+        (rb"\d{6} ?", "no value: a missing value is written MISSING"),
         (rb".* ", "a space at its end"),
-        (rb"[a-z][^#]*#.*", "a comment, which items alone may have"),
+        (rb"[a-z][^#]*#.*", "a comment, which only items may have"),
         (rb"\d{6} \"[^\"]*\\x(?![0-9A-F]{2}).*", "\\x without two digits in upper case"),
-        (rb"\d{6} \"[^\"]*[^ -~].*", "an octet in a text that is written \\xHH"),
+        (rb"\d{6} \"[^\"]*[^ -~].*", "a byte in a text that must be written \\xHH"),
         (rb"\d{6} \".*", "a \" or \\ in a text without \\ before it, or no \" at its end"),
         (rb"\d{6} [^-.\d\"].*", "a text without quotes"),
     ]
@@ -92,7 +102,7 @@ _CAUSES = [
 
 
 class TextError(ValueError):
-    """A line that may not stand where it stands; `line` is its number, from 1. The likely cause is told too."""
+    """An invalid line: `line` is its number, from 1. The message says what was expected, and the likely cause."""
 
     def __init__(self, line: int, expected: str, cause: str = "") -> None:
         super().__init__(line, expected, cause)
@@ -104,10 +114,10 @@ class TextError(ValueError):
 
 
 class RunError(RuntimeError):
-    """The program failed, or refused a text; `status` is its exit status, or less than 0 where a signal ended it."""
+    """The program failed or refused a text. `status` is its exit status, negative if a signal ended it."""
 
-    def __init__(self, status: int, told: str) -> None:
-        super().__init__(status, told)
+    def __init__(self, status: int, reason: str) -> None:
+        super().__init__(status, reason)
         self.status = status
 
     def __str__(self) -> str:
@@ -115,11 +125,11 @@ class RunError(RuntimeError):
 
 
 class DumpWarning(UserWarning):
-    """A file has no message, or some that were refused or no set of tables serves, or levels cannot be told apart."""
+    """A warning: a file has no message, messages were refused or left out, or levels cannot be told apart."""
 
 
 class Fault(NamedTuple):
-    """A fault line: where in the stream, the number of the fault, and its text behind that."""
+    """A fault line: an offset in the file, the number of the fault, and the text after it."""
 
     offset: int
     number: int
@@ -129,19 +139,43 @@ class Fault(NamedTuple):
         return f"offset {self.offset}: {self.number} {self.text}"
 
 
-class Place(NamedTuple):
-    """Where a message begins in its stream, and its length, in octets."""
+class Listed(NamedTuple):
+    """A message as `bufr ls` lists it: its offset in the file, its length, and its header, by the names of `HEADER`.
+
+    `descriptors` is how many descriptors section 3 has.
+    """
 
     offset: int
     length: int
+    edition: int
+    centre: int
+    subcentre: int
+    update: int
+    category: int
+    subcategory: int
+    localsubcategory: int
+    master: int
+    masterversion: int
+    localversion: int
+    year: int
+    month: int
+    day: int
+    hour: int
+    minute: int
+    second: int
+    subsets: int
+    observed: int
+    compressed: int
+    optional: int
+    descriptors: int
 
 
 @dataclass
 class Item:
     """One item of a subset: its descriptor as six digits, its value, and the name and unit of its entry in Table B.
 
-    Name and unit are `None` where the item was read by no entry. `reference` marks a reference value that the data
-    give (a line that begins with `R`).
+    Name and unit are `None` if the item was read without an entry. `reference` marks a reference value in the data (a
+    line that begins with `R`).
     """
 
     fxy: str
@@ -153,11 +187,11 @@ class Item:
 
 @dataclass
 class Message:
-    """One message: the numbers of its header by the keys of `HEADER`, and the rest of its text.
+    """One message: the numbers of its header by the keys of `HEADER`, its descriptors, and its subsets.
 
-    `local1` has the octets for local use of section 1. `section2` has those of section 2, or is `None` where there is
-    no such section. Each subset is a list of items. `offset` and `length` are those of the message in the file that
-    `dump` read, and `None` where a text was read.
+    `local1` has the bytes for local use in section 1. `section2` has those of section 2, or is `None` without that
+    section. Each subset is a list of items. `offset` and `length` place the message in the file that `dump` read. They
+    are `None` if `read` made the message.
     """
 
     header: Dict[str, int]
@@ -170,7 +204,7 @@ class Message:
 
 
 class _Lines:
-    """The lines of a text without those that are passed over, and the line that was taken last with its number."""
+    """The lines of a text, without empty lines and comments, and the last one taken with its number."""
 
     def __init__(self, stream: Iterable[bytes]) -> None:
         self.rest = iter(stream)
@@ -182,7 +216,7 @@ class _Lines:
             self.number += 1
             self.line = self.line[:-1] if self.line.endswith(b"\n") else self.line
             if len(self.line) > 4096:
-                raise TextError(self.number, "at most 4,096 octets")
+                raise TextError(self.number, "at most 4,096 bytes")
             if self.line and not self.line.startswith(b"#"):
                 return self.line
         self.number += 1
@@ -190,7 +224,7 @@ class _Lines:
         return None
 
     def inside(self, expected: str) -> bytes:
-        """A line inside a message, which does not end before it."""
+        """The next line, which must be there because the message is not complete."""
         line = self.take()
         if line is None:
             raise self.refused(expected)
@@ -204,7 +238,7 @@ class _Lines:
         return TextError(self.number, expected, cause)
 
     def count(self, key: str) -> int:
-        """The number behind a key. None that may be there has more than five digits behind its zeros."""
+        """The number after a key. A valid one has at most five digits after its leading zeros."""
         found = re.fullmatch(key.encode() + rb" 0*(\d{1,5})", self.inside(key))
         if not found:
             raise self.refused(f"{key} and a number")
@@ -212,11 +246,10 @@ class _Lines:
 
 
 def read(stream: Iterable[bytes]) -> Iterator[Message]:
-    """The messages of a dump's text: `stream` gives its lines as octets, as a file does that was opened in mode "rb".
+    """The messages of a dump's text. `stream` gives its lines as bytes, as a file opened in mode "rb" does.
 
-    Raises `TextError` at the first line that may not stand where it stands. What `bufr encode` refuses beyond that is
-    not looked at: header values past their range, descriptors that make no template, and items that do not fit them.
-    A number that is no decimal, such as `1.`, is a `TextError` here, where `encode` gives 52.
+    Raises `TextError` at the first invalid line. `bufr encode` checks more: the range of header values, and whether
+    descriptors make a template that the items fit. A number such as `1.` is a `TextError` here and fault 52 there.
     """
     lines = _Lines(stream)
     line = lines.take()
@@ -239,7 +272,7 @@ def _read_message(lines: _Lines) -> Message:
         while line.startswith(word + b" "):
             digits = line[len(word) + 1 :]
             if not _HEX.fullmatch(digits):
-                raise lines.refused("hexadecimal digits of 1 to 32 octets")
+                raise lines.refused("hexadecimal digits of 1 to 32 bytes")
             octets += bytes.fromhex(digits.decode())
             line = lines.inside("descriptors")
     section2 = bytes(local_use[b"section2"]) if optional else None
@@ -279,11 +312,11 @@ def _read_item(lines: _Lines, line: bytes) -> Item:
     return Item(found[2].decode(), value, name, unit, found[1] is not None)
 
 
-def write(messages: Iterable[Message], stream: BinaryIO) -> None:
-    """Writes the text of messages. Of what `read` took of a dump, unchanged, it is the same text again.
+def write(messages: Iterable[Message], stream: IO[bytes]) -> None:
+    """Writes the text of messages. A dump that `read` read is written unchanged.
 
-    Lines `subsets` and `subset` are counted anew, so a subset may be taken out or added. Raises `TypeError` for a
-    value of another type (a `float` has no exact decimal), and `ValueError` for a `Decimal` that is no number.
+    Subsets are counted again, so you may remove and add some. Raises `TypeError` for a value of another type (a `float`
+    has no exact decimal), and `ValueError` for a `Decimal` that is not a number.
     """
     for message in messages:
         stream.write(b"".join(line + b"\n" for line in _lines_of(message)))
@@ -320,7 +353,7 @@ def _value_text(value: Value) -> bytes:
     if not isinstance(value, Decimal):
         raise TypeError(f"a value is a Decimal, bytes or None, not {value!r}")
     if not value.is_finite():
-        raise ValueError(f"{value} is no number")
+        raise ValueError(f"{value} is not a number")
     return format(value, "f").encode()
 
 
@@ -330,9 +363,9 @@ def _escaped(found: re.Match[bytes]) -> bytes:
 
 
 def find(subset: List[Item], fxy: str, count: int = 1) -> Optional[Item]:
-    """The first item of a descriptor in a subset, or the one of that count from 1, or `None`.
+    """The first item of a subset with this descriptor, or the second and so on by `count`, or `None`.
 
-    References are passed over.
+    References are skipped.
     """
     for item in subset:
         if item.fxy == fxy and not item.reference:
@@ -343,22 +376,28 @@ def find(subset: List[Item], fxy: str, count: int = 1) -> Optional[Item]:
 
 
 def rows(
-    messages: Union[_Path, Iterable[Message]], columns: Sequence[str], header: Sequence[str] = ()
+    messages: Union[_Path, Iterable[Message]],
+    columns: Sequence[str],
+    header: Sequence[str] = (),
+    faults: Optional[List[Fault]] = None,
+    where: Sequence[str] = (),
 ) -> Iterator[Tuple[Cell, ...]]:
     """A tuple for each subset, as a row for `csv.writer` or a DataFrame: values of the header, then of the columns.
 
-    Where `messages` is a file's name its messages are those of `dump` without tables. A column is a descriptor, or
-    `"012101:2"` for its second item in the subset. `header` may name keys of `HEADER`, `"optional"`, `"subsets"`,
-    `"offset"` and `"length"`, and the counts `"message"` and `"subset"`, from 1.
+    `messages` is the name of a file, or the messages of `dump` or `read`. With a name, `faults` and `where` are those
+    of `dump`. A column is the number of an element, `"012101"`, or `"012101:2"` for its second item in the subset.
+    `header` may have keys of `HEADER`, `"optional"`, `"subsets"`, `"offset"` and `"length"`, and the counts `"message"`
+    and `"subset"`, from 1.
 
-    A number is an `int` where its scale has no digits behind the point, or else the nearest `float`. A text has no
-    spaces at its end, and the escapes of a dump. What is missing, or not there, is `None`.
+    A number is an `int` if its scale has no digits after the point, and otherwise the nearest `float`. A text has the
+    escapes of a dump, without trailing spaces. A missing value is `None`, and so is one that the subset does not have.
+    Raises `ValueError` for another column: if it is part of a name in Table B, the error has the numbers.
     """
     _check([*columns], _COLUMN, header)
     asked = [(word[:6], int(word[7:] or 1)) for word in columns]
     return (
         (*before, *(_cell(find(subset, fxy, count)) for fxy, count in asked))
-        for before, subset in _subsets(messages, header)
+        for before, subset in _subsets(_messages(messages, faults, where), header)
     )
 
 
@@ -367,33 +406,58 @@ def levels(
     columns: Sequence[str],
     header: Sequence[str] = (),
     keep: Sequence[str] = (),
+    faults: Optional[List[Fault]] = None,
+    where: Sequence[str] = (),
 ) -> Iterator[Tuple[Cell, ...]]:
     """A tuple for each level of a sounding: values of the header, of `keep`, then of the columns.
 
-    A level is a pass of a group that a factor among the data repeats. It is given where it has the first column, and
-    another one if more than one is named. The columns are looked for in the pass, those of `keep` in the whole subset,
-    each by its first item. All else is as for `rows`. A subset is passed over where the descriptor with which passes
-    begin comes twice in one: a `DumpWarning` at the end says how many these are.
+    A level is a pass of a delayed replication. It has a tuple if it has the first column and, if several are given,
+    another one. The columns are those of the pass, and `keep` has columns of the whole subset, in each of its tuples.
+    The first item counts. The rest is as for `rows`. A subset is skipped if the descriptor that begins a pass comes
+    twice in one. A `DumpWarning` at the end says how many were skipped.
     """
     _check([*columns, *keep], re.compile(_FXY.decode()), header)
+    messages = _messages(messages, faults, where)
     return _levels(_subsets(messages, [*header, "message", "subset"]), columns, keep)
 
 
 def _check(columns: List[str], form: re.Pattern[str], header: Sequence[str]) -> None:
     for word in columns:
         if not form.fullmatch(word):
-            raise ValueError(f"no descriptor of six digits: '{word}'")
+            raise ValueError(f"a column is a number such as 012101, not '{word}'{_named(word)}")
+    keys = (*HEADER, "optional", "subsets", "offset", "length", "message", "subset")
     for word in header:
-        if word not in (*HEADER, "optional", "subsets", "offset", "length", "message", "subset"):
-            raise ValueError(f"no key of the header: '{word}'")
+        if word not in keys:
+            raise ValueError(f"the header has no key '{word}'; its keys are {', '.join(keys)}")
 
 
-def _subsets(
-    messages: Union[_Path, Iterable[Message]], header: Sequence[str]
-) -> Iterator[Tuple[List[Cell], List[Item]]]:
-    """Each subset, with what the keys say of it."""
+def _named(word: str) -> str:
+    """Which elements of the latest tables have a word in their name. Those of just this name come first."""
+    import bufr_guard
+    import bufr_sets
+
+    try:
+        names = bufr_sets.TableSets().latest().names()
+    except (bufr_guard.Failed, OSError):
+        return ""
+    asked = word.upper()
+    names_of = [(fxy, name.upper()) for fxy, (name, _) in names.items() if asked in name.upper()]
+    found = sorted((asked not in name.split("/"), fxy) for fxy, name in names_of)
+    return f"; in Table B it is in the names of {', '.join(fxy for _, fxy in found)}" if word and found else ""
+
+
+def _messages(
+    messages: Union[_Path, Iterable[Message]], faults: Optional[List[Fault]], where: Sequence[str]
+) -> Iterable[Message]:
     if isinstance(messages, (str, os.PathLike)):
-        messages = dump(messages)
+        return dump(messages, faults=faults, where=where)
+    if faults is not None or where:
+        raise TypeError("faults and where are for the messages of a file: give them to dump")
+    return messages
+
+
+def _subsets(messages: Iterable[Message], header: Sequence[str]) -> Iterator[Tuple[List[Cell], List[Item]]]:
+    """Each subset, with the values of the header's keys."""
     for number, message in enumerate(messages, 1):
         known: Dict[str, Cell] = {**message.header, "offset": message.offset, "length": message.length}
         known.update(message=number, subsets=len(message.subsets), optional=int(message.section2 is not None))
@@ -407,7 +471,8 @@ def _cell(item: Optional[Item]) -> Cell:
         return None
     if isinstance(item.value, bytes):
         return _UNPRINTED.sub(_escaped, item.value.rstrip(b" ")).decode()
-    return float(item.value) if "." in str(item.value) else int(item.value)
+    # not str, which writes 0.0000003 as 3E-7
+    return float(item.value) if "." in format(item.value, "f") else int(item.value)
 
 
 def _levels(
@@ -431,10 +496,10 @@ def _levels(
 
 
 def _passes(subset: List[Item]) -> List[List[Item]]:
-    """The items of each pass of the groups that a factor repeats. Raises `ValueError` where they cannot be told apart.
+    """The items of each pass of each delayed replication. Raises `ValueError` if passes cannot be told apart.
 
-    `left` passes of a group are still to begin, each with the item `opener`. `one` is the pass that is open. It has had
-    `items` items and `inner` factors so far, and the one before it had `pass_items` and `pass_inner`.
+    `left` passes of a group have not begun. Each begins with the item `opener`. `one` is the current pass. It has had
+    `items` items and `inner` factors so far, and the pass before it had `pass_items` and `pass_inner`.
     """
     passes: List[List[Item]] = []
     one: Optional[List[Item]] = None
@@ -467,8 +532,8 @@ def _passes(subset: List[Item]) -> List[List[Item]]:
     return passes
 
 
-def listing(file: _Path, faults: Optional[List[Fault]] = None) -> Iterator[Place]:
-    """The place of each message of a file, by `bufr ls`. `faults` and what is raised are as for `dump`."""
+def listing(file: _Path, faults: Optional[List[Fault]] = None) -> Iterator[Listed]:
+    """The messages of a file as `bufr ls` lists them. `faults` and the errors are those of `dump`."""
     told = _Told(file, faults)
     with _opened(file) as stream, tempfile.TemporaryFile() as errors:
         for place in _listed(stream, errors, told):
@@ -477,9 +542,9 @@ def listing(file: _Path, faults: Optional[List[Fault]] = None) -> Iterator[Place
         told.end(stream)
 
 
-def parts(places: Iterable[Place], octets: int = 1 << 19) -> Iterator[List[Place]]:
-    """The places in lists, each with so many octets or some more. The last one may have less."""
-    part: List[Place] = []
+def parts(places: Iterable[Listed], octets: int = 1 << 19) -> Iterator[List[Listed]]:
+    """The places in lists. The messages of a list, except the last, have at least the given number of bytes."""
+    part: List[Listed] = []
     held = 0
     for place in places:
         part.append(place)
@@ -496,45 +561,59 @@ def dump(
     table_b: Optional[_Path] = None,
     table_d: Optional[_Path] = None,
     faults: Optional[List[Fault]] = None,
-    places: Optional[Iterable[Place]] = None,
+    places: Optional[Iterable[Listed]] = None,
+    where: Sequence[str] = (),
 ) -> Iterator[Message]:
-    """The messages of a file by `bufr dump` with these two tables, or without tables by `bufr-auto`.
+    """The messages of a file, by `bufr dump` with these two tables, or by `bufr-auto` without tables.
 
-    A list `faults` gets each fault in order: when a message is given those before it are there. Without a list their
-    lines go to `sys.stderr`, and a `DumpWarning` at the end says how many there are. What `bufr-auto` notes is such a
-    warning in either case, and so is a file without a message. `places` are messages of a listing of this file: those
-    alone are dumped.
+    `where` has conditions `KEY=VALUE` or `KEY!=VALUE`, as bufr-extract takes them: `["category=0", "centre!=98"]`. Only
+    messages that meet all of them are dumped. Instead, `places` may have some of the messages that `listing` gave.
 
-    The file is listed first, and then its messages are read at their places. Of what is no regular file a copy is made.
-    Raises `RunError` where a program ends with a status over 1, and `OSError` where a file cannot be read.
-    `BUFR=PROGRAM` names another program.
+    Faults are appended to the list `faults`, in order: those before a message are there when you get it. Without a list
+    they are printed on `sys.stderr`, and a `DumpWarning` at the end counts them. The notes of `bufr-auto` are such
+    warnings too, and so is a file without a message.
+
+    The file is listed first, and then its messages are read at their places. A pipe is copied to a temporary file.
+    Raises `ValueError` for an invalid condition, `RunError` if a program ends with a status over 1, and `OSError` if a
+    file cannot be read. The environment variable `BUFR` can name another program.
     """
     words = _words("dump", table_b, table_d)
-    return _dumped(file, words, _Told(file, faults), places)
+    if where and places is not None:
+        raise TypeError("where selects from the whole file: give either where or places")
+    told = _Told(file, faults)
+    if where:
+        import bufr_conditions
+
+        told.conditions = bufr_conditions.Conditions(where)
+    return _dumped(words, told, places)
 
 
-def _dumped(file: _Path, words: List[str], told: _Told, places: Optional[Iterable[Place]]) -> Iterator[Message]:
-    with _opened(file) as stream, tempfile.TemporaryFile() as errors:
-        # which messages of a part are refused is known when the run over it has ended
+def _dumped(words: List[str], told: _Told, places: Optional[Iterable[Listed]]) -> Iterator[Message]:
+    with _opened(told.file) as stream, tempfile.TemporaryFile() as errors:
+        # which messages of a part were refused is known when its run has ended
         for part in parts(_listed(stream, errors, told) if places is None else places):
-            done = _run(words, b"".join(_octets(stream, place) for place in part))
-            refused = told.of_part(done.stderr, part)
-            messages = read(io.BytesIO(done.stdout))
-            for place in part:
-                told.up_to(place.offset)
-                if place.offset in refused:
-                    told.tell(refused[place.offset])
-                    continue
-                message = next(messages, None)
-                if message is None:
-                    raise RunError(2, f"{words[0]} gave no text of the message at offset {place.offset}")
-                message.offset, message.length = place
-                yield message
+            with tempfile.TemporaryFile() as octets, tempfile.TemporaryFile() as text:
+                for place in part:
+                    octets.write(_octets(stream, place))
+                done = _run(words, octets, text)
+                refused = told.of_part(done.stderr, part)
+                text.seek(0)
+                messages = read(text)
+                for place in part:
+                    told.up_to(place.offset)
+                    if place.offset in refused:
+                        told.tell(refused[place.offset])
+                        continue
+                    message = next(messages, None)
+                    if message is None:
+                        raise RunError(2, f"{words[0]} wrote no text for the message at offset {place.offset}")
+                    message.offset, message.length = place.offset, place.length
+                    yield message
         told.end(stream)
 
 
 class _Told:
-    """The faults of a file, which are told in order: strays of its listing between messages that are refused."""
+    """What is reported of a file: its faults in order, where `bufr ls` has those between messages, and then notes."""
 
     def __init__(self, file: _Path, faults: Optional[List[Fault]]) -> None:
         self.file, self.faults, self.count, self.is_bare = file, faults, 0, False
@@ -542,6 +621,7 @@ class _Told:
         self.strays: Iterator[Fault] = iter(())
         self.stray: Optional[Fault] = None
         self.notes: Dict[bytes, List[int]] = {}
+        self.conditions: Optional[Conditions] = None
 
     def tell(self, fault: Fault) -> None:
         self.count += 1
@@ -552,13 +632,13 @@ class _Told:
             print(fault, file=sys.stderr)
 
     def up_to(self, offset: float) -> None:
-        """Tells the strays before this offset."""
+        """Reports the strays before this offset."""
         while self.stray and self.stray.offset < offset:
             self.tell(self.stray)
             self.stray = next(self.strays, None)
 
-    def of_part(self, errors: bytes, part: List[Place]) -> Dict[int, Fault]:
-        """The faults of the messages of a part, by their offsets. Its notes are kept."""
+    def of_part(self, errors: bytes, part: List[Listed]) -> Dict[int, Fault]:
+        """The faults of the messages of a part, by their offsets. Its notes are counted for the end."""
         begins = itertools.accumulate((place.length for place in part), initial=0)
         offsets = {begin: place.offset for begin, place in zip(begins, part)}
         refused = {}
@@ -575,18 +655,20 @@ class _Told:
         return refused
 
     def end(self, stream: IO[bytes]) -> None:
-        """Tells the rest, and warns."""
+        """Reports the remaining strays, and warns."""
         self.up_to(float("inf"))
         told = [f"no message{_looks(stream)}"] * self.is_bare
         told += [f"fault lines: {self.count}, the first: {self.first}"] * (self.faults is None and self.count > 0)
         for reason, (count, first) in self.notes.items():
             told.append(f"messages: {count}, the first at offset {first}: {reason.decode(errors='replace')}")
+        if self.conditions and self.conditions.note():
+            told.append(self.conditions.note())
         for text in told:
             warnings.warn(f"{os.fsdecode(self.file)}: {text}", DumpWarning, stacklevel=3)
 
 
 def _opened(file: _Path) -> IO[bytes]:
-    """A file that can be read at any place: of what cannot a copy."""
+    """A file that can be read at any offset: a copy, unless it is a regular file."""
     stream = open(file, "rb")
     if stat.S_ISREG(os.fstat(stream.fileno()).st_mode):
         return stream
@@ -597,22 +679,22 @@ def _opened(file: _Path) -> IO[bytes]:
         return copy
 
 
-def _octets(stream: IO[bytes], place: Place) -> bytes:
+def _octets(stream: IO[bytes], place: Listed) -> bytes:
     octets = os.pread(stream.fileno(), place.length, place.offset)
     if len(octets) < place.length:
-        raise RunError(2, f"the file has no whole message at offset {place.offset} any more")
+        raise RunError(2, f"the file changed: its message at offset {place.offset} is no longer complete")
     return octets
 
 
 def _looks(stream: IO[bytes]) -> str:
-    """What a file without a message looks like, as `bufr-auto` tells of its beginning."""
+    """What a file without a message looks like. `bufr-auto` guesses it from the beginning."""
     words, begin = [_program("bufr-auto")], os.pread(stream.fileno(), 256, 0)
     told = subprocess.run(words, input=begin, stdout=subprocess.PIPE, stderr=subprocess.PIPE).stderr
     return told.decode(errors="replace").rstrip().rpartition("has no message")[2]
 
 
-def _listed(stream: IO[bytes], errors: IO[bytes], told: _Told) -> Iterator[Place]:
-    """The places of a stream's messages. Its strays wait in a file, from which they are told."""
+def _listed(stream: IO[bytes], errors: IO[bytes], told: _Told) -> Iterator[Listed]:
+    """The messages of a stream that meet the conditions. Its strays stay in a file until they are reported."""
     with tempfile.TemporaryFile() as lines:
         words = [_bufr(), "ls"]
         status = subprocess.run(words, stdin=stream, stdout=lines, stderr=errors).returncode
@@ -625,10 +707,11 @@ def _listed(stream: IO[bytes], errors: IO[bytes], told: _Told) -> Iterator[Place
         told.is_bare = lines.seek(0, os.SEEK_END) == 0
         lines.seek(0)
         for line in lines:
-            found = _LISTED.match(line)
+            found = _LISTED.fullmatch(line)
             if not found:
-                raise RunError(2, f"{words[0]} ls writes other lines than bufr")
-            yield Place(int(found[1]), int(found[2]))
+                raise RunError(2, f"{words[0]} ls does not write the lines of this version of bufr")
+            if told.conditions is None or told.conditions.are_met(line):
+                yield Listed._make(map(int, found.groups()))
 
 
 def encode(
@@ -637,45 +720,50 @@ def encode(
     table_d: Optional[_Path] = None,
     form: Optional[str] = None,
 ) -> bytes:
-    """The octets of messages by `bufr encode` with these two tables, or without tables by `bufr-auto --encode`.
+    """The messages as BUFR, by `bufr encode` with these two tables, or by `bufr-auto --encode` without tables.
 
-    They are in the form "plain" or "compressed", or the one that each states. Raises `RunError` with the fault line
-    where a message is refused: nothing is given then.
+    The form is "plain" or "compressed", or without one that of each message. Raises `RunError` with the fault line if a
+    message is refused, and returns nothing.
     """
     if form is not None:
         compressed = ["plain", "compressed"].index(form)
         messages = (replace(one, header={**one.header, "compressed": compressed}) for one in messages)
-    text = io.BytesIO()
-    write(messages, text)
     words = _words("encode", table_b, table_d)
-    done = _run(words, text.getvalue())
-    if done.returncode:
-        raise _failure(done.returncode, words, done.stderr.splitlines(True))
+    with tempfile.TemporaryFile() as text, tempfile.TemporaryFile() as octets:
+        write(messages, text)
+        done = _run(words, text, octets)
+        if done.returncode:
+            raise _failure(done.returncode, words, done.stderr.splitlines(True))
+        octets.seek(0)
+        encoded = octets.read()
     for line in done.stderr.splitlines():
         warnings.warn(line.decode(errors="replace"), DumpWarning, stacklevel=2)
-    return done.stdout
+    return encoded
 
 
 def _words(command: str, table_b: Optional[_Path], table_d: Optional[_Path]) -> List[str]:
     if table_b is None and table_d is None:
         return [_program("bufr-auto"), *["--encode"] * (command == "encode")]
     if table_b is None or table_d is None:
-        raise TypeError("Table B comes with Table D")
-    # a whole path does not begin as an option does
+        raise TypeError("give both Table B and Table D, or neither")
+    # an absolute path cannot look like an option
     return [_bufr(), command, "-B", os.path.abspath(table_b), "-D", os.path.abspath(table_d)]
 
 
-def _run(words: List[str], octets: bytes) -> subprocess.CompletedProcess[bytes]:
-    done = subprocess.run(words, input=octets, stdout=subprocess.PIPE, stderr=subprocess.PIPE)
+def _run(words: List[str], source: IO[bytes], target: IO[bytes]) -> subprocess.CompletedProcess[bytes]:
+    source.seek(0)
+    done = subprocess.run(words, stdin=source, stdout=target, stderr=subprocess.PIPE)
     if done.returncode not in (0, 1) or done.returncode == 1 and not done.stderr:
         raise _failure(done.returncode, words, done.stderr.splitlines(True))
     return done
 
 
 def _failure(status: int, words: List[str], errors: Iterable[bytes]) -> RunError:
-    """The error with the program's last words, or with its status where it left none."""
+    """The error with what the program printed, or with its status if it printed nothing, and whether a disk is full."""
     told = b"".join(line for line in errors if not _FAULT.match(line)).decode(errors="replace").strip()
-    return RunError(status, told or f"{words[0]} ended with status {status}")
+    told = told or f"{words[0]} ended with status {status}"
+    folder = tempfile.gettempdir()  # which takes all output
+    return RunError(status, f"{told}: {folder} is full" if shutil.disk_usage(folder).free < 1 << 16 else told)
 
 
 def _bufr() -> str:
@@ -683,7 +771,7 @@ def _bufr() -> str:
 
 
 def _program(name: str) -> str:
-    """The program beside this file, or in the folder `bin` of the same installation or of Python, or on the path."""
+    """The program beside this file, in the folder `bin` of the same installation or of Python, or on the path."""
     here = pathlib.Path(__file__).resolve().parent
     for path in (here / name, here.parent.parent / "bin" / name, pathlib.Path(sys.prefix) / "bin" / name):
         if os.access(path, os.X_OK):

@@ -19,6 +19,8 @@ import csv  # noqa: E402
 import pathlib  # noqa: E402
 import textwrap  # noqa: E402
 
+import bufr_options  # noqa: E402
+
 
 def kind(unit: str) -> str:
     unit = unit.lower()
@@ -30,7 +32,7 @@ def kind(unit: str) -> str:
 def rows(folder: str, name: str, *columns: str):
     """These columns of a table."""
     path = pathlib.Path(folder) / name
-    with open(path, encoding="utf-8", errors="surrogateescape", newline="") as file:
+    with open(path, encoding="utf-8-sig", errors="surrogateescape", newline="") as file:
         table = csv.DictReader(file)
         missing = [column for column in columns if column not in (table.fieldnames or [])]
         if missing:
@@ -57,6 +59,7 @@ def tell(what: str, names: list) -> None:
 
 
 def work(words: list) -> int:
+    words = bufr_options.Asked(words).operands
     if len(words) != 2:
         raise bufr_guard.Failed("OLD and NEW are wanted; changes.py --help tells more")
     old, new = map(read, words)

@@ -33,6 +33,7 @@ import itertools  # noqa: E402
 import pathlib  # noqa: E402
 import re  # noqa: E402
 
+import bufr_options  # noqa: E402
 from bufr_guard import Failed  # noqa: E402
 
 # The columns of WMO's files that are read; others may stand between them.
@@ -263,6 +264,7 @@ def write(path: pathlib.Path, header: list, rows) -> None:
 
 
 def work(words: list) -> int:
+    words = bufr_options.Asked(words).operands
     if len(words) < 2:
         raise Failed("OUT and a SOURCE are wanted; convert.py --help tells more")
     out, *folders = map(pathlib.Path, words)

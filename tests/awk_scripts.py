@@ -1,11 +1,14 @@
 #!/usr/bin/env python3
-"""Each awk that is there makes the same tables of the examples, and long.awk a row of seven fields for each item. What
-two scripts have alike, since a script is one file, is the same. Of a feed the rows of a message are there at its end.
+"""Tests scripts/table.awk with each awk that is installed: it makes the same tables of the examples, and a row of seven
+fields for each item. It makes the same JSON of texts with every byte and every escape. Of a feed the rows of a message are
+written at its end.
 
     tests/awk_scripts.py [PROGRAM]
 """
 import csv
+import json
 import os
+import random
 import re
 import select
 import shutil
@@ -31,9 +34,9 @@ ODD_ROWS = b"""message,subset,item,descriptor,value,name,unit
 1,1,4,205001,"\\\\",,
 1,1,5,012101,,,
 """
-LONG = ["-f", str(TOP / "scripts/long.awk")]
-WIDE = ["-v", "columns=001002,001015,012101:2", "-f", str(TOP / "scripts/wide.awk")]
-LEVELS = ["-v", "columns=012101", "-f", str(TOP / "scripts/levels.awk")]
+SCRIPT = ["-f", str(TOP / "scripts/table.awk")]
+WIDE = ["-v", "columns=001002,001015,012101:2", *SCRIPT]
+JSON = ["-v", "json=1", *SCRIPT]
 FEED = b"message\nsubset 1\n001002 1\n031001 2\n012101 28.5\n012101 29.5\nend\n"
 
 
@@ -61,38 +64,66 @@ def serves(words: list) -> bool:
     return b"29.5" in read
 
 
-def functions(script: str) -> dict:
-    """The text of each function of a script, without the script's name."""
-    text = (TOP / "scripts" / script).read_text(encoding="utf-8").replace(script, "")
-    return {name: found for found, name in re.findall(r"^(function (\w+).*?^})$", text, re.M | re.S)}
+def escaped(octets: bytes) -> bytes:
+    """A text as the dump writes it."""
+    special = {34: b'\\"', 92: b"\\\\"}
+    return b"".join(special.get(one) or (b"%c" % one if 32 <= one < 127 else b"\\x%02X" % one) for one in octets)
+
+
+def texts(chance: random.Random):
+    """Texts with each byte, and random ones in which quotes, backslashes, `x` and digits are frequent."""
+    yield from (bytes([octet]) for octet in range(256))
+    for _ in range(300):
+        yield bytes(chance.choice(b'"\\\\x41 \0\xff#[]\n,') for _ in range(chance.randrange(9)))
+
+
+def wrong_json(awk: list, chance: random.Random):
+    """What is wrong with the JSON of texts, of numbers, of missing values, and of names with quotes and backslashes."""
+    items, wanted = [], []
+    for text in texts(chance):
+        name, unit = (chance.choice(["", 'A "B" \\C', "A[B]", '\\\\ "', "\u00b0C"]) for _ in range(2))
+        items.append(b'001015 "%s"  # %s [%s]\n' % (escaped(text), name.encode(), unit.encode()))
+        wanted.append((text.rstrip(b" ").decode("latin-1"), name or None, unit or None))
+    numbers = "0 -1 0.0000003 -0.50 99999999999999999999.125 170141183460469231731687303715884105727".split()
+    for number in [*numbers, "MISSING"]:
+        items.append(f"012101 {number}\n".encode())
+        wanted.append((None if number == "MISSING" else number, None, None))
+    items.append(b"R 012101 -400\n")
+    wanted.append(("-400", "REFERENCE", None))
+    status, output, errors = run([*awk, *JSON], b"message\nsubset 1\n" + b"".join(items) + b"end\n")
+    if (status, errors) != (0, b""):
+        return [f"{awk}: JSON ends with {status}: {errors}"]
+    rows = [json.loads(line, parse_int=str, parse_float=str) for line in output.splitlines()]
+    if [list(row) for row in rows] != ["message subset item descriptor value name unit".split()] * len(items):
+        return [f"{awk}: JSON has other names: {rows[:2]}"]
+    found = [(row["value"], row["name"], row["unit"]) for row in rows]
+    return [f"{awk}: {item} is {one}, not {other}" for item, one, other in zip(items, found, wanted) if one != other][:3]
 
 
 def main() -> None:
     paths = sorted((TOP / "examples").glob("*.txt"))
     lines = [line for path in paths for line in path.read_text(encoding="utf-8").splitlines()]
     items = sum(re.match(r"\d{6} |R ", line) is not None for line in lines)
-    made = {
-        " ".join(awk): [subprocess.run([*awk, *script, *paths], stdout=subprocess.PIPE).stdout for script in (LONG, WIDE)]
-        for awk in AWKS
-        if shutil.which(awk[0])
-    }
+    there = [awk for awk in AWKS if shutil.which(awk[0])]
     for awk in AWKS:
-        if not shutil.which(awk[0]):
+        if awk not in there:
             print(f"awk_scripts: skipped, {awk[0]} is not installed")
+    made = {
+        " ".join(awk): [subprocess.run([*awk, *script, *paths], stdout=subprocess.PIPE).stdout for script in (SCRIPT, WIDE)]
+        for awk in there
+    }
     wrongs = [f"{awk} makes other tables than awk" for awk, tables in made.items() if tables != made["awk"]]
-    for awk in AWKS:
-        told = b"long.awk: the text ends inside a message\n"
-        for text, wanted in ((ODD, (0, ODD_ROWS, b"")), (ODD[:-4], (2, ODD_ROWS, told))) if shutil.which(awk[0]) else ():
-            done = run([*awk, *LONG], text)
-            wrongs += [f"{awk}: long.awk gives {done} of {text}"] * (done != wanted)
-        for script in (LONG, ["-v", "columns=012101:2", *WIDE[2:]], LEVELS) if shutil.which(awk[0]) else ():
-            wrongs += [f"{awk}: of a feed the rows of {script[-1]} are not there"] * (not serves([*awk, *script]))
-    wide, levels = functions("wide.awk"), functions("levels.awk")
-    alike = {name for name in wide if wide[name] == levels.get(name)}
-    wrongs += [f"wide.awk and levels.awk are alike in {alike}"] * (alike != {"fail", "field", "next_listed"})
+    for awk in there:
+        told = b"table.awk: the text ends inside a message\n"
+        for text, wanted in ((ODD, (0, ODD_ROWS, b"")), (ODD[:-4], (2, ODD_ROWS, told))):
+            done = run([*awk, *SCRIPT], text)
+            wrongs += [f"{awk}: table.awk makes {done} of {text}"] * (done != wanted)
+        for script in (SCRIPT, ["-v", "columns=012101:2", *SCRIPT], ["-v", "levels=1", "-v", "columns=012101", *SCRIPT]):
+            wrongs += [f"{awk}: of a feed the rows of {script} are not written"] * (not serves([*awk, *script]))
+        wrongs += wrong_json(awk, random.Random(1))
     rows = list(csv.reader(made["awk"][0].decode().splitlines()))
-    wrongs += [f"long.awk: {row}, not seven fields" for row in rows if len(row) != 7]
-    wrongs += [f"long.awk: {len(rows) - 1} rows of {items} items"] * (len(rows) != items + 1)
+    wrongs += [f"{row} has not seven fields" for row in rows if len(row) != 7]
+    wrongs += [f"there are {len(rows) - 1} rows of {items} items"] * (len(rows) != items + 1)
     finish(wrongs)
 
 

@@ -26,6 +26,7 @@ are lines `new:`. `fails:` names what must notice:
     test FILE::NAME        a test of bufr_tests, of code that is changed in the same way
 
 For a vector and a test the entry has the change of the code too, by pairs below `code:`, a file of the crate's src/.
+A line `order: DEFINITION` says that the change turns round what the definition asks first, where no words show it.
 Lines `free: FILE: NAME, NAME` or ``free: FILE: `TEXT` `` below a comment say why definitions, or the comparison that a
 text holds, have no entry.
 
@@ -43,7 +44,6 @@ none: they say what is proved, and refuse no input.
 import argparse
 import collections
 import csv
-import difflib
 import functools
 import hashlib
 import itertools
@@ -51,6 +51,7 @@ import os
 import pathlib
 import re
 import shutil
+import signal
 import subprocess
 import sys
 import tempfile
@@ -59,225 +60,12 @@ from concurrent.futures import ThreadPoolExecutor
 
 from lib import TOP, finish
 
-HERE = TOP / "tests/bent_definitions"
-KINDS = ("example", "law", "vector", "test")
+sys.path.insert(0, str(TOP / "tests/bent_definitions"))
+from antt import DECLARATION, MODULE, Bad, below, blocks, crates, modules, parts_of, source, tokens  # noqa: E402
+from entries import Entry, every_entry, read_entries  # noqa: E402
+from sites import cover, files, listed  # noqa: E402
 
-
-class Bad(Exception):
-    """What is wrong with a list, or why no verdict can be given."""
-
-
-# ---------------------------------------------------------------- the entries
-
-
-class Change:
-    """A text of a file that takes the place of another one."""
-
-    def __init__(self, folder: str, crate: str, file: str) -> None:
-        self.folder, self.crate, self.file = folder, crate, file
-        self.old, self.new = [], []
-
-    def place(self) -> tuple:
-        return self.crate, self.folder, self.file
-
-    def apply(self, text: str) -> str:
-        old, new = "\n".join(self.old), "\n".join(self.new)
-        if text.count(old) != 1:
-            raise Bad(f"crates/{'/'.join(self.place())} has {text.count(old)} times {old!r}")
-        return text.replace(old, new)
-
-
-class Entry:
-    """A wrong rule, and what must notice it."""
-
-    def __init__(self, crate: str, line: int) -> None:
-        self.crate, self.line = crate, line
-        self.words, self.changes, self.free = [], [], []
-        self.kind = self.of = self.name = ""
-        self.wanted, self.file = "caught", crate
-
-    def __str__(self) -> str:
-        return f"{self.file}.txt:{self.line}: {' '.join(self.words)}"
-
-    def text(self) -> str:
-        """All that an entry says."""
-        lines = [line for one in self.changes for line in (one.crate, one.file, *one.old, *one.new)]
-        return "\n".join([*self.words, *lines, self.kind, self.of, self.name])
-
-    def changed(self, places: set) -> dict:
-        """The texts that are changed, by place."""
-        texts = {}
-        for change in self.changes:
-            place = change.place()
-            if change.folder in places:
-                texts[place] = change.apply(texts[place] if place in texts else source(place))
-        return texts
-
-
-@functools.lru_cache(None)
-def source(place: tuple) -> str:
-    path = TOP / "crates" / "/".join(place)
-    if not path.is_file():
-        raise Bad(f"there is no {path.relative_to(TOP)}")
-    return path.read_text(encoding="utf-8")
-
-
-def read_entries(name: str, crate: str):
-    """The entries of a list, which are of this crate. What cannot be read is a Bad."""
-    path = HERE / f"{name}.txt"
-    lines = path.read_text(encoding="utf-8").splitlines() if path.is_file() else []
-    entry = None
-    for number, line in enumerate([*lines, ""], 1):
-        try:
-            if line.strip():
-                entry = entry or Entry(crate, number)
-                entry.file = name
-                read_line(entry, line)
-            elif entry:
-                if entry.changes or entry.free or entry.kind:
-                    finished(entry)
-                    yield entry
-                entry = None
-        except Bad as wrong:
-            raise Bad(f"{path.relative_to(TOP)}:{number if line.strip() else entry.line}: {wrong}") from None
-
-
-def every_entry() -> list:
-    """The entries of the lists of all crates."""
-    return [entry for crate in crates() for entry in read_entries(crate, crate)]
-
-
-def read_line(entry: Entry, line: str) -> None:
-    key, _, text = line.partition(":")
-    text = text[1:] if text.startswith(" ") else text
-    if line.startswith("#"):
-        entry.words.append(line[1:].strip())
-    elif key in ("specs", "code"):
-        of, _, file = text.strip().rpartition("/")
-        entry.changes.append(Change("specs" if key == "specs" else "src", of or entry.crate, file))
-    elif key in ("old", "new"):
-        if not entry.changes:
-            raise Bad(f"`{key}:` comes before `specs:`")
-        last = entry.changes[-1]
-        if key == "old" and last.new:
-            entry.changes.append(Change(last.folder, last.crate, last.file))
-        getattr(entry.changes[-1], key).append(text)
-    elif key == "fails":
-        entry.kind, _, name = text.strip().partition(" ")
-        of, _, entry.name = name.strip().rpartition("/")
-        entry.of = of or entry.crate
-        if entry.kind not in KINDS or not entry.name:
-            raise Bad(f"`fails:` names one of {', '.join(KINDS)}, and its name")
-    elif key == "verdict":
-        entry.wanted = text.strip()
-    elif key == "free":
-        file, _, names = text.partition(":")
-        entry.free.append((file.strip(), names.strip()))
-    else:
-        raise Bad(f"a line begins with {key!r}")
-
-
-def finished(entry: Entry) -> None:
-    """An entry is whole, and its texts are there."""
-    if not entry.words:
-        raise Bad("a comment must say the wrong rule, or the reason, in words")
-    if entry.free:
-        if entry.changes or entry.kind:
-            raise Bad("`free:` stands in an entry of its own")
-        return
-    if not entry.kind:
-        raise Bad("`fails:` is missing")
-    for change in entry.changes:
-        if not change.old or not change.new or change.old == change.new:
-            raise Bad(f"a pair of {change.file} lacks `old:` or `new:`, or changes nothing")
-    folders = {change.folder for change in entry.changes}
-    wanted = {"specs", "src"} if entry.kind in ("vector", "test") else {"specs"}
-    if folders != wanted:
-        raise Bad(f"for `fails: {entry.kind}` the changes must be of {' and '.join(sorted(wanted))}")
-    entry.changed(wanted)
-
-
-# ---------------------------------------------------------------- modules and declarations of antt
-
-MODULE = re.compile(r"Rattle\.(bufr\w*)\.(specs|proofs)\.(\w+)")
-NO_DECLARATION = re.compile(r"(?:unfoldable |pub )*(?:use|mod|infixl|infixr|infix|ruleset|open) ")
-DECLARATION = re.compile(r"(?:(?:unfoldable|abbrev|pattern|pub) )*(?:(data|record|module) )?([^\s:]+)")
-SIGNATURE = re.compile(r"(?:(?:unfoldable|abbrev|pattern|pub|data|record|module) |[^\s:=]+(?: \{[^}]*\})? :(?: |$))")
-
-
-def parts_of(name: str) -> set:
-    """The parts of a name: of an operator's those between its places."""
-    return {part for part in name.split("◌") if part}
-
-
-def tokens(text: str) -> set:
-    return {part for word in re.split(r"[\s(){}.;,@\"«»]+", text) for part in parts_of(word)}
-
-
-class Block:
-    """A declaration, or a line that imports: its text, and the names that it declares."""
-
-    def __init__(self, line: str) -> None:
-        self.lines, self.declares = [line], not NO_DECLARATION.match(line)
-
-    @functools.cached_property
-    def text(self) -> str:
-        return "\n".join(self.lines)
-
-    @functools.cached_property
-    def names(self) -> set:
-        if not self.declares:
-            return set()
-        kind, name = DECLARATION.match(self.lines[0]).groups()
-        if kind == "module":
-            inner = re.findall(r"(?m)^  (?:(?:unfoldable|abbrev|pub) )*([^\s:=]+)(?: \{[^}]*\})? :", self.text)
-            return set().union(*map(parts_of, inner))
-        inner = re.findall(r"(?m)^  ([^\s:]+) :", self.text) if kind == "data" else []
-        return set().union(*map(parts_of, [name, *inner]))
-
-    @functools.cached_property
-    def tokens(self) -> frozenset:
-        return frozenset(tokens(self.text))
-
-    def imported(self) -> list:
-        return [name.strip() for name in self.text.partition("{")[2].rpartition("}")[0].split(",")]
-
-
-@functools.lru_cache(None)
-def blocks(text: str) -> list:
-    """The declarations and imports of a module, without comments."""
-    found = []
-    for line in text.splitlines():
-        if line.startswith("--"):
-            continue
-        if line[:1] not in ("", " ", ")", "}") and (NO_DECLARATION.match(line) or SIGNATURE.match(line)):
-            found.append(Block(line))
-        elif line.strip() and found:
-            found[-1].lines.append(line)
-    return found
-
-
-@functools.lru_cache(None)
-def modules() -> dict:
-    """The modules of specs/ and proofs/, with those that each imports."""
-    texts = {}
-    for path in (TOP / "crates").glob("*/*/*.antt"):
-        crate, folder, _ = path.parts[-3:]
-        if folder in ("specs", "proofs"):
-            texts[crate, folder, path.stem] = path.read_text(encoding="utf-8")
-    return {place: {one for one in MODULE.findall(text) if one in texts} for place, text in texts.items()}
-
-
-@functools.lru_cache(None)
-def below(place: tuple) -> frozenset:
-    """A module and those that it imports, and so on."""
-    seen, todo = set(), [place]
-    while todo:
-        one = todo.pop()
-        if one not in seen:
-            seen.add(one)
-            todo += modules()[one]
-    return frozenset(seen)
+# ---------------------------------------------------------------- copies of the modules
 
 
 class Copy:
@@ -361,17 +149,32 @@ class Copy:
 ERROR = re.compile(r"^\./proofs/variants/(\w+)/(\w+)\.antt:(\d+):(\d+): error: (.*)$")
 
 
+running = set()  # the processes that were started and have not ended
+
+
+def run(words: list, cwd: pathlib.Path, given: bytes = b"") -> tuple:
+    """The status of a command, its output and its error output. It is in a group of its own, so that it can be stopped."""
+    pipe = subprocess.PIPE
+    with subprocess.Popen(words, cwd=cwd, stdin=pipe, stdout=pipe, stderr=pipe, start_new_session=True) as process:
+        running.add(process)
+        try:
+            output, errors = process.communicate(given)
+        finally:
+            running.discard(process)
+    return process.returncode, output, errors
+
+
+def stop_all() -> None:
+    for process in list(running):
+        os.killpg(process.pid, signal.SIGKILL)
+
+
 @functools.lru_cache(None)
 def kit() -> pathlib.Path:
-    told = subprocess.run(["rt", "doc"], stdout=subprocess.PIPE, text=True, check=True).stdout.split()
-    return pathlib.Path(told[-1]).parent
-
-
-@functools.lru_cache(None)
-def crates() -> dict:
-    """What each crate of crates.txt stands on."""
-    lines = [line.partition("#")[0] for line in (TOP / "crates.txt").read_text(encoding="utf-8").splitlines()]
-    return {name.split()[0]: uses.split() for name, _, uses in (line.partition(":") for line in lines if line.strip())}
+    status, output, errors = run(["rt", "doc"], TOP)
+    if status:
+        raise Bad(f"rt doc does not say where the toolchain is: {errors.decode()}")
+    return pathlib.Path(output.decode().split()[-1]).parent
 
 
 def libraries(crate: str) -> list:
@@ -433,11 +236,10 @@ def check_copies(room: pathlib.Path, crate: str, copies: dict) -> dict:
         "pub returns : goal.returns\nreturns c = refl\n",
         encoding="utf-8",
     )
-    words = check_words(top, crate, "bent::bent")
-    done = subprocess.run(words, cwd=folder, stdout=subprocess.PIPE, stderr=subprocess.STDOUT, text=True, encoding="utf-8")
-    lines = done.stdout.splitlines()
-    if not any(re.match(r"only=1 proved=[01]$", line) for line in lines) or done.returncode not in (0, 1):
-        raise Bad(f"the check of {crate} gave no verdict:\n{done.stdout[-2000:]}")
+    status, output, errors = run(check_words(top, crate, "bent::bent"), folder)
+    lines = output.decode("utf-8", "replace").splitlines()
+    if not any(re.match(r"only=1 proved=[01]$", line) for line in lines) or status not in (0, 1):
+        raise Bad(f"the check of {crate} gave no verdict (status {status}):\n{(output + errors)[-2000:].decode(errors='replace')}")
     refused = collections.defaultdict(list)
     for at, line in enumerate(lines):
         found = ERROR.match(line)
@@ -480,7 +282,8 @@ DIFFER = re.compile(r"computed as far as they go, the two types .*? `(.*?)`\s+\(
 def is_computed(side: str) -> bool:
     """Whether a side of an equation, as the checker prints it, is a value: no call in it waits."""
     labels = set(re.findall(r"(\S+) =", side))
-    return not (tokens(side) - labels) & computed_names() and "elim" not in tokens(side)
+    whole = {name.rpartition(".")[2] for name in re.findall(r"\bRattle(?:\.\S+)+", side)}
+    return not (tokens(side) - labels) & computed_names() and "elim" not in tokens(side) and not any(name[:1].islower() for name in whole)
 
 
 def differs(errors: list) -> bool:
@@ -509,6 +312,9 @@ def judge_examples(room: pathlib.Path, crate: str, entries: list) -> dict:
             verdicts[entry] = f"invalid: {wrong}"
             continue
         tag, right = f"w{number}", copy.texts(copy.old, crate, "TAG")
+        if right == copy.texts(copy.new, crate, "TAG"):
+            verdicts[entry] = f"invalid: {entry.name} computes nothing by the changed definitions"
+            continue
         same = repr(sorted(right.items()))
         if same not in made:
             made[same] = f"r{number}"
@@ -544,14 +350,14 @@ def changed_copy(room: pathlib.Path, texts: dict) -> pathlib.Path:
 def proves(room: pathlib.Path, entry: Entry, texts: dict) -> str:
     """Whether a law is proved: `yes`, `no`, or what is wrong with the texts themselves."""
     top = changed_copy(room, texts)
-    words = check_words(top, entry.of, entry.name)
-    done = subprocess.run(words, cwd=top / "crates" / entry.of, stdout=subprocess.PIPE, stderr=subprocess.STDOUT, text=True, encoding="utf-8")
+    status, output, errors = run(check_words(top, entry.of, entry.name), top / "crates" / entry.of)
+    told = (output + errors).decode(errors="replace")
     shutil.rmtree(top)
-    ended = re.search(r"(?m)^only=1 proved=([01])$", done.stdout)
-    wrong = re.search(r"(?m)^\S*(?:specs/|\.rt:).*: error: .*$", done.stdout)
-    if not ended or done.returncode not in (0, 1) or wrong:
-        return wrong[0] if wrong else done.stdout[-300:]
-    return "no" if done.returncode or ended[1] == "0" else "yes"
+    ended = re.search(r"(?m)^only=1 proved=([01])$", told)
+    wrong = re.search(r"(?m)^\S*(?:specs/|\.rt:).*: error: .*$", told)
+    if not ended or status not in (0, 1) or wrong:
+        return wrong[0] if wrong else told[-300:]
+    return "no" if status or ended[1] == "0" else "yes"
 
 
 def answers(room: pathlib.Path, entry: Entry, texts: dict) -> str:
@@ -563,9 +369,10 @@ def answers(room: pathlib.Path, entry: Entry, texts: dict) -> str:
 
 
 def tries_test(top: pathlib.Path, name: str) -> str:
-    done = subprocess.run(["rt", "try", "--test"], cwd=top / "crates/bufr_tests", stdout=subprocess.PIPE, stderr=subprocess.STDOUT, text=True)
-    told = re.search(rf"(?m)^test {re.escape(name)} \.\.\. (\w+)", done.stdout)
-    return {"ok": "yes", "FAILED": "no"}.get(told[1], told[0]) if told else done.stdout[-300:]
+    _, output, errors = run(["rt", "try", "--test", "--", name.rpartition("::")[2]], top / "crates/bufr_tests")
+    told = (output + errors).decode(errors="replace")
+    found = re.search(rf"(?m)^test {re.escape(name)} \.\.\. (\w+)", told)
+    return {"ok": "yes", "FAILED": "no"}.get(found[1], found[0]) if found else told[-300:]
 
 
 @functools.lru_cache(None)
@@ -585,306 +392,26 @@ def tries_vector(top: pathlib.Path, name: str) -> str:
         if (folder / word).is_file():
             words += ["--data", f"{word}={folder / word}"]
     words += ["--", *case["words"].split()]
-    done = subprocess.run(words, cwd=top / "crates/bufr", input=content(case["input"]), stdout=subprocess.PIPE, stderr=subprocess.PIPE)
-    faults, ended, _ = done.stderr.partition(b"checked: ended status=")
+    status, output, errors = run(words, top / "crates/bufr", content(case["input"]))
+    faults, ended, _ = errors.partition(b"checked: ended status=")
     if not ended:
-        return done.stderr[-300:].decode(errors="replace")
+        return errors[-300:].decode(errors="replace")
     wanted = int(case["status"]), content(case["output"]), content(case["faults"])
-    return "yes" if wanted == (done.returncode, done.stdout, faults) else "no"
+    return "yes" if wanted == (status, output, faults) else "no"
 
 
 def judge_alone(room: pathlib.Path, entry: Entry, known: dict) -> str:
     """The verdict on an entry that needs a check or a build of its own. `known` has what passes without a change."""
     if entry.kind == "vector" and entry.name not in vectors():
         return f"invalid: vectors/cases.tsv has no {entry.name}"
-    run = proves if entry.kind == "law" else answers
+    passes = proves if entry.kind == "law" else answers
     same = entry.kind, entry.of, entry.name
     if same not in known:
-        known[same] = run(room, entry, {})
+        known[same] = passes(room, entry, {})
     if known[same] != "yes":
         return f"invalid: {entry.kind} {entry.name} does not pass without the change: {known[same]}"
-    told = run(room, entry, entry.changed({"specs", "src"}))
+    told = passes(room, entry, entry.changed({"specs", "src"}))
     return {"yes": "survives", "no": "caught"}.get(told, f"invalid: the changed text is refused: {told}")
-
-
-
-
-# ---------------------------------------------------------------- what needs an entry
-
-WORD = re.compile(r"[(){};,\[\]]|[^\s(){};,\[\]]+")
-INFIX = {"==", "≤", "<"}
-ORDERED = {"nat_lt", "nat_le"}
-PREFIX = ORDERED | {"int_eq", "bytes_eq"}
-ENDS = set("( ) [ ] { } , ; && || = if then else in let → λ ∷ ++ ↦ | ← × ⊎ >>= : do ≡ ↔".split())
-NUMBER = re.compile(r"\d[\d_]*$|0x[\dA-Fa-f_]+$")
-REFUSALS = set("Err None Wrong Refuses Stray unless only_if".split())
-ACCEPTED = set("Ok Some Continues true".split())
-
-
-PROVED = "a proposition says what is proved, and refuses no input"
-
-
-class Site:
-    """A comparison, a number or an order of a definition, by its words from `first` up to `last`. Of an order `after`
-    has the words of what is asked second."""
-
-    def __init__(self, kind: str, words: list, first: int, last: int, after=()) -> None:
-        self.kind, self.first, self.last, self.after = kind, first, last, after
-        self.words = words[first:last]
-        self.entries, self.reason = [], PROVED if kind == "proposition" else ""
-
-    def __str__(self) -> str:
-        told = " ".join(self.words)
-        return f"{self.kind} {told}" + (f"  BEFORE  {' '.join(self.after)}" if self.after else "")
-
-    def wanted(self) -> int:
-        return 2 if self.kind == "comparison" and ORDERED & set(self.words) else 1
-
-    def is_covered(self) -> bool:
-        return bool(self.reason) or len(self.entries) >= self.wanted()
-
-
-class Definition:
-    """A definition of specs/: its words, those of its comments left out, and its sites."""
-
-    def __init__(self, place: tuple, line: int, start: int, text: str) -> None:
-        self.place, self.line, self.start, self.text = place, line, start, text
-        self.name = DECLARATION.match(text)[2]
-        bare = re.sub(r"(?m)(^| )--( .*)?$", lambda one: " " * len(one[0]), text)
-        found = list(WORD.finditer(bare))
-        self.words, self.starts = [one[0] for one in found], [start + one.start() for one in found]
-        self.body = next((at for at, word in enumerate(self.words) if word == "=" and not self.depth(at)), len(self.words))
-        result = self.words[: self.body]
-        is_type = DECLARATION.match(text)[1] or "Type" in result
-        self.sites = list(self.propositions() if is_type else self.computed())
-
-    def depth(self, at: int) -> int:
-        return sum(word in "([{" for word in self.words[:at]) - sum(word in ")]}" for word in self.words[:at])
-
-    def argument(self, at: int) -> int:
-        """The end of an argument that begins at a word."""
-        opened = 0
-        while at < len(self.words):
-            opened += (self.words[at] in "([{") - (self.words[at] in ")]}")
-            at += 1
-            if opened <= 0 and not self.words[at : at + 1] == [".0"]:
-                break
-        return at
-
-    def begins_clause(self, at: int) -> bool:
-        return at == len(self.words) or self.text[: self.starts[at] - self.start].rpartition("\n")[2] == "" and at > 0
-
-    def comparison(self, at: int) -> tuple:
-        """The first word of a comparison, and the end."""
-        if self.words[at] in PREFIX:
-            return at, self.argument(self.argument(at + 1))
-        first, opened = at, 0
-        while first and not (opened == 0 and self.words[first - 1] in ENDS - {")", "]", "}"}):
-            first -= 1
-            opened += (self.words[first] in ")]}") - (self.words[first] in "([{")
-        last, opened = at + 1, 0
-        while not self.begins_clause(last) and not (opened == 0 and self.words[last] in ENDS - {"(", "[", "{"}):
-            opened += (self.words[last] in "([{") - (self.words[last] in ")]}")
-            last += 1
-        return first, last
-
-    def propositions(self):
-        for at, word in enumerate(self.words):
-            if word in INFIX | PREFIX:
-                yield Site("proposition", self.words, *self.comparison(at))
-
-    def computed(self):
-        words, inside = self.words, set()
-        for at, word in enumerate(words):
-            if at > 0 and word in INFIX | PREFIX and words[at - 1 : at] != ["{"]:
-                first, last = self.comparison(at)
-                inside |= set(range(first, last))
-                yield Site("comparison", words, first, last)
-        bare = all(NUMBER.match(word) or word in ("∷", "[]", "=", "(", ")", self.name) for word in words[self.body + 1 :])
-        if bare or REFUSALS & set(words):
-            for at, word in enumerate(words):
-                if at > self.body and at not in inside and NUMBER.match(word) and self.is_value(at):
-                    yield Site("number", words, at, at + 1)
-        yield from self.orders()
-
-    def is_value(self, at: int) -> bool:
-        """Whether a number is on the right of its clause, and not in a pattern or a signature."""
-        line = self.text.rfind("\n", 0, self.starts[at] - self.start) + 1
-        head = self.text[line : self.starts[at] - self.start]
-        return head.startswith(" ") or " = " in head
-
-    def orders(self):
-        """What is asked after one another where both can refuse: statements of a `do` block of which the second does not
-        need the first, and conditions of a chain."""
-        steps, bound, is_open = [], [], False
-        for line in self.text.split("\n") if "Result" in self.words[: self.body] else []:
-            told = re.match(r"  (?:(\S+) ← )?(\S.*)$", line)
-            if re.search(r"(^|\s)do$", line):
-                steps, bound, is_open = [], [], True
-            elif is_open and told:
-                steps.append(WORD.findall(told[2]))
-                bound.append(told[1] or (steps[-1][1] if steps[-1][0] == "let" else "_"))
-            elif is_open and line.startswith("   "):
-                steps[-1] += WORD.findall(line)
-        for name, one, other in zip(bound, steps, steps[1:]):
-            needs = {part for word in other for part in word.split(".")}
-            if name not in needs and one[0] != "let":
-                yield from self.pairs([one, other])
-        for at, word in enumerate(self.words):
-            if word == "if":
-                yield from self.pairs(self.choice(at))
-
-    def end_of(self, at: int, word: str) -> int:
-        """The end of an expression that begins at a word: where another word of its own `if` stands, or where it is closed."""
-        opened = inner = 0
-        while not self.begins_clause(at) and not (opened == 0 and self.words[at] in (")", ",", ";")):
-            if opened == 0 and self.words[at] == word:
-                if not inner:
-                    break
-                inner -= 1
-            opened += (self.words[at] in "([{") - (self.words[at] in ")]}")
-            inner += opened == 0 and self.words[at] == "if" and word == "else"
-            at += 1
-        return at
-
-    def choice(self, at: int) -> list:
-        """The condition of an `if` that refuses, and what is asked if it does not."""
-        then = self.end_of(at + 1, "then")
-        other = self.end_of(then + 1, "else")
-        branches = self.words[then + 1 : other], self.words[other + 1 : self.end_of(other + 1, "")]
-        refuses = [bool(REFUSALS - {"None"} & set(words[:3])) for words in branches]
-        if refuses[0] == refuses[1]:
-            return []
-        asked = [word for word in branches[refuses[0]]]
-        while asked[:1] in (["("], ["if"]):
-            begins_if = asked[0] == "if"
-            asked = asked[1 : asked.index("then")] if begins_if else asked[1:-1]
-            if begins_if:
-                break
-        is_asked = len(asked) > 1 and not (asked[0] in ACCEPTED | {"record", "let"} or asked[0][:1].isupper() or "∷" in asked)
-        return [self.words[at + 1 : then], asked] if is_asked else []
-
-    def pairs(self, steps: list):
-        for one, other in zip(steps, steps[1:]):
-            at = place_in(self.words, one)
-            if at is not None and other[0] not in ACCEPTED:
-                yield Site("order", self.words, at, at + len(one), tuple(other))
-
-
-def place_in(words: list, part) -> int | None:
-    """Where the words of a part stand among others."""
-    part = list(part)
-    return next((at for at in range(len(words) - len(part) + 1) if words[at : at + len(part)] == part), None)
-
-
-@functools.lru_cache(None)
-def definitions(place: tuple) -> list:
-    """The definitions of a file of specs/."""
-    found, start, lines = [], 0, source(place).split("\n")
-    opened = None
-    for number, line in enumerate([*lines, "use end"], 1):
-        begins = line[:1] not in ("", " ", ")", "}") and (line.startswith("--") or NO_DECLARATION.match(line) or SIGNATURE.match(line))
-        if begins:
-            if opened:
-                text = "\n".join(lines[opened[0] - 1 : number - 1])
-                found.append(Definition(place, opened[0], opened[1], text))
-            is_declared = not line.startswith("--") and not NO_DECLARATION.match(line)
-            opened = (number, start) if is_declared else None
-        start += len(line) + 1
-    return found
-
-
-def files() -> list:
-    return [(crate, "specs", path.name) for crate in crates() for path in sorted((TOP / "crates" / crate / "specs").glob("*.antt"))]
-
-
-def cover(entries: list) -> list:
-    """Gives each site the entries that change it, or the reason why it has none. The answer are complaints."""
-    wrongs = []
-    for entry in entries:
-        for change in entry.changes:
-            if change.folder == "specs":
-                note(entry, change)
-        for file, names in entry.free:
-            wrongs += set_free(entry, (entry.crate, "specs", file), names)
-    return wrongs
-
-
-def note(entry: Entry, change: Change) -> None:
-    """Gives the sites that a change touches their entry."""
-    before = source(change.place())
-    start = before.find("\n".join(change.old))
-    if start < 0:
-        return  # a text that an earlier pair of the entry made
-    old, new = WORD.findall("\n".join(change.old)), WORD.findall("\n".join(change.new))
-    places = [start + one.start() for one in WORD.finditer("\n".join(change.old))]
-    touched = set()
-    for what, first, last, *_ in difflib.SequenceMatcher(None, old, new, autojunk=False).get_opcodes():
-        if what != "equal":
-            touched |= set(places[first : max(last, first + 1)])
-            if first == last and first:
-                touched.add(places[first - 1])
-    end = start + len("\n".join(change.old))
-    for definition in definitions(change.place()):
-        if definition.start + len(definition.text) < start or definition.start > end:
-            continue
-        for site in definition.sites:
-            if site.kind == "order":
-                one, other = place_in(new, site.words), place_in(new, site.after)
-                turned = one is not None and other is not None and other < one
-                if turned and entry not in site.entries:
-                    site.entries.append(entry)
-            elif touched & set(definition.starts[site.first : site.last]) and entry not in site.entries:
-                site.entries.append(entry)
-
-
-def set_free(entry: Entry, place: tuple, names: str) -> list:
-    """Gives sites the reason why they have no entry."""
-    reason, found = " ".join(entry.words), definitions(place)
-    if names.startswith("`"):
-        text = names.strip("`")
-        if source(place).count(text) != 1:
-            return [f"{entry.crate}.txt:{entry.line}: {place[2]} has {source(place).count(text)} times {text!r}"]
-        start = source(place).index(text)
-        hit = [
-            site
-            for one in found
-            for site in one.sites
-            if any(start <= at < start + len(text) for at in one.starts[site.first : site.last])
-        ]
-        for site in hit:
-            site.reason = reason
-        return [] if hit else [f"{entry.crate}.txt:{entry.line}: nothing in {text!r} needs an entry"]
-    wrongs = []
-    for name in names.split(","):
-        of = [one for one in found if one.name == name.strip()]
-        if not any(one.sites for one in of):
-            wrongs.append(f"{entry.crate}.txt:{entry.line}: nothing in {name.strip()} of {place[2]} needs an entry")
-        for one in of:
-            for site in one.sites:
-                site.reason = reason
-    return wrongs
-
-
-def boundaries(place: tuple, name: str) -> list:
-    """The sites of a definition that is computed."""
-    return [site for one in definitions(place) if one.name == name for site in one.sites if site.kind != "proposition"]
-
-
-def listed(crate: str, is_whole: bool) -> list:
-    """The lines for each site, and those that are not covered."""
-    lines, missing = [], []
-    for place in files():
-        if crate and place[0] != crate:
-            continue
-        for one in definitions(place):
-            for site in one.sites:
-                at = f"crates/{'/'.join(place)}:{source(place).count(chr(10), 0, one.starts[site.first]) + 1}: {one.name}: {site}"
-                if not site.is_covered():
-                    missing.append(f"{at}: has {len(site.entries)} of {site.wanted()} entries")
-                told = f"free: {site.reason}" if site.reason else ", ".join(f"{entry.crate}.txt:{entry.line}" for entry in site.entries)
-                lines.append(f"{at}: {told or 'no entry'}")
-    return lines if is_whole else missing
 
 
 # ---------------------------------------------------------------- the run
@@ -900,7 +427,7 @@ def sampled(entries: list) -> list:
     def rank(entry: Entry) -> str:
         return hashlib.sha256((seed + entry.text()).encode()).hexdigest()
 
-    found = [entry for entry in entries if entry.file == CONTROLS[0]]
+    found = [entry for entry in entries if entry.file == CONTROLS[0] and entry.kind == "example"]
     for crate in crates():
         found += sorted((entry for entry in entries if entry.kind == "example" and entry.of == crate), key=rank)[:SAMPLE]
     return found
@@ -929,7 +456,8 @@ def judge(entries: list, jobs: int) -> dict:
                 verdicts.update(check.result())
             verdicts.update({entry: other.result() for entry, other in others.items()})
         except BaseException:
-            pool.shutdown(cancel_futures=True)
+            pool.shutdown(wait=False, cancel_futures=True)
+            stop_all()
             raise
     return verdicts
 
@@ -964,10 +492,13 @@ def main() -> None:
     if not tried:
         asker.error("no entry has this crate and word")
     start = time.monotonic()
+    signal.signal(signal.SIGTERM, lambda number, _: sys.exit(128 + number))
     try:
         verdicts = judge(tried, asked.jobs)
-    except Bad as wrong:
-        finish([*wrongs, str(wrong)])
+    except (Bad, OSError) as wrong:
+        finish([*wrongs, f"no verdict: {wrong}"])
+    except KeyboardInterrupt:
+        sys.exit(130)
     for entry, verdict in verdicts.items():
         if verdict.partition(":")[0] != entry.wanted:
             wrongs.append(f"{entry}: {verdict}" + (f"; {entry.kind} {entry.of}/{entry.name} passes all the same" if verdict == "survives" else ""))

@@ -24,6 +24,7 @@ from lib import TOP, finish, program
 AUTO = [sys.executable, str(TOP / "scripts/bufr-auto")]
 TABLES = TOP / "tables"
 # 0 12 101 has 16 bits; 0 13 164 is unknown in the sets up to wmo-16; 14 001 has another reference from version 14 on.
+NEWER = "; WMO publishes newer tables (wmo-im/BUFR4 on GitHub), which tables/convert.py converts"
 LISTS = ["012101", "001001 012101", "014001", "013164", "102002 001001 012101", "063255"]
 
 
@@ -179,7 +180,7 @@ class Trial:
         line = text[: text.index(b"0x")].count(b"\n") + 1
         done = self.auto("--encode", stream=text)
         self.same("one refused", (done.stdout, done.stderr, done.returncode), (stream, b"line %d: 50 line\n" % line, 1))
-        note = b"bufr-auto: 1 document, at line 3: version 41 is later than wmo-39\n"
+        note = b"bufr-auto: 1 document, at line 3: version 41 is later than wmo-39" + NEWER.encode() + b"\n"
         text = self.auto(stream=made(39, LISTS[0], b"\1\1")).stdout.replace(b"masterversion 39", b"masterversion 41")
         done = self.auto("--encode", stream=b"\n\n" + text)
         self.same("a note", (done.stdout[21:22], done.stderr, done.returncode), (b"\x29", note.replace(b"3", b"1", 1), 0))
@@ -224,6 +225,75 @@ class Trial:
         ]
         self.feed("documents", ["--encode"], steps, (b"", b""), 1)
 
+        false = b"BUFR\xff\xff\xff\4"
+        skipped = b"bufr-auto: offset %d: skipped a message that declares %d bytes\n"
+        steps = [
+            (one + false[:6], texts[0], b""),
+            (false[6:], b"", skipped % (len(one), 0xFFFFFF)),
+            (other + b"BUFR\0\4\x01\4" + one, texts[1] + texts[0], skipped % (len(one + false + other), 1025)),
+            (b"BUFR\0\4\0\4" + one, b"", b""),  # as long as may be: it waits
+        ]
+        last = (texts[0], fault % (len(one * 2 + false * 2 + other), b"1 cut"))
+        self.feed("lengths", ["--max-length", "1024"], steps, last, 1)
+
+    def lengths(self) -> None:
+        """Messages that declare more than --max-length are skipped, and nothing else changes; so for `Masker`."""
+        sys.path.insert(0, str(TOP / "scripts"))
+        import bufr_auto
+
+        random.seed(73)
+        for number in range(8):
+            stream, masked, notes = b"", b"", []
+            for _ in range(40):
+                message = made(random.choice((13, 39)), LISTS[1], bytes(3))
+                long = made(39, LISTS[1], bytes(3), section_2=bytes(100))
+                false = b"BUFR" + random.randint(101, 0xFFFFFF).to_bytes(3, "big") + b"\4"
+                piece = random.choice((message, message, message[:-3], b"BUFR\0\0\x0b", b"BUF", long, false, b"x" * 9))
+                if piece in (long, false):
+                    declared = int.from_bytes(piece[4:7], "big")
+                    note = f"offset {len(stream)}: skipped a message that declares {declared} bytes\n"
+                    notes.append(note.encode())
+                stream += piece
+                masked += bytes(4) + piece[4:] if piece in (long, false) else piece
+            done = self.auto("--max-length=100", stream=stream)
+            told = [b"bufr-auto: " + note for note in notes]
+            lines = done.stderr.splitlines(True)
+            texts, faults, _ = self.one_by_one(masked)
+            self.holds(f"lengths {number}: the notes", [line for line in lines if b"skipped" in line] == told, lines)
+            others = b"".join(line for line in lines if b"skipped" not in line)
+            self.same(f"lengths {number}", (done.stdout, others, done.returncode), (texts, faults, 1))
+            masker, given, at, told = bufr_auto.Masker(100), b"", 0, []
+            bufr_auto.bufr_guard.say = told.append
+            while at < len(stream):
+                size = random.choice((1, 5, 40, 300))
+                given += b"".join(masker.take(stream[at : at + size]))
+                at += size
+            given += b"".join(masker.take(b""))
+            self.holds(f"lengths {number}: masked", (given, masker.count) == (masked, len(notes)), (given, masked))
+            self.holds(f"lengths {number}: notes of the mask", told == [b"bufr_auto.py: " + note for note in notes], told)
+        done = self.auto("--max-length=100", stream=long)
+        self.holds("one that is skipped", done.stderr == b"bufr-auto: offset 0: skipped a message that declares 156 bytes\n", done)
+
+    def conditions(self) -> None:
+        """`dump` takes the messages that meet conditions, and says where each is; it dumps the others as little."""
+        code = "import sys; sys.path.insert(0, sys.argv[1]); import bufr_auto, bufr_conditions, bufr_guard\n"
+        code += "def work(words): return bufr_auto.dump(words[2:], 1, None, bufr_conditions.Conditions(words[1].split()), True)\n"
+        code += "bufr_guard.run(work, '')"
+        seven, both = made(13, LISTS[1], b"\1\1\0", 7), made(39, LISTS[1], b"\1\1\0", 98, section_2=bytes(5_000_000))
+        stream = seven + b"BUFR" + both + made(13, "063255", b"", 98) + seven[:-30] + both + made(39, "063255", b"", 7)
+        (self.place / "a file").write_bytes(stream)
+        texts = {centre: self.one_by_one(message)[0] for centre, message in ((7, seven), (98, both))}
+        comment = "# offset={} length={} file={}\n"
+        for file in ("a file", "/dev/stdin"):
+            words = [sys.executable, "-c", code, str(TOP / "scripts"), "centre=98", file]
+            with open(self.place / "a file", "rb") as given:
+                done = subprocess.run(words, stdin=given, cwd=self.place, env=self.environment, capture_output=True)
+            places = [(found.start(), len(both)) for found in re.finditer(re.escape(both), stream)]
+            wanted = b"".join(comment.format(*place, file).encode() + texts[98] for place in places)
+            at = [found.start() for found in re.finditer(b"BUFR", stream)]
+            told = f"offset {at[1]}: 3 no end\noffset {at[3]}: 20 unknown element 063255\noffset {at[4]}: 3 no end\n"
+            self.same("a condition", (done.stdout, done.stderr.decode(), done.returncode), (wanted, told, 1))
+
     def feed(self, what: str, words: list, steps: list, last: tuple, status: int) -> None:
         """Writes each step to a pipe, and waits for what is to come of it."""
         pipes = dict(stdin=subprocess.PIPE, stdout=subprocess.PIPE, stderr=subprocess.PIPE, bufsize=0)
@@ -254,8 +324,8 @@ class Trial:
         done = subprocess.run([*AUTO, *names], cwd=self.place, env=self.environment, capture_output=True)
         told = (
             b"file 0:offset 0: 1 cut\nfile 1:offset 0: 1 cut\n"
-            b"bufr-auto: 2 messages, the first in file 0 at offset 56: version 41 is later than wmo-39\n"
-            b"bufr-auto: cannot open nosuch\nbufr-auto: cannot read folder: Is a directory\n"
+            b"bufr-auto: 2 messages, the first in file 0 at offset 56: version 41 is later than wmo-39" + NEWER.encode() +
+            b"\nbufr-auto: cannot open nosuch: No such file or directory\nbufr-auto: cannot read folder: Is a directory\n"
         )
         self.same("files", (done.stdout, done.stderr, done.returncode), (b"".join(texts), told, 2))
         for number, text in enumerate(texts):
@@ -295,6 +365,16 @@ class Trial:
 
     def notes(self) -> None:
         """One for each kind, with a count and the first place, and only where such a descriptor is used."""
+        for descriptor, is_local in (("001191", False), ("001192", True), ("047001", False), ("048001", True)):
+            done = self.auto(stream=made(13, descriptor, b"\1", local=102))
+            self.holds(f"{descriptor} is local", (b"there is no wmo-13+98-102" in done.stderr) == is_local, done)
+        edition_3 = bytearray(lib.message(b"\1", lib.words("001192"), edition=3))
+        edition_3[12:14], edition_3[18:20] = b"\7\x62", b"\x0d\x66"
+        done = self.auto(stream=bytes(edition_3))
+        self.holds("edition 3", b"local table 102 of centre 98: there is no wmo-13+98-102" in done.stderr, done)
+        # A sequence of a table that the centre's descriptor is in, and a version that has no set.
+        done = self.auto("--encode", stream=b"message\nmasterversion 999999999\ndescriptors 012101\nsubset 1\nend\n")
+        self.holds("a version of nine digits", done.stderr == b"line 2: 50 line\n", done)
         exact = made(14, LISTS[0], b"\1" * 2) + made(37, LISTS[0], b"\1" * 2)
         stream = exact + made(6, "012073", b"\1\1") + made(6, "012101", b"\1\1") + made(6, "307018", b"") * 2
         stream += made(13, "012101", b"\1\1", local=102) + made(13, "206008 001250", b"\1", local=102)
@@ -304,22 +384,23 @@ class Trial:
         told = [line for line in done.stderr.decode().splitlines() if line.startswith("bufr-auto: ")]
         at = [found.start() for found in re.finditer(b"BUFR", stream)]
         wanted = [
-            f"3 messages, the first at offset {at[2]}: version 6 has some of its descriptors otherwise than wmo-13",
-            f"2 messages, the first at offset {at[8]}: local table 102 of centre 98: there is no wmo-13+98-102",
-            f"1 message, at offset {at[10]}: version 40 is later than wmo-39",
+            f"3 messages, the first at offset {at[2]}: version 6 defines some of its descriptors differently from wmo-13",
+            f"2 messages, the first at offset {at[8]}: local table 102 of centre 98: there is no wmo-13+98-102; to make it",
+            f"1 message, at offset {at[10]}: version 40 is later than wmo-39{NEWER}",
         ]
-        self.holds("notes", told == [f"bufr-auto: {note}" for note in wanted], told)
+        starts = [line[: len(note) + 11] for line, note in zip(told, wanted)]
+        self.holds("notes", len(told) == 3 and starts == [f"bufr-auto: {note}" for note in wanted], told)
         self.holds("no notes", self.auto(stream=exact).stderr == b"", self.auto(stream=exact).stderr)
         stream = b"".join(made(13, "001212", b"\1", centre, 1) for centre in range(1, 1300))
         told = [line for line in self.auto(stream=stream).stderr.decode().splitlines() if line.startswith("bufr-auto: ")]
-        rest = "bufr-auto: 299 messages, the first at offset 48000: no set serves these exactly, for other reasons"
+        rest = "bufr-auto: 299 messages, the first at offset 48000: no set matches these exactly, for other reasons"
         self.holds("kinds of notes", (len(told), told[-1]) == (1001, rest), (len(told), told[-1]))
         refused = made(41, "012101", b"\1\1").replace(b"\0\0\x16", b"\0\0\x15", 1)
         done = self.auto(stream=refused)
         self.holds("no note of what is no message", done.stderr == b"offset 0: 11 section 1 short\n", done)
         other = bytearray(made(13, "012101", b"\1\1"))
         other[11] = 10
-        note = b"bufr-auto: 1 message, at offset 0: master table 10 is not WMO's of meteorology\n"
+        note = b"bufr-auto: 1 message, at offset 0: master table 10 is not WMO's table for meteorology\n"
         done = self.auto(stream=bytes(other))
         self.holds("a master table", done.stderr == note, done)
 
@@ -327,16 +408,39 @@ class Trial:
         """Help, the version, and what is mistaken: options, folders of sets, files, the program."""
         for word in ("--help", "-h"):
             done = self.auto(word)
-            self.holds("help", done.returncode == 0 and b"\n    bufr-auto [FILE..]\n" in done.stdout, done)
+            self.holds("help", done.returncode == 0 and b"\n    bufr-auto [--max-length BYTES] [FILE..]\n" in done.stdout, done)
             self.holds("help", b"BUFR_TABLES" in done.stdout and done.stderr == b"", done)
-        version = subprocess.run([self.program, "--version"], capture_output=True).stdout
+        of_program = subprocess.run([self.program, "--version"], capture_output=True).stdout
+        version = b"bufr-auto, with " + of_program.strip() + b", unknown build\n"
         for word in ("--version", "-V"):
-            self.holds("version", self.auto(word).stdout == b"bufr-auto, with " + version, self.auto(word))
+            self.holds("version", self.auto(word).stdout == version, self.auto(word))
         file = str(TOP / "examples/synop.bufr")
-        for words in (["--other"], [file, "--other"], ["-x", file]):
+        for words, why in (
+            (["--other"], "unknown option --other"),
+            ([file, "--other=1"], "unknown option --other"),
+            (["-x", file], "unknown option -x"),
+            (["--encode=1"], "--encode takes no value"),
+            ([file, "--max-length"], "--max-length needs a value"),
+            (["--max-length", "11"], "--max-length '11': expected a whole number, at least 12"),
+            (["--max-length=\u0663\u0663"], "--max-length '\u0663\u0663': expected a whole number, at least 12"),
+            (["--encode", "--max-length=99"], "--max-length is for messages, not for --encode"),
+        ):
             done = self.auto(*words)
-            told = done.stderr.startswith(b"bufr-auto: no option -")
-            self.holds(f"{words} is a usage fault", told and (done.returncode, done.stdout) == (2, b""), done)
+            told = f"bufr-auto: {why}; see bufr-auto --help\n"
+            self.holds(f"{words}", (done.returncode, done.stdout, done.stderr.decode()) == (2, b"", told), done)
+        for words in ([file, "--help"], ["--max-length", "99", "-h"]):
+            self.holds(f"help by {words}", self.auto(*words).stdout == self.auto("--help").stdout)
+        self.holds("a word behind --", self.auto("--", "--help").returncode == 2)
+        done = self.auto("--version", PYTHONIOENCODING="utf-16")
+        self.holds("another encoding", done.stdout == version, done)
+        # Started as a program, it does without what an installation adds to Python.
+        (self.place / "sitecustomize.py").write_text("raise SystemExit(7)")
+        done = subprocess.run([AUTO[1], file], env={**self.environment, "PYTHONPATH": str(self.place)}, capture_output=True)
+        self.holds("started as a program", done.stdout == (TOP / "examples/synop.txt").read_bytes(), done)
+        (self.place / "sitecustomize.py").unlink()
+        for words in (["-"], ["--", "-"]):
+            done = self.auto(*words, stream=pathlib.Path(file).read_bytes())
+            self.holds(f"standard input by {words}", done.stdout == (TOP / "examples/synop.txt").read_bytes(), done)
         shutil.copy(file, self.place / "-dashed")
         done = subprocess.run([*AUTO, "--", "-dashed"], cwd=self.place, env=self.environment, capture_output=True)
         self.holds("a name with a dash", done.stdout == (TOP / "examples/synop.txt").read_bytes(), done)
@@ -346,7 +450,8 @@ class Trial:
             ("there is no folder /nosuch, which BUFR_TABLES names", [file], {"BUFR_TABLES": "/nosuch"}),
             (f"there is no folder {file}, which BUFR_TABLES names", [file], {"BUFR_TABLES": file}),
             (f"{empty} has no set of tables such as wmo-39", [file], {"BUFR_TABLES": str(empty)}),
-            ("cannot open nosuch", ["nosuch"], {}),
+            ("cannot open nosuch: No such file or directory", ["nosuch"], {}),
+            ("cannot open '': No such file or directory", [""], {}),
             ("cannot run /nosuch: No such file or directory", [file], {"BUFR": "/nosuch"}),
         ):
             done = self.auto(*words, **environment)
@@ -411,7 +516,7 @@ class Trial:
         # What a child gives is not whole, and it says nothing of that.
         other.write_text(f'#!/bin/sh\n"{self.program}" "$@" | head -c 3000\n')
         done = self.auto(stream=made(13, LISTS[1], b"\1\1\0") * 9 + made(39, LISTS[1], b"\1\1\0"), BUFR=str(other))
-        told = b"bufr-auto: cannot go on: bufr gave less than it was to give\n"
+        told = b"bufr-auto: bufr wrote less than it should; output is incomplete\n"
         self.holds("a text that is cut", (done.returncode, done.stderr) == (2, told), done)
         ignoring = "import os, signal, sys; signal.signal(signal.SIGCHLD, signal.SIG_IGN); os.execv(sys.argv[1], sys.argv[1:])"
         words = [sys.executable, "-c", ignoring, *AUTO, str(TOP / "examples/synop.bufr")]
@@ -475,6 +580,8 @@ def main() -> None:
         trial.stops()
         trial.encodes()
         trial.feeds()
+        trial.lengths()
+        trial.conditions()
         trial.files()
         trial.no_message()
         trial.notes()

@@ -29,6 +29,7 @@ TABLE_D = """\
            012101
  301250  1 001213
 """
+ASK = "no source of it is known: ask centre {} (WMO's Common Code Table C-11 has its name)\n"
 TEXT = """\
 message
 edition 4
@@ -64,6 +65,69 @@ def made(version: int, local: int, centre: int, descriptors: str, data: bytes) -
     return lib.asking(lib.message(data, lib.words(descriptors)), version, local, centre)
 
 
+def of_eccodes(tables: pathlib.Path, centre: int, local: int) -> str:
+    """The advice for a centre's tables that Debian's ecCodes has, installed or not."""
+    folder = f"/usr/share/eccodes/definitions/bufr/tables/0/local/{local}/{centre}/0"
+    debian = "" if pathlib.Path(folder).exists() else ", install libeccodes-data (Debian), then"
+    return f"to make it{debian}: {TOP}/tables/convert.py {tables}+{centre}-{local} {tables} {folder}\n"
+
+
+def of_definitions(place: pathlib.Path, script, holds) -> None:
+    """The command that a note gives, run by a shell, makes the set of ecCodes' definitions; then the message is dumped."""
+    folder = place / "definitions/bufr/tables/0/local/5/7/0"
+    folder.mkdir(parents=True)
+    (folder / "element.table").write_text("#code|..\n063255|a|long|MADE UP|Numeric|0|0|8\n")
+    (folder / "sequence.def").write_text('"363001" = [ 063255 ]\n')
+    errors = script("bufr-lacks", made(19, 8, 78, "063255", b""))[2]
+    wanted = f"bufr-lacks: there is no wmo-37+78-8; {of_eccodes(place / 'tables/wmo-37', 78, 8)}"
+    holds("what ecCodes has", errors, wanted)
+    message = made(17, 5, 7, "363001", b"\3")
+    for name in ("bufr-auto", "bufr-lacks"):
+        _, _, errors = script(name, message * 2)
+        [note] = [line for line in errors.splitlines() if line.startswith(name)]
+        command = note.partition("; to make it: ")[2]
+        holds(f"the command of {name}", subprocess.run(command, shell=True, stderr=subprocess.STDOUT).returncode, 0)
+        status, output, errors = script("bufr-auto", message)
+        holds(f"a dump after the command of {name}", (status, "063255 3 " in output, errors), (0, True, ""))
+        holds("what is missing then", script("bufr-lacks", message), (0, "", ""))
+        unknown = script("bufr-lacks", made(17, 5, 7, "063254", b"\3"))[2]
+        holds("a set without a row", unknown, "bufr-lacks: wmo-17+7-5; it lacks some rows: ask centre 7 for its tables\n")
+        shutil.rmtree(place / "tables/wmo-17+7-5")
+
+
+def versions_and_editions(script, holds) -> None:
+    """Whose set serves a version that is later than all, and where the list of descriptors begins in each edition."""
+    holds("of a later version", script("bufr-lacks", made(41, 0, 98, "013164", b"\1")), (0, "", ""))
+    wanted = "1 message of centre 98/0, tables 0/41/0, lacks 001255\n"
+    newer = "bufr-lacks: there is no wmo-41; WMO publishes newer tables (wmo-im/BUFR4 on GitHub), which tables/convert.py converts\n"
+    holds("a row of a later version", script("bufr-lacks", made(41, 0, 98, "001191", b"\1")), (1, wanted.replace("255", "191"), newer))
+    asking = "bufr-lacks: wmo-13 lacks some rows; ask centre 98 by which version it wrote its messages\n"
+    wanted = "1 message of centre 98/0, tables 0/13/0, lacks 013164\n"
+    holds("a row of another version", script("bufr-lacks", made(13, 0, 98, "013164", b"\1")), (1, wanted, asking))
+    for edition, flag in ((3, 15), (4, 17)):
+        message = bytearray(lib.message(b"\1", lib.words("063255"), edition=edition))
+        message[flag] = 0x80
+        end_of_1 = 8 + int.from_bytes(message[8:11], "big")
+        message[end_of_1:end_of_1] = b"\0\0\x08\0" + b"here"
+        message[4:7] = len(message).to_bytes(3, "big")
+        status, output, _ = script("bufr-lacks", bytes(message))
+        holds(f"a section 2 in edition {edition}", (status, output.split()[-2:]), (1, ["lacks", "063255"]))
+
+
+def limits(script, holds) -> None:
+    """At most 1,000 kinds and 50,000 rows are listed, each missing set once, and how many messages are left out."""
+    kinds = b"".join(made(13, 1, centre, "063255", b"") for centre in range(1, 1004)) * 2
+    status, output, errors = script("bufr-lacks", kinds)
+    holds("the kinds that are listed", (status, output.count("\n"), output.count("2 messages")), (1, 1000, 1000))
+    first = "bufr-lacks: messages of further kinds that lack rows: 6; only 1000 kinds are listed"
+    holds("the notes on kinds", (errors.splitlines()[0], errors.count("\n")), (first, 1001))
+    many = " ".join(f"0{x}{y:03}" for x in range(48, 64) for y in range(256))
+    status, output, errors = script("bufr-lacks", b"".join(made(13, 1, centre, many, b"") for centre in range(1, 15)))
+    rows = sum(len(line.partition("lacks")[2].split()) for line in output.splitlines())
+    told = errors.startswith("bufr-lacks: some rows are left out: only 50000 are listed\n")
+    holds("the rows that are listed", (status, rows, told), (1, 50_000, True))
+
+
 def nearest_own_set(tables: pathlib.Path, script, message: bytes, holds) -> None:
     """Of a centre's own sets between a version and WMO's next later one the nearest serves: 10 for version 9."""
     name = "MADE UP: KIND OF BUOY"
@@ -87,6 +151,7 @@ def main() -> None:
     with tempfile.TemporaryDirectory() as folder:
         place = pathlib.Path(folder)
         environment = {**os.environ, "BUFR": program(), "BUFR_TABLES": str(place / "tables")}
+        environment["ECCODES_DEFINITION_PATH"] = f"/nosuch:{place}/definitions"
         shutil.copytree(TOP / "tables", place / "tables")
         (place / "B0000000000098013102.txt").write_text(TABLE_B)
         (place / "D0000000000098013102.txt").write_text(TABLE_D)
@@ -110,10 +175,20 @@ def main() -> None:
         stream = message + made(13, 102, 98, "001212 206008 001250", b"") + b"BUFR" + b"".join(others)
         lines = "2 messages of centre 98/0, tables 0/13/102, lack 001212 301250\n"
         cut = f"offset {stream.index(b'BUFRBUFR')}: 1 cut\n"
-        holds("bufr-lacks", script("bufr-lacks", stream), (1, lines + other_lines, cut))
-        note = "bufr-auto: 1 message, at offset 0: local table 102 of centre 98: there is no wmo-13+98-102\n"
+        tables = place / "tables"
+        debian = "" if WREPORT.exists() else ", install wreport-common (Debian), then"
+        made_by = f"to make it{debian}: {TOP}/tables/convert.py {tables}/wmo-13+98-102 {WREPORT} {tables}/wmo-13"
+        other_notes = (
+            "bufr-lacks: there is no wmo-13+7-102; " + ASK.format(7)
+            + f"bufr-lacks: there is no wmo-13+98-1; {of_eccodes(tables / 'wmo-13', 98, 1)}"
+            + "bufr-lacks: there is no wmo-16+98-102; " + ASK.format(98)
+        )
+        errors = f"{cut}bufr-lacks: there is no wmo-13+98-102; {made_by}\n{other_notes}"
+        holds("bufr-lacks", script("bufr-lacks", stream), (1, lines + other_lines, errors))
+        note = f"bufr-auto: 1 message, at offset 0: local table 102 of centre 98: there is no wmo-13+98-102; {made_by}\n"
         refused = "offset 0: 21 unknown sequence 301250\n"
         holds("bufr-auto before", script("bufr-auto", message), (1, "", refused + note))
+        of_definitions(place, script, holds)
 
         # As tables/README.md says: behind the centre's rows WMO's, which take the place of its old ones.
         words = [TOP / "tables/convert.py", "tables/wmo-13+98-102", "B0000000000098013102.txt", "tables/wmo-13"]
@@ -126,13 +201,13 @@ def main() -> None:
         words = [program(), "encode", "-B", folder / "B.csv", "-D", folder / "D.csv"]
         done = subprocess.run(words, input=TEXT.encode(), capture_output=True)
         holds("encode", done.stdout, message)
-        holds("bufr-lacks behind", script("bufr-lacks", message + b"".join(others)), (1, other_lines, ""))
+        holds("bufr-lacks behind", script("bufr-lacks", message + b"".join(others)), (1, other_lines, other_notes))
         holds("nothing lacks", script("bufr-lacks", message), (0, "", ""))
         told = "bufr-lacks: standard input has no message: it looks like HTML\n"
         holds("no message", script("bufr-lacks", b"<HTML>"), (0, "", told))
         holds("a fault alone", script("bufr-lacks", b"BUFR" + message), (1, "", "offset 0: 1 cut\n"))
         (place / "stream").write_bytes(b"BUFR" + message + b"".join(others))
-        for name, output, errors in (("bufr-lacks", other_lines, ""), ("bufr-auto", TEXT, "offset")):
+        for name, output, errors in (("bufr-lacks", other_lines, "bufr-l"), ("bufr-auto", TEXT, "offset")):
             with open(place / "stream", "rb", buffering=0) as stream:
                 stream.seek(4)
                 words = [sys.executable, TOP / "scripts" / name]
@@ -140,6 +215,13 @@ def main() -> None:
             told = (done.returncode, done.stdout.decode(), done.stderr.decode()[:6])
             holds(f"{name} from octet 4 on", told, (1, output, errors))
         nearest_own_set(place / "tables", script, message_9, holds)
+        versions_and_editions(script, holds)
+        limits(script, holds)
+        # A byte order mark, which `bufr` skips too.
+        for name in ("B.csv", "D.csv"):
+            table = place / "tables/wmo-39" / name
+            table.write_bytes(b"\xef\xbb\xbf" + table.read_bytes())
+        holds("a byte order mark", script("bufr-lacks", (TOP / "examples/synop.bufr").read_bytes()), (0, "", ""))
         status, output, _ = script("bufr-auto", b"".join(others))
         holds("those of others", (status, output), (1, ""))
 

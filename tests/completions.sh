@@ -29,15 +29,27 @@ offers '--form' encode --f
 function=_bufr_scripts program=bufr-auto
 offers '--encode' --e
 offers 'examples/synop.bufr' --encode examples/synop.b
+program=bufr-csv
+offers '-c' -c
+offers '--levels' --l
+offers '' -c ''
+offers 'category=' --where cat
+offers 'examples/synop.bufr' -c 001015 examples/synop.b
 program=bufr-extract
 offers 'tables= time=' t
 offers '' --awk ''
+offers '--max-length' --m
+offers '' --max-length ''
+offers '--awk --max-length --help --version' -
 offers 'examples/synop.bufr' time=2024 examples/synop.b
 program=bufr-parallel
 offers 'dump' d
 offers 'tables/wmo-39/B.csv' -P 2 dump -B tables/wmo-39/B
+offers '-P -B -D --help --version' -
 program=bufr-plot
 offers 'map sounding' ''
+offers '--value --message --subset --help --version' map -
+offers '' map --value ''
 
 command -v zsh > /dev/null || { echo "$0: zsh is not there, its completions are skipped" && exit; }
 # A shell in a terminal of its own types the line and a tab, and is then asked what the line has become.
@@ -53,7 +65,14 @@ zpty -r -m shell line '*shown2:*:*'
 print -r -- ${${line##*shown2:}%%:*}
 zpty -d shell
 END
-for begun in 'bufr encode --form=p' 'bufr encode --form p'; do
-    shown=$(timeout 30 zsh -f "$work/zsh" "$begun") || fail "zsh completes nothing"
-    [ "$shown" = "${begun}lain " ] || fail "zsh makes '$shown' of '$begun'"
-done
+# completes BEGUN REST: zsh completes the line that is begun by the rest.
+completes() {
+    local shown
+    shown=$(timeout 30 zsh -f "$work/zsh" "$1") || fail "zsh completes nothing"
+    [ "$shown" = "$1$2" ] || fail "zsh makes '$shown' of '$1'"
+}
+completes 'bufr encode --form=p' 'lain '
+completes 'bufr encode --form p' 'lain '
+completes 'bufr-csv --l' 'evels '
+completes 'bufr-csv --where categ' 'ory='
+completes 'bufr-csv -c 001015,subce' 'ntre'

@@ -1,6 +1,6 @@
 #!/usr/bin/env python3
-"""Tries scripts/wide.awk and scripts/levels.awk by each awk that is there: rows, and columns that are told or refused;
-rows joined to a listing; and how long they take.
+"""Tests the rows of scripts/table.awk for subsets and levels, with each awk that is installed: columns that are noted or
+refused, rows joined to a listing, and the time.
 
     tests/csv_by_awk.py [PROGRAM]
 """
@@ -17,6 +17,7 @@ import lib
 from awk_scripts import AWKS
 from lib import TABLES, TOP, want
 
+SCRIPT = TOP / "scripts/table.awk"
 # groups in one another, a factor behind a last pass, and an item behind all passes
 NESTED = b"""message
 subset 1
@@ -66,10 +67,10 @@ BEHIND = b"message\nsubset 1\n031001 2\n007004 1\n012101 1.0\n007004 2\n012103 2
 WORDS = ["airTemperature", "01210", "0121011", "412101", "064001", "001256", "012101,x", "012101,", "local1", "optiona"]
 
 
-def run(awk: list, script: str, text: bytes, **variables) -> tuple:
+def run(awk: list, text: bytes, **variables) -> tuple:
     words = [word for name, value in variables.items() for word in ("-v", f"{name}={value}")]
     done = subprocess.run(
-        [*awk, *words, "-f", TOP / "scripts" / script],
+        [*awk, *words, "-f", SCRIPT],
         input=text,
         stdout=subprocess.PIPE,
         stderr=subprocess.PIPE,
@@ -80,26 +81,28 @@ def run(awk: list, script: str, text: bytes, **variables) -> tuple:
 
 def tries_wide(awk: list, text: bytes) -> None:
     head = "message,subset,001002,012101:2,012104\n"
-    told = "wide.awk: no subset has 012101:2\nwide.awk: no subset has 012104\n"
+    told = "table.awk: no row has 012101:2\ntable.awk: no row has 012104\n"
     wanted = (0, head + "1,1,836,,\n1,2,772,,\n1,3,680,,\n", told)
     want(
-        run(awk, "wide.awk", text, columns="001002,012101:2,012104") == wanted,
-        f"{awk}: wide.awk tells no empty columns",
+        run(awk, text, columns="001002,012101:2,012104") == wanted,
+        f"{awk}: empty columns have no note",
     )
-    status, output, errors = run(awk, "wide.awk", ODD, columns="centre,012101,012101:2,001015,001015:2,001015:3")
+    status, output, errors = run(awk, ODD, columns="centre,012101,012101:2,001015,001015:2,001015:3")
     rows = list(csv.reader(output.splitlines()))[1:]
     wanted = ["1", "1", "74", "28.5", "", 'A \\"B\\\\', '\\\\\\\\\\" # \\\\\\"', ""]
-    want((status, rows, errors) == (0, [wanted], ""), f"{awk}: of odd texts wide.awk makes {rows}: {errors}")
+    want((status, rows, errors) == (0, [wanted], ""), f"{awk}: of odd texts there are {rows}: {errors}")
     head = re.findall(rb"^(\w+) (\d+)$", text, re.M)[:20]
-    status, output, errors = run(awk, "wide.awk", text, columns=",".join(key.decode() for key, _ in head))
+    status, output, errors = run(awk, text, columns=",".join(key.decode() for key, _ in head))
     row = output.splitlines()[-1].split(",")
     want(row == ["1", "3", *(value.decode() for _, value in head)], f"{awk}: the header's columns are {row}")
     for word in [*WORDS, "012101:0", "012101:", "012101:x"]:
-        status, output, errors = run(awk, "wide.awk", text, columns=word)
-        want(status == 2 and not output and "no descriptor of six digits" in errors, f"{awk}: wide.awk takes {word}")
-    want(run(awk, "wide.awk", text)[0] == 2, f"{awk}: wide.awk takes no columns")
-    status, _, errors = run(awk, "wide.awk", text[:-4], columns="001001")
-    want((status, errors) == (2, "wide.awk: the text ends inside a message\n"), f"{awk}: a cut text gives {errors}")
+        status, output, errors = run(awk, text, columns=word)
+        want(status == 2 and not output and "no descriptor of six digits" in errors, f"{awk}: it takes {word}")
+    for words in ({"keep": "year", "columns": "012101"}, {"keep": "012101"}, {"levels": "1"}):
+        status, output, _ = run(awk, text, **words)
+        want((status, output) == (2, ""), f"{awk}: it takes {words}")
+    status, _, errors = run(awk, text[:-4], columns="001001")
+    want((status, errors) == (2, "table.awk: the text ends inside a message\n"), f"{awk}: a cut text gives {errors}")
 
 
 class Stream:
@@ -130,26 +133,26 @@ class Stream:
 
 def tries_offsets(awk: list, stream: Stream) -> None:
     files = {"listing": stream.listing, "faults": stream.faults}
-    status, output, errors = run(awk, "wide.awk", stream.text, columns="offset,length", **files)
+    status, output, errors = run(awk, stream.text, columns="offset,length", **files)
     rows = [tuple(row.split(",")) for row in output.splitlines()[1:]]
     wanted = [place for number, place in enumerate(stream.places, 1) if str(number) in {row[0] for row in rows}]
     want((status, errors) == (0, ""), f"{awk}: offsets end with {status}: {errors}")
     want(list(dict.fromkeys(row[2:] for row in rows)) == wanted, f"{awk}: the offsets are {rows}, not {wanted}")
-    status, output, errors = run(awk, "levels.awk", stream.text, keep="offset,year", columns="007004", **files)
+    status, output, errors = run(awk, stream.text, levels="1", keep="offset,year", columns="007004", **files)
     rows = {tuple(row.split(",")[2:4]) for row in output.splitlines()[1:]}
     want((str(stream.sounding), "2023") in rows and status == 0, f"{awk}: levels have offsets {rows}: {errors}")
-    for script, columns in (("wide.awk", {"columns": "length"}), ("levels.awk", {"keep": "offset", "columns": "007004"})):
+    for columns in ({"columns": "length"}, {"levels": "1", "keep": "offset", "columns": "007004"}):
         for given, told in [
             ({}, "offset and length need the files"),
             ({"listing": stream.listing}, "offset and length need the files"),
             ({"listing": stream.listing, "faults": stream.empty}, "the listing has more messages than the text"),
             ({"listing": stream.empty, "faults": stream.faults}, "the text has more messages than the listing"),
-            ({"listing": stream.faults, "faults": stream.faults}, "is no listing"),
+            ({"listing": stream.faults, "faults": stream.faults}, "is not a listing by bufr ls"),
             ({"listing": "nosuch", "faults": stream.faults}, "cannot read nosuch"),
             ({"listing": stream.listing, "faults": "nosuch"}, "cannot read nosuch"),
         ]:
-            status, _, errors = run(awk, script, stream.text, **columns, **given)
-            want(status == 2 and told in errors, f"{awk}: {script} with {given} ends with {status}: {errors}")
+            status, _, errors = run(awk, stream.text, **columns, **given)
+            want(status == 2 and told in errors, f"{awk}: {columns} with {given} ends with {status}: {errors}")
 
 
 def seconds(words: list, path: pathlib.Path) -> float:
@@ -169,74 +172,73 @@ def tries_speed(awk: list, text: bytes, folder: pathlib.Path) -> None:
     path = folder / "text"
     path.write_bytes(text * (16_000_000 // len(text)))
     least = seconds([*awk, '$1 == "012101" { count++ } END { print count }'], path)
-    for script, columns, most in [
-        ("wide.awk", ["columns=001001,001002,012101"], 2),
-        ("levels.awk", ["keep=001001", "columns=007004,012101,012103"], 4),
+    for columns, most in [
+        (["columns=001001,001002,012101"], 2),
+        (["levels=1", "keep=001001", "columns=007004,012101,012103"], 4),
     ]:
         words = [word for column in columns for word in ("-v", column)]
-        spent = seconds([*awk, *words, "-f", TOP / "scripts" / script], path)
-        want(spent < most * least, f"{awk}: {script} takes {spent / least:.1f} times as long as a count, over {most}")
+        spent = seconds([*awk, *words, "-f", SCRIPT], path)
+        want(spent < most * least, f"{awk}: {columns} takes {spent / least:.1f} times as long as a count, over {most}")
 
 
 def tries_levels(awk: list, sounding: bytes, synop: bytes) -> None:
     status, output, errors = run(
-        awk, "levels.awk", sounding, keep="001002", columns="007004,010009,012101,012103,011002"
+        awk, sounding, levels="1", keep="001002", columns="007004,010009,012101,012103,011002"
     )
     rows = list(csv.reader(output.splitlines()))
-    want((status, errors, len(rows)) == (0, "", 29), f"{awk}: levels.awk gives {len(rows)} rows: {errors}")
+    want((status, errors, len(rows)) == (0, "", 29), f"{awk}: there are {len(rows)} rows: {errors}")
     want(rows[1] == "1,1,836,98520,179,258.55,256.65,1.0".split(","), f"{awk}: the first level is {rows[1]}")
     want(rows[-1] == "1,1,836,3000,23115,210.15,,".split(","), f"{awk}: the last level is {rows[-1]}")
     head = "message,subset,001015,007004,011061\n"
-    wanted = (0, head + "1,1,,31800,6.4\n", "levels.awk: no row has 001015\n")
+    wanted = (0, head + "1,1,,31800,6.4\n", "table.awk: no row has 001015\n")
     want(
-        run(awk, "levels.awk", sounding, keep="001015", columns="007004,011061") == wanted,
+        run(awk, sounding, levels="1", keep="001015", columns="007004,011061") == wanted,
         f"{awk}: the wind shear is another",
     )
-    status, output, errors = run(awk, "levels.awk", synop, keep="year,001015", columns="020012,020011")
+    status, output, errors = run(awk, synop, levels="1", keep="year,001015", columns="020012,020011")
     wanted = "message,subset,year,001015,020012,020011\n"
     wanted += "".join(f"1,{row}\n" for row in ['2,2023,"HEATHROW",7,2', '2,2023,"HEATHROW",8,5', '2,2023,"HEATHROW",5,8'])
     wanted += '1,3,2023,"SAENTIS",3,1\n1,3,2023,"SAENTIS",6,8\n'
-    told = "levels.awk: subsets without such a level: 1, the first is message 1 subset 1\n"
+    told = "table.awk: subsets without such a level: 1, the first is message 1 subset 1\n"
     want((status, output, errors) == (0, wanted, told), f"{awk}: the clouds are {output}: {errors}")
     # an item behind a group of two passes or more belongs to none of them
     rows = "message,subset,012101,007004,012101,011001\n1,1,1.0,100,5.0,1\n1,1,1.0,200,,\n1,1,1.0,300,7.0,\n"
     rows += "1,1,1.0,400,9.0,\n1,1,1.0,500,9.5,\n"
-    nested = run(awk, "levels.awk", NESTED, keep="012101", columns="007004,012101,011001")
+    nested = run(awk, NESTED, levels="1", keep="012101", columns="007004,012101,011001")
     want(nested == (0, rows, ""), f"{awk}: nested groups give {nested}")
-    behind = run(awk, "levels.awk", NESTED, columns="007004,012103")
-    told = "levels.awk: no row has 007004\nlevels.awk: no row has 012103\n"
-    told += "levels.awk: subsets without such a level: 1, the first is message 1 subset 1\n"
+    behind = run(awk, NESTED, levels="1", columns="007004,012103")
+    told = "table.awk: no row has 007004\ntable.awk: no row has 012103\n"
+    told += "table.awk: subsets without such a level: 1, the first is message 1 subset 1\n"
     wanted = (0, "message,subset,007004,012103\n", told)
     want(behind == wanted, f"{awk}: an item behind all passes is in a row: {behind}")
-    behind = run(awk, "levels.awk", BEHIND, columns="007004,012101,012103")
+    behind = run(awk, BEHIND, levels="1", columns="007004,012101,012103")
     wanted = (0, "message,subset,007004,012101,012103\n1,1,1,1.0,\n1,1,2,,2.0\n", "")
     want(behind == wanted, f"{awk}: an item behind two passes is in a row: {behind}")
     # passes that cannot be told apart, between others: the rest is given
     both = BEHIND[:-4] + b"".join((ENCLOSED % 3).splitlines(True)[2:])
     between = both + NESTED + ENCLOSED % 2 + ODD + NESTED
-    status, output, errors = run(awk, "levels.awk", between, columns="007004,012101")
-    told = "levels.awk: subsets without such a level: 1, the first is message 4 subset 1\n"
-    told += "levels.awk: subsets with a descriptor twice in a level: 2, the first is message 1 subset 1: 008002\n"
+    status, output, errors = run(awk, between, levels="1", columns="007004,012101")
+    told = "table.awk: subsets without such a level: 1, the first is message 4 subset 1\n"
+    told += "table.awk: subsets with a descriptor twice in a level: 2, the first is message 1 subset 1: 008002\n"
     want((status, errors) == (1, told), f"{awk}: passes that cannot be told apart give {status}, {errors}")
     rows = [line.split(",")[0] for line in output.splitlines()[1:]]
     want(rows == ["2"] * 5 + ["5"] * 5, f"{awk}: beside passes that cannot be told apart there are {output}")
     # three passes, of which the second has lines that are no items
     head, one, rest = (b"".join(ODD.splitlines(True)[part]) for part in (slice(6), slice(6, 10), slice(10, None)))
     odd = head + b"031001 3\n" + one + b"\n# a note\n" + one + one + rest
-    status, output, errors = run(awk, "levels.awk", odd, keep="centre", columns="012101,001015")
+    status, output, errors = run(awk, odd, levels="1", keep="centre", columns="012101,001015")
     rows = list(csv.reader(output.splitlines()))[1:]
     wanted = (0, [["1", "1", "74", "28.5", 'A \\"B\\\\']] * 3, "")
-    want((status, rows, errors) == wanted, f"{awk}: of odd texts levels.awk makes {rows}: {errors}")
-    status, _, errors = run(awk, "levels.awk", NESTED[:-4], columns="007004")
-    want((status, errors) == (2, "levels.awk: the text ends inside a message\n"), f"{awk}: a cut text gives {errors}")
+    want((status, rows, errors) == wanted, f"{awk}: of odd texts the levels are {rows}: {errors}")
+    status, _, errors = run(awk, NESTED[:-4], levels="1", columns="007004")
+    want((status, errors) == (2, "table.awk: the text ends inside a message\n"), f"{awk}: a cut text gives {errors}")
     for word in WORDS:
         for names in ({"columns": word}, {"keep": word, "columns": "007004"}):
-            status, output, errors = run(awk, "levels.awk", sounding, **names)
+            status, output, errors = run(awk, sounding, levels="1", **names)
             want(
                 status == 2 and not output and "no descriptor of six digits" in errors,
-                f"{awk}: levels.awk takes {names}",
+                f"{awk}: levels take {names}",
             )
-    want(run(awk, "levels.awk", sounding)[0] == 2, f"{awk}: levels.awk takes no columns")
 
 
 def main() -> None:

@@ -6,8 +6,8 @@
 A fenced block whose first line begins with `$ ` has commands: each line that begins so, with the lines after it that
 begin with `> `. Below a command stands what it writes, both outputs as one. There a line `...` stands for any lines,
 and a line `(status N)` at the end for a status other than 0. All commands of a document run one after another in one
-shell. They begin in an empty folder, with `bufr` on the path and links to examples/, scripts/ and tables/: those of the
-repository, or of the installation that has the document. A block whose fence ends in `if=WORD` is skipped where neither
+shell. They begin in an empty folder, with `bufr` and the scripts on the path and links to examples/, scripts/ and
+tables/: those of the repository, or of the installation that has the document. A block whose fence ends in `if=WORD` is skipped where neither
 a program nor a module of python3 has that name.
 """
 import os
@@ -53,35 +53,45 @@ def alike(wanted: list, said: list) -> bool:
     return re.fullmatch(pattern, "".join(line + "\n" for line in said)) is not None
 
 
+def typed(told: list, folder: pathlib.Path, environment: dict, timeout: int = 300) -> list:
+    """Types commands one after another in one shell, in a folder. Returns those that say something else than is wanted,
+    each with its number; where nothing is wanted, a command may say anything, but has to end with status 0."""
+    wrong = []
+    with tempfile.TemporaryDirectory() as place:
+        kept, script = pathlib.Path(place), ["export LC_ALL=C.UTF-8"]
+        for number, words, _ in told:
+            (kept / f"{number}.sh").write_text("\n".join(words) + "\n")
+            script.append(f'. "{kept}/{number}.sh" > "{kept}/{number}.out" 2>&1 < /dev/null')
+            script.append(f'echo $? > "{kept}/{number}.status"')
+        subprocess.run(["bash", "-c", "\n".join(script)], cwd=folder, env=environment, timeout=timeout)
+        for number, words, wanted in told:
+            said = (kept / f"{number}.out").read_text(encoding="utf-8", errors="replace").splitlines()
+            status = (kept / f"{number}.status").read_text().strip()
+            said += [f"(status {status})"] * (status != "0")
+            if status != "0" if wanted is None else not alike(wanted, said):
+                wrong.append(f"{number}: {words[0]}\nsays\n" + "\n".join(said[-40:]))
+    return wrong
+
+
 def wrongs(path: pathlib.Path) -> list:
     """Runs a document's commands. Returns those that say something else."""
     top = next(folder for folder in path.parents if (folder / "examples").is_dir())
-    doc, told, wrong = path.relative_to(top), [], []
+    doc, told = path.relative_to(top), []
     for first, needs, lines in blocks(path.read_text(encoding="utf-8")):
         if needs and not is_there(needs):
             print(f"docs_commands: {doc}:{first}: skipped, {needs} is not there")
         else:
             told += commands(first, lines)
     with tempfile.TemporaryDirectory() as place:
-        folder, kept = pathlib.Path(place) / "run", pathlib.Path(place) / "kept"
-        folder.mkdir(), kept.mkdir(), (kept / "bin").mkdir()
-        (kept / "bin/bufr").symlink_to(program())
+        folder, programs = pathlib.Path(place) / "run", pathlib.Path(place) / "bin"
+        folder.mkdir(), programs.mkdir()
+        (programs / "bufr").symlink_to(program())
+        for script in (top / "scripts").glob("bufr-*"):
+            (programs / script.name).symlink_to(script)
         for name in ("examples", "scripts", "tables"):
             (folder / name).symlink_to(top / name)
-        script = ["export LC_ALL=C.UTF-8"]
-        for number, words, _ in told:
-            (kept / f"{number}.sh").write_text("\n".join(words) + "\n")
-            script.append(f'. "{kept}/{number}.sh" > "{kept}/{number}.out" 2>&1 < /dev/null')
-            script.append(f'echo $? > "{kept}/{number}.status"')
-        environment = {**os.environ, "PATH": f"{kept}/bin:{os.environ['PATH']}"}
-        subprocess.run(["bash", "-c", "\n".join(script)], cwd=folder, env=environment, timeout=300)
-        for number, words, wanted in told:
-            said = (kept / f"{number}.out").read_text(encoding="utf-8", errors="replace").splitlines()
-            status = (kept / f"{number}.status").read_text().strip()
-            said += [f"(status {status})"] * (status != "0")
-            if not alike(wanted, said):
-                wrong.append(f"{doc}:{number}: {words[0]}\nsays\n" + "\n".join(said[:40]))
-    return wrong
+        environment = {**os.environ, "PATH": f"{programs}:{os.environ['PATH']}"}
+        return [f"{doc}:{wrong}" for wrong in typed(told, folder, environment)]
 
 
 if __name__ == "__main__":

@@ -146,15 +146,17 @@ def scripts() -> None:
         words = [sys.executable, TOP / "scripts" / name, "--help"]
         done = subprocess.run(words, stdout=subprocess.PIPE, env={**os.environ, "BUFR": program()})
         told = re.sub(r"bufr dump .*\|", "", done.stdout.decode())  # options of `bufr` in an example
-        options = set(re.findall(r"(?<![\w-])(--?[A-Za-z]\w*)", told)) - {"-h", "-V"} | {"--help", "--version"}
+        options = set(re.findall(r"(?<![\w-])(--?[A-Za-z][\w-]*)", told)) - {"-h", "-V"} | {"--help", "--version"}
         path = TOP / "man" / f"{name}.1"
         page = path.read_text(encoding="utf-8") if path.exists() else ""
-        told = {f"-{word}" for item in re.findall(r"^\.It Fl (.*)$", page, re.M) for word in re.findall(r"-?[A-Za-z]\w*", item)}
+        told = {f"-{word}" for item in re.findall(r"^\.It Fl (.*)$", page, re.M) for word in re.findall(r"-?[A-Za-z][\w-]*", item)}
         want(options <= told, f"man/{path.name}: it has no {sorted(options - told)}")
         want(f".Xr {name} 1" in read("man/bufr.1"), f"man/bufr.1: {name} is not among the other pages")
         of_zsh = re.search(rf"^        {name}\)(.*?);;$", zsh, re.M | re.S)
-        offered = of_zsh[1].replace("$tables", zsh.partition("tables=(")[2].partition("\n")[0]) if of_zsh else ""
-        offered = set(re.findall(r"'\*?(--?\w+)\[", offered))
+        offered = of_zsh[1] if of_zsh else ""
+        for variable in ("tables", "longest"):
+            offered = offered.replace(f"${variable}", zsh.partition(f" {variable}=")[2].partition("\n")[0])
+        offered = set(re.findall(r"'\*?(--?[\w-]+)\[", offered))
         want(offered == options - {"--help", "--version"}, f"completions/_bufr_scripts: {name} has {sorted(offered)}")
         completing = f". completions/bufr-scripts.bash; COMP_WORDS=({name} -) COMP_CWORD=1; complete -p {name}; _bufr_scripts"
         done = subprocess.run(
@@ -247,8 +249,8 @@ def clauses_of_proof() -> None:
     tables = re.findall(r"^\| [^|]* \| (?:calls and clauses|where|contract) \|.*\n\|-.*\n((?:\|.*\n)+)", page, re.M)
     want(len(tables) == 3, "docs/proof.md: not three tables have calls and clauses")
     sources = "\n".join(path.read_text(encoding="utf-8") for path in TOP.glob("crates/*/src/*.rt"))
-    for block in re.findall(r"^```\n(.*?)^```$", page, re.M | re.S):
-        want(" ".join(block.split()) in " ".join(sources.split()), f"docs/proof.md: in no crate is {block}")
+    for language, block in re.findall(r"^```(\w*)\n(.*?)^```$", page, re.M | re.S):
+        want(language != "" or " ".join(block.split()) in " ".join(sources.split()), f"docs/proof.md: in no crate is {block}")
     for row in "".join(tables).splitlines():
         cell = row.split(" | ")[1].rstrip(" |")
         for text in [re.sub(r"\([^()]*\)", "", cell), *re.findall(r"\(([^()]*)\)", cell)]:

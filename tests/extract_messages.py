@@ -22,6 +22,7 @@ import lib
 from lib import TOP, want
 
 EXTRACT = TOP / "scripts/bufr-extract"
+SYNOP = TOP / "examples/synop.bufr"
 HEADING = b"\x01\r\r\n123\r\r\nISMD01 EDZW 221200\r\r\n"
 
 
@@ -50,19 +51,36 @@ CONDITIONS = [
     (["--awk", 'value["length"] > 56 && $6 ~ /=[34]\\//'], lambda n, m: len(m) > 56 and n % 5 > 2),
     (["--awk", "/ category=4/", "centre=74"], lambda n, m: n % 5 == 4 and n // 5 % 2 == 1),
 ]
-# words that are refused with status 2, and what is told
+# words that are refused with status 2, and part of the message
 REFUSED = [
-    (["categori=0"], "no key categori"),
-    (["category=land"], "no value of a listing"),
-    (["category="], "no value of a listing"),
-    (["--awk", "1)"], "awk does not take the condition"),
-    (["--awk", ""], "--awk without a condition would take nothing"),
-    (["--awk", " # length"], "--awk without a condition would take nothing"),
-    (["--awk", ";\n# one\n\n  # other\n"], "--awk without a condition would take nothing"),
-    (["--all"], "no option --all"),
-    (["one", "two"], "one file a call"),
+    (["categori=0"], "unknown key categori in 'categori=0'"),
+    (["category=land"], "'category=land' has a value that no listing has"),
+    (["category="], "has a value that no listing has"),
+    (["category", SYNOP], "category has no value: write category=VALUE"),
+    ([SYNOP, "time"], "time has no value: write time=VALUE"),
+    (["--awk", "1)"], "awk does not accept the condition 1)"),
+    (["--awk", ""], "--awk needs a condition that is not empty"),
+    (["--awk", " # length"], "--awk needs a condition that is not empty"),
+    (["--awk", ";\n# one\n\n  # other\n"], "--awk needs a condition that is not empty"),
+    (["--awk"], "--awk needs a value"),
+    (["--max-length", "11"], "--max-length '11': expected a whole number, at least 12"),
+    (["--all"], "unknown option --all"),
+    (["one", "two"], "only one file: use cat one two | bufr-extract"),
     (["nosuch"], "cannot open nosuch"),
     (["/"], "read failed"),
+]
+# Conditions of awk that do more than select lines.
+NO_CONDITIONS = [
+    "1;1",
+    '$0 = "offset=5 length=3"',
+    '$2 = "length=54"',
+    '$2 = "length=99999999"',
+    '$1 = "offset=99999999999999999999"',
+    "$0 = $0 \"\\r\"",
+    "{ lines = $0 \"\\n\" lines } END { printf \"%s\", lines }",
+    '{ printf "%s", $0 }',
+    '{ printf "x" }',
+    '{ while (1) printf "%s", "x" }',
 ]
 
 
@@ -105,6 +123,26 @@ def refuses_what_it_cannot(path: pathlib.Path) -> None:
         want(
             done.returncode == 2 and not done.stdout and told in done.stderr.decode(), f"{words} is told {done.stderr}"
         )
+    path.write_bytes(made(1) * 2)
+    for condition in NO_CONDITIONS:
+        for name, done in (
+            ("a file", run(["--awk", condition, path], timeout=60)),
+            ("a pipe", run(["--awk", condition], input=path.read_bytes(), timeout=60)),
+        ):
+            lines = done.stderr.decode().splitlines()
+            told = "a line of the listing is over 1 MB long" if "while" in condition else "--awk printed or changed a line"
+            is_refused = done.returncode == 2 and done.stdout in (b"", made(1)) and len(lines) == 1 and told in lines[0]
+            want(is_refused, f"--awk '{condition}' over {name}: {done}")
+    done = run(["--awk", 'NR == 2 { print last } { last = $0; next }', path])
+    want((done.returncode, done.stdout) == (0, made(1)), f"a line that awk selects later is refused: {done}")
+    done = run(["--awk", "NR == 2 { exit 2 } 1", path])
+    want((done.returncode, done.stdout) == (2, made(1)), f"an awk that fails is no failure: {done}")
+    killed = path.with_name("killed")
+    killed.write_text('#!/bin/sh\nprintf "offset=0 length=5"\nkill -9 $$\n')
+    killed.chmod(0o755)
+    done = run(["category!=9", path], env={**os.environ, "BUFR": str(killed)})
+    is_told = b"bufr was killed (signal 9)" in done.stderr
+    want(done.returncode == 2 and not done.stdout and is_told, f"of a line that is cut something is taken: {done}")
     path.write_bytes(made(1))
     with open("/dev/full", "wb") as full:
         done = run([path], stdout=full)
@@ -129,22 +167,27 @@ def tells_years_of_the_century(folder: pathlib.Path) -> None:
     path = folder / "years.bufr"
     path.write_bytes(b"".join(messages.values()))
     first, second, next_year, whole, of_14, whole_next = dates
+    two_digits = "whose years have two digits"
     for words, taken, told in (
-        (["time=2014"], [whole], "2 messages of edition 3, which has years of the century: time=2014,0014 takes both"),
-        (["time=2014-06"], [], "1 message of edition 3, which has years of the century: time=2014-06,0014-06 takes both"),
+        (["time=2014"], [whole], f"2 edition 3 messages, {two_digits}: time=2014,0014 takes both editions"),
+        (["time=2014-06"], [], f"1 edition 3 message, {two_digits}: time=2014-06,0014-06 takes both editions"),
         (["time=2014,0014"], [first, second, whole, of_14], ""),
         (["time=2014,0014-05"], [first, whole, of_14], ""),
         (["time=2015", "edition=4"], [whole_next], ""),
         (["time=2013"], [], ""),
         (["time=0014", "edition=3"], [first, second], ""),
-        (["time=2014,0015", "time=2015,0014"], [], "3 messages of edition 3"),
+        (
+            ["time=2014,0015", "time=2015,0014"],
+            [],
+            f"3 edition 3 messages, {two_digits}: time=2014,0015,0014,0015 takes both editions",
+        ),
         (["time!=2014,0014"], [next_year, whole_next], ""),
     ):
         done = run([*words, path])
         wanted = b"".join(messages[date] for date in taken)
         want((done.returncode, done.stdout) == (0, wanted), f"{words} takes other messages")
-        told = f"bufr-extract: left out {told}" if told else ""
-        want(done.stderr.decode().startswith(told) and bool(done.stderr) == bool(told), f"{words} is told {done.stderr}")
+        told = f"bufr-extract: left out {told}\n" if told else ""
+        want(done.stderr.decode() == told, f"{words} prints {done.stderr}")
 
 
 def tells_that_there_is_no_message(path: pathlib.Path) -> None:
@@ -163,6 +206,58 @@ def tells_that_there_is_no_message(path: pathlib.Path) -> None:
                 lines = done.stderr.decode().splitlines()
                 wanted = [] if told is None else [f"bufr-extract: {name} has no message{told}"]
                 want((done.returncode, lines[status:]) == (status, wanted), f"{words} of {octets[:9]}: {done}")
+
+
+def ignores_the_locale(folder: pathlib.Path) -> None:
+    """A condition means the same in every locale: gawk counts characters, or bytes in the locale C."""
+    gawk = shutil.which("gawk")
+    if not gawk:
+        print("extract_messages: skipped, gawk is not there to try a locale")
+        return
+    (folder / "awk").symlink_to(gawk)
+    (folder / "one").write_bytes(made(1))
+    environment = {**os.environ, "PATH": f"{folder}:{os.environ['PATH']}", "LC_ALL": "C.UTF-8"}
+    done = run(["--awk", 'length("\u00e9") == 2', folder / "one"], env=environment)
+    want(done.stdout == made(1), f"a condition depends on the locale: {done}")
+
+
+def skips_what_is_too_long(folder: pathlib.Path) -> None:
+    """With --max-length a message that declares more is skipped with a note, and reading continues in it."""
+    inner, stray = made(3), b"BUFR\xff\xff\xff\x04"
+    longer = lib.message(inner, lib.words("205056"))
+    octets = made(1) + HEADING + longer + stray + made(2) + longer[:-4]
+    first, second = len(made(1) + HEADING), len(made(1) + HEADING + longer)
+    limit = len(made(6))
+    want(len(longer) > limit >= max(map(len, (made(1), made(2), inner))), "the made messages have other lengths")
+    last = second + len(stray + made(2))
+    notes = [(first, len(longer)), (second, 0xFFFFFF), (last, len(longer))]
+    told = [f"bufr-extract: offset {offset}: skipped a message that declares {length} bytes" for offset, length in notes]
+    path = folder / "longer"
+    path.write_bytes(octets)
+    for words, taken in (([], [1, 3, 2, 3]), (["centre=98"], [1, 3, 2, 3]), (["--awk", 'value["subsets"] != 3'], [1, 3, 3])):
+        words = [*words, "--max-length", str(limit)]
+        for name, done in (("a file", run([*words, path])), ("a pipe", run(words, input=octets))):
+            want(done.stdout == b"".join(map(made, taken)), f"{words} of {name}: other messages")
+            want((done.returncode, done.stderr.decode().splitlines()) == (1, told), f"{words} of {name}: {done}")
+    whole = run(["--max-length", "16777215", path])
+    want(whole.stdout == run([path]).stdout != b"", "a high limit changes what is taken")
+    want(run([f"--max-length={len(made(1))}", "-"], input=made(1)).returncode == 0, "a message as long as the limit is skipped")
+    with subprocess.Popen(
+        [sys.executable, EXTRACT, "--max-length", "1000"],
+        stdin=subprocess.PIPE,
+        stdout=subprocess.PIPE,
+        stderr=subprocess.PIPE,
+        bufsize=0,
+    ) as feed:
+        feed.stdin.write(stray)
+        note = b"bufr-extract: offset 0: skipped a message that declares 16777215 bytes\n"
+        is_there = select.select([feed.stderr], [], [], 20)[0]
+        want(is_there and feed.stderr.read(1 << 16) == note, "the note of a live feed waits")
+        feed.stdin.write(made(1))
+        is_there = select.select([feed.stdout], [], [], 20)[0]
+        want(is_there and feed.stdout.read(1 << 16) == made(1), "a stray delays a live feed")
+        feed.stdin.close()
+        want(feed.wait() == 1, "a live feed with a stray ends otherwise")
 
 
 def serves_a_feed(folder: pathlib.Path) -> None:
@@ -223,6 +318,8 @@ def main() -> None:
         refuses_what_it_cannot(folder / "one.bufr")
         tells_years_of_the_century(folder)
         tells_that_there_is_no_message(folder / "none")
+        ignores_the_locale(folder)
+        skips_what_is_too_long(folder)
         serves_a_feed(folder)
         takes_at_most_three_times_as_long(program, folder)
 

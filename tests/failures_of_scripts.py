@@ -131,6 +131,9 @@ def memory(trial: Trial) -> None:
     words = [sys.executable, "-c", code, trial.words[1], TOP / "scripts"]
     while subprocess.run(words, stderr=subprocess.DEVNULL, preexec_fn=functools.partial(limit_memory, least)).returncode:
         least += 1
+        if least > 200:
+            holds(f"{trial.name}: a module that Python can load", False)
+            return
     for megabytes in [*range(least + 2, least + 24, 2), 150]:
         done = trial.run([stream], limits={resource.RLIMIT_AS: megabytes << 20})
         is_whole = (done.returncode, done.stdout, done.stderr) == (1, whole.stdout, whole.stderr)
@@ -160,7 +163,7 @@ def room(trial: Trial) -> None:
         trial.fails("no room", done)
         holds(f"{trial.name}, no room: a prefix", whole.stdout.startswith(done.stdout), done.stdout[-300:])
     if trial.name in ("bufr-extract", "bufr-parallel", "bufr-lacks"):
-        told = f"{trial.name}: no room in {trial.place} (TMPDIR)\n"
+        told = f"{trial.name}: no room in {trial.place}; set TMPDIR to another folder\n"
         holds(f"{trial.name}: no room", done.stderr.decode() == told, done)
 
 
@@ -194,26 +197,49 @@ def shorter(trial: Trial) -> None:
 def killed(trial: Trial) -> None:
     """A program that is killed, ends otherwise than `bufr`, or with 2 and no word."""
     for command in ("ls", "dump"):
-        for how, told in (("kill -9 $$", "137"), ("exit 3", "3"), ("exit 127", "127"), ("exit 2", "2")):
+        stopped = "bufr stopped with status {}; output is incomplete".format
+        killed = "bufr was killed (signal 9); output is incomplete"
+        for how, told in (
+            ("kill -9 $$", killed), ("exit 3", stopped(3)), ("exit 127", stopped(127)), ("exit 2", stopped(2))
+        ):
             for moment in ("before", "behind"):
                 begin = "" if moment == "before" else f'{program()} "$@"; '
                 done = trial.run([SYNOP], environment=trial.program(f'if [ "$1" = {command} ]; then {begin}{how}; fi'))
                 if done.returncode == 0:  # it does without
                     holds(f"{trial.name} without {command}", done.stdout == trial.run([SYNOP]).stdout, done)
-                elif told != "2" or done.stderr:
-                    trial.fails(f"{command} and {how}, {moment}", done, f"cannot go on: bufr ended with {told}")
+                elif how != "exit 2" or done.stderr:
+                    trial.fails(f"{command} and {how}, {moment}", done, told)
                 else:  # where errors of `bufr` go to the same place, that is told there
                     holds(f"{trial.name}: {command} and {how}", trial.name in ("bufr-extract", "bufr-lacks"), done)
     if trial.name == "bufr-parallel":  # its fault lines wait in a file, where there may be no room for the last one
         done = trial.run([SYNOP], environment=trial.program('if [ "$1" = ls ]; then printf "offset 2" >&2; exit 2; fi'))
-        told = "bufr-parallel: cannot go on: bufr ended with 2\n"
+        told = "bufr-parallel: bufr stopped with status 2; output is incomplete\n"
         holds("bufr-parallel, a fault line that is cut", (done.returncode, done.stderr.decode()) == (2, told), done)
     done = trial.run([SYNOP], environment={"BUFR": "/nosuch"})
     trial.fails("no program", done, "cannot run /nosuch: No such file or directory")
+    # A folder is no program, neither beside the script nor on the path.
+    shutil.copytree(TOP / "scripts", trial.place / "bin")
+    for folder in ("bin/bufr", "path/bufr", "third"):
+        (trial.place / folder).mkdir(parents=True)
+    (trial.place / "third/bufr").symlink_to(program())
+    path = f"{trial.place}/path:{trial.place}/third:{os.environ['PATH']}"
+    whole, trial.words[1] = trial.run([SYNOP]).stdout, str(trial.place / "bin" / trial.name)
+    done = trial.run([SYNOP], environment={"BUFR": "", "BUFR_TABLES": str(TOP / "tables"), "PATH": path})
+    holds(f"{trial.name} beside a folder", done.stdout == whole and done.returncode == 0, done)
 
 
 def signals(trial: Trial) -> None:
     """A signal ends a script and what it runs. A reader that has gone is a failed write, or ends it quietly."""
+    # Python ignores SIGPIPE, and what it runs must not.
+    ignored = trial.place / "ignored"
+    trial.run([SYNOP], environment=trial.program(f"grep SigIgn /proc/$$/status > {ignored}"))
+    is_ignored = int(ignored.read_text().split()[1], 16) >> (signal.SIGPIPE - 1) & 1
+    holds(f"{trial.name}: SIGPIPE in what it runs", not is_ignored, ignored.read_text())
+    # A signal that comes while signals are put off ends the script at once, before it starts a program.
+    code = "import signal; import bufr_guard; signal.pthread_sigmask(signal.SIG_BLOCK, [signal.SIGTERM]);"
+    words = [sys.executable, "-c", f"{code} bufr_guard.leave(signal.SIGTERM, None); print('goes on')"]
+    done = subprocess.run(words, cwd=TOP / "scripts", stdout=subprocess.PIPE)
+    holds("a signal that is put off", (done.returncode, done.stdout) == (-signal.SIGTERM, b""), done)
     number = trial.place / "number"
     slow = trial.program(f"echo $$ > {number}.1; mv {number}.1 {number}; exec sleep 60")
     for name in (signal.SIGINT, signal.SIGTERM, signal.SIGHUP):
@@ -287,7 +313,7 @@ def options(trial: Trial) -> None:
     version = subprocess.run([program(), "--version"], stdout=subprocess.PIPE, text=True).stdout
     for words in (["--version"], ["-V"]):
         done = trial.run(words)
-        holds(f"{trial.name} {words}", done.stdout.decode() == f"{trial.name}, with {version}", done)
+        holds(f"{trial.name} {words}", done.stdout.decode() == f"{trial.name}, with {version.strip()}, unknown build\n", done)
     for words in (["--help"], ["-h"]):
         done = trial.run(words)
         holds(f"{trial.name} {words}", done.returncode == 0 and trial.name in done.stdout.decode(), done)
@@ -297,7 +323,7 @@ def options(trial: Trial) -> None:
     trial.words = [kept[0], "-c", REFUSED.format(TOP / "scripts"), kept[1]]
     trial.fails("want of memory for the version", trial.run(["--version"]), f"{trial.name}: out of memory")
     trial.words[2] = trial.words[2].replace("import bufr_guard", "import bufr_guard\nsys.version_info = 3, 8, 18")
-    trial.fails("an old Python", trial.run(["--version"]), f"{trial.name}: Python 3.9 or a later one is needed")
+    trial.fails("an old Python", trial.run(["--version"]), f"{trial.name}: Python 3.9 or later is needed")
     trial.words = kept
     done = trial.run(["--nonsense"])
     holds(f"{trial.name} --nonsense", done.returncode == 2 and b"\n" == done.stderr[-1:], done)
@@ -307,10 +333,13 @@ def options(trial: Trial) -> None:
         trial.fails("a package that is not there", done, "bufr-dask: distributed is not installed for this Python")
     if trial.name in OTHERS:
         return
+    done = trial.run([SYNOP, "--help"])
+    holds(f"{trial.name}: --help behind a file", done.returncode == 0 and b"--help" in done.stdout, done)
     shutil.copy(SYNOP, trial.place / "-")
-    for words in (["-"], ["--", "-"]):
-        done = trial.run(words, cwd=trial.place)
-        holds(f"{trial.name} of a file {words}", done.stdout == trial.run([SYNOP]).stdout and not done.returncode, done)
+    for words in (["-"], ["--", "-"], ["./-"], ["--", "./-"]):
+        octets = b"" if "./-" in words else SYNOP.read_bytes()
+        done = trial.run(words, cwd=trial.place, input=octets)
+        holds(f"{trial.name} of {words}", done.stdout == trial.run([SYNOP]).stdout and not done.returncode, done)
     done = trial.run(["no\x1b[31m\nsuch\udcff"])
     trial.fails("a name that is not there", done, r"no\x1B[31m\x0Asuch\xFF")
 

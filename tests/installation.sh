@@ -5,13 +5,63 @@ set -eu
 # The caller's files are nobody else's, and `cd` looks elsewhere first.
 top=$PWD prefix=$work/here/prefix
 mkdir -p "$work/here" "$work/other/prefix"
-(cd "$work/here" && umask 077 && CDPATH=$work/other PROGRAM=$bufr "$top/install.sh" prefix) > "$work/told" || fail "install.sh fails"
+# A set of tables, links and bytecode that the versions without a MANIFEST installed, and a set of the user's own.
+older=$prefix/share/bufr/tables doc=$prefix/share/doc/bufr
+mkdir -p "$older"/{wmo-38,wmo-39,own} "$doc/tables" "$prefix/share/bufr/__pycache__"
+cp tables/wmo-39/*.csv "$older/wmo-38"
+cp tables/wmo-39/*.csv "$older/own"
+touch "$prefix/share/bufr/__pycache__/bufr_text.pyc"
+for set in wmo-38 wmo-39; do ln -s "../../../bufr/tables/$set" "$doc/tables"; done
+(
+    cd "$work/here"
+    umask 077
+    CDPATH=$work/other "$top/install.sh" --program "$bufr" --unproved prefix
+) > "$work/told" || fail "install.sh fails"
+[ ! -e "$older/wmo-38" ] && [ ! -e "$prefix/share/bufr/__pycache__" ] || fail "install.sh leaves files of an older version"
+[ -s "$older/own/B.csv" ] || fail "install.sh removes a set of the user's own"
+[ ! -L "$older/wmo-39/B.csv" ] && cmp "$older/wmo-39/B.csv" tables/wmo-39/B.csv || fail "another set wmo-39"
+rm -r "$older/own"
+# A second installation replaces the first one, even while its program runs, and adds nothing to it.
+(cd "$prefix" && find . | sort) > "$work/once"
+mkfifo "$work/feed"
+"$prefix/bin/bufr" ls < "$work/feed" &
+exec 3> "$work/feed"
+(umask 077 && "$top/install.sh" --program "$bufr" --unproved "$prefix") > "$work/again" || fail "install.sh fails where it installed before"
+exec 3>&-
+wait $!
+(cd "$prefix" && find . | sort) | diff "$work/once" - || fail "a second installation has other files"
 find "$prefix" -type d ! -perm 755 -o -type f ! -perm 644 ! -perm 755 > "$work/modes"
 test ! -s "$work/modes" || fail "who did not install them cannot read: $(< "$work/modes")"
 for program in "$prefix"/bin/*; do test -x "$program" || fail "$program is no program"; done
 find "$prefix" -xtype l > "$work/links"
 test ! -s "$work/links" || fail "links to nothing: $(< "$work/links")"
-grep -q "^for completions in zsh.*fpath=($prefix/share/zsh/site-functions" "$work/told" || fail "install.sh names no fpath"
+grep -q "^For completions in zsh.*fpath=($prefix/share/zsh/site-functions" "$work/told" || fail "install.sh names no fpath"
+
+# What was installed is what MANIFEST lists. With DESTDIR the same files are put elsewhere, and speak of the final place.
+(cd "$prefix" && find . ! -type d | cut -c 3-) | sort > "$work/installed"
+grep -v '/$' "$doc/MANIFEST" | diff - "$work/installed" || fail "MANIFEST lists other files"
+DESTDIR=$work/stage "$top/install.sh" --program "$bufr" --unproved /usr > "$work/staged"
+! grep -q stage "$work/staged" || fail "install.sh speaks of DESTDIR: $(< "$work/staged")"
+diff -r -x MANIFEST "$prefix" "$work/stage/usr" || fail "DESTDIR gives other files"
+DESTDIR=$work/stage "$top/install.sh" --uninstall /usr
+[ -z "$(find "$work/stage/usr" -mindepth 1)" ] || fail "--uninstall with DESTDIR leaves $(find "$work/stage/usr" -mindepth 1)"
+
+# Wrong words.
+for words in '' '--wrong p' 'p q' '--program' '--uninstall'; do
+    # shellcheck disable=SC2086
+    "$top/install.sh" $words > "$work/output" 2> "$work/errors" && status=0 || status=$?
+    [ "$status" -eq 2 ] && [ -s "$work/errors" ] || fail "install.sh $words: status $status"
+done
+! "$top/install.sh" --uninstall "$work/nothing" 2> "$work/errors" && grep -q MANIFEST "$work/errors" ||
+    fail "install.sh uninstalls what is not installed: $(< "$work/errors")"
+! "$top/install.sh" --program "$bufr" --unproved /dev/null/prefix > "$work/output" 2>&1 || fail "install.sh installs below a file"
+
+# An installation that ends in the middle, as one on a full disk, can be removed.
+mkdir -p "$work/full/share/man/man1/bufr.1"
+! "$top/install.sh" --program "$bufr" --unproved "$work/full" > "$work/output" 2>&1 || fail "install.sh misses a file"
+[ -x "$work/full/bin/bufr" ] || fail "the trial did not end in the middle"
+"$top/install.sh" --uninstall "$work/full" > "$work/output" || fail "a part of an installation is not removed"
+[ -z "$(find "$work/full" ! -type d)" ] || fail "of a part of an installation remains $(find "$work/full" ! -type d)"
 unset BUFR BUFR_TABLES
 PATH=$prefix/bin:/usr/bin:/bin:$(dirname "$(command -v python3)"):$PATH
 examples=$prefix/share/doc/bufr/examples
@@ -20,7 +70,7 @@ cd "$work"
 bufr-auto "$examples/synop.bufr" | cmp - "$examples/synop.txt" || fail "bufr-auto: another dump of examples/synop.bufr"
 bufr-lacks "$examples/synop.bufr" > lacks || fail "bufr-lacks: $(< lacks)"
 bufr dump -B "$prefix/share/bufr/tables/wmo-37/B.csv" -D "$prefix/share/bufr/tables/wmo-37/D.csv" "$examples/buoys.bufr" |
-    awk -f "$prefix/share/bufr/long.awk" | grep -c '"TEMPERATURE/AIR TEMPERATURE"' > /dev/null || fail "long.awk: no temperature"
+    awk -f "$prefix/share/bufr/table.awk" | grep -c '"TEMPERATURE/AIR TEMPERATURE"' > /dev/null || fail "table.awk: no temperature"
 "$prefix/share/bufr/tables/convert.py" copy "$prefix/share/bufr/tables/wmo-39" &&
     cmp copy/D.csv "$prefix/share/bufr/tables/wmo-39/D.csv" || fail "convert.py: another set"
 set=$prefix/share/bufr/tables/wmo-39
@@ -30,7 +80,7 @@ bufr-parallel dump -B "$set/B.csv" -D "$set/D.csv" "$examples/synop.bufr" | cmp 
 count='import bufr_text, sys; print(len(list(bufr_text.dump(sys.argv[1]))))'
 (
     unset PYTHONPATH
-    eval "$(sed -n 's/^for import bufr_text in Python.*: export/export/p' told)"
+    eval "$(sed -n 's/^To import bufr_text in Python.*: export/export/p' told)"
     python3 -c "$count" "$examples/synop.bufr" | grep -qx 1
 ) || fail "bufr_text.py: no message of examples/synop.bufr by what install.sh prints"
 for script in "$prefix"/bin/bufr-* "$prefix/share/bufr/tables/convert.py" "$prefix/share/bufr/tables/changes.py"; do
@@ -71,9 +121,16 @@ if python3 -c 'import pip, venv' 2> errors; then
         rm -r "$prefix"/bin/bufr-* "$prefix/share/bufr"
         environment/bin/bufr-auto "$examples/synop.bufr" | cmp - "$examples/synop.txt" || fail "bufr-auto of the package"
         environment/bin/python -c "$count" "$examples/synop.bufr" | grep -qx 1 || fail "bufr_text of the package"
+        environment/bin/python -c 'import bufr_text; bufr_text.rows([], ["AIR TEMPERATURE"])' 2>&1 |
+            grep -q ' 012001, 012101,' || fail "bufr_text of the package finds no tables"
         for script in "$top"/scripts/bufr-*; do
             "environment/bin/${script##*/}" --help > help || fail "${script##*/} of the package"
         done
+        environment/bin/pip uninstall -q -y bufr-text
+        (umask 022 && environment/bin/pip install -q --no-index --no-build-isolation -e ./source) 2> errors ||
+            fail "pip install -e: $(< errors)"
+        environment/bin/bufr-auto "$examples/synop.bufr" | cmp - "$examples/synop.txt" || fail "bufr-auto of the checkout"
+        environment/bin/python -c "$count" "$examples/synop.bufr" | grep -qx 1 || fail "bufr_text of the checkout"
         version=$(environment/bin/pip list --format freeze | sed -n 's/^bufr-text==/bufr /p')
         [ "$version" = "$(bufr --version)" ] || fail "the package is $version"
     )

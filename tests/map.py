@@ -17,8 +17,12 @@ import pathlib
 import re
 import sys
 
-import bent_definitions
 from lib import FAULT, TOP, finish
+
+sys.path.insert(0, str(TOP / "tests/bent_definitions"))
+from antt import Bad  # noqa: E402
+from entries import every_entry  # noqa: E402
+from sites import boundaries, cover  # noqa: E402
 
 CRATES = re.findall(r"^(\w+):", (TOP / "crates.txt").read_text(encoding="utf-8"), re.M)
 TESTS = "bufr_tests"  # the crate of the tests of all others
@@ -101,7 +105,7 @@ def bounds_of(of: list) -> tuple:
     for _, column, crate, name in of:
         if column == "definition":
             file, _, name = name.rpartition(".")
-            sites += bent_definitions.boundaries((crate, "specs", f"{file}.antt"), name)
+            sites += boundaries((crate, "specs", f"{file}.antt"), name)
     return len(sites), sum(bool(site.entries) for site in sites), sum(not site.is_covered() for site in sites)
 
 
@@ -274,8 +278,8 @@ def names() -> None:
 
 
 try:
-    bent_definitions.cover(bent_definitions.every_entry())
-except bent_definitions.Bad as wrong:
+    cover(every_entry())
+except Bad as wrong:
     finish([str(wrong)])
 rules()
 house()

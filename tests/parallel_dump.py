@@ -9,6 +9,7 @@ to five processes. As many dumps run at once as are asked for, and no octet is d
 """
 import os
 import pathlib
+import resource
 import subprocess
 import sys
 import tempfile
@@ -55,6 +56,11 @@ def same_as_one_run(program: str, folder: pathlib.Path) -> None:
     one_of_data = run([program, "dump", *TABLES], input=data_faults)
     want(one_of_data[0] == 1 and run([program, "ls"], input=data_faults)[0] == 0, "the data have other faults")
     want(run([*PARALLEL, "dump", *TABLES], input=data_faults) == one_of_data, "faults of data alone are told otherwise")
+    # two octets between a message and one whose data are refused, whose fault has an offset of its own
+    gap = lib.message(b"\x14") + b"\r\n" + lib.message(b"\x14", b"\x01\x01", 3)
+    one_with_gap = run([program, "dump", *TABLES], input=gap)
+    want(one_with_gap[2].startswith(b"offset 50: 30"), f"the message after a gap has another fault: {one_with_gap}")
+    want(run([*PARALLEL, "dump", *TABLES], input=gap) == one_with_gap, "a fault after a gap is told otherwise")
     for processes in "12345":
         words = [*PARALLEL, "-P", processes, "dump", *TABLES]
         want(run([*words, path]) == one, f"a file by {processes} processes is not as by one")
@@ -90,12 +96,23 @@ def tells_what_fails(program: str, folder: pathlib.Path) -> None:
         "swapped tables are told otherwise",
     )
     want(
-        run([*PARALLEL, "dump", *TABLES, "nosuch"]) == (2, b"", b"bufr-parallel: cannot open nosuch\n"),
+        run([*PARALLEL, "dump", *TABLES, "nosuch"]) == (2, b"", b"bufr-parallel: cannot open nosuch: No such file or directory\n"),
         "a missing file is told otherwise",
     )
-    for words in (["ls", path], ["dump", path], ["-P", "0", "dump", *TABLES, path]):
-        status, output, _ = run([*PARALLEL, *words])
-        want(status == 2 and not output, f"{words} is taken")
+    for words, told in (
+        (["ls", path], "expected dump -B FILE -D FILE"),
+        (["dump", path], "expected dump -B FILE -D FILE"),
+        ([], "expected dump -B FILE -D FILE"),
+        (["dump", *TABLES, "-Q"], "unknown option -Q"),
+        (["dump", *TABLES, "-P"], "-P needs a value"),
+        *(
+            ([f"-P{count}", "dump", *TABLES, path], f"-P '{count}': expected a whole number from 1 to 128")
+            for count in ("0", "-1", "129", "99999999999999999999", "2.5", "\u00b2", "x")
+        ),
+    ):
+        status, output, errors = run([*PARALLEL, *words])
+        told = f"bufr-parallel: {told}; see bufr-parallel --help\n"
+        want((status, output, errors.decode()) == (2, b"", told), f"{words}: {status}, {errors}")
     with open("/dev/full", "wb") as full:
         done = subprocess.run([*PARALLEL, "dump", *TABLES, path], stdout=full, stderr=subprocess.PIPE)
     want(done.returncode == 2 and b"bufr-parallel: " in done.stderr, "a full device is not told")
@@ -137,6 +154,15 @@ def runs_as_many_as_asked(program: str, folder: pathlib.Path) -> None:
     want(most == 3, f"{most} processes at once, not 3")
 
 
+def closes_what_it_opens(folder: pathlib.Path) -> None:
+    """At most 120 files are open at once, for 126 parts, each a message of its own."""
+    (folder / "parts.bufr").write_bytes(lib.message(bytes(33_000)) * 126)
+    words = [*PARALLEL, "-P", "16", "dump", *TABLES, "parts.bufr"]
+    few = lambda: resource.setrlimit(resource.RLIMIT_NOFILE, (120, 120))  # noqa: E731
+    status, output, errors = run(words, cwd=folder, preexec_fn=few)
+    want((status, output.count(b"\nend\n"), errors) == (0, 126, b""), f"with few files it ends with {status}: {errors}")
+
+
 def reads_each_octet_once(program: str, folder: pathlib.Path) -> None:
     """The stream is listed once, and no octet of it is dumped twice: so its work is that of one process, and a listing."""
     (folder / "counting").write_text(
@@ -164,6 +190,7 @@ def main() -> None:
         same_as_one_run(program, pathlib.Path(place))
         tells_what_fails(program, pathlib.Path(place))
         runs_as_many_as_asked(program, pathlib.Path(place))
+        closes_what_it_opens(pathlib.Path(place))
         reads_each_octet_once(program, pathlib.Path(place))
 
 

@@ -63,7 +63,7 @@ def strange(python: str, folder: pathlib.Path) -> None:
         want(draw(stations(3, longitude=longitude)) == plain, f"longitude {longitude} is not wrapped")
     want(draw(stations(3, longitude="180.0")) != draw(stations(3, longitude="-180.0")), "180 degrees are wrapped")
     for latitude, pole in (("91.5", "90.0"), ("-100.0", "-90.0")):
-        told = (draw(stations(3, pole))[0], "bufr-plot: latitudes past a pole: 2, which are drawn there\n")
+        told = (draw(stations(3, pole))[0], "bufr-plot: latitudes beyond a pole, drawn at the pole: 2\n")
         want(draw(stations(3, latitude)) == told, f"latitude {latitude} is not clipped, or not told")
     for place in ({"longitude": "-165.0"}, {"latitude": "-85.0"}):
         drawn, _ = draw(stations(3, **place))
@@ -73,12 +73,42 @@ def strange(python: str, folder: pathlib.Path) -> None:
     want("281.5" in draw(stations(100), "--value", "012101")[0], "100 values have no labels")
     drawn, told = draw(stations(101), "--value", "012101")
     want("281.5" not in drawn, "101 values have labels")
-    want(told == "bufr-plot: 101 values, over 100: none is drawn\n", f"of 101 values it tells {told}")
+    want(told == "bufr-plot: 101 values are too many to draw; the limit is 100\n", f"of 101 values it tells {told}")
     drawn, told = draw(stations(2, name=b"$x^{..$ \\\\$\\x07\\xFF"), "--value", "001015")
     want("$x^{..$ \\$?\ufffd" in drawn and "[$y$]" in drawn, "a text is taken for a formula")
     want(told == "", f"of a text it tells {told}")
     drawn, _ = draw(stations(1) + stations(1).replace(b"006001 20.5", b"006001 " + b"9" * 400), "--value", "012101:1")
     want("1 places" in drawn, "a longitude without end is drawn")
+
+
+def first_of_a_level(python: str, folder: pathlib.Path, text: bytes) -> None:
+    """The first temperature and dew point of a level count."""
+
+    def draw(text: bytes) -> str:
+        environment = {**os.environ, "SOURCE_DATE_EPOCH": "0"}
+        done = run(python, ["sounding", folder / "picture.svg"], text, cwd=folder, env=environment)
+        want(done.returncode == 0, f"a sounding ends with {done.returncode}: {done.stderr}")
+        return (folder / "picture.svg").read_text(encoding="utf-8")
+
+    twice = re.sub(rb"\n(01210[13]) ([\d.]+)([^\n]*)", rb"\g<0>\n\1 300\3", text)
+    want(twice.count(b" 300 ") > 40 and draw(twice) == draw(text), "the last temperature of a level counts")
+
+
+def memory_of_points(python: str, folder: pathlib.Path) -> None:
+    """A map takes at most 120 MB and 250 bytes for each point."""
+    head, _, rest = stations(100, name=b"A" * 250).partition(b"subset 1\n")
+    sizes = []
+    for messages in (2, 502):
+        with open(folder / "many.txt", "wb") as file:
+            for _ in range(messages):
+                file.write(head + b"subset 1\n" + rest)
+        words = [python, PLOT, "map", "--value", "001015", folder / "many.svg", folder / "many.txt"]
+        status, usage = lib.usage_of(words, stderr=subprocess.DEVNULL)
+        want(status == 0, f"a map of {messages} messages ends with {status}")
+        sizes.append(usage.ru_maxrss)
+    growth = (sizes[1] - sizes[0]) * 1000 / 50_000
+    print(f"pictures: a map takes {sizes[0] // 1000} MB, and {growth:.0f} bytes for each of 50,000 points")
+    want(sizes[0] <= 120_000 and growth <= 250, "a map takes more than 120 MB or 250 bytes for each point")
 
 
 def draws_whole(python: str, folder: pathlib.Path) -> None:
@@ -144,20 +174,24 @@ def draws(python: str, program: str, folder: pathlib.Path) -> None:
         (["map", "--value", "012104", folder / "b.png"], texts["synop"], 1, "no subset has 012104"),
         (["sounding", folder / "b.png"], texts["synop"], 1, "no subset asked for has levels"),
         (["sounding", "--subset", "2", folder / "b.png"], texts["sounding"], 1, "no subset asked for has levels"),
-        (["map", folder / "b.png"], b"", 1, "bufr-plot: the text has no message"),
-        (["sounding", folder / "b.png"], b"# a note\n", 1, "bufr-plot: the text has no message"),
+        (["map", folder / "b.png"], b"", 1, "bufr-plot: the input has no message"),
+        (["sounding", folder / "b.png"], b"# a note\n", 1, "bufr-plot: the input has no message"),
         (["map", "--value", "", folder / "b.png"], texts["synop"], 2, "no descriptor of six digits: ''"),
         (["map", "--value", "T", folder / "b.png"], texts["synop"], 2, "no descriptor of six digits: 'T'"),
-        (["map", ""], texts["synop"], 2, "PICTURE ends in .png, .svg or .pdf, and not so: ''"),
-        (["map", folder / "b.png", ""], b"", 2, "DUMP is an empty word"),
-        (["sounding", "--message", "x", folder / "b.png"], b"", 2, "invalid int value"),
-        (["map"], b"", 2, "PICTURE"),
-        ([], b"", 2, "map|sounding"),
+        (["map", ""], texts["synop"], 2, "PICTURE must end in .png, .svg or .pdf: ''"),
+        (["map", folder / "b.png", ""], b"", 2, "cannot open ''"),
+        (["sounding", "--message", "x", folder / "b.png"], b"", 2, "--message 'x': expected a whole number, at least 1"),
+        (["sounding", "--subset", "0", folder / "b.png"], b"", 2, "--subset '0': expected a whole number, at least 1"),
+        (["sounding", "--value", "012101", folder / "b.png"], b"", 2, "unknown option --value"),
+        (["map", "--message", "1", folder / "b.png"], b"", 2, "unknown option --message"),
+        (["map"], b"", 2, "expected map PICTURE or map PICTURE DUMP"),
+        (["map", folder / "b.png", folder / "c", folder / "d"], b"", 2, "expected map PICTURE or map PICTURE DUMP"),
+        ([], b"", 2, "expected map or sounding first"),
         (["map", folder / "b.png"], b"no dump\n", 2, "line 1: expected message"),
         (["map", folder / "b.png", folder / "nosuch"], b"", 2, "nosuch"),
-        (["map", folder / "no" / "b.png"], texts["synop"], 2, "b.png"),
+        (["map", folder / "no" / "b.png"], texts["synop"], 2, f"cannot write {folder / 'no' / 'b.png'}: No such file"),
         (["map", folder / "b.text"], texts["synop"], 2, "text"),
-        (["picture", folder / "b.png"], b"", 2, "invalid choice"),
+        (["picture", folder / "b.png"], b"", 2, "expected map or sounding first"),
     ]:
         done = run(python, words, text)
         want(
@@ -169,7 +203,9 @@ def draws(python: str, program: str, folder: pathlib.Path) -> None:
     done = run(python, ["--version"], env={**os.environ, "BUFR": program})
     want(done.stdout.startswith(b"bufr-plot, with bufr "), f"its version is {done.stdout}")
     strange(python, folder)
+    first_of_a_level(python, folder, texts["sounding"])
     draws_whole(python, folder)
+    memory_of_points(python, folder)
 
 
 def main() -> None:

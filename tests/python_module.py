@@ -19,14 +19,16 @@ import sys
 import tempfile
 import tracemalloc
 import unittest
+import unittest.mock
 import warnings
 from decimal import Decimal
 
 import lib
 from lib import TOP
 
-sys.path.insert(0, str(TOP / "scripts"))
+sys.path[:0] = [str(TOP / "scripts"), str(TOP / "tests/hostile")]
 import bufr_text
+import random_messages
 
 TABLES = lib.TABLES[1::2]
 # these lack sequences and elements of some examples
@@ -74,18 +76,18 @@ MISTAKES = [
     (24, b"012101 2.8e2\n", "an exponent in a number"),
     (24, b"012101 -1E-05\n", "an exponent in a number"),
     (24, b"012101 282,55  # NAME [K]\n", "a comma in place of the point"),
-    (24, b"012101 NaN\n", "no number: what is missing is MISSING"),
-    (24, b"012101 -inf\n", "no number: what is missing is MISSING"),
+    (24, b"012101 NaN\n", "no number: a missing value is written MISSING"),
+    (24, b"012101 -inf\n", "no number: a missing value is written MISSING"),
     (24, b"012101 missing  # NAME [K]\n", "MISSING in small letters"),
     (24, b"012101 missing  # A +B 2.8E2 NaN, A#B\n", "MISSING in small letters"),
     (24, b"012101 282.  # NAME [K]\n", "no digit beside the point"),
     (24, b"012101 .5\n", "no digit beside the point"),
-    (24, b"012101\n", "no value: what is missing is MISSING"),
+    (24, b"012101\n", "no value: a missing value is written MISSING"),
     (24, b"012101 282.55 \n", "a space at its end"),
-    (2, b"edition 4 # NOTE\n", "a comment, which items alone may have"),
+    (2, b"edition 4 # NOTE\n", "a comment, which only items may have"),
     (24, b'001015 "\\xc4"\n', "\\x without two digits in upper case"),
     (24, b'001015 "\\xC"\n', "\\x without two digits in upper case"),
-    (24, b'001015 "B\xc3\x96BLINGEN"\n', "an octet in a text that is written \\xHH"),
+    (24, b'001015 "B\xc3\x96BLINGEN"\n', "a byte in a text that must be written \\xHH"),
     (24, b'001015 "a"b"\n', 'a " or \\ in a text without \\ before it, or no " at its end'),
     (24, b'001015 "a\n', 'a " or \\ in a text without \\ before it, or no " at its end'),
     (24, b"001015 HEATHROW\n", "a text without quotes"),
@@ -280,12 +282,12 @@ class Texts(unittest.TestCase):
 
 
 class Tables(unittest.TestCase):
-    def test_rows_are_those_of_wide_awk(self):
+    def test_rows_are_those_of_table_awk(self):
         columns = ["001001", "001015", "012101", "012101:2", "020012:2", "031001", "205004", "012104"]
         header, passed = [*bufr_text.HEADER, "optional", "subsets"], 0
         for path in TEXTS:
             with self.subTest(path.name):
-                words = ["awk", "-v", "columns=" + ",".join([*header, *columns]), "-f", TOP / "scripts/wide.awk", path]
+                words = ["awk", "-v", "columns=" + ",".join([*header, *columns]), "-f", TOP / "scripts/table.awk", path]
                 _, *wanted = csv.reader(run(*words).stdout.decode().splitlines())
                 try:
                     rows = list(bufr_text.rows(bufr_text.read(lines_of(path)), columns, ["message", "subset", *header]))
@@ -299,6 +301,28 @@ class Tables(unittest.TestCase):
         """The cells of a table, with all spellings of a number as one."""
         cells = [["" if cell is None else str(cell) for cell in row] for row in rows]
         return [[str(float(cell)) if re.fullmatch(r"-?[\d.]+", cell) else cell for cell in row] for row in cells]
+
+    def test_small_and_large_numbers(self):
+        for text, wanted in [
+            ("0.0000003", 3e-7),
+            ("-0.0000001", -1e-7),
+            ("0.00000030", 3e-7),
+            ("0." + "0" * 126 + "1", 1e-127),
+            ("0.0000000", 0.0),
+            ("0.0", 0.0),
+            ("0", 0),
+            ("1000000", 1000000),
+            ("9" + "0" * 127, 9 * 10**127),
+            (str((1 << 127) - 1), (1 << 127) - 1),
+            (str(-(1 << 127)), -(1 << 127)),
+            ("17014118346046923173168730371588410572.7", 1.7014118346046923e37),
+            ("MISSING", None),
+        ]:
+            lines = f"031001 1\n012101 {text}\n".encode()
+            messages = [*bufr_text.read(io.BytesIO(with_line(24, lines)))]
+            for [cell] in (*bufr_text.rows(messages, ["012101"]), *bufr_text.levels(messages, ["012101"])):
+                self.assertEqual((cell, type(cell)), (wanted, type(wanted)), text)
+        self.assertEqual(len(list(bufr_text.levels(messages, ["012101"]))), 1)
 
     def test_rows(self):
         rows = bufr_text.rows(TOP / "examples/synop.bufr", ["001015", "001002", "012101", "010009"], ["offset", "year"])
@@ -317,7 +341,25 @@ class Tables(unittest.TestCase):
         with self.assertRaises(ValueError):
             bufr_text.levels([], ["012101"], keep=["012101:2"])
 
-    def test_levels_are_those_of_levels_awk(self):
+    def test_a_column_by_name_is_answered_with_numbers(self):
+        said = "a column is a number such as 012101, not 'AIR TEMPERATURE'; in Table B it is in the names of "
+        for call in (bufr_text.rows, bufr_text.levels):
+            for word in ("AIR TEMPERATURE", "air temperature"):
+                with self.assertRaises(ValueError) as error:
+                    call(TOP / "examples/synop.bufr", ["001015", word])
+                self.assertEqual(str(error.exception), said.replace("AIR TEMPERATURE", word) + "012001, 012101, 012004, 012104, 040069")
+        for word in ("airTemperature", "1015", "", "012101:0"):
+            with self.assertRaises(ValueError) as error:
+                bufr_text.rows([], [word])
+            self.assertEqual(str(error.exception), f"a column is a number such as 012101, not '{word}'")
+        with self.assertRaisesRegex(ValueError, "the header has no key 'place'; its keys are edition, master,"):
+            bufr_text.rows([], [], ["place"])
+        self.addCleanup(os.environ.pop, "BUFR_TABLES")
+        os.environ["BUFR_TABLES"] = "/nosuch"
+        with self.assertRaisesRegex(ValueError, "not 'AIR TEMPERATURE'$"):
+            bufr_text.rows([], ["AIR TEMPERATURE"])
+
+    def test_levels_are_those_of_table_awk(self):
         texts = [(TOP / f"examples/{name}.txt").read_bytes() for name in ("sounding", "synop", "buoys")]
         chance = random.Random(1)
         texts += [document(chance) for _ in range(60)]
@@ -327,8 +369,8 @@ class Tables(unittest.TestCase):
         lists = [("001015", "007004,012101,012103"), ("001001", "007004"), ("007004", "012101,007004"), ("", "020012,020011"), ("", "008002")]
         unclear, count = 0, 0
         for keep, columns in lists:
-            words = ["awk", "-v", f"keep=year,{keep}".strip(","), "-v", f"columns={columns}", "-f"]
-            done = run(*words, TOP / "scripts/levels.awk", input=b"".join(texts))
+            words = ["awk", "-v", "levels=1", "-v", f"keep=year,{keep}".strip(","), "-v", f"columns={columns}", "-f"]
+            done = run(*words, TOP / "scripts/table.awk", input=b"".join(texts))
             _, *wanted = csv.reader(done.stdout.decode().splitlines())
             with warnings.catch_warnings(record=True) as told:
                 warnings.simplefilter("always")
@@ -338,7 +380,7 @@ class Tables(unittest.TestCase):
             self.assertEqual(self.alike(rows), self.alike(wanted))
             count += len(rows)
             lines = [line for line in done.stderr.decode().splitlines() if "twice" in line]
-            self.assertEqual([f"levels.awk: {one.message}" for one in told], lines)
+            self.assertEqual([f"table.awk: {one.message}" for one in told], lines)
             unclear += done.returncode
         self.assertGreater(count, 100)
         self.assertGreater(unclear, 0)
@@ -360,7 +402,8 @@ def document(chance: random.Random) -> bytes:
                 for _ in range(passes):
                     yield from lines(member)
             else:
-                yield member + chance.choice([b" %d\n" % chance.randint(0, 99), b" MISSING\n", b" 1\nR 012101 5\n\n#\n"])
+                numbers = [b" %d\n" % chance.randint(0, 99), b" 0.0000003\n", b" -0.%d\n" % chance.randint(0, 99)]
+                yield member + chance.choice([*numbers, b" MISSING\n", b" 1\nR 012101 5\n\n#\n"])
 
     return with_line(24, b"".join(lines(group(0))))
 
@@ -402,14 +445,107 @@ class Runs(unittest.TestCase):
             self.assertEqual(bool(told), offset in refused)
         self.assertEqual([(one.offset, one.length, written([one])) for one in messages], wanted)
         told = []
-        self.assertEqual(list(bufr_text.listing(self.stream, told)), listed)
+        places = list(bufr_text.listing(self.stream, told))
+        self.assertEqual([(place.offset, place.length) for place in places], listed)
         self.assertEqual(told, [fault for fault in faults if fault.offset not in dict(listed)])
-        last, told = [bufr_text.Place(*listed[number]) for number in (-3, -2, -1)], []
+        last, told = places[-3:], []
         some = bufr_text.dump(self.stream, *OLD_TABLES, told, places=last)
         self.assertEqual([one.offset for one in some], [one.offset for one in messages if one.offset >= last[0].offset])
-        self.assertEqual(told, [fault for fault in faults if fault.offset in dict(last)])
+        self.assertEqual(told, [fault for fault in faults if fault.offset in dict(listed[-3:])])
         [read] = bufr_text.read(lines_of(TOP / "examples/synop.txt"))
         self.assertEqual((read.offset, read.length), (None, None))
+
+    def test_a_listing_has_the_numbers_of_the_header(self):
+        self.stream.write_bytes(self.octets + b"".join(random_messages.message(number).octets for number in range(40)))
+        messages = list(bufr_text.dump(self.stream, *TABLES, []))
+        places = list(bufr_text.listing(self.stream, []))
+        self.assertEqual([place.offset for place in places], [message.offset for message in messages])
+        self.assertEqual({place.edition for place in places}, {3, 4})
+        for place, message in zip(places, messages):
+            header = {**message.header, "offset": message.offset, "length": message.length}
+            header.update(subsets=len(message.subsets), optional=int(message.section2 is not None))
+            self.assertEqual(place._asdict(), {**header, "descriptors": len(message.descriptors)})
+        [synop] = bufr_text.listing(TOP / "examples/synop.bufr")
+        self.assertEqual((synop.centre, synop.subcategory, synop.masterversion, synop.year), (78, 2, 39, 2023))
+        land = [place for place in places if place.category == 0]
+        self.assertEqual([place.offset for place in land], [one.offset for one in messages if one.header["category"] == 0])
+
+    def test_where_takes_what_bufr_extract_takes(self):
+        self.stream.write_bytes(self.octets + b"".join(random_messages.message(number).octets for number in range(40)))
+        texts = set()
+        for where in [
+            ["category=0"],
+            ["category=0/2"],
+            ["category=0/2/0"],
+            ["category!=0"],
+            ["category!=0", "centre=74,98"],
+            ["centre=74/0,86/0,7"],
+            ["centre!=74,86,98"],
+            ["time=2023"],
+            ["time=2023-03-14T18", "subsets=3"],
+            ["time=2023,2024-01-02,0006-03"],
+            ["time!=2023"],
+            ["length=595,694,48"],
+            ["offset=0"],
+            ["offset!=0", "edition=4", "update=0", "observed=1", "compressed=0", "optional=0", "descriptors=1"],
+            ["tables=0/39/0"],
+            ["edition=3", "edition=4"],
+        ]:
+            with self.subTest(where):
+                done = run(sys.executable, TOP / "scripts/bufr-extract", *where, self.stream)
+                self.assertIn(done.returncode, (0, 1))
+                wanted = run(lib.program(), "dump", *lib.TABLES, input=done.stdout).stdout
+                # what the program is given
+                log = self.folder / "log"
+                log.write_bytes(b"")
+                self.use_program(f'[ "$1" = dump ] || exec "$REAL" "$@"; tee -a "{log}" | "$REAL" "$@"')
+                faults = []
+                with warnings.catch_warnings(record=True) as told:
+                    warnings.simplefilter("always")
+                    messages = list(bufr_text.dump(self.stream, *TABLES, faults, where=where))
+                self.assertEqual(written(messages), wanted)
+                self.assertEqual(log.read_bytes(), done.stdout)
+                os.environ["BUFR"] = lib.program()
+                lines = "".join(f"{fault}\n" for fault in faults)
+                notes = "".join(f"bufr-extract: {note.message}\n".replace(f"{self.stream}: ", "") for note in told)
+                self.assertEqual(lines + notes, done.stderr.decode())
+                texts.add(wanted)
+        self.assertGreater(len(texts), 10)
+        self.assertIn(b"", texts)
+
+    def test_where_of_rows_and_levels(self):
+        [land] = bufr_text.dump(self.stream, *TABLES, [], where=["category=0/2"])
+        faults = []
+        rows = list(bufr_text.rows(self.stream, ["001015"], ["offset"], faults, ["category=0/2"]))
+        self.assertEqual(rows, [(land.offset, "SODANKYLA"), (land.offset, "HEATHROW"), (land.offset, "SAENTIS")])
+        # a message that is not dumped has no fault of its tables
+        strays = []
+        list(bufr_text.listing(self.stream, strays))
+        self.assertEqual((faults, len(strays)), (strays, 9))
+        faults = []
+        levels = list(bufr_text.levels(self.stream, ["007004"], ["offset"], faults=faults, where=["category=2"]))
+        self.assertEqual((len(levels), {offset for offset, _ in levels}, faults), (29, {0}, strays))
+        self.assertEqual(levels, list(bufr_text.levels(bufr_text.dump(self.stream, faults=[]), ["007004"], ["offset"])))
+        for call in (bufr_text.rows, bufr_text.levels):
+            for given in ({"faults": []}, {"where": ["category=0"]}):
+                with self.assertRaisesRegex(TypeError, "give them to dump"):
+                    call([land], ["012101"], **given)
+
+    def test_messages_left_out_by_their_year_are_warned_of(self):
+        with self.assertWarnsRegex(bufr_text.DumpWarning, f"^{self.stream}: left out 1 edition 3 .* time=2006,0006 takes"):
+            self.assertEqual(list(bufr_text.dump(self.stream, *TABLES, [], where=["time=2006"])), [])
+        [one] = bufr_text.dump(self.stream, *TABLES, [], where=["time=2006,0006"])
+        self.assertEqual((one.header["edition"], one.header["year"]), (3, 6))
+
+    def test_invalid_conditions(self):
+        for where in ["categori=0"], ["category=land"], ["category="], ["category=0,"], ["Category=0"], ["category"], [""], ["--awk"], "edition=4":
+            for call in (bufr_text.dump, lambda file, where: bufr_text.rows(file, ["012101"], where=where)):
+                with self.subTest(where), self.assertRaises(ValueError):
+                    call(self.stream, where=where)
+        with self.assertRaisesRegex(ValueError, "unknown key categori in 'categori=0'; the keys are offset length"):
+            bufr_text.dump(self.stream, where=["categori=0"])
+        with self.assertRaises(TypeError):
+            bufr_text.dump(self.stream, places=[], where=["category=0"])
 
     def test_faults_are_there_before_the_message_behind_them(self):
         # over more than one part
@@ -449,7 +585,7 @@ class Runs(unittest.TestCase):
         with self.assertWarns(bufr_text.DumpWarning) as warned:
             list(bufr_text.dump(self.stream, faults=[]))
         wanted = f"{self.stream}: messages: 2, the first at offset {len(self.octets)}: version 45 is later than wmo-39"
-        self.assertEqual(str(warned.warning), wanted)
+        self.assertEqual(str(warned.warning).partition(";")[0], wanted)
 
     def test_what_a_program_tells_beside_faults_is_a_warning(self):
         self.use_program('[ "$1" = ls ] || { echo $$ >&2; echo strange >&2; }; exec "$REAL" "$@"')
@@ -461,7 +597,7 @@ class Runs(unittest.TestCase):
         # their kinds are bounded, as what is held is
         seen = bufr_text._Told(self.stream, None)
         for number in range(5000):
-            seen.of_part(b"note %d\n" % number, [bufr_text.Place(0, 48)])
+            seen.of_part(b"note %d\n" % number, [bufr_text.Listed(0, 48, *[0] * 21)])
         self.assertEqual((len(seen.notes), seen.notes[b"other notes"]), (1001, [4000, 0]))
 
     def test_a_file_without_a_message_is_warned_of(self):
@@ -495,18 +631,27 @@ class Runs(unittest.TestCase):
             bufr_text.encode([], *TABLES, form="small")
         for script, told, status in [
             ("kill -9 $$", "ended with status -9", -9),
+            ('[ "$1" = ls ] || exec > /dev/full; exec "$REAL" "$@"', "71 write failed$", 2),
             ("exit 7", "ended with status 7", 7),
             ("exit 1", "ended with status 1", 1),
             ('[ "$1" = ls ] && exec "$REAL" "$@"; exit 1', "ended with status 1", 1),
-            ("echo nonsense", "writes other lines", 2),
-            ('[ "$1" = dump ] || exec "$REAL" "$@"', "gave no text of the message at offset 0", 2),
+            ("echo nonsense", "does not write the lines of this version", 2),
+            ('[ "$1" = ls ] && exec "$REAL" "$@" | sed "s/ .*/ /"', "does not write the lines of this version", 2),
+            ('[ "$1" = dump ] || exec "$REAL" "$@"', "wrote no text for the message at offset 0", 2),
             ('[ "$1" = ls ] && exec "$REAL" "$@"; kill -9 $$', "ended with status -9", -9),
-            ('[ "$1" = ls ] && echo "offset=0 length=9999999 "', "no whole message at offset 0 any more", 2),
+            ('[ "$1" = ls ] && "$REAL" "$@" | sed s/length=694/length=9999999/', "at offset 0 is no longer complete", 2),
         ]:
             self.use_program(script)
             with self.subTest(script), self.assertRaisesRegex(bufr_text.RunError, told) as error:
                 list(bufr_text.dump(self.stream, *TABLES, []))
             self.assertEqual(error.exception.status, status)
+
+    def test_a_full_disk_is_named(self):
+        self.use_program("exit 2")
+        with unittest.mock.patch("shutil.disk_usage") as usage:
+            usage.return_value.free = 0
+            with self.assertRaisesRegex(bufr_text.RunError, f"ended with status 2: {tempfile.gettempdir()} is full$"):
+                list(bufr_text.dump(self.stream, *TABLES, []))
 
     def test_errors_go_from_one_process_to_another(self):
         for error in (bufr_text.RunError(1, "line 153: 52 number"), bufr_text.TextError(5, "an item", "a tab")):
@@ -597,7 +742,7 @@ class Runs(unittest.TestCase):
     @unittest.skipUnless(shutil.which("mypy"), "mypy is not installed")
     def test_its_types_hold(self):
         with tempfile.TemporaryDirectory() as cache:
-            words = ["mypy", "--strict", "--cache-dir", cache, TOP / "scripts/bufr_text.py"]
+            words = ["mypy", "--strict", "--cache-dir", cache, *sorted((TOP / "scripts").glob("*.py"))]
             done = subprocess.run(words, stdout=subprocess.PIPE, stderr=subprocess.STDOUT)
         self.assertEqual(done.returncode, 0, done.stdout.decode())
 

@@ -1,5 +1,5 @@
 -- What the test devices do. (a choice of this project) Cited by public contracts.
-use Rattle.std.specs.Prelude.{Bool, true, false, ℕ, zero, suc, ◌-◌, min, List, Option, None, Some, option_map, Result, Ok, Err, vec_len}
+use Rattle.std.specs.Prelude.{ℕ, zero, suc, ◌-◌, min, List, Option, None, Some, option_map, Result, Ok, Err, vec_len}
 use Rattle.bufr_bits.specs.declared.device.Failed.{Failed}
 use Rattle.bufr_bits.specs.declared.script.ScriptOut.{ScriptOut}
 use Rattle.bufr_bits.specs.declared.script.End.{End}
@@ -35,9 +35,8 @@ write_answer Zero step zero asked = Ok 0
 write_answer Fail step zero asked = Err (record {})
 write_answer Flush step zero asked = Err (record {})
 
--- what a flush answers: one fails where octets are to be handed on
-abbrev pub flush_answer : End → (all_flushed : Bool) → Result Unit Failed
-flush_answer Zero all_flushed = Ok tt
-flush_answer Fail all_flushed = Ok tt
-flush_answer Flush true = Ok tt
-flush_answer Flush false = Err (record {})
+-- what a flush answers, whatever was taken
+abbrev pub flush_answer : End → Result Unit Failed
+flush_answer Zero = Ok tt
+flush_answer Fail = Ok tt
+flush_answer Flush = Err (record {})

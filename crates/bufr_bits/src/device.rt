@@ -1,5 +1,5 @@
 //! Readers and writers that count their failures, and the readers and writers of `std` as such.
-ghost use Rattle.std.specs.Prelude.{◌≡◌, ◌≤◌, ℕ, Bool, true, false, List, Option, length, IfOk, IsOk, nat_eq};
+ghost use Rattle.std.specs.Prelude.{◌≡◌, ◌≤◌, ◌<◌, ℕ, Bool, true, false, List, Option, length, min, IfOk, IsOk, nat_eq};
 ghost use Rattle.std.specs.Io.Buffered.{reader_remaining, reader_buffer};
 ghost use Rattle.std.specs.Io.KnownBytes.{ReadConsumes, WriteAppends, Keeps};
 ghost use Rattle.bufr_bits.specs.Device.{counted, failures_after, empty_writes_after, all_flushed_after_write, all_flushed_after_flush, fresh_device};
@@ -198,7 +198,20 @@ impl<T: Read> Source for BufferedDevice<T> {
         self.device.inner.buffer().is_empty()
     }
 
-    fn read(&mut self, buf: &mut [u8]) -> Result<usize, Failed> {
+    fn read(&mut self, buf: &mut [u8]) -> Result<usize, Failed>
+        ensures bound { IfOk result (λ n. n ≤ length buf.new) }
+        ensures octets { ReadConsumes (reader_remaining T.remaining self.old.device.inner)
+            (reader_remaining T.remaining self.new.device.inner) result buf.new }
+        ensures failed { self.new.device.failures
+            ≡ failures_after self.old.device.failures result }
+        ensures made { self.new.device.reads ≡ counted self.old.device.reads 1 }
+        ensures asked { self.new.device.asked ≡ counted self.old.device.asked (length buf.new) }
+        ensures sure { nat_eq (length (reader_buffer self.old.device.inner)) 0 ≡ false
+            → IsOk result }
+        // Of the octets that are buffered a read takes all that fit.
+        ensures answer { 0 < length (reader_buffer self.old.device.inner)
+            → result ≡ Ok (min (length (reader_buffer self.old.device.inner)) (length buf.old)) }
+    {
         let held = self.device.inner.buffer();
         if !held.is_empty() {
             let n = held.len().min(buf.len());

@@ -87,14 +87,14 @@ impl<'a> Source for ScriptIn<'a> {
     }
 }
 
-/// What a [`ScriptOut`] does when no room is left.
+/// What a [`ScriptOut`] does when no room is left, and whether it can be flushed.
 #[derive(Clone, Copy, Debug, PartialEq, Eq)]
 pub enum End {
     /// A write takes no octet.
     Zero,
     /// A write fails.
     Fail,
-    /// A write fails, and a flush fails where octets are to be handed on.
+    /// A write fails. Each flush fails, at any time.
     Flush,
 }
 
@@ -208,12 +208,12 @@ impl Sink for ScriptOut {
         ensures flushed { self.new.failed_flushes ≡ failures_after self.old.failed_flushes result }
         ensures handed { self.new.all_flushed ≡ all_flushed_after_flush self.old.all_flushed
             result }
-        ensures answer { result ≡ flush_answer self.old.end self.old.all_flushed }
+        ensures answer { result ≡ flush_answer self.old.end }
         ensures left { left_of self.new ≡ left_of self.old }
         ensures step { self.new.step ≡ self.old.step }
         ensures end { self.new.end ≡ self.old.end }
     {
-        if self.end == End::Flush && !self.all_flushed {
+        if self.end == End::Flush {
             self.failures = self.failures.saturating_add(1);
             self.failed_flushes = self.failed_flushes.saturating_add(1);
             return Err(Failed);

@@ -4,7 +4,7 @@ use Rattle.std.specs.Io.KnownBytes.{Consumes, IsAtEnd}
 use Rattle.std.proofs.KnownBytes.{Consumes-nil, Consumes-trans}
 use Rattle.bufr_bits.specs.Prelude.{counted}
 use Rattle.bufr_bits.proofs.CountLemmas.{counted-counted, counted-none}
-use Rattle.bufr_frame.specs.Prelude.{read_failures_after, StopsFinder, IsUndecided, AddsReads, max_reads, InputModel, ReadsOnce, FillFails, FillEnds, Candidate, StreamEvent, FrameAt, scan, scan_from, open_scan, stream_event, candidate_len, is_decided, Advances, NoEventCertain, first_event, StrayAt, has_word_at, classify, length_here, longest_of, offset_of, IsNextEvent, IsIncomplete, HasNoFurtherEvent, gone_to, stated_length, StartsWithBufr, FinderModel, ReadsAndPasses, Follows, new_finder, IsStatedLength, RaisesLongest, held, EachReadIsNeeded, CallReadsAreNeeded, ReturnsNextEvent, LeavesFinder, events_returned}
+use Rattle.bufr_frame.specs.Prelude.{read_failures_after, StopsFinder, IsUndecided, AddsReads, max_reads, ReadsOnce, FillFails, FillEnds, Candidate, StreamEvent, FrameAt, scan, scan_from, open_scan, stream_event, candidate_len, is_decided, Advances, NoEventCertain, first_event, StrayAt, has_word_at, classify, length_here, longest_of, offset_of, IsNextEvent, IsIncomplete, HasNoFurtherEvent, gone_to, stated_length, StartsWithBufr, FinderModel, ReadsAndPasses, Follows, new_finder, IsStatedLength, RaisesLongest, held, EachReadIsNeeded, CallReadsAreNeeded, ReturnsNextEvent, LeavesFinder, events_returned}
 use Rattle.bufr_frame.specs.declared.fault.RunFault.{RunFault}
 use Rattle.bufr_frame.specs.declared.fault.RunFault.TheVariants.{Read, Write, InputTooLong, Memory}
 use Rattle.std.proofs.lemmas.List.{drop-take, take-take, take-append-le, drop-append-le}
@@ -461,24 +461,6 @@ module _ (left mid : Option (List ℕ)) (old s s1 s2 : FinderModel) (place size 
       by (Err Write) ends = absurd ends.2
       by (Err InputTooLong) ends = none ends.0 ends.2.0
       by (Err Memory) ends = none ends.0 ends.2.0
-
--- ---- One read of a finder, which drops the octets that were passed.
-
-module _ (given new : InputModel) (passed at longest room : ℕ) (fault fault' : Option RunFault) (bs : List ℕ) (limit : room ≤ 2 * max 4096 longest) where
-  -- the finder before and after
-  abbrev pub before-read : FinderModel
-  before-read = record { before = take passed given.held; rest = drop passed given.held; at = at; ended = given.ended; fault = fault; reads = given.reads; longest = longest; room = given.room }
-
-  abbrev pub after-fill : FinderModel
-  after-fill = record { before = take 0 new.held; rest = drop 0 new.held; at = at; ended = new.ended; fault = fault'; reads = new.reads; longest = longest; room = new.room }
-
-  ends-so : (r : Result (Unit {0}) RunFault) → FillEnds (given.room < room) (record given { held = drop passed given.held }) new bs r
-      → FillEnds (given.room < 2 * max 4096 longest) (input_left before-read) (input_left after-fill) bs r
-  ends-so (Ok u) e = e
-  ends-so (Err Read) e = e
-  ends-so (Err Write) e = e
-  ends-so (Err InputTooLong) e = e
-  ends-so (Err Memory) e = (e.0, e.1, (e.2.0, e.2.1, omega (arith, e.2.2, limit)))
 
 -- ---- What a call returns.
 

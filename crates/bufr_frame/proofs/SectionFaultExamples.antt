@@ -1,16 +1,16 @@
--- Worked examples of what is refused of sections: each bound from both sides, and of two faults the
--- one that is reported.
-use Rattle.std.proofs.Common.{◌≡◌, ℕ, ◌+◌, ◌-◌, true, false, List, [], ◌∷◌, ◌++◌, length, replicate, codes, slice_set, Result, Ok, Err, refl}
+-- Worked examples of the faults of sections. Each bound is shown from both sides. If two faults
+-- meet, the example shows which one is reported.
+use Rattle.std.proofs.Common.{◌≡◌, ℕ, ◌+◌, ◌-◌, Bool, true, false, List, [], ◌∷◌, ◌++◌, length, replicate, codes, slice_set, Result, Ok, Err, refl}
 use Rattle.bufr_bits.specs.Prelude.{◌>>=◌}
-use Rattle.bufr_frame.specs.Prelude.{head_by_edition, head_size, sections_of, section_end, three_octets, edition_of, parts_if_end_matches, is_long_edition_3, is_writable, greatest_values, max_reads, Head}
+use Rattle.bufr_frame.specs.Prelude.{head_by_edition, head_size, sections_of, section_end, three_octets, edition_of, parts_if_end_matches, is_long_edition_3, is_writable, greatest_values, max_octets, max_reads, Head}
 use Rattle.bufr_frame.specs.declared.fault.SectionFault.{SectionFault}
 use Rattle.bufr_frame.specs.declared.fault.SectionFault.TheVariants.{Edition, SectionShort, SectionPast, SectionsEnd}
 
--- a message of these octets between section 0 and the last four
+-- a message with these octets between section 0 and the last four octets
 message : (edition : ℕ) → List ℕ → List ℕ
 message edition octets = codes "BUFR" ++ three_octets (12 + length octets) ++ edition ∷ octets ++ codes "7777"
 
--- how many octets a message has, where its sections can be taken apart, or the first fault
+-- the length of a message whose sections can be taken apart, or the first fault
 taken : List ℕ → Result ℕ SectionFault
 unfolding sections_of section_end head_by_edition head_size
 taken m = sections_of m >>= λ s. Ok s.size
@@ -23,11 +23,11 @@ of_edition_3 : List ℕ → Result ℕ SectionFault
 unfolding message taken
 of_edition_3 octets = taken (message 3 octets)
 
--- a section that states a length, and has so many octets
+-- a section that states one length and has another
 section : (stated octets : ℕ) → List ℕ
 section stated octets = three_octets stated ++ replicate (octets - 3) 0
 
--- section 1 of edition 4, after which a section 2 comes
+-- section 1 of edition 4, whose flag says that a section 2 follows
 flagged : List ℕ
 unfolding section
 flagged = slice_set (section 22 22) 9 128
@@ -45,7 +45,7 @@ editions :
 unfolding message section taken
 editions = (refl, refl, refl, refl, refl, refl)
 
--- it is looked at before any section
+-- it is checked before the sections
 -- rule: edition-first, order-of-sections
 edition-before-sections :
     (taken (message 2 []) ≡ Err (Edition 2))
@@ -121,7 +121,7 @@ length-of-section-4 :
 unfolding of_edition_4 section
 length-of-section-4 = (refl, refl, refl)
 
--- ---- A section ends at the last four octets or before them.
+-- ---- A section ends where the last four octets begin, or before.
 
 -- rule: section-past-end
 end-of-section-1 :
@@ -153,7 +153,7 @@ end-of-section-4 :
 unfolding of_edition_4 section
 end-of-section-4 = (refl, refl, refl)
 
--- ---- Section 2 is there where bit 1 of the flags is set: octet 10 of section 1, or 8 in edition 3.
+-- ---- Section 2 is there if bit 1 of the flags is set: octet 10 of section 1, or 8 in edition 3.
 
 -- rule: section-2-flag
 flags-of-section-1 :
@@ -164,10 +164,30 @@ flags-of-section-1 :
 unfolding of_edition_4 of_edition_3 section
 flags-of-section-1 = (refl, refl, refl, refl)
 
--- ---- Of two faults: the sections in order, at each its length octets, its least length and its
--- end. Then 13, and 14 at last.
+-- ---- Flags of section 3: bit 1 is observed, bit 2 compressed.
 
--- the last four octets are no part of a length, whatever they are
+-- whether data with these flags are observed, and whether they are compressed
+flags : ℕ → Result (Bool × Bool) SectionFault
+unfolding message section sections_of section_end head_by_edition head_size
+flags octet =
+    sections_of (message 4 (section 22 22 ++ slice_set (section 7 7) 6 octet ++ section 4 4))
+    >>= λ s. Ok (s.observed, s.compressed)
+
+-- rule: section-3, reserved-ignored
+flags-of-section-3 :
+    (flags 63 ≡ Ok (false, false))
+    × (flags 64 ≡ Ok (false, true))
+    × (flags 127 ≡ Ok (false, true))
+    × (flags 128 ≡ Ok (true, false))
+    × (flags 191 ≡ Ok (true, false))
+    × (flags 192 ≡ Ok (true, true))
+unfolding flags
+flags-of-section-3 = (refl, refl, refl, refl, refl, refl)
+
+-- ---- Two faults: each section in turn has its length octets, its least length and its end
+-- checked. Then comes 13, and 14 is last.
+
+-- the last four octets are never part of a length
 -- rule: order-of-sections
 length-octets-before-least :
     (taken (codes "BUFR" ++ 0 ∷ 0 ∷ 14 ∷ 4 ∷ replicate 6 0) ≡ Err (SectionPast 1))
@@ -197,39 +217,39 @@ section-4-before-end :
 unfolding of_edition_4 section
 section-4-before-end = (refl, refl)
 
--- ---- Edition 3: over 16,777,213 octets no section 3 or 4 of an odd length.
+-- ---- In edition 3 a message over 16,777,213 octets has no section 3 or 4 of an odd length.
 
 -- rule: edition-3-length
 long-with-odd-section-3 : (m : List ℕ) → edition_of m ≡ 3 → length m ≡ 16777214 → is_long_edition_3 m 26 35 16777210 ≡ true
-long-with-odd-section-3 m of-3 long = rw (long, of-3) refl
+long-with-odd-section-3 m of-3 long = simp (long, of-3) refl
 
 -- rule: edition-3-length
 long-with-even-section-4 : (m : List ℕ) → edition_of m ≡ 3 → length m ≡ 16777215 → is_long_edition_3 m 26 35 16777211 ≡ true
-long-with-even-section-4 m of-3 long = rw (long, of-3) refl
+long-with-even-section-4 m of-3 long = simp (long, of-3) refl
 
 -- rule: edition-3-length
 long-with-odd-section-4 : (m : List ℕ) → edition_of m ≡ 3 → length m ≡ 16777215 → is_long_edition_3 m 26 36 16777211 ≡ true
-long-with-odd-section-4 m of-3 long = rw (long, of-3) refl
+long-with-odd-section-4 m of-3 long = simp (long, of-3) refl
 
--- even sections, one octet less, and edition 4
+-- accepted: even sections, one octet less, and edition 4
 -- rule: edition-3-length
 long-with-even-sections : (m : List ℕ) → edition_of m ≡ 3 → length m ≡ 16777214 → is_long_edition_3 m 26 36 16777210 ≡ false
-long-with-even-sections m of-3 long = rw (long, of-3) refl
+long-with-even-sections m of-3 long = simp (long, of-3) refl
 
 -- rule: edition-3-length
 not-so-long : (m : List ℕ) → edition_of m ≡ 3 → length m ≡ 16777213 → is_long_edition_3 m 26 35 16777209 ≡ false
-not-so-long m of-3 long = rw long refl
+not-so-long m of-3 long = simp long refl
 
 -- rule: edition-3-length
 long-of-edition-4 : (m : List ℕ) → edition_of m ≡ 4 → length m ≡ 16777214 → is_long_edition_3 m 30 39 16777210 ≡ false
-long-of-edition-4 m of-4 long = rw (long, of-4) refl
+long-of-edition-4 m of-4 long = simp (long, of-4) refl
 
--- 13 goes before 14
+-- 13 is checked before 14
 -- rule: order-of-sections
 end-before-long : (m : List ℕ) → edition_of m ≡ 3 → length m ≡ 16777214 → parts_if_end_matches m 26 26 35 16777209 ≡ Err SectionsEnd
-end-before-long m of-3 long = rw long refl
+end-before-long m of-3 long = simp long refl
 
--- ---- The greatest values of section 1, in the order of the text's header lines from `master` on.
+-- ---- The greatest values of section 1, in the order of the header lines after `edition`.
 
 -- rule: reading-header-ranges
 greatest-of-edition-4 : greatest_values 4 ≡ 255 ∷ 65535 ∷ 65535 ∷ 255 ∷ 255 ∷ 255 ∷ 255 ∷ 255 ∷ 255 ∷ 65535 ∷ 255 ∷ 255 ∷ 255 ∷ 255 ∷ 255 ∷ []
@@ -239,7 +259,7 @@ greatest-of-edition-4 = refl
 greatest-of-edition-3 : greatest_values 3 ≡ 255 ∷ 255 ∷ 255 ∷ 255 ∷ 255 ∷ 255 ∷ 0 ∷ 255 ∷ 255 ∷ 255 ∷ 255 ∷ 255 ∷ 255 ∷ 255 ∷ 0 ∷ []
 greatest-of-edition-3 = refl
 
--- the greatest values of edition 3
+-- a head with the greatest values of edition 3
 abbrev greatest_head : Head
 greatest_head = record {
   edition = 3;
@@ -272,7 +292,13 @@ heads-that-can-be-written :
     × (is_writable (record greatest_head { edition = 5 }) ≡ false)
 heads-that-can-be-written = (refl, refl, refl, refl, refl, refl, refl, refl, refl)
 
--- ---- The reads of one input: 2^32, and no more.
+-- ---- The longest message that is written: three octets hold its length.
+
+-- rule: greatest-length
+longest-message : (three_octets max_octets ≡ 255 ∷ 255 ∷ 255 ∷ []) × (max_octets ≡ 16777215)
+longest-message = (refl, refl)
+
+-- ---- At most 2^32 reads of one input.
 
 -- rule: fault-72
 reads-of-an-input : max_reads ≡ 4294967296

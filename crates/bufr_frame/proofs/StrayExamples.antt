@@ -1,14 +1,14 @@
--- Worked examples of where a `BUFR` begins no message: each bound from both sides, and of two causes
--- the one that is reported.
+-- Worked examples of a `BUFR` that begins no message. Each bound is shown from both sides. If two
+-- causes meet, the example shows which one is reported.
 use Rattle.std.proofs.Common.{◌≡◌, ℕ, ◌-◌, List, [], ◌∷◌, ◌++◌, refl, take, replicate, codes, slice_set}
-use Rattle.bufr_frame.specs.Prelude.{StreamEvent, FrameAt, StrayAt, scan, scan_from}
+use Rattle.bufr_frame.specs.Prelude.{StreamEvent, FrameAt, StrayAt, scan, scan_from, length_here}
 use Rattle.bufr_frame.specs.declared.fault.Cause.TheVariants.{Cut, ShortLength, NoEnd}
 
 -- section 0 with a length under 256
 section_0 : ℕ → List ℕ
 section_0 stated = codes "BUFR" ++ 0 ∷ 0 ∷ stated ∷ 4 ∷ []
 
--- so many octets that state a length, the last four being `7777`
+-- octets with a stated length, the last four being `7777`
 frame : (stated octets : ℕ) → List ℕ
 unfolding section_0
 frame stated octets = section_0 stated ++ replicate (octets - 12) 0 ++ codes "7777"
@@ -18,7 +18,7 @@ events : List ℕ → List StreamEvent
 unfolding scan_from
 events s = scan s
 
--- the four octets of the word
+-- all four octets of the word count
 -- rule: first-bufr
 words-found :
     (events (codes "BUF") ≡ [])
@@ -29,19 +29,20 @@ words-found :
 unfolding events
 words-found = (refl, refl, refl, refl, refl)
 
--- eight octets from the word on, and all that it states
+-- eight octets are there from the word on, and all octets that the length states
 -- rule: stray-cut
 cut-octets :
     (events (take 7 (section_0 8)) ≡ StrayAt 0 Cut ∷ [])
+    × (events (take 7 (section_0 7)) ≡ StrayAt 0 Cut ∷ [])
     × (events (section_0 8) ≡ StrayAt 0 ShortLength ∷ [])
     × (events (frame 20 20) ≡ FrameAt 0 (frame 20 20) ∷ [])
     × (events (frame 21 20) ≡ StrayAt 0 Cut ∷ [])
     × (events (codes "x" ++ frame 20 20) ≡ FrameAt 1 (frame 20 20) ∷ [])
     × (events (codes "x" ++ frame 21 20) ≡ StrayAt 1 Cut ∷ [])
 unfolding events section_0 frame
-cut-octets = (refl, refl, refl, refl, refl, refl)
+cut-octets = (refl, refl, refl, refl, refl, refl, refl)
 
--- 12 octets are the least, and 11 are not enough though they end with `7777`
+-- 12 octets are enough, and 11 are not, even if they end with `7777`
 -- rule: stray-short-length
 least-message :
     (events (frame 12 12) ≡ FrameAt 0 (frame 12 12) ∷ [])
@@ -63,7 +64,14 @@ ends :
 unfolding events section_0 frame
 ends = (refl, refl, refl, refl, refl, refl, refl)
 
--- ---- Of two causes: cut, then short length, then no end.
+-- a length is stated if all eight octets are there
+lengths-stated :
+    (length_here (take 7 (section_0 8)) ≡ 0)
+    × (length_here (section_0 8) ≡ 8)
+unfolding section_0
+lengths-stated = (refl, refl)
+
+-- ---- Two causes: cut, then short length, then no end.
 
 -- rule: order-of-causes
 cut-before-short-length :
@@ -86,14 +94,22 @@ short-length-before-no-end :
 unfolding events section_0
 short-length-before-no-end = (refl, refl)
 
--- ---- Where the search goes on: four octets after a stray, and after all octets of a frame.
+-- ---- The search continues four octets after a stray, and after the last octet of a frame.
+
+-- a word that begins within the eight octets of a stray
+-- rule: after-a-stray
+search-after-strays :
+    (events (codes "BUFRBUFR") ≡ StrayAt 0 Cut ∷ StrayAt 4 Cut ∷ [])
+    × (events (codes "BUFR" ++ 0 ∷ 0 ∷ 5 ∷ codes "BUFR") ≡ StrayAt 0 ShortLength ∷ StrayAt 7 Cut ∷ [])
+    × (events (codes "BUFR" ++ 0 ∷ 0 ∷ 12 ∷ codes "BUFRx") ≡ StrayAt 0 NoEnd ∷ StrayAt 7 Cut ∷ [])
+unfolding events
+search-after-strays = (refl, refl, refl)
 
 -- rule: after-a-stray, frame
 search-goes-on :
-    (events (codes "BUFRBUFR") ≡ StrayAt 0 Cut ∷ StrayAt 4 Cut ∷ [])
-    -- inside of what a stray states, and not inside of a frame
-    × (events (section_0 20 ++ section_0 8) ≡ StrayAt 0 Cut ∷ StrayAt 8 ShortLength ∷ [])
+    -- inside the stated length of a stray, but not inside a frame
+    (events (section_0 20 ++ section_0 8) ≡ StrayAt 0 Cut ∷ StrayAt 8 ShortLength ∷ [])
     × (events (section_0 20 ++ section_0 8 ++ codes "7777") ≡ FrameAt 0 (section_0 20 ++ section_0 8 ++ codes "7777") ∷ [])
     × (events (frame 12 12 ++ frame 12 12) ≡ FrameAt 0 (frame 12 12) ∷ FrameAt 12 (frame 12 12) ∷ [])
 unfolding events section_0 frame
-search-goes-on = (refl, refl, refl, refl)
+search-goes-on = (refl, refl, refl)

@@ -16,6 +16,10 @@ use Rattle.bufr_frame.specs.Events.{events_of}
 use Rattle.bufr_frame.specs.declared.finder.Event.{Event}
 use Rattle.bufr_frame.specs.declared.finder.Event.TheVariants.{Frame, Stray, Done}
 
+-- how many octets may be held while no greater length was stated
+abbrev pub min_held : ℕ
+min_held = 4096
+
 -- the model of a finder
 pub record FinderModel : Type 0 where
   -- the octets that were passed and are still held
@@ -34,6 +38,8 @@ pub record FinderModel : Type 0 where
   pub longest : ℕ
   -- how many octets there is room for without taking memory
   pub room : ℕ
+  -- how many places are free after the octets held
+  pub free : ℕ
 
 -- the number of octets held
 abbrev pub held : FinderModel → ℕ
@@ -51,6 +57,7 @@ new_finder =
       reads = 0;
       longest = 0;
       room = 0;
+      free = 0;
     }
 
 -- `rest`, from offset `at'`, is a suffix of s, whose first octet is at offset `at`.
@@ -90,7 +97,7 @@ StopsFinder old new Read = IsUndecided new Read
 StopsFinder old new Write = ⊥
 StopsFinder old new InputTooLong = IsUndecided new InputTooLong × (new.reads ≡ max_reads)
 StopsFinder old new Memory =
-    IsUndecided new Memory × (new.reads < max_reads) × (old.room < 2 * max 4096 new.longest)
+    IsUndecided new Memory × (new.reads < max_reads) × (old.room < 2 * max min_held new.longest)
 
 -- Reads one after another, of which none gave more than `most` octets. None was made while an event
 -- was certain in what was left and the octets read so far.
@@ -104,7 +111,7 @@ pub record CallReadsAreNeeded (old new : FinderModel) (bs : List ℕ) : Type 0 w
   pub given : List (List ℕ)
   pub octets : bs ≡ concat given
   pub made : new.reads ≡ old.reads + length given
-  pub waited : EachReadIsNeeded (max 4096 new.longest) old.at old.rest given
+  pub waited : EachReadIsNeeded (max min_held new.longest) old.at old.rest given
 
 -- A call read some octets, returned events, and raised the greatest length by those seen.
 abbrev pub ReadsOn : (left left' : Option (List ℕ)) → (old new : FinderModel)
@@ -202,9 +209,10 @@ abbrev pub IsFinder : Inside → Type 0
 IsFinder f =
     (f.passed ≤ length f.input.held)
     × (f.offset + (length f.input.held - f.passed) ≤ f.input.reads * 2 ^ 24)
-    × (f.input.reads ≤ max_reads) × (length f.input.held ≤ max 4096 f.longest)
+    × (f.input.reads ≤ max_reads) × (length f.input.held ≤ max min_held f.longest)
     × (f.longest < 2 ^ 24)
     × (f.word ≡ codes "BUFR") × ((f.fault ≡ None) ⊎ (f.input.ended ≡ false))
+    × (0 < f.input.reads → 2 * min_held ≤ f.input.room)
 
 -- ---- What a call of Finder::next returns.
 
@@ -237,7 +245,7 @@ pub record ReturnsNextEvent (left left' : Option (List ℕ)) (reads reads' : ℕ
   pub waits : old.reads ≢ new.reads → NoEventCertain old.at old.rest
   pub near : new.at < 2 ^ 63
   -- no more octets are held than the greatest stated length needs
-  pub bound : held new ≤ max 4096 new.longest
+  pub bound : held new ≤ max min_held new.longest
   -- after a fault nothing changes
   pub again : IfSome old.fault (λ _. new ≡ old)
 
@@ -250,7 +258,7 @@ pub record NeedsRead (old new : FinderModel) : Type 0 where
   pub fault : new.fault ≡ None
   pub reads : new.reads ≡ old.reads
   pub near : new.at < 2 ^ 63
-  pub few : length new.rest < max 4096 new.longest
+  pub few : length new.rest < max min_held new.longest
 
 -- what is held shows the next event, without a read, or that one is needed; a fault comes again
 abbrev pub GivesHeldEvent : FinderModel → FinderModel → Option (Result Event RunFault) → Type 0
@@ -262,13 +270,14 @@ GivesHeldEvent old new None = NeedsRead old new
 
 -- the input of a finder as far as it is left
 abbrev pub input_left : FinderModel → InputModel
-input_left s = record { held = s.rest; ended = s.ended; reads = s.reads; room = s.room; free = 0 }
+input_left s =
+    record { held = s.rest; ended = s.ended; reads = s.reads; room = s.room; free = s.free }
 
 -- One read: octets come after those that are left, or the end was reached, or a fault stops it.
 pub record ReadsMore (left left' : Option (List ℕ)) (old new : FinderModel)
     (result : Result (Unit {0}) RunFault) (bs : List ℕ) : Type 0 where
   pub fills : FillsInput left left' (input_left old) (input_left new)
-      (old.room < 2 * max 4096 old.longest) result bs
+      (old.room < 2 * max min_held old.longest) result bs
   pub at : new.at ≡ old.at
   pub fault : MatchResult result (λ _. new.fault ≡ None) (λ fault. new.fault ≡ Some fault)
   pub longest : new.longest ≡ old.longest

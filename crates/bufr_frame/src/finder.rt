@@ -2,8 +2,9 @@
 ghost use Rattle.std.specs.Prelude.{◌≡◌, ◌≢◌, ◌≤◌, false, List, ℕ, ◌<◌, ◌+◌, ◌-◌, ◌*◌, ◌^◌, length, take, drop, min, codes, IfSome, Some, None, Option, max, Err};
 ghost use Rattle.memchr.specs.Find.{FindsNeedle};
 ghost use Rattle.bufr_frame.specs.Scan.{classify, stated_length};
-ghost use Rattle.bufr_frame.specs.Finder.{IsSearchResult, passed_by, len_at, IsEventAt, GivesHeldEvent, ReadsMore, gone_to, StartsWithBufr, FinderModel, held, new_finder, ReturnsNextEvent, IsFinder};
-ghost use Rattle.bufr_frame.specs.Input.{read_failures_after, AddsReads, AsksAtMost, max_reads};
+ghost use Rattle.bufr_frame.specs.Finder.{IsSearchResult, passed_by, len_at, IsEventAt, GivesHeldEvent, ReadsMore, input_left, gone_to, StartsWithBufr, FinderModel, held, min_held, new_finder, ReturnsNextEvent, IsFinder};
+ghost use Rattle.bufr_bits.specs.Prelude.{counted};
+ghost use Rattle.bufr_frame.specs.Input.{read_failures_after, AddsReads, asked_by, max_reads};
 ghost use Rattle.std.specs.Borrow.{sem};
 ghost use Rattle.std.specs.Io.BufRead.{Rests};
 
@@ -77,6 +78,7 @@ impl Model for Finder {
       reads = f.input.reads;
       longest = f.longest;
       room = f.input.room;
+      free = f.input.free;
     } };
 
     ghost invariant = { IsFinder };
@@ -103,7 +105,7 @@ impl Finder {
     /// is lent. At most 4,096 or, where that is more, [`Finder::longest`].
     pub fn held(&self) -> usize
         ensures value { result ≡ held self.now }
-        ensures bound { result ≤ max 4096 self.now.longest }
+        ensures bound { result ≤ max min_held self.now.longest }
     {
         self.input.held().len()
     }
@@ -123,7 +125,7 @@ impl Finder {
         requires most { stated_length < 2 ^ 24 }
         ensures gone { self.new ≡ gone_to self.old n stated_length }
         ensures near { self.new.at < 2 ^ 63 }
-        ensures bound { held self.new ≤ max 4096 self.new.longest }
+        ensures bound { held self.new ≤ max min_held self.new.longest }
     {
         self.passed += n;
         self.offset += n as u64;
@@ -136,7 +138,7 @@ impl Finder {
         ensures gone { self.new ≡ passed_by self.old result }
         ensures most { self.old.reads ≤ max_reads }
         ensures near { self.new.at < 2 ^ 63 }
-        ensures bound { held self.new ≤ max 4096 self.new.longest }
+        ensures bound { held self.new ≤ max min_held self.new.longest }
     {
         let rest = &self.input.held()[self.passed..];
         let shown = find_event(&self.word, rest, self.input.ended());
@@ -201,7 +203,7 @@ impl Finder {
     /// As [`Finder::next`]; after a fault it returns the same one, and reads nothing.
     pub fn read_more<R: Source>(&mut self, r: &mut R) -> Result<(), RunFault>
         requires going { self.old.ended ≡ false }
-        requires few { length self.old.rest < max 4096 self.old.longest }
+        requires few { length self.old.rest < max min_held self.old.longest }
         ensures read { self.old.fault ≡ None → (bs : List ℕ)
             × ReadsMore (R.left r.old) (R.left r.new) self.old self.new result bs }
         ensures failed { self.old.fault ≡ None
@@ -209,9 +211,15 @@ impl Finder {
         ensures sure { self.old.fault ≡ None → R.waits r.old ≡ false
             → result ≢ Err RunFault.Read }
         ensures counts { AddsReads (R.reads r.old) (R.reads r.new) self.old.reads self.new.reads }
-        ensures asked { AsksAtMost (R.asked r.old) (R.asked r.new)
-            (max 4096 self.old.longest * (self.new.reads - self.old.reads)) }
-        ensures bound { held self.new ≤ max 4096 self.new.longest }
+        // A read asks for all that fits, up to what may be held.
+        ensures asked { R.asked r.new ≡ counted (R.asked r.old)
+            (asked_by (max min_held self.old.longest - length self.old.rest)
+            (input_left self.old) (input_left self.new)) }
+        // The room is at least 8,192 octets, and at most doubles what was held.
+        ensures least { 0 < self.new.reads → 2 * min_held ≤ self.new.room }
+        ensures most { self.new.room
+            ≤ max self.old.room (max (2 * min_held) (2 * length self.old.rest)) }
+        ensures bound { held self.new ≤ max min_held self.new.longest }
         ensures again { IfSome self.old.fault (λ fault. result ≡ Err fault) }
         ensures same { IfSome self.old.fault (λ _. r.new ≡ r.old) }
         ensures same_self { IfSome self.old.fault (λ _. self.new ≡ self.old) }

@@ -1,5 +1,5 @@
 //! An input, read piece by piece or to its end.
-ghost use Rattle.std.specs.Prelude.{◌≡◌, ◌≢◌, ◌≤◌, ◌<◌, ◌+◌, ◌-◌, ◌*◌, ◌^◌, ℕ, List, ◌++◌, take, length, drop, slice_range, Ok, Err, IsOk, IfOk, IfErr, vec_len, vec_capacity, [], ◌∷◌, true, false};
+ghost use Rattle.std.specs.Prelude.{◌≡◌, ◌≢◌, ◌≤◌, ◌<◌, ◌+◌, ◌-◌, ◌*◌, ◌^◌, ℕ, List, ◌++◌, take, length, drop, slice_range, Ok, Err, IsOk, IfOk, IfErr, vec_len, vec_capacity, [], ◌∷◌, true, false, max};
 ghost use Rattle.bufr_bits.specs.Prelude.{counted};
 ghost use Rattle.bufr_frame.specs.Input.{read_failures_after, max_reads, ReadsOnce, ReadsInput, AddsReads, InputModel, FillsInput, asked_by, new_input};
 
@@ -117,6 +117,7 @@ impl InputBuffer {
         ensures fills { (bs : List ℕ) × FillsInput (R.left r.old) (R.left r.new) self.old self.new
             (self.old.room < room) result bs × (length bs ≤ most) }
         ensures grown { self.old.reads ≡ 0 → 0 < self.new.reads → room ≤ self.new.room }
+        ensures most { self.new.room ≤ max self.old.room room }
         ensures free { self.new.ended ≡ true → 0 < self.new.free }
         ensures sure { R.waits r.old ≡ false → result ≢ Err RunFault.Read }
         ensures failed { R.failures r.new ≡ read_failures_after (R.failures r.old) result }
@@ -158,6 +159,7 @@ fn make_room(
         × (vec_capacity octets.old < room) × (octets.new.items ≡ octets.old.items)
         × (vec_len octets.new ≡ vec_len octets.old)) }
     ensures room { vec_capacity octets.old ≤ vec_capacity octets.new }
+    ensures most { vec_capacity octets.new ≤ max (vec_capacity octets.old) room }
 {
     if start > 0 && filled - start <= start {
         octets.copy_within(start..filled, 0);
@@ -166,10 +168,13 @@ fn make_room(
     if filled < octets.len() {
         return Ok(0);
     }
-    match octets.resize(room, 0) {
-        Ok(()) => Ok(0),
-        Err(_) => Err(RunFault::Memory),
+    if octets.reserve_exact(room - octets.len()).is_err() {
+        return Err(RunFault::Memory);
     }
+    'places: while octets.len() < room {
+        octets.push_reserved(0);
+    }
+    Ok(0)
 }
 
 /// Reads once after the first `filled` octets of a buffer, up to index `to`, and returns how many.

@@ -1,5 +1,5 @@
--- Worked examples of what is refused of a table: each bound of a record from both sides, and of two
--- faults the one that is reported.
+-- Worked examples of the faults of a table. Each bound of a record is shown from both sides. If two
+-- faults meet, the example shows which one is reported.
 use Rattle.std.proofs.Common.{◌≡◌, ℕ, true, false, List, [], ◌∷◌, ◌++◌, length, replicate, codes, Some, None, is_some, Result, Ok, Err, refl, pos, negsuc}
 use Rattle.std.specs.Prelude.{⊤}
 use Rattle.csv.specs.Machine.{next_record}
@@ -18,17 +18,17 @@ unfolding next_record records_from strip_bom field_at begins_with kind_of if_i64
     b.with_record_b d.sequence_of d.member_of d.added d.with_record_d
 on_literals = tt
 
--- how many elements a text of Table B has, or its fault
+-- the number of elements in a text of Table B, or its fault
 table_b : List ℕ → Result ℕ TableFault
 unfolding on_literals
 table_b text = b.table_b_of (records_of text) >>= λ rows. Ok (length rows)
 
--- how many sequences a text of Table D has, or its fault; a cycle is none here
+-- the number of sequences in a text of Table D, or its fault before cycles are looked for
 table_d : List ℕ → Result ℕ TableFault
 unfolding on_literals
 table_d text = d.table_d_of (records_of text) >>= λ sequences. Ok (length sequences)
 
--- the same of the records under the header
+-- the same for the records after the header
 rows_b : List ℕ → Result ℕ TableFault
 unfolding table_b
 rows_b text = table_b (codes "fxy,name,unit,scale,reference,width\n" ++ text)
@@ -161,7 +161,7 @@ octets-of-units = (refl, refl, refl)
 
 -- ---- Scale, reference and width.
 
--- an optional minus sign and one digit or more
+-- an optional minus sign, and one or more digits
 -- rule: fault-41-of-table-b
 numbers-of-a-row :
     (i64_of (codes "0") ≡ Some (pos 0))
@@ -216,7 +216,7 @@ widths-of-figures :
 unfolding rows_b
 widths-of-figures = (refl, refl, refl, refl)
 
--- whole octets, from one to 255
+-- from 1 to 255 whole octets
 -- rule: fault-41-of-table-b
 widths-of-texts :
     (rows_b (codes "001001,A,CCITT IA5,0,0,8\n") ≡ Ok 1)
@@ -230,7 +230,7 @@ widths-of-texts :
 unfolding rows_b
 widths-of-texts = (refl, refl, refl, refl, refl, refl, refl, refl)
 
--- the kind goes by the whole unit for texts, and by its first words for figures
+-- the whole unit decides whether an element is text, its first words whether it is coded
 -- rule: kind-by-unit
 kinds-of-units :
     (kind_of (codes "CCITT IA5") ≡ Character)
@@ -270,7 +270,7 @@ widths-of-factors :
 unfolding rows_b
 widths-of-factors = (refl, refl, refl, refl, refl, refl, refl)
 
--- scale and reference zero, and no text
+-- scale and reference are zero, and a factor is no text
 -- rule: fault-41-of-table-b
 rows-of-factors :
     (rows_b (codes "031001,A,Code table,0,0,8\n") ≡ Ok 1)
@@ -289,10 +289,12 @@ rows-of-factors = (refl, refl, refl, refl, refl, refl, refl, refl)
 -- rule: fault-42
 elements-twice :
     (rows_b (codes "001001,A,K,0,0,7\n001002,A,K,0,0,7\n") ≡ Ok 2)
+    × (rows_b (codes "001002,A,K,0,0,7\n001001,A,K,0,0,7\n") ≡ Ok 2)
     × (rows_b (codes "001001,A,K,0,0,7\n001001,B,m,1,1,9\n") ≡ Err (Duplicate 0x0101))
     × (rows_b (codes "001001,A,K,0,0,7\n001002,A,K,0,0,7\n001001,A,K,0,0,7\n") ≡ Err (Duplicate 0x0101))
+    × (rows_b (codes "001001,A,K,0,0,7\n001002,A,K,0,0,7\n001002,A,K,0,0,7\n") ≡ Err (Duplicate 0x0102))
 unfolding rows_b
-elements-twice = (refl, refl, refl)
+elements-twice = (refl, refl, refl, refl, refl)
 
 -- rule: fault-42
 runs-twice :
@@ -310,7 +312,7 @@ rows-of-d :
 unfolding on_literals
 rows-of-d = (refl, refl)
 
--- ---- Of two faults of one record: 45, then 41, then 42, then 44.
+-- ---- Two faults in one record: 45, then 41, then 42, then 44.
 
 -- rule: order-in-a-record
 fields-before-row :
@@ -348,7 +350,7 @@ others-before-size :
 unfolding on_literals
 others-before-size = (refl, refl, refl, refl)
 
--- ---- The header before all records, and then the first record at fault. A line without octets is
+-- ---- Faults in several records: the header is checked first, then each record. An empty line is
 -- no record.
 
 -- rule: first-record-decides
@@ -362,7 +364,7 @@ first-record-at-fault :
 unfolding table_b rows_b rows_d
 first-record-at-fault = (refl, refl, refl, refl, refl, refl)
 
--- 43 comes after all records: a table with a cycle has the fault of a later record
+-- cycles are looked for last: a later invalid record of a table with a cycle is reported
 -- rule: fault-43-last
 records-before-cycle :
     (rows_d (codes "300001,300001\n") ≡ Ok 1)

@@ -1,11 +1,11 @@
--- Worked examples of what a template refuses: each bound from both sides, and of two faults at one
--- place the one that is reported.
-use Rattle.std.proofs.Common.{◌≡◌, ℕ, zero, suc, ◌+◌, ◌-◌, ◌*◌, ◌/◌, ◌%◌, ◌==◌, ◌&&◌, Bool, true, false, if◌then◌else◌, List, [], ◌∷◌, ◌++◌, map, length, replicate, Option, Some, None, Result, Ok, Err, is_ok, refl}
+-- Worked examples of the faults of a template. Each bound is shown from both sides. If two faults
+-- meet, the example shows which one is reported.
+use Rattle.std.proofs.Common.{◌≡◌, ℕ, zero, suc, ◌+◌, ◌*◌, ◌/◌, ◌%◌, ◌==◌, ◌&&◌, Bool, true, false, if◌then◌else◌, List, [], ◌∷◌, ◌++◌, map, length, replicate, Option, Some, None, Result, Ok, Err, is_ok, refl}
 use Rattle.std.specs.Prelude.{nat_le}
 use Rattle.bufr_tables.specs.Prelude.{TemplateFault, Tree, places, depth, Tables, tree_of, inner_of, level, part_of, f_of, x_of, y_of, ◌>>=◌}
 use Rattle.bufr_tables.specs.declared.fault.TemplateFault.TheVariants.{UnknownElement, UnknownSequence, Operator, GroupShape, NoFactor, EmptyGroup, Depth, TemplateSize, LocalShape}
 
--- a descriptor by the number that its six digits write: 101000 is 1 01 000, and 31001 is 0 31 001
+-- the descriptor whose six digits write this number: 101000 is 1 01 000, and 31001 is 0 31 001
 word : ℕ → ℕ
 word digits = digits / 100000 * 16384 + (digits / 1000 % 100 * 256 + digits % 1000)
 
@@ -13,18 +13,18 @@ is_one_of : List ℕ → ℕ → Bool
 is_one_of [] d = false
 is_one_of (e ∷ es) d = if d == e then true else is_one_of es d
 
--- a group of one pass over all of a list
+-- a group that passes once over a whole list
 group : List ℕ → List ℕ
 group list = (100001 + 1000 * length list) ∷ list
 
--- so many such groups, one in another
+-- n such groups, one inside another
 groups : ℕ → List ℕ → List ℕ
 groups zero inside = inside
 groups (suc n) inside = group (groups n inside)
 
--- The sequences. 3 00 Y holds the next one twice, up to 3 00 015, which holds 0 01 001 twice: so it
--- has 2 ^ (16 - Y) elements. 3 01 Y holds the next one, up to 3 01 033, which holds 0 01 001. So do
--- 3 02 Y and 3 03 Y, up to 3 02 016, which holds 16 groups, and 3 03 016, which holds 17.
+-- The sequences. 3 00 Y holds the next sequence twice, up to 3 00 015, which holds 0 01 001 twice:
+-- it has 2 ^ (16 - Y) elements. 3 01 Y holds the next sequence, up to 3 01 033, which holds
+-- 0 01 001. So do 3 02 Y and 3 03 Y, up to 3 02 016 with 16 groups and 3 03 016 with 17.
 members : ℕ → Option (List ℕ)
 unfolding word group groups
 members d =
@@ -48,7 +48,7 @@ tables = record {
   members = members;
 }
 
--- the same without factors in Table B
+-- the same sequences, with a Table B that lacks the factors
 no_factors : Tables
 unfolding word
 no_factors = record { known = λ d. d == word 1001; members = members }
@@ -62,7 +62,7 @@ means : List ℕ → Result Tree TemplateFault
 unfolding means_by
 means list = means_by tables list
 
--- what it means after so many places, where so many groups and sequences may be open
+-- what it means if this many places are taken, and this many groups and sequences may be open
 after_by : Tables → (places room : ℕ) → List ℕ → Result Tree TemplateFault
 unfolding word is_one_of group groups members tables no_factors inner_of level part_of
 after_by by places room list = level by (inner_of by room) false 0 places (map word list)
@@ -71,12 +71,12 @@ after : (places room : ℕ) → List ℕ → Result Tree TemplateFault
 unfolding after_by
 after places room list = after_by tables places room list
 
--- what it means where all places are taken
+-- what it means if all places are taken
 at_full : List ℕ → Result Tree TemplateFault
 unfolding after
 at_full list = after 65535 32 list
 
--- the places of the template, and how many groups are round one node
+-- the places and the depth of the template
 measures : List ℕ → Result (ℕ × ℕ) TemplateFault
 measures list = means list >>= λ t. Ok (places t, depth t)
 
@@ -85,18 +85,18 @@ accepts list = is_ok (means list)
 
 -- ---- Operators and their operands.
 
--- so many numbers from one on
+-- consecutive numbers
 numbers : ℕ → ℕ → List ℕ
 numbers from zero = []
 numbers from (suc more) = from ∷ numbers (from + 1) more
 
--- which of these Y operator 2 X may have, before an element
+-- the operands among these that operator 2 X may have if an element follows
 allowed : ℕ → List ℕ → List ℕ
 allowed x [] = []
 allowed x (y ∷ ys) =
     if is_ok (means ((200000 + 1000 * x + y) ∷ 1001 ∷ [])) then y ∷ allowed x ys else allowed x ys
 
--- all that 2 X may have
+-- all operands that operator 2 X may have
 operands : ℕ → List ℕ
 operands x = allowed x (numbers 0 256)
 
@@ -123,7 +123,7 @@ operands-of-precisions : operands 7 ≡ numbers 0 19
 unfolding numbers allowed operands means
 operands-of-precisions = refl
 
--- which of these 2 X may have an operand at all, of 0, 1, 18, 63 and 255
+-- the operators among these that may have one of the operands 0, 1, 18, 63 and 255
 known-operators : List ℕ → List ℕ
 known-operators [] = []
 known-operators (x ∷ xs) =
@@ -135,7 +135,7 @@ operators-there-are : known-operators (numbers 0 64) ≡ 1 ∷ 2 ∷ 3 ∷ 5 ∷
 unfolding numbers allowed known-operators means
 operators-there-are = refl
 
--- ---- An element: Table B has it, or the operator before it gives its width.
+-- ---- Elements: Table B has them, or the operator before them gives their width.
 
 -- rule: fault-20, 2-06-y-unknown-element
 elements-known :
@@ -147,7 +147,7 @@ elements-known :
 unfolding accepts means
 elements-known = (refl, refl, refl, refl, refl)
 
--- 2 06 Y has an element after it in its own list
+-- an element follows 2 06 Y in the same list
 -- rule: fault-28, 2-06-y-before-an-element
 widths-before-elements :
     (accepts (206012 ∷ 1001 ∷ []) ≡ true)
@@ -155,7 +155,7 @@ widths-before-elements :
     × (means (206012 ∷ 101001 ∷ 1001 ∷ []) ≡ Err (LocalShape (word 206012)))
     × (means (206012 ∷ 206012 ∷ 1001 ∷ []) ≡ Err (LocalShape (word 206012)))
     × (means (206012 ∷ 360192 ∷ []) ≡ Err (LocalShape (word 206012)))
-    -- the last of a group, and the last of a sequence
+    -- last in a group, and last in a sequence
     × (means (101002 ∷ 206012 ∷ 1001 ∷ []) ≡ Err (LocalShape (word 206012)))
     × (means (304001 ∷ 1001 ∷ []) ≡ Err (LocalShape (word 206012)))
 unfolding accepts means
@@ -170,7 +170,7 @@ widths-of-the-next :
 unfolding means
 widths-of-the-next = (refl, refl, refl)
 
--- ---- A replication: X, its factor, and how many descriptors are left.
+-- ---- Replications: their X, their factor, and the descriptors that are left.
 
 -- rule: fault-23
 groups-of-none :
@@ -180,7 +180,7 @@ groups-of-none :
 unfolding accepts means
 groups-of-none = (refl, refl, refl)
 
--- the factors are 0 31 000, 0 31 001 and 0 31 002, though Table B has others of class 31
+-- only 0 31 000, 0 31 001 and 0 31 002 are factors, though Table B has others of class 31
 -- rule: fault-24, delayed-replication
 factors-there-are :
     (accepts (101000 ∷ 31000 ∷ 1001 ∷ []) ≡ true)
@@ -193,7 +193,7 @@ factors-there-are :
 unfolding accepts means
 factors-there-are = (refl, refl, refl, refl, refl, refl, refl)
 
--- nor is a factor of another F or of another class, and none may be missing
+-- no factor has another F or class, and none may be missing
 -- rule: fault-24, delayed-replication
 factors-by-class :
     (means (101000 ∷ 30001 ∷ 1001 ∷ []) ≡ Err (NoFactor (word 101000)))
@@ -212,7 +212,7 @@ factors-in-table-b :
 unfolding accepts means means_by
 factors-in-table-b = (refl, refl)
 
--- X are left in the list, in the sequence, in the group; the factor is not one of them
+-- X descriptors are left in the list, the sequence or the group; the factor is not among them
 -- rule: fault-23, replication-in-one-list, delayed-replication
 descriptors-left :
     (accepts (102002 ∷ 1001 ∷ 1001 ∷ []) ≡ true)
@@ -226,7 +226,7 @@ descriptors-left :
 unfolding accepts means
 descriptors-left = (refl, refl, refl, refl, refl, refl, refl, refl)
 
--- ---- A sequence.
+-- ---- Sequences: Table D has them.
 
 -- rule: fault-21
 sequences-known :
@@ -251,7 +251,7 @@ delayed-groups-open :
 unfolding accepts means group groups
 delayed-groups-open = (refl, refl)
 
--- sequences do not count for the depth of a template
+-- sequences are not counted in the depth of a template
 -- rule: fault-26
 sequences-open :
     (measures (301002 ∷ []) ≡ Ok (2, 0))
@@ -259,7 +259,7 @@ sequences-open :
 unfolding means measures
 sequences-open = (refl, refl)
 
--- 16 sequences round 16 groups and round 17, 16 groups round 16 sequences and round 17
+-- 16 sequences around 16 or 17 groups, and 16 groups around 16 or 17 sequences
 -- rule: fault-26
 both-open :
     (measures (302001 ∷ []) ≡ Ok (34, 16))
@@ -269,7 +269,7 @@ both-open :
 unfolding means measures group groups
 both-open = (refl, refl, refl, refl)
 
--- groups and sequences that are done are not open
+-- groups and sequences that have ended are not open
 -- rule: fault-26
 open-one-after-another : accepts (groups 32 (1001 ∷ []) ++ groups 32 (1001 ∷ []) ++ 301002 ∷ 301002 ∷ []) ≡ true
 unfolding accepts means group groups
@@ -285,8 +285,8 @@ unfolding means measures numbers
 elements-that-fit = refl
 
 -- rule: fault-27
-elements-too-many : means (numbers 300001 15 ++ 1001 ∷ []) ≡ Err (TemplateSize (word 1001))
-unfolding means numbers
+elements-too-many : measures (numbers 300001 15 ++ 1001 ∷ []) ≡ Err (TemplateSize (word 1001))
+unfolding means measures numbers
 elements-too-many = refl
 
 -- rule: fault-27
@@ -323,7 +323,7 @@ places-of-sequences :
 unfolding after
 places-of-sequences = (refl, refl, refl, refl)
 
--- ---- A group and a whole list take bits.
+-- ---- Each group, and the whole list, takes bits.
 
 -- rule: fault-25, groups-take-bits
 groups-that-take-none :
@@ -334,7 +334,7 @@ groups-that-take-none :
 unfolding means
 groups-that-take-none = (refl, refl, refl, refl)
 
--- an element, an inserted text, a delayed group and a fixed group round one of them take bits
+-- an element takes bits, and so do an inserted text, a delayed group, and a fixed group of these
 -- rule: fault-25, groups-take-bits
 groups-that-take-some :
     (accepts (101002 ∷ 1001 ∷ []) ≡ true)
@@ -347,7 +347,7 @@ groups-that-take-some :
 unfolding accepts means
 groups-that-take-some = (refl, refl, refl, refl, refl, refl, refl)
 
--- a whole list is named by its first descriptor
+-- the fault of a whole list names its first descriptor
 -- rule: fault-25, groups-take-bits
 lists-that-take-none :
     (means (201000 ∷ []) ≡ Err (EmptyGroup (word 201000)))
@@ -357,8 +357,8 @@ lists-that-take-none :
 unfolding means
 lists-that-take-none = (refl, refl, refl, refl)
 
--- ---- Of two faults at one replication: 23 for X = 0, then 24, then 20, then 23 for what is left,
--- then 26, then 27.
+-- ---- Two faults at one replication: 23 for X = 0, then 24, then 20, then 23 for too few
+-- descriptors, then 26, then 27.
 
 -- rule: order-at-a-replication
 no-descriptors-before-no-factor :
@@ -440,14 +440,14 @@ depth-before-size : after 65535 0 (101002 ∷ 1001 ∷ []) ≡ Err (Depth (word 
 unfolding after
 depth-before-size = refl
 
--- ---- Of two faults at one sequence: 21, then 26.
+-- ---- Two faults at one sequence: 21, then 26.
 
 -- rule: order-at-a-sequence
 unknown-sequence-before-depth : means (groups 32 (300099 ∷ [])) ≡ Err (UnknownSequence (word 300099))
 unfolding means group groups
 unknown-sequence-before-depth = refl
 
--- a sequence without a place left
+-- a sequence takes no place, so 27 is never its fault
 -- rule: order-at-a-sequence
 sequences-at-full :
     (at_full (300099 ∷ []) ≡ Err (UnknownSequence (word 300099)))
@@ -455,14 +455,14 @@ sequences-at-full :
 unfolding at_full after
 sequences-at-full = (refl, refl)
 
--- ---- Of two faults at one element: 20, then 27.
+-- ---- Two faults at one element: 20, then 27.
 
 -- rule: order-at-an-element
 unknown-element-before-size : at_full (12102 ∷ []) ≡ Err (UnknownElement (word 12102))
 unfolding at_full
 unknown-element-before-size = refl
 
--- ---- Of two faults at one operator: 22, then 28, then 27.
+-- ---- Two faults at one operator: 22, then 28, then 27.
 
 -- rule: order-at-an-operator
 operator-before-its-element :
@@ -481,9 +481,9 @@ no-element-before-size : at_full (206012 ∷ 201000 ∷ []) ≡ Err (LocalShape 
 unfolding at_full
 no-element-before-size = refl
 
--- ---- The first fault of the expansion counts, depth first and from left to right.
+-- ---- Faults at several descriptors: the first is reported, depth first and from left to right.
 
--- a replication before what is in it, and what is in it before what follows
+-- a replication comes before its body, and its body before the descriptors that follow
 -- rule: first-descriptor-decides
 first-from-the-left :
     (means (12102 ∷ 204001 ∷ []) ≡ Err (UnknownElement (word 12102)))
@@ -494,7 +494,7 @@ first-from-the-left :
 unfolding means
 first-from-the-left = (refl, refl, refl, refl, refl)
 
--- the places of a group are taken before what is in it is looked at
+-- depth and places of a group are checked before its body
 -- rule: first-descriptor-decides
 group-before-its-body :
     (at_full (101002 ∷ 12102 ∷ []) ≡ Err (TemplateSize (word 101002)))
@@ -502,7 +502,7 @@ group-before-its-body :
 unfolding at_full after
 group-before-its-body = (refl, refl)
 
--- 25 comes when a group's body is done, and for the whole list at last
+-- 25 is checked at the end of a group's body, and at last for the whole list
 -- rule: first-descriptor-decides
 empty-when-done :
     (means (102001 ∷ 201000 ∷ 12102 ∷ []) ≡ Err (UnknownElement (word 12102)))

@@ -1,5 +1,7 @@
 -- What a call of a reader of dump texts reports.
 use Rattle.std.proofs.Common.{◌-◌, ◌*◌, ◌^◌, min, max, inl, inr, ◌⊎◌, ◌≡◌, ℕ, ◌<◌, Bool, true, false, List, [], ◌∷◌, ◌++◌, length, refl, sym, ap, subst, ◌∙◌, arith, append_assoc, append-nil, length-append, ◌+◌, ◌≤◌, Option, Ok, Some, None, Result, Err, IfOk, IfSome}
+use Rattle.std.proofs.Math.Nat.{mul-le-mul_left}
+use Rattle.bufr_bits.specs.Prelude.{counted}
 use Rattle.std.proofs.KnownBytes.{Consumes-trans}
 use Rattle.std.proofs.lemmas.Bool.{true≢false}
 use Rattle.std.proofs.lemmas.List.{nil_from_length}
@@ -423,3 +425,9 @@ asks-then a b c before made made' after order more same one two =
     let sum : 4096 * (made - before) + 4096 * (after - made') ≡ 4096 * (after - before) = omega arith in
     let A : ℕ → Type 0 = λ n. AsksAtMost a c n in
     subst A sum (asks-more a b c _ _ (2 ^ 64 - 1) one two)
+
+-- one call of reads asked for at most 4,096 octets a read
+pub asks-exactly : (asked asked' reads n : ℕ) → asked' ≡ counted asked (reads * min 4096 n) → AsksAtMost asked asked' (4096 * reads)
+asks-exactly asked asked' reads n is =
+    let few : reads * min 4096 n ≤ reads * 4096 = mul-le-mul_left reads (omega arith) in
+    omega (arith, is, few)

@@ -518,32 +518,32 @@ wants-at old new held from n is feed more = record {
 
 -- ---- What the steps of a reader of dump texts do.
 
-abbrev pub reader : (at : ℕ) → Parsing → List ℕ → Bool → Option ReadFault → ℕ → ReaderModel
-reader at parsing held ended fault reads = record { at = at; parsing = parsing; held = held; ended = ended; fault = fault; reads = reads }
+abbrev pub reader : (at : ℕ) → Parsing → List ℕ → Bool → Option ReadFault → (reads free : ℕ) → ReaderModel
+reader at parsing held ended fault reads free = record { at = at; parsing = parsing; held = held; ended = ended; fault = fault; reads = reads; free = free }
 
 -- what lines report that were taken
-pub takes-reports : (old new : Progress) (f f' : Option ReadFault) (held : List ℕ) (len : ℕ) (ended : Bool) (reads : ℕ) (effect : LineEffect) (p : Parsing)
+pub takes-reports : (old new : Progress) (f f' : Option ReadFault) (held : List ℕ) (len : ℕ) (ended : Bool) (reads free : ℕ) (effect : LineEffect) (p : Parsing)
     → TakesLines old new held len effect → p ≡ parsing_after (effect, new.parts)
-    → ParsesHeldLines (reader old.at (parsing_of old) held ended f reads) (reader new.at p (drop len held) ended f' reads) (reported_at (new.at - 1) (effect, new.parts))
-takes-reports old new f f' held len ended reads effect p h1 h2 = grind (arith, nat_tests, common_steps)
+    → ParsesHeldLines (reader old.at (parsing_of old) held ended f reads free) (reader new.at p (drop len held) ended f' reads free) (reported_at (new.at - 1) (effect, new.parts))
+takes-reports old new f f' held len ended reads free effect p h1 h2 = grind (arith, nat_tests, common_steps)
 
 -- the input skips them
 pub taken-held : (old new : Progress) (before : ReaderModel) (f f' : Option ReadFault) (input input' : InputModel) (len : ℕ) (effect : LineEffect) (p : Parsing)
-    → reader old.at (parsing_of old) input.held input.ended f input.reads ≡ before → TakesLines old new input.held len effect → p ≡ parsing_after (effect, new.parts)
+    → reader old.at (parsing_of old) input.held input.ended f input.reads input.free ≡ before → TakesLines old new input.held len effect → p ≡ parsing_after (effect, new.parts)
     → input' ≡ record input { held = drop len input.held }
-    → ParsesHeldLines before (reader new.at p input'.held input'.ended f' input'.reads) (reported_at (new.at - 1) (effect, new.parts))
+    → ParsesHeldLines before (reader new.at p input'.held input'.ended f' input'.reads input'.free) (reported_at (new.at - 1) (effect, new.parts))
 taken-held old new before f f' input input' len effect p is takes after skip =
     let results = reported_at (new.at - 1) (effect, new.parts) in
-    let B : ReaderModel → Type 0 = λ s. ParsesHeldLines s (reader new.at p (drop len input.held) input.ended f' input.reads) results in
-    let I : InputModel → Type 0 = λ i. ParsesHeldLines before (reader new.at p i.held i.ended f' i.reads) results in
-    subst I (sym skip) (subst B is (takes-reports old new f f' input.held len input.ended input.reads effect p takes after))
+    let B : ReaderModel → Type 0 = λ s. ParsesHeldLines s (reader new.at p (drop len input.held) input.ended f' input.reads input.free) results in
+    let I : InputModel → Type 0 = λ i. ParsesHeldLines before (reader new.at p i.held i.ended f' i.reads i.free) results in
+    subst I (sym skip) (subst B is (takes-reports old new f f' input.held len input.ended input.reads input.free effect p takes after))
 
 -- where memory was wanted
-pub wants-here : (old : Progress) (f : Option ReadFault) (held : List ℕ) (ended : Bool) (reads : ℕ) → WantsAt old held → WantsHere (reader old.at (parsing_of old) held ended f reads)
-wants-here old f held ended reads w =
+pub wants-here : (old : Progress) (f : Option ReadFault) (held : List ℕ) (ended : Bool) (reads free : ℕ) → WantsAt old held → WantsHere (reader old.at (parsing_of old) held ended f reads free)
+wants-here old f held ended reads free w =
     let n = w.progress in
     record {
-      mid = reader n.at (parsing_of n) (drop w.offset held) ended None reads;
+      mid = reader n.at (parsing_of n) (drop w.offset held) ended None reads free;
       taken = record { goes = w.taking.goes ended; passes = w.taking.passes };
       ended = refl;
       reads = refl;

@@ -87,10 +87,21 @@ pub record ReaderModel : Type 0 where
   pub fault : Option ReadFault
   -- how many reads it made
   pub reads : ℕ
+  -- how many places are free after the octets held
+  pub free : ℕ
 
 -- a reader that has read nothing
 abbrev pub new_reader : ReaderModel
-new_reader = record { at = 1; parsing = between; held = []; ended = false; fault = None; reads = 0 }
+new_reader =
+    record {
+      at = 1;
+      parsing = between;
+      held = [];
+      ended = false;
+      fault = None;
+      reads = 0;
+      free = 0;
+    }
 
 abbrev pub position_of : ReaderModel → ReaderPosition
 position_of s = record { at = s.at; parsing = s.parsing; held = s.held; ended = s.ended }

@@ -188,7 +188,8 @@ TakesHeldLines old new (Err (Line line fault)) =
 
 -- the input of a reader that holds these octets
 abbrev pub text_input : ReaderModel → List ℕ → InputModel
-text_input s held = record { held = held; ended = s.ended; reads = s.reads; room = 0; free = 0 }
+text_input s held =
+    record { held = held; ended = s.ended; reads = s.reads; room = 0; free = s.free }
 
 -- One read: octets come after those that are held, or the end was reached, which ends the last
 -- line. Memory is refused only before the first one.

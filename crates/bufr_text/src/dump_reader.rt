@@ -1,7 +1,8 @@
 //! The documents of an input.
 ghost use Rattle.std.specs.Prelude.{◌≡◌, ◌≢◌, ◌≤◌, ◌<◌, ◌-◌, ◌*◌, ℕ, List, None, Some, Err, true, false, length, IfSome, IfOk};
-ghost use Rattle.bufr_text.specs.Prelude.{IsProper, has_no_feed, ReaderModel, new_reader, unfed, ReturnsNextDocument, failures_by, TakesHeldLines, GivesHeldDocument, FillsBuffer, ReadsMoreText, stopped};
-ghost use Rattle.bufr_frame.specs.Prelude.{read_failures_after, AddsReads, AsksAtMost};
+ghost use Rattle.bufr_text.specs.Prelude.{IsProper, has_no_feed, ReaderModel, new_reader, unfed, ReturnsNextDocument, failures_by, TakesHeldLines, GivesHeldDocument, FillsBuffer, ReadsMoreText, stopped, text_input};
+ghost use Rattle.bufr_bits.specs.Prelude.{counted};
+ghost use Rattle.bufr_frame.specs.Prelude.{read_failures_after, AddsReads, AsksAtMost, asked_by};
 
 use crate::document::{Document, DocumentParts, LineEffect, ParserState, Progress, take_lines};
 use crate::fault::{ReadFault, TextLineFault};
@@ -50,6 +51,7 @@ impl Model for DumpReader {
       ended = f.input.ended;
       fault = f.fault;
       reads = f.input.reads;
+      free = f.input.free;
     } };
 
     ghost invariant = { λ f. IsReader f.fault f.progress f.input };
@@ -158,8 +160,10 @@ impl DumpReader {
         ensures failed { R.failures r.new ≡ read_failures_after (R.failures r.old) result }
         ensures sure { R.waits r.old ≡ false → result ≢ Err RunFault.Read }
         ensures counts { AddsReads (R.reads r.old) (R.reads r.new) self.old.reads self.new.reads }
-        ensures asked { AsksAtMost (R.asked r.old) (R.asked r.new)
-            (4096 * (self.new.reads - self.old.reads)) }
+        // A read asks for all that fits, up to the longest line.
+        ensures asked { R.asked r.new ≡ counted (R.asked r.old)
+            (asked_by 4096 (text_input self.old self.old.held)
+            (text_input self.new self.new.held)) }
     {
         self.input.fill(r, MAX_LINE, 2 * MAX_LINE)?;
         if self.input.ended() && !self.input.held().is_empty() {
@@ -225,8 +229,10 @@ impl DumpReader {
         ensures sure { self.old.fault ≡ None → R.waits r.old ≡ false
             → result ≢ Err (ReadFault.Run RunFault.Read) }
         ensures counts { AddsReads (R.reads r.old) (R.reads r.new) self.old.reads self.new.reads }
-        ensures asked { AsksAtMost (R.asked r.old) (R.asked r.new)
-            (4096 * (self.new.reads - self.old.reads)) }
+        // A read asks for all that fits, up to the longest line.
+        ensures asked { R.asked r.new ≡ counted (R.asked r.old)
+            (asked_by 4096 (text_input self.old self.old.held)
+            (text_input self.new self.new.held)) }
         ensures held { length self.new.held ≤ 8192 }
         ensures again { IfSome self.old.fault (λ fault. result ≡ Err fault) }
         ensures same { IfSome self.old.fault (λ _. r.new ≡ r.old) }

@@ -2,7 +2,7 @@ use Rattle.std.proofs.Common.{inl, ◌∙◌, ◌++◌, [], ap, sym, subst, arit
 use Rattle.std.proofs.lemmas.Result.{err_from_is_err_and}
 use Rattle.bufr_frame.proofs.FinderLemmas.{adds-none, adds-same, adds-then, none-unless}
 use Rattle.bufr_text.specs.Prelude.{Document, ReturnsNextDocument, ReadFault}
-use Rattle.bufr_text.proofs.CallLemmas.{asks-nothing, asks-then, call-none, call-needs, failures-kept, fill-call, fill-waits, fill-fault, waits-same}
+use Rattle.bufr_text.proofs.CallLemmas.{asks-exactly, asks-nothing, asks-then, call-none, call-needs, failures-kept, fill-call, fill-waits, fill-fault, waits-same}
 use Rattle.bufr_text.proofs.dump_reader.DumpReader.next_document.Goals as goal
 
 pub loop-next-init : goal.loop-next-init
@@ -39,7 +39,7 @@ loop-next-preserved g c =
       call = fill-call _ _ _ c.args.self.now s c.read_more.new.self before.octets read.0 call waits needs.going needs.none filled;
       waits = fill-waits _ _ _ c.args.self.now s c.read_more.new.self before.octets read.0 call waits needs.going needs.none filled;
       counts = adds-then _ _ _ _ _ _ (adds-same _ _ _ _ _ before.counts c.next_held.ensures.reads) c.read_more.ensures.counts;
-      asked = asks-then _ _ _ _ _ _ _ before.counts.order c.read_more.ensures.counts.order c.next_held.ensures.reads before.asked c.read_more.ensures.asked;
+      asked = asks-then _ _ _ _ _ _ _ before.counts.order c.read_more.ensures.counts.order c.next_held.ensures.reads before.asked (asks-exactly _ _ _ _ c.read_more.ensures.asked);
       failed = (rw c.in_ok-read_more-in-None.was at c.read_more.ensures.failed needs.sound) ∙ before.failed;
       sound = filled.0.fault;
     }

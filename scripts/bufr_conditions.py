@@ -1,0 +1,80 @@
+"""Conditions KEY=VALUE and KEY!=VALUE on the lines of `bufr ls`, as bufr-extract, bufr-csv and bufr_text take them.
+
+    conditions = bufr_conditions.Conditions(["category=0", "time=2024-01-02"])
+    for line in listing:        # a line as bytes
+        if conditions.are_met(line):
+            ..
+    note = conditions.note()    # "", or how many edition 3 messages were left out, and why
+
+KEY is a word of the line. VALUE is what follows it, or its first parts: category=0 takes 0/2/0, and time=2024-01-02 each
+hour of that day. Commas separate several values. All conditions must hold. Raises `ValueError` for any other word.
+"""
+from __future__ import annotations
+
+import re
+from typing import Iterable, List, Tuple
+
+KEYS = (
+    "offset length edition centre update category tables time subsets observed compressed optional descriptors".split()
+)
+
+
+class Conditions:
+    """Conditions on a line. `patterns` has each, as grep -E and `re` read it, and whether it must not match.
+
+    Edition 3 has years of the century in the place of years: time=2024 does not take 0024. These messages are left out
+    and counted.
+    """
+
+    def __init__(self, words: Iterable[str]) -> None:
+        self.patterns: List[Tuple[bool, str]] = []
+        # The first condition on `time`, and what edition 3 has in the place of all their years.
+        self.asked = ""
+        self.of_century: List[str] = []
+        self.left_out = 0
+        for word in words:
+            self.add(word)
+        self.compiled = [(negated, re.compile(pattern.encode())) for negated, pattern in self.patterns]
+        self.is_left_out = re.compile(self.pattern_of_left_out().encode())
+
+    def add(self, word: str) -> None:
+        found = re.fullmatch(r"([a-z]+)(!?)=(.*)", word, re.DOTALL)
+        if not found:
+            raise ValueError(f"'{word}' is no condition KEY=VALUE or KEY!=VALUE")
+        key, negated, text = found.groups()
+        if key not in KEYS:
+            raise ValueError(f"unknown key {key} in '{word}'; the keys are {' '.join(KEYS)}")
+        if not re.fullmatch(r"[0-9T:/-]+(,[0-9T:/-]+)*", text):
+            raise ValueError(f"'{word}' has a value that no listing has: use digits, T, colons, slashes and hyphens")
+        values = text.split(",")
+        pattern = f"(^| ){key}=({'|'.join(values)})([ T:/-]|$)"
+        if key == "time" and not negated:
+            years = [value for value in values if re.match("[1-9][0-9]{3}", value)]
+            of_century = [f"00{year[2:]}" for year in years if f"00{year[2:4]}" not in {value[:4] for value in values}]
+            if of_century:
+                # These match, and are then counted and left out.
+                self.asked = self.asked or word
+                self.of_century += of_century
+                pattern += f"| edition=3 .* time=({'|'.join(of_century)})[ T:/-]"
+        self.patterns.append((bool(negated), pattern))
+
+    def pattern_of_left_out(self) -> str:
+        """A pattern, without groups, of the lines that match and are left out."""
+        return f" edition=3 .* time=(?:{'|'.join(self.of_century)})[ T:/-]" if self.of_century else "(?!)"
+
+    def are_met(self, line: bytes) -> bool:
+        """Whether a line meets all. Counts one that is left out."""
+        line = line.rstrip(b"\n")
+        if any(bool(pattern.search(line)) == negated for negated, pattern in self.compiled):
+            return False
+        is_left_out = bool(self.is_left_out.search(line))
+        self.left_out += is_left_out
+        return not is_left_out
+
+    def note(self) -> str:
+        """A note on the messages that were left out, or nothing."""
+        if not self.left_out:
+            return ""
+        messages = "1 edition 3 message" if self.left_out == 1 else f"{self.left_out} edition 3 messages"
+        both = f"{self.asked},{','.join(self.of_century)}"
+        return f"left out {messages}, whose years have two digits: {both} takes both editions"

@@ -1,0 +1,134 @@
+"""The command line of a script: its options and its operands. All scripts read it with this parser.
+
+    def work(words):
+        asked = bufr_options.Asked(words, flags=["--json"], values={"-c": str, "--max-length": bufr_options.from_12})
+        as_json = asked.has("--json")
+        columns = asked.last("-c")            # None without -c
+        for file in asked.files():            # None is standard input: `-`, or no operand at all
+            ..
+    bufr_guard.run(work, __doc__)
+
+`-c VALUE` and `-cVALUE` are the same, and so are `--name VALUE` and `--name=VALUE`. Options may follow operands. After
+`--` each word is an operand. A function in `values` turns a word into a value; its ValueError says what it expected.
+
+A command line that is not understood raises `bufr_guard.Failed`: one line that points to --help, and status 2. `run`
+answers --help and --version, which are recognised here.
+"""
+from __future__ import annotations
+
+import bufr_guard
+
+TYPE_CHECKING = False
+if TYPE_CHECKING:
+    from typing import Any, Callable, Mapping, Optional, Sequence
+
+    from bufr_conditions import Conditions
+
+ANSWERS = {"-h": "--help", "--help": "--help", "-V": "--version", "--version": "--version"}
+
+
+class Asked:
+    """The options and operands of a command line.
+
+    With `takes_conditions`, operands such as `category=0` count as values of --where.
+    """
+
+    def __init__(
+        self,
+        words: Sequence[str],
+        flags: Sequence[str] = (),
+        values: Mapping[str, Callable[[str], Any]] = {},
+        takes_conditions: bool = False,
+    ) -> None:
+        self.operands: list[str] = []
+        self.given: dict[str, list[Any]] = {}
+        rest = iter(words)
+        for word in rest:
+            if word == "--":
+                self.operands += rest
+            elif word in ANSWERS:
+                raise bufr_guard.Question(ANSWERS[word])
+            elif takes_conditions and is_condition(word):
+                self.add("--where", word, str)
+            elif word == "-" or not word.startswith("-"):
+                self.operands.append(word)
+            elif word in flags:
+                self.given[word] = []
+            else:
+                name, value = parts(word)
+                if name in flags and word.startswith("--"):
+                    raise misused(f"{name} takes no value")
+                if name not in values:
+                    raise misused(f"unknown option {name if word.startswith('--') else word}")
+                value = next(rest, None) if value is None else value
+                if value is None:
+                    raise misused(f"{name} needs a value")
+                self.add(name, value, values[name])
+
+    def add(self, name: str, value: str, kind: Callable[[str], Any]) -> None:
+        try:
+            self.given.setdefault(name, []).append(kind(value))
+        except ValueError as error:
+            raise misused(f"{name} '{value}': {error}") from None
+
+    def has(self, name: str) -> bool:
+        """Whether an option is given."""
+        return name in self.given
+
+    def all(self, name: str) -> list[Any]:
+        """The values of an option, in order."""
+        return self.given.get(name, [])
+
+    def last(self, name: str, default: Any = None) -> Any:
+        """The value of an option; the last one, if it is given several times."""
+        return [default, *self.all(name)][-1]
+
+    def files(self, skipped: int = 0) -> list[Optional[str]]:
+        """The operands as files, without the first `skipped` ones: None for standard input, which is the default."""
+        return [None if file == "-" else file for file in self.operands[skipped:]] or [None]
+
+    def conditions(self) -> Optional[Conditions]:
+        """What --where asks for, or None without it."""
+        if not self.has("--where"):
+            return None
+        import bufr_conditions
+
+        try:
+            return bufr_conditions.Conditions(self.all("--where"))
+        except ValueError as error:
+            raise misused(str(error)) from None
+
+
+def is_condition(word: str) -> bool:
+    """Whether a word is KEY=VALUE or KEY!=VALUE."""
+    key, equals, _ = word.partition("=")
+    key = key[:-1] if key.endswith("!") else key
+    return bool(equals) and key.isascii() and key.isalpha() and key.islower()
+
+
+def parts(word: str) -> tuple[str, Optional[str]]:
+    """The name of an option, and the value that is joined to it."""
+    if word.startswith("--"):
+        name, equals, value = word.partition("=")
+        return name, value if equals else None
+    return word[:2], word[2:] or None
+
+
+def misused(why: str) -> bufr_guard.Failed:
+    """What is raised for a command line that is not understood."""
+    return bufr_guard.Failed(f"{why}; see {bufr_guard.name()} --help")
+
+
+def number_from(least: int) -> Callable[[str], int]:
+    """A function for `values`: a whole number of at least this size."""
+
+    def number(word: str) -> int:
+        if not (word.isascii() and word.isdigit() and len(word) < 19) or int(word) < least:
+            raise ValueError(f"expected a whole number, at least {least}")
+        return int(word)
+
+    return number
+
+
+# The values of --max-length: a message has at least twelve bytes.
+from_12 = number_from(12)

@@ -1,0 +1,391 @@
+# A dump as CSV: a row for each item, or for each subset, or for each level of a sounding.
+#
+#     bufr dump -B B.csv -D D.csv FILE | awk -f scripts/table.awk
+#     bufr dump -B B.csv -D D.csv FILE | awk -v columns=centre,year,001001,012101 -f scripts/table.awk
+#     bufr dump -B B.csv -D D.csv FILE |
+#       awk -v levels=1 -v keep=year,001001,001002 -v columns=007004,012101,012103 -f scripts/table.awk
+#
+# Without columns each item has a row: message, subset, item, descriptor, value, name, unit, all counted from 1. An item
+# that was read without an entry of Table B has no name and no unit. A reference value that the data define has the name
+# REFERENCE. The columns of `keep`, here keys of the header, come after the subset.
+#
+# With columns each subset has a row. A column is a descriptor or a key of the header, which is the first word of a
+# header line. A descriptor selects its first item in the subset, and 012101:2 selects the second. If a subset has no
+# such item, the field is empty.
+#
+# With levels=1 each level has a row. A level is one pass of a group that is repeated by a factor in the data (031000 to
+# 031002). It has a row if it has the first of the columns and, if there are several, another one. The columns of `keep`
+# describe the whole subset and come first. The first pass begins after the factor, and the next one where the descriptor
+# that began the first comes again, so a pass of two equal halves counts as two. A group inside a pass belongs to that
+# pass. A subset is skipped if it has no such level, or if the descriptor that begins a pass also comes inside one.
+#
+# Text is quoted, without its trailing spaces and with the escapes of the dump (\", \\, \xHH). A missing value is an
+# empty field. With json=1 each row is a JSON object: a missing value is null, and \xHH becomes the character with that
+# number.
+#
+# A dump does not contain offsets. The columns `offset` and `length` come from a listing, whose messages with a fault
+# line are left out:
+#
+#     bufr ls FILE > listing
+#     bufr dump -B B.csv -D D.csv FILE 2> faults |
+#       awk -v columns=offset,012101 -v listing=listing -v faults=faults -f scripts/table.awk
+#
+# Notes at the end name the columns that no row has, and count the subsets that were skipped. The status is 1 if a subset
+# was skipped because its levels cannot be told apart. It is 2 if a column is neither a descriptor nor a key, if the text
+# ends inside a message, or if the listing and the fault lines do not match the text. Any awk will do.
+#
+# bufr-csv also sets: name, which begins the messages; placed=1 if a comment before each message has its offset, length
+# and file, which are then columns too; feed=0 if rows need not be flushed at the end of each message; and in the
+# environment BUFR_CSV_LABELS, the names of the columns, one on each line.
+
+function fail(text) {
+    print name ": " text | "cat >&2"
+    exit failed = 2
+}
+
+# A text in quotes. The text of an item has escapes: JSON has the same \" and \\, and \u00HH for \xHH. A plain one has none.
+function quoted(text, is_plain,   parts, count, part) {
+    if (!json)
+        gsub(/"/, "\"\"", text)
+    else if (is_plain || index(text, "\\")) {
+        count = split(text, parts, is_plain ? "\\\\" : "\\\\\\\\")
+        text = ""
+        for (part = 1; part <= count; part++) {
+            if (is_plain)
+                gsub(/"/, "\\\"", parts[part])
+            else
+                gsub(/\\x/, "\\u00", parts[part])
+            text = text (part > 1 ? "\\\\" : "") parts[part]
+        }
+    }
+    return "\"" text "\""
+}
+
+# The value of an item. No function looks at the comment, whose bytes may be invalid in the locale.
+function field(   parts, part, value) {
+    if ($2 !~ /^"/)
+        return $2 == "MISSING" ? "" : $2
+    split($0, parts, "\"")
+    value = parts[2]
+    for (part = 3; match(value, /\\+$/) && RLENGTH % 2; part++)
+        value = value "\"" parts[part]
+    sub(/ +$/, "", value)
+    return quoted(value)
+}
+
+# A field that may be empty, with what separates it from the one before it.
+function cell(begin, value) {
+    return begin (json && value == "" ? "null" : value)
+}
+
+# Takes the place of the next message from the comment before it.
+function take_place(   words) {
+    split($0, words, /[= ]/)
+    header["offset"] = words[3]
+    header["length"] = words[5]
+    header["file"] = quoted(substr($0, index($0, " file=") + 6), 1)
+}
+
+# Finds the offset and length of the next message of the listing that has no fault line. Returns whether there is one.
+function next_listed(   line, words, is_read) {
+    do {
+        if ((is_read = (getline line < listing)) <= 0)
+            return is_read < 0 ? fail("cannot read " listing) : 0
+        if (line !~ /^offset=[0-9]+ /)
+            fail(listing " is not a listing by bufr ls")
+        split(line, words, /[= ]/)
+        header["offset"] = words[2]
+        header["length"] = words[4]
+        while (fault + 0 < header["offset"] + 0 && (is_read = (getline line < faults)) > 0)
+            if (line ~ /^offset [0-9]+: /) {
+                split(line, words, /[ :]/)
+                fault = words[2]
+            }
+        if (is_read < 0)
+            fail("cannot read " faults)
+    } while (fault == header["offset"])
+    return 1
+}
+
+# Whether a word is a descriptor of six digits. In a column of the whole subset a count from 1 may follow, after a colon.
+function is_descriptor(word, of_subset) {
+    if (of_subset)
+        sub(/:[1-9][0-9]*$/, "", word)
+    return word ~ /^[0-3][0-9][0-9][0-9][0-9][0-9]$/ && substr(word, 2, 2) < 64 && substr(word, 4, 3) < 256
+}
+
+# Splits a list of columns and returns their number. `keys` are the words that are allowed besides descriptors.
+function split_columns(words, list, keys,   count, column, word) {
+    count = split(words, list, /[ ,]+/)
+    for (column = 1; column <= count; column++) {
+        word = list[column]
+        if (word != "" && index(keys, " " word " "))
+            is_key[word] = wanted[word] = 1
+        else if (by_item)
+            fail("no key of the header, which keep needs without columns: " word)
+        else if (is_descriptor(word, keys != ""))
+            wanted[substr(word, 1, 6)] = 1
+        else
+            fail("no descriptor of six digits" (keys == "" ? "" : ", and no key of the header") ": " word)
+        if (!(++total in label))
+            label[total] = json ? "\"" word "\"" : word
+        before[total] = json ? "," label[total] ":" : ","
+        heading = heading "," label[total]
+    }
+    return count
+}
+
+# The end of an item's row: the name and the unit in a comment. The unit is after the last ` [`.
+function name_and_unit(comment,   parts, part, count, title, unit) {
+    sub(/^ *# ?/, "", comment)
+    count = split(comment, parts, / \[/)
+    title = count > 1 ? parts[1] : ""
+    for (part = 2; part < count; part++)
+        title = title " [" parts[part]
+    unit = count > 1 ? parts[count] : ""
+    sub(/]$/, "", unit)
+    return cell(name_begin, title == "" ? "" : quoted(title, 1)) cell(unit_begin, unit == "" ? "" : quoted(unit, 1)) row_end
+}
+
+# Writes the row of an item. Names are cached by their comments.
+function write_item(   is_reference, comment) {
+    is_reference = sub(/^R /, "")
+    comment = $0
+    if ($2 ~ /^"/)
+        sub(/^[0-9]+ "([^"\\]|\\.)*"/, "", comment)
+    else
+        sub(/^[0-9]+ [^ ]*/, "", comment)
+    if (!(comment in names)) {
+        if (++name_count > 10000) {
+            split("", names)
+            name_count = 1
+        }
+        names[comment] = name_and_unit(comment)
+    }
+    items++
+    print subset_begin items fxy_begin $1 cell(value_begin, field()) (is_reference ? reference : names[comment])
+}
+
+# Ends the open pass. If it has a row, the row is held until the subset ends.
+function end_pass(   column, line, others, value) {
+    if (!open)
+        return
+    for (column = 1; column <= level_count; column++) {
+        value = ""
+        if (level[column] in values) {
+            value = values[level[column]]
+            others += column > 1
+        }
+        line = line cell(before[kept_count + column], value)
+    }
+    if (level[1] in values && (others || level_count == 1)) {
+        rows[++row_count] = line
+        for (column in values)
+            had[column] = 1
+    }
+    open = 0
+    split("", values)
+}
+
+# Writes the rows of the subset that was read, if there was one.
+function end_subset(   row, column, line) {
+    if (subset && !by_item) {
+        end_pass()
+        if (levels && !row_count && !twice && !bare++)
+            first_bare = message " subset " subset
+        if (!levels || row_count)
+            line = begin_row()
+        if (!levels)
+            print line row_end
+        for (row = 1; row <= row_count; row++)
+            print line rows[row] row_end
+    }
+    row_count = subset = left = twice = 0
+}
+
+# The begin of a row: message, subset, and the columns of the whole subset.
+function begin_row(   line, column) {
+    line = message_begin message subset_middle subset
+    for (column = 1; column <= kept_count; column++) {
+        if (item_of[column] in first)
+            had[item_of[column]] = 1
+        line = line cell(before[column], first[item_of[column]])
+    }
+    return line
+}
+
+# Skips a subset in which the descriptor that begins a pass also comes inside a pass.
+function skip_subset(fxy) {
+    if (!unclear++)
+        first_unclear = message " subset " subset ": " fxy
+    twice = 1
+    open = left = row_count = 0
+    split("", values)
+}
+
+# One item in or before the passes of a group. `left` of them have yet to begin, each with the item `opener`. The open
+# pass has had `items` items and `inner` factors so far, and the pass before it had `pass_items` and `pass_inner`.
+function item(fxy) {
+    if (left && (opener == "" || fxy == opener)) {
+        if (opened > 1 && !inner && !pass_inner && items != pass_items) {
+            skip_subset(opener)
+            return
+        }
+        end_pass()
+        opened++
+        open = 1
+        left--
+        opener = fxy
+        pass_items = items
+        pass_inner = inner
+        items = inner = 0
+    } else if (open && !left && opened > 1 && !pass_inner) {
+        if (items == pass_items)
+            end_pass()
+        else if (fxy == opener) {
+            skip_subset(opener)
+            return
+        }
+    }
+    if (fxy in factors) {
+        if (open && (left || opened > 1 && inner < pass_inner))
+            inner++
+        else {
+            end_pass()
+            left = field() + 0
+            opener = ""
+            opened = items = inner = 0
+            return
+        }
+    }
+    items++
+    if (open && fxy in in_levels && !(fxy in values))
+        values[fxy] = field()
+}
+
+BEGIN {
+    if (name == "")
+        name = "table.awk"
+    by_item = columns == ""
+    if (levels && by_item)
+        fail("name the columns of the levels: -v columns=007004,012101")
+    if (keep != "" && !levels && !by_item)
+        fail("keep goes with levels=1, or without columns")
+    keys = " offset length edition master centre subcentre update category subcategory localsubcategory masterversion" \
+        " localversion year month day hour minute second observed compressed optional subsets "
+    if (placed)
+        keys = keys "file "
+    split(ENVIRON["BUFR_CSV_LABELS"], label, "\n")
+    kept_count = split_columns(levels || by_item ? keep : columns, kept, keys)
+    if (levels)
+        level_count = split_columns(columns, level, "")
+    is_joined = !placed && ("offset" in is_key || "length" in is_key)
+    if (is_joined && (listing == "" || faults == ""))
+        fail("offset and length need the files -v listing= (of bufr ls) and -v faults= (the fault lines of this dump)")
+    fault = -1
+    for (column = 1; column <= kept_count; column++) {
+        word = kept[column]
+        item_of[column] = word in is_key || word ~ /:/ ? word : word ":1"
+        is_kept[item_of[column]] = 1
+        in_keep[substr(word, 1, 6)] = 1
+    }
+    for (column = 1; column <= level_count; column++)
+        in_levels[level[column]] = 1
+    if (levels)
+        for (column = 31000; column <= 31002; column++)
+            factors["0" column] = wanted["0" column] = 1
+    wanted["message"] = wanted["subset"] = wanted["end"] = 1
+    if (placed)
+        wanted["#"] = 1
+    message_begin = json ? "{\"message\":" : ""
+    subset_middle = json ? ",\"subset\":" : ","
+    item_begin = json ? ",\"item\":" : ","
+    fxy_begin = json ? ",\"descriptor\":\"" : ","
+    value_begin = json ? "\",\"value\":" : ","
+    name_begin = json ? ",\"name\":" : ","
+    unit_begin = json ? ",\"unit\":" : ","
+    row_end = json ? "}" : ""
+    reference = name_begin "\"REFERENCE\"" cell(unit_begin, "") row_end
+    if (!json)
+        print "message,subset" heading (by_item ? ",item,descriptor,value,name,unit" : "")
+}
+
+# Most items are not wanted. Outside passes they do nothing, and inside passes they are counted.
+!($1 in wanted) {
+    if (by_item) {
+        if (subset && /^[0-3R]/)
+            write_item()
+    } else if (left || open)
+        if (open && opener != "" && $1 != opener && (left || opened < 2 || pass_inner || items != pass_items))
+            items += /^[0-3]/
+        else if (/^[0-3]/)
+            item($1)
+    next
+}
+/^[0-3]/ {
+    if (twice)
+        next
+    if ($1 in in_keep) {
+        word = $1 ":" ++seen[$1]
+        if (word in is_kept)
+            first[word] = field()
+    }
+    if (left || open || $1 in factors)
+        item($1)
+    next
+}
+$1 == "message" {
+    message++
+    is_open = 1
+    if (is_joined && !next_listed())
+        fail("the text has more messages than the listing")
+    next
+}
+$1 == "end" {
+    end_subset()
+    is_open = 0
+    if (feed != "0")
+        fflush()
+    next
+}
+$1 == "subset" {
+    end_subset()
+    subset = $2
+    split("", first)
+    split("", seen)
+    for (key in is_key)
+        first[key] = header[key]
+    if (by_item) {
+        items = 0
+        subset_begin = begin_row() item_begin
+    }
+    next
+}
+$1 == "#" {
+    if (/^# offset=/)
+        take_place()
+    next
+}
+!subset { header[$1] = $2 }
+
+END {
+    if (failed)
+        exit failed
+    if (is_open)
+        fail("the text ends inside a message")
+    if (is_joined && next_listed())
+        fail("the listing has more messages than the text and the fault lines")
+    for (column = 1; column <= kept_count; column++)
+        if (!(item_of[column] in had))
+            print name ": no row has " kept[column] | "cat >&2"
+    for (column = 1; column <= level_count; column++)
+        if (!(level[column] in had))
+            print name ": no row has " level[column] | "cat >&2"
+    if (bare)
+        print name ": subsets without such a level: " bare ", the first is message " first_bare | "cat >&2"
+    if (unclear) {
+        line = name ": subsets with a descriptor twice in a level: " unclear
+        print line ", the first is message " first_unclear | "cat >&2"
+        exit 1
+    }
+}

@@ -1,0 +1,77 @@
+#!/usr/bin/env python3
+"""Types the commands of README in their order, as somebody does who has just cloned the repository or unpacked a release.
+
+    tests/first_steps.py [PROGRAM]
+
+A fenced block `sh` or one that begins with `$ ` has commands. They run in one shell with a home of its own, at the top of
+a clone of the files as they are, and each has to end with status 0; what stands below a command that begins with `$ ` is
+what it prints. Commands that prove take half an hour and more, so they are named and not run: `.ci/run` is what runs this
+test, and install.sh is given PROGRAM in the place of the one that it would prove or that a proved release contains.
+"""
+import os
+import pathlib
+import re
+import shutil
+import subprocess
+import sys
+import tempfile
+
+from docs_commands import commands, typed
+from lib import TOP, finish, program
+
+BLOCK = re.compile(r"^```(\w*)\n(.*?)^```$", re.M | re.S)
+
+
+def steps(page: str) -> list:
+    """Each command of the page: its line's number, its words, and what it prints, or nothing if the page does not say."""
+    found = []
+    for block in BLOCK.finditer(page):
+        first, lines = page.count("\n", 0, block.start(2)) + 1, block[2].splitlines()
+        if block[1] == "sh":
+            found += [(number, [line], None) for number, line in enumerate(lines, first)]
+        elif lines[0].startswith("$ "):
+            found += commands(first, lines)
+    return found
+
+
+def clone(folder: pathlib.Path) -> None:
+    """Makes a clone of the files as they are."""
+    listed = subprocess.run(
+        ["git", "ls-files", "-z", "--cached", "--others", "--exclude-standard"], cwd=TOP, check=True, stdout=subprocess.PIPE
+    )
+    for name in filter(None, listed.stdout.decode().split("\0")):
+        if (TOP / name).is_file():
+            (folder / name).parent.mkdir(parents=True, exist_ok=True)
+            shutil.copy2(TOP / name, folder / name)
+    author = ["-c", "user.name=test", "-c", "user.email=test@localhost"]
+    for words in (["init", "-q"], ["add", "-A"], [*author, "commit", "-qm", "A commit"]):
+        subprocess.run(["git", *words], cwd=folder, check=True)
+
+
+def main() -> None:
+    told, skipped = [], []
+    for number, words, wanted in steps((TOP / "README.md").read_text(encoding="utf-8")):
+        needs_toolchain = "rt try" in words[0] or "try.sh" in words[0]
+        if words[0].startswith(".ci/run") or needs_toolchain and not shutil.which("rt"):
+            skipped.append(words[0].partition("  #")[0])
+        else:
+            words[0] = re.sub(r"install\.sh (?!--)", 'install.sh --program "$PROGRAM" --unproved ', words[0])
+            told.append((number, words, wanted))
+    with tempfile.TemporaryDirectory() as place:
+        top = pathlib.Path(place) / "clone"
+        top.mkdir()
+        clone(top)
+        words = [top / "release.sh", "--unproved", program(), place]
+        subprocess.run(words, check=True, stdout=subprocess.DEVNULL)
+        for archive in pathlib.Path(place).glob("*.tar.gz"):
+            shutil.move(archive, top)
+        environment = {key: value for key, value in os.environ.items() if not key.startswith("BUFR")}
+        wrong = typed(told, top, {**environment, "HOME": place, "PROGRAM": program()}, timeout=900)
+    print(f"{sys.argv[0]}: {len(told)} commands of README were typed; not run: {', '.join(skipped) or 'none'}")
+    if len(told) < 8:
+        wrong.append("fewer than eight commands to type")
+    finish([f"README.md:{one}" for one in wrong])
+
+
+if __name__ == "__main__":
+    main()
