@@ -61,7 +61,7 @@ from concurrent.futures import ThreadPoolExecutor
 from lib import TOP, finish
 
 sys.path.insert(0, str(TOP / "tests/bent_definitions"))
-from antt import DECLARATION, MODULE, Bad, below, blocks, crates, modules, parts_of, source, tokens  # noqa: E402
+from antt import DECLARATION, MODULE, Bad, Block, below, blocks, crates, modules, parts_of, source, tokens  # noqa: E402
 from entries import Entry, every_entry, read_entries  # noqa: E402
 from sites import cover, files, listed  # noqa: E402
 
@@ -116,29 +116,30 @@ class Copy:
                 found |= set().union(*(parts_of(name.rpartition(" as ")[2]) for name in block.imported()))
         return found & self.needed
 
+    def imports(self, of: dict, block: Block) -> str:
+        """A line that imports, reduced to what the copy needs, or nothing."""
+        head, braces, _ = block.text.partition("{")
+        used = MODULE.search(head)
+        if not braces:
+            return block.text if parts_of(head.rpartition(" as ")[2]) & self.needed or " as " not in head else ""
+        wanted = self.kept(of, used.groups()) if used and used.groups() in self.places else self.needed
+        names = [name for name in block.imported() if parts_of(name.partition(" as ")[0]) & wanted]
+        names = [name for name in names if parts_of(name.rpartition(" as ")[2]) & self.needed]
+        return f"{head}{{{', '.join(names)}}}" if names else ""
+
     def texts(self, of: dict, crate: str, tag: str) -> dict:
         """The files of the copy, by their names, below a folder TAG of the proofs of a crate."""
         made = {}
         for place in self.places:
-            lines = []
-            for block in of[place]:
-                if block.declares:
-                    if block.names & self.needed:
-                        lines.append(block.text)
-                    continue
-                text, used = block.text, MODULE.search(block.text)
-                if used and used.groups() in self.places and "{" in text:
-                    there = self.kept(of, used.groups())
-                    names = [name for name in block.imported() if parts_of(name.partition(" as ")[0]) & there]
-                    if not names:
-                        continue
-                    text = f"{text.partition('{')[0]}{{{', '.join(names)}}}"
-                lines.append(text)
-            made["_".join(place)] = MODULE.sub(
-                lambda one: f"Rattle.{crate}.proofs.variants.{tag}.{'_'.join(one.groups())}" if one.groups() in self.places else one[0],
-                "\n".join(lines) + "\n",
-            )
-        return made
+            lines = [block.text if block.declares else self.imports(of, block) for block in of[place] if block.names & self.needed or not block.declares]
+            if any(line and not re.match("(use|infix)", line) for line in lines):
+                made["_".join(place)] = "\n".join(filter(None, lines)) + "\n"
+        copied = {name: f"Rattle.{crate}.proofs.variants.{tag}.{name}" for name in made}
+
+        def moved(one: re.Match) -> str:
+            return copied.get("_".join(one.groups()), one[0])
+
+        return {name: MODULE.sub(moved, text) for name, text in made.items()}
 
     def file(self) -> str:
         return "_".join(self.place)
