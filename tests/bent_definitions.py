@@ -1,45 +1,45 @@
 #!/usr/bin/env python3
-"""Bends definitions on purpose, one rule at a time, and wants a worked example, a vector, a test or a law to notice.
+"""Makes rules of the definitions wrong, one at a time, and checks that an example, a vector, a test or a law fails.
 
-    tests/bent_definitions.py [PROGRAM]                      a sample of the entries; all entries are read
-    tests/bent_definitions.py --all                          all entries; fails also if a comparison has no entry
-    tests/bent_definitions.py --crate NAME | --only WORD     the entries of a crate, or those whose text has WORD
-    tests/bent_definitions.py --list [--crate NAME]          tries none, and lists each comparison with its entries
+    tests/bent_definitions.py [PROGRAM]                      try a sample of the entries
+    tests/bent_definitions.py --all                          try every entry, and fail if a comparison has none
+    tests/bent_definitions.py --crate NAME | --only WORD     try the entries of a crate, or those that contain WORD
+    tests/bent_definitions.py --list [--crate NAME]          try nothing, and list each comparison with its entries
 
-The program is proved equal to its definitions, so a wrong rule that stands in both is noticed only by what was
-computed by hand. Each crate has a file bent_definitions/CRATE.txt of wrong rules, whose entries are separated by blank
-lines:
+The program is proved equal to its definitions. A rule that is wrong in both therefore goes unnoticed unless an example
+that was computed by hand has the case. The file bent_definitions/CRATE.txt lists wrong rules for a crate. Blank lines
+separate its entries:
 
     # 33 groups and sequences may be open together.
     specs: Expansion.antt
     old: max_open = 32
     new: max_open = 33
-    fails: example TemplateExamples.faults
+    fails: example TemplateExamples.measures
 
-The comment is the wrong rule in words. `specs:` names a file of the crate's specs/, or CRATE/FILE, and the pairs below
-change it: the old text stands there exactly once. Lines `old:` after one another are one text of several lines, and so
-are lines `new:`. `fails:` names what must notice:
+The comment states the wrong rule. `specs:` names a file of the crate's specs/, or CRATE/FILE, and the pairs below it
+change that file. The old text must occur exactly once. Consecutive `old:` lines are one text of several lines, and so are
+consecutive `new:` lines. `fails:` names what must fail:
 
-    example MODULE.NAME    a worked example of proofs/, or CRATE/MODULE.NAME: its `refl` is refused
-    law MODULE::NAME       a law of src/ that speaks of definitions alone, or CRATE/MODULE::NAME: it is not proved
-    vector NAME            a case of vectors/cases.tsv, of a program that is changed in the same way
-    test FILE::NAME        a test of bufr_tests, of code that is changed in the same way
+    example MODULE.NAME    a worked example of proofs/, or CRATE/MODULE.NAME: one of its `refl` is refused
+    law MODULE::NAME       a law of src/ about definitions alone, or CRATE/MODULE::NAME: it is no longer proved
+    vector NAME            a case of vectors/cases.tsv, run by a program with the same change
+    test FILE::NAME        a test of bufr_tests, run on code with the same change
 
-For a vector and a test the entry has the change of the code too, by pairs below `code:`, a file of the crate's src/.
-A line `order: DEFINITION` says that the change turns round what the definition asks first, where no words show it.
-Lines `free: FILE: NAME, NAME` or ``free: FILE: `TEXT` `` below a comment say why definitions, or the comparison that a
-text holds, have no entry.
+An entry for a vector or a test contains that change of the code too: pairs below `code:`, which names a file of the
+crate's src/. `order: DEFINITION` says that the change reverses two checks of a definition, if that is not visible from
+the words. `free: FILE: NAME, NAME` and ``free: FILE: `TEXT` `` need no entry, for the reason in the comment above them:
+these definitions, or the comparison in this text.
 
-How examples are tried: for each entry a scratch copy of the crate gets a copy of every module between the changed
-definition and the example, reduced to what the example needs, and beside it the same without the change. One check
-judges all entries of a crate. An entry is caught only if in the changed copy the checker refuses a `refl` of the
-example, since its two sides differ, and nothing else; and refuses nothing in the unchanged copy. A change that does not
-compile is an error of the list. Each check also holds changes without effect, which must pass, and one that must not.
+How examples are tried: a scratch copy of the crate gets, for each entry, a copy of every module between the changed
+definition and the example, reduced to what the example needs, and the same modules without the change. One check judges
+all entries of a crate. An entry is caught only if the checker refuses nothing in the unchanged copy, and in the changed
+copy nothing but a `refl` of the example, whose two sides are different values. If the change does not compile, or the
+example no longer computes, the entry is invalid, which is an error. The entries of controls.txt state their verdicts.
 
-What needs an entry: each comparison of a computed definition (two, one a step to either side, for an order
-comparison), each number of a rule that refuses, and each two faults of which the first that applies is reported. An
-entry is for the comparison whose words it changes, and for an order if it turns it round. Propositions need
-none: they say what is proved, and refuse no input.
+What needs an entry: each comparison in a computed definition (two entries, one a step to either side, if it compares
+sizes), each number in a rule that refuses, and each two checks of which the first that fails is reported. An entry
+counts for the comparison whose words it changes, and for an order that it reverses. Propositions need none: they state
+what is proved, and refuse no input.
 """
 import argparse
 import collections
@@ -263,34 +263,54 @@ def is_refused_refl(copy: Copy, error: tuple) -> bool:
 
 
 @functools.lru_cache(None)
-def computed_names() -> frozenset:
-    """The words that a value has no more once it is computed: names of definitions, of ours and those that we import."""
-    ours, others, built = set(), set(), {"true", "false", "zero", "suc", "pos", "negsuc", "tt", "∷", "[]", "refl"}
+def words_of_antt() -> tuple:
+    """The constructors that do not begin with a capital, and the definitions: ours, and those that our modules import."""
+    built, defined = {"true", "false", "zero", "suc", "pos", "negsuc", "tt", "∷", "[]", "refl"}, set()
     for crate, folder, name in modules():
         for block in blocks(source((crate, folder, f"{name}.antt"))):
-            if block.declares and DECLARATION.match(block.lines[0])[1] not in ("data", "record"):
-                ours |= block.names
-            elif block.declares:
+            if not block.declares:
+                ours = "Rattle.bufr" in block.text
+                defined |= set() if ours else {part for one in block.imported() for part in parts_of(one.rpartition(" as ")[2])}
+            elif DECLARATION.match(block.lines[0])[1] in ("data", "record"):
                 built |= block.names
-            elif "Rattle.bufr" not in block.text:
-                others |= {part for name in block.imported() for part in parts_of(name.rpartition(" as ")[2])}
-    return frozenset(name for name in (ours | others) - built if not name[:1].isupper())
+            else:
+                defined |= block.names
+    return frozenset(built), frozenset(name for name in defined - built if not name[:1].isupper())
 
 
 DIFFER = re.compile(r"computed as far as they go, the two types .*? `(.*?)`\s+\(expected\).*? `(.*?)`\s+\(found\)")
+PRINTED = re.compile(r"[()]|[^\s(){}\[\],;]+")
 
 
-def is_computed(side: str) -> bool:
-    """Whether a side of an equation, as the checker prints it, is a value: no call in it waits."""
-    labels = set(re.findall(r"(\S+) =", side))
-    whole = {name.rpartition(".")[2] for name in re.findall(r"\bRattle(?:\.\S+)+", side)}
-    return not (tokens(side) - labels) & computed_names() and "elim" not in tokens(side) and not any(name[:1].islower() for name in whole)
+def waits(word: str) -> bool:
+    """Whether a word that the checker prints is a call that computes no further."""
+    built, defined = words_of_antt()
+    name = word.rpartition(".")[2]
+    is_elsewhere = "." in word and not name[:1].isupper() and name not in built
+    return bool(parts_of(name) & defined) or name == "elim" or is_elsewhere
+
+
+def constructor(side: str) -> str:
+    """The constructor with which a side of an equation begins, as the checker prints it, or nothing."""
+    outer, depth = [], 0
+    for word in PRINTED.findall(side):
+        depth += (word == "(") - (word == ")")
+        outer += [word] if depth == 0 and word != ")" else []
+    name = outer[0].rpartition(".")[2] if outer and not any(map(waits, outer)) else ""
+    return name if name[:1].isupper() or name in words_of_antt()[0] else ""
+
+
+def are_unequal(one: str, other: str) -> bool:
+    """Whether two sides that differ begin with two constructors, or are values as a whole."""
+    heads = {constructor(one), constructor(other)}
+    whole = PRINTED.findall(re.sub(r"\S+ = ", "", f"{one} {other}"))
+    return (len(heads) == 2 and "" not in heads) or not any(map(waits, whole))
 
 
 def differs(errors: list) -> bool:
     """Whether one of the refusals shows two values, and not a call that computes no further."""
     shown = [DIFFER.search(message) for *_, message, _ in errors]
-    return any(found and is_computed(found[1]) and is_computed(found[2]) for found in shown)
+    return any(found and are_unequal(found[1], found[2]) for found in shown)
 
 
 def shown(error: tuple) -> str:
@@ -417,12 +437,12 @@ def judge_alone(room: pathlib.Path, entry: Entry, known: dict) -> str:
 
 # ---------------------------------------------------------------- the run
 
-SAMPLE = 24  # of the examples of each crate
-CONTROLS = "controls", "bufr_tables"  # the list that says its verdicts, and the crate that it changes
+SAMPLE = 24  # entries of each crate
+CONTROLS = "controls", "bufr_tables"  # the list whose entries state their verdicts, and the crate that it changes
 
 
 def sampled(entries: list) -> list:
-    """Some entries with an example of each crate. Which ones is decided by the definitions, and so the same until one changes."""
+    """Some entries of each crate whose examples are tried, and the controls. They stay the same until a definition changes."""
     seed = "".join(source(place) for place in files())
 
     def rank(entry: Entry) -> str:
@@ -482,11 +502,11 @@ def main() -> None:
     missing = listed(asked.crate, False)
     if asked.list:
         print("\n".join(listed(asked.crate, True)))
-        print(f"bent_definitions: {len(missing)} lack an entry")
+        print(f"bent_definitions: {len(missing)} comparisons, numbers and orders lack an entry")
         finish(wrongs)
     wrongs += missing if asked.all else []
     if not shutil.which("rt"):
-        print("bent_definitions: skipped, as the toolchain's rt is not on the PATH; the lists were read")
+        print("bent_definitions: skipped, because rt is not on the PATH; only the lists were checked")
         finish(wrongs)
     every = [entry for entry in [*entries, *read_entries(*CONTROLS)] if entry.kind]
     tried = chosen(asked, every)
@@ -502,10 +522,10 @@ def main() -> None:
         sys.exit(130)
     for entry, verdict in verdicts.items():
         if verdict.partition(":")[0] != entry.wanted:
-            wrongs.append(f"{entry}: {verdict}" + (f"; {entry.kind} {entry.of}/{entry.name} passes all the same" if verdict == "survives" else ""))
-    counts = collections.Counter(verdict.partition(":")[0] for entry, verdict in verdicts.items() if entry.wanted == "caught")
-    told = ", ".join(f"{counts[verdict]} {verdict}" for verdict in ("caught", "survives", "invalid"))
-    print(f"bent_definitions: {len(tried)} of {len(every)} entries tried in {time.monotonic() - start:.0f} s: {told}; {len(missing)} lack an entry")
+            passes = f": {entry.kind} {entry.of}/{entry.name} does not fail" if verdict == "survives" else ""
+            wrongs.append(f"{entry}: {verdict}{passes}")
+    right = sum(verdict.partition(":")[0] == entry.wanted for entry, verdict in verdicts.items())
+    print(f"bent_definitions: {right} of {len(tried)} entries have their verdict ({len(every)} in all), in {time.monotonic() - start:.0f} s")
     finish(wrongs)
 
 

@@ -13,6 +13,8 @@ ORDERED = {"nat_lt", "nat_le"}
 PREFIX = ORDERED | {"int_eq", "bytes_eq"}
 ENDS = set("( ) [ ] { } , ; && || = if then else in let → λ ∷ ++ ↦ | ← × ⊎ >>= : do ≡ ↔".split())
 NUMBER = re.compile(r"\d[\d_]*$|0x[\dA-Fa-f_]+$")
+BOUNDS = {"leasts", "mosts", "greatest_values"}  # lists of bounds, each of which a comparison looks up by its index
+ARITHMETIC = set("∷ [ ] ( ) = ^ * + -".split())
 REFUSALS = set("Err None Wrong Refuses Stray unless only_if".split())
 ACCEPTED = set("Ok Some Continues true".split())
 
@@ -96,18 +98,19 @@ class Definition:
                 first, last = self.comparison(at)
                 inside |= set(range(first, last))
                 yield Site("comparison", words, first, last)
-        bare = all(NUMBER.match(word) or word in ("∷", "[]", "=", "(", ")", self.name) for word in words[self.body + 1 :])
-        if bare or REFUSALS & set(words):
+        bare = all(NUMBER.match(word) or word in ARITHMETIC or word == self.name for word in words[self.body + 1 :])
+        if bare or self.name in BOUNDS or REFUSALS & set(words):
             for at, word in enumerate(words):
                 if at > self.body and at not in inside and NUMBER.match(word) and self.is_value(at):
                     yield Site("number", words, at, at + 1)
         yield from self.orders()
 
     def is_value(self, at: int) -> bool:
-        """Whether a number is on the right of its clause, and not in a pattern or a signature."""
+        """Whether a number is on the right of its clause, not in a pattern or a signature, and has no exponent."""
         line = self.text.rfind("\n", 0, self.starts[at] - self.start) + 1
         head = self.text[line : self.starts[at] - self.start]
-        return head.startswith(" ") or " = " in head
+        is_base = self.words[at + 1 : at + 2] == ["^"]
+        return not is_base and (head.startswith(" ") or " = " in head)
 
     def orders(self):
         """What is asked after one another where both can refuse: statements of a `do` block of which the second does not
