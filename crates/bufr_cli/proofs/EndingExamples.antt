@@ -166,7 +166,8 @@ module _ {Standard File : Type 0} (inputs : Known Standard File) (before after :
   zero-is-not-two : ◌≡◌ {A = ℕ} 0 2 → ⊥
   zero-is-not-two is = omega arith
 
-status-0-is-handed-on : {Standard File : Type 0} (words : List Text) (inputs : Known Standard File) (opened opened' : Option (List InputName)) (before after : Writers) → RunsProgram words inputs opened opened' before after 0 → after.output.all_flushed ≡ true
+status-0-is-handed-on : {Standard File : Type 0} (words : List Text) (inputs : Known Standard File) (opened opened' : Option (List InputName)) (before after : Writers)
+    → RunsProgram words inputs opened opened' before after 0 → after.output.all_flushed ≡ true
 status-0-is-handed-on words inputs opened opened' before after (Does job is (Ran tally) between comes opens same line status) =
     ap (λ w. w.all_flushed) same ∙ command-is-handed-on inputs before between job.command job.file tally comes
 status-0-is-handed-on words inputs opened opened' before after (Does job is (Usage text) between comes opens same line status) = absurd (zero-is-not-two inputs before after status)

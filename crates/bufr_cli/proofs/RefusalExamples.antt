@@ -61,7 +61,8 @@ document_with rest =
 
 -- what `encode` writes for a text
 written : List ℕ → List Piece
-unfolding up_to_refused parse_lines lines_of turn line_of worded prefix_while suffix_while index_from keys leasts mosts without_prefix descriptors_read fxy_read value_read quoted_read hex_read is_hashed
+unfolding up_to_refused parse_lines lines_of turn line_of worded prefix_while suffix_while index_from keys leasts mosts without_prefix descriptors_read fxy_read value_read quoted_read hex_read
+    is_hashed
     encoding_in tree_of level part_of inner_of next_item decimal_value_of digits
 written text = encode_pieces AsWritten blocks [] (documents_of text)
 
@@ -89,6 +90,7 @@ status_of_runs = refl
 -- It is 2 for each fault of a device or a table.
 -- rule: status-of-table
 status_of_faults :
-    map status_of (Run Read ∷ Run Write ∷ Run InputTooLong ∷ Run Memory ∷ TableB table.Header ∷ TableB (table.Row 2) ∷ TableB (table.Duplicate 257) ∷ TableD (table.Cycle 49153) ∷ TableD table.TableSize ∷ TableD table.Csv ∷ TableD table.Memory ∷ [])
+    map status_of (Run Read ∷ Run Write ∷ Run InputTooLong ∷ Run Memory ∷ TableB table.Header ∷ TableB (table.Row 2) ∷ TableB (table.Duplicate 257) ∷ TableD (table.Cycle 49153)
+    ∷ TableD table.TableSize ∷ TableD table.Csv ∷ TableD table.Memory ∷ [])
     ≡ replicate 11 2
 status_of_faults = refl

@@ -350,7 +350,8 @@ module _ (reaches : Progress → Type 0) (from to : Input) (before mid : Writers
       })
 
   -- a read failed, or was not made
-  pub leaves-unread : (on : Progress → Type 0) (waits : Bool) (unflushed' : Unflushed) (to' : Input) (after : Writers) (handed : Result (Unit {0}) RunFault) (r : Result (Unit {0}) RunFault) (n' : ℕ) (f : RunFault)
+  pub leaves-unread : (on : Progress → Type 0) (waits : Bool) (unflushed' : Unflushed) (to' : Input) (after : Writers) (handed : Result (Unit {0}) RunFault) (r : Result (Unit {0}) RunFault) (n' : ℕ)
+      (f : RunFault)
       (result : Result Tally RunFault)
       → IsOpen pieces so → HandsOnWritten waits unflushed unflushed' mid after handed → handed ≡ Ok tt
       → ((so : Progress) → so.left ≡ to.left → reaches so → ReadsOctets on so to'.left r) → AddsReads to.reads to'.reads n n' → CountsRead n n' r

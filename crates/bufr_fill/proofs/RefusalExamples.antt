@@ -220,7 +220,8 @@ references_differ_last = (refl, refl)
 -- Texts that differ in octet 64 are 59, where the third is not too long (54) and does not read as
 -- missing (53).
 -- rule: fault-59, fault-order-of-subsets
-texts_differ_last : map (λ c. packed_to_bits (operator (fxy 2 5 64) bare) (with_third 34112 (text_form c) (each 34112 (text_form (replicate 64 65)) (text_form (replicate 63 65))))) (replicate 64 65 ∷ replicate 65 65 ∷ replicate 64 255 ∷ [])
+texts_differ_last : map (λ c. packed_to_bits (operator (fxy 2 5 64) bare) (with_third 34112 (text_form c) (each 34112 (text_form (replicate 64 65)) (text_form (replicate 63 65)))))
+    (replicate 64 65 ∷ replicate 65 65 ∷ replicate 64 255 ∷ [])
     ≡ Err (at_line 24 wrong.Increment) ∷ Err (at_line 28 wrong.TextLong) ∷ Err (at_line 28 wrong.OutOfRange) ∷ []
 unfolding packed_to_bits fxy
 texts_differ_last = refl
@@ -229,7 +230,8 @@ texts_differ_last = refl
 -- rule: fault-62-first
 walk_before_packing :
     (packed_to_bits (operator (fxy 2 3 10) delayed_blocks) (each 7937 (number_token (codes "0")) (number_token (codes "1"))) ≡ Err (at_line 24 (walk_refused (refusal.Defining 7937))))
-    × (packed_to_bits (operator (fxy 2 3 10) (operator (fxy 2 5 64) bare)) (each 34112 (text_form (replicate 64 65)) (text_form (replicate 63 65))) ≡ Err (at_line 24 (walk_refused (refusal.Defining 34112))))
+    × (packed_to_bits (operator (fxy 2 3 10) (operator (fxy 2 5 64) bare)) (each 34112 (text_form (replicate 64 65)) (text_form (replicate 63 65)))
+    ≡ Err (at_line 24 (walk_refused (refusal.Defining 34112))))
 unfolding packed_to_bits delayed_blocks fxy
 walk_before_packing = (refl, refl)
 

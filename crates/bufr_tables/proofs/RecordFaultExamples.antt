@@ -303,7 +303,7 @@ runs-twice :
 unfolding rows_d
 runs-twice = (refl, refl)
 
--- ---- At most 65,536 rows of Table D: row 65,536 is record 65,537.
+-- ---- At most 65,536 rows of Table D: the last of them is record 65,537.
 
 -- rule: fault-44
 rows-of-d :

@@ -230,7 +230,8 @@ where_a_text_ends :
     (map documents_of ([] ∷ codes "\n" ∷ codes "# x" ∷ codes "message" ∷ codes "message\n" ∷ codes "message\nedition 4\n" ∷ codes "message\nedition 4\n# x" ∷ codes "message\nx\ny\n" ∷ codes "message \n" ∷ codes "messages\n" ∷ [])
     ≡ [] ∷ [] ∷ [] ∷ line_at 2 ∷ line_at 2 ∷ line_at 3 ∷ line_at 4 ∷ line_at 2 ∷ line_at 1 ∷ line_at 1 ∷ [])
     × (map open_documents_of (codes "message" ∷ codes "message\nedition 4\n" ∷ codes "message\nedition 4\nx" ∷ codes "message\nx\n" ∷ []) ≡ [] ∷ [] ∷ [] ∷ line_at 2 ∷ [])
-unfolding line_of worded prefix_while suffix_while without_prefix fxy_read value_read quoted_read is_hashed index_from keys leasts mosts hex_read descriptors_read parse_lines lines_of turn parse_open_lines split_of
+unfolding line_of worded prefix_while suffix_while without_prefix fxy_read value_read quoted_read is_hashed index_from keys leasts mosts hex_read descriptors_read parse_lines lines_of turn
+    parse_open_lines split_of
 where_a_text_ends = (refl, refl)
 
 -- ---- Of two faults of a document the first: 56, then that of an item, then 60.

@@ -90,7 +90,8 @@ operators_while_defining :
     (map (λ d. width (fxy 2 3 10 ∷ d ∷ fxy 0 1 1 ∷ []))
     (fxy 2 1 0 ∷ fxy 2 1 255 ∷ fxy 2 2 0 ∷ fxy 2 2 255 ∷ fxy 2 3 0 ∷ fxy 2 3 1 ∷ fxy 2 3 63 ∷ fxy 2 5 1 ∷ fxy 2 5 255 ∷ fxy 2 6 1 ∷ fxy 2 6 255 ∷ fxy 2 7 0 ∷ fxy 2 7 18 ∷ fxy 2 8 0 ∷ fxy 2 8 255 ∷ [])
     ≡ map (λ d. Err (refusal.Defining d))
-    (fxy 2 1 0 ∷ fxy 2 1 255 ∷ fxy 2 2 0 ∷ fxy 2 2 255 ∷ fxy 2 3 0 ∷ fxy 2 3 1 ∷ fxy 2 3 63 ∷ fxy 2 5 1 ∷ fxy 2 5 255 ∷ fxy 2 6 1 ∷ fxy 2 6 255 ∷ fxy 2 7 0 ∷ fxy 2 7 18 ∷ fxy 2 8 0 ∷ fxy 2 8 255 ∷ []))
+    (fxy 2 1 0 ∷ fxy 2 1 255 ∷ fxy 2 2 0 ∷ fxy 2 2 255 ∷ fxy 2 3 0 ∷ fxy 2 3 1 ∷ fxy 2 3 63 ∷ fxy 2 5 1 ∷ fxy 2 5 255 ∷ fxy 2 6 1 ∷ fxy 2 6 255 ∷ fxy 2 7 0 ∷ fxy 2 7 18 ∷ fxy 2 8 0 ∷ fxy 2 8 255
+    ∷ []))
     × (map (λ y. width (fxy 2 3 y ∷ fxy 2 1 129 ∷ fxy 0 1 1 ∷ [])) (0 ∷ 1 ∷ 63 ∷ 255 ∷ []) ≡ Ok 8 ∷ Err (refusal.Defining (fxy 2 1 129)) ∷ Err (refusal.Defining (fxy 2 1 129)) ∷ Ok 8 ∷ [])
     × (width (fxy 2 3 10 ∷ fxy 2 3 255 ∷ fxy 2 1 129 ∷ fxy 0 1 1 ∷ []) ≡ Ok 8)
 unfolding width fxy

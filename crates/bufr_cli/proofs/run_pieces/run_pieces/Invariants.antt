@@ -7,7 +7,8 @@ use Rattle.bufr_cli.proofs.run_pieces.run_pieces.Given as goal
 -- pieces were written, and no device failed
 abbrev pub invariant-loop-verdict : goal.invariant-loop-verdict
 invariant-loop-verdict g l = record {
-  ran : RunSoFar (g.P.PieceWriter.reaches l.next) (input_of g.R.Source l.fn.r) (input_of g.R.Source l.r) (writers_of g.W.Sink l.fn.w g.E.Sink l.fn.e) (writers_of g.W.Sink l.w g.E.Sink l.e) l.tally l.unflushed;
+  ran : RunSoFar (g.P.PieceWriter.reaches l.next) (input_of g.R.Source l.fn.r) (input_of g.R.Source l.r) (writers_of g.W.Sink l.fn.w g.E.Sink l.fn.e) (writers_of g.W.Sink l.w g.E.Sink l.e) l.tally
+      l.unflushed;
   counts : AddsReads (g.R.Source.reads l.fn.r) (g.R.Source.reads l.r) 0 (g.P.PieceWriter.reads l.next);
   same : g.P.PieceWriter.pieces l.next ≡ g.P.PieceWriter.pieces l.fn.next;
   memory : g.P.PieceWriter.takes_memory l.next ≡ g.P.PieceWriter.takes_memory l.fn.next;

@@ -62,7 +62,8 @@ returns-in_err-write_read_fault-in-Some-Err g c =
     let some : (run : RunFault) → here.fault ≡ Run run → ⊥ = λ run is. search rules in
     let refusal = read-refusal here.fault some in
     let fault = c.in_err-write_read_fault-in-Some-Err.field-0.0 in
-    let cut = line-stopped _ _ _ c.write_read_fault.result fault (Err fault) (OnErrors (refused_line refusal.0 refusal.1)) refl (as_read _ _ _ here.fault refusal.0 refusal.1 refusal.2 c.write_read_fault.ensures.writes) refl
+    let cut = line-stopped _ _ _ c.write_read_fault.result fault (Err fault) (OnErrors (refused_line refusal.0 refusal.1)) refl
+    (as_read _ _ _ here.fault refusal.0 refusal.1 refusal.2 c.write_read_fault.ensures.writes) refl
     c.in_err-write_read_fault-in-Some-Err.was refl in
     record {
       next = λ so reached.

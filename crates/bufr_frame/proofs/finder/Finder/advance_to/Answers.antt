@@ -10,7 +10,17 @@ returns-clause-gone c =
     let held = v.input.held in
     let n = c.args.n in
     let state : (before rest : List ℕ) (longest : ℕ) → FinderModel =
-    λ before rest longest. record { before = before; rest = rest; at = v.offset + n; ended = v.input.ended; fault = v.fault; reads = v.input.reads; longest = longest; room = v.input.room; free = v.input.free } in
+    λ before rest longest. record {
+      before = before;
+      rest = rest;
+      at = v.offset + n;
+      ended = v.input.ended;
+      fault = v.fault;
+      reads = v.input.reads;
+      longest = longest;
+      room = v.input.room;
+      free = v.input.free;
+    } in
     let P : FinderModel → Type 0 = λ o. state (take (v.passed + n) held) (drop (v.passed + n) held) c.max-self-inside.result ≡ gone_to o n c.args.stated_length in
     subst P c.self.view_is
     (ap (λ l. state l (drop (v.passed + n) held) c.max-self-inside.result) (take-add v.passed n held)
