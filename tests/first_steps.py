@@ -36,13 +36,8 @@ def steps(page: str) -> list:
 
 def clone(folder: pathlib.Path) -> None:
     """Makes a clone of the files as they are."""
-    listed = subprocess.run(
-        ["git", "ls-files", "-z", "--cached", "--others", "--exclude-standard"], cwd=TOP, check=True, stdout=subprocess.PIPE
-    )
-    for name in filter(None, listed.stdout.decode().split("\0")):
-        if (TOP / name).is_file():
-            (folder / name).parent.mkdir(parents=True, exist_ok=True)
-            shutil.copy2(TOP / name, folder / name)
+    built = shutil.ignore_patterns(".git", "out", "dist", "__pycache__")
+    shutil.copytree(TOP, folder, symlinks=True, ignore=built)
     author = ["-c", "user.name=test", "-c", "user.email=test@localhost"]
     for words in (["init", "-q"], ["add", "-A"], [*author, "commit", "-qm", "A commit"]):
         subprocess.run(["git", *words], cwd=folder, check=True)
@@ -59,7 +54,6 @@ def main() -> None:
             told.append((number, words, wanted))
     with tempfile.TemporaryDirectory() as place:
         top = pathlib.Path(place) / "clone"
-        top.mkdir()
         clone(top)
         words = [top / "release.sh", "--unproved", program(), place]
         subprocess.run(words, check=True, stdout=subprocess.DEVNULL)

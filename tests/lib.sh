@@ -43,3 +43,9 @@ ends() {
     [ "$status" -eq "$wanted" ] && [ "$(tail -n 1 "$work/errors")" = "$line" ] && is_prefix "$work/output" "$whole" ||
         fail "bufr $*: status $status, $(tail -n 1 "$work/errors")"
 }
+
+# copy_tree FOLDER: copies this tree into a folder, without what was built.
+copy_tree() {
+    mkdir -p "$1"
+    tar -c --exclude-vcs --exclude=out --exclude=dist --exclude=__pycache__ . | tar -x -C "$1"
+}

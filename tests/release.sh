@@ -6,8 +6,7 @@
 
 # A clone of the files as they are, not of the last commit.
 clone() {
-    mkdir -p "$1"
-    git ls-files -z --cached --others --exclude-standard | xargs -0 cp --parents -t "$1"
+    copy_tree "$1"
     git -C "$1" init -q -b main
     git -C "$1" add -A
     git -C "$1" -c user.name=test -c user.email=test@localhost commit -q -m 'A commit' --date 2020-02-02T02:02:02Z
