@@ -437,7 +437,7 @@ def judge_alone(room: pathlib.Path, entry: Entry, known: dict) -> str:
 
 # ---------------------------------------------------------------- the run
 
-SAMPLE = 24  # entries of each crate
+SAMPLE = 12  # entries of each crate
 CONTROLS = "controls", "bufr_tables"  # the list whose entries state their verdicts, and the crate that it changes
 
 
