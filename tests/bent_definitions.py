@@ -87,7 +87,7 @@ class Copy:
         self.needed = self.need()
 
     def need(self) -> set:
-        """The words of all that the example names, and what that names, and so on, before and after the change."""
+        """The words of everything that the example uses, directly or not, before and after the change."""
         needed, todo = {self.example, ">>="}, True
         every = [block for of in (self.old, self.new) for found in of.values() for block in found]
         taken = set()
@@ -107,7 +107,7 @@ class Copy:
         return needed
 
     def kept(self, of: dict, place: tuple) -> set:
-        """The names that a module of the copy still has."""
+        """The names that a module of the copy still exports."""
         found = set()
         for block in of[place]:
             if block.declares:
@@ -128,7 +128,7 @@ class Copy:
         return f"{head}{{{', '.join(names)}}}" if names else ""
 
     def texts(self, of: dict, crate: str, tag: str) -> dict:
-        """The files of the copy, by their names, below a folder TAG of the proofs of a crate."""
+        """The files of the copy by name, for the folder TAG in the proofs of a crate."""
         made = {}
         for place in self.places:
             lines = [block.text if block.declares else self.imports(of, block) for block in of[place] if block.names & self.needed or not block.declares]
@@ -154,7 +154,7 @@ running = set()  # the processes that were started and have not ended
 
 
 def run(words: list, cwd: pathlib.Path, given: bytes = b"") -> tuple:
-    """The status of a command, its output and its error output. It is in a group of its own, so that it can be stopped."""
+    """Runs a command in a process group of its own, so that it can be stopped. Returns its status, output and errors."""
     pipe = subprocess.PIPE
     with subprocess.Popen(words, cwd=cwd, stdin=pipe, stdout=pipe, stderr=pipe, start_new_session=True) as process:
         running.add(process)
@@ -179,7 +179,7 @@ def kit() -> pathlib.Path:
 
 
 def libraries(crate: str) -> list:
-    """The crates below one, in the order in which they are met."""
+    """All crates that one depends on, directly or not."""
     found = []
     for used in crates()[crate]:
         for one in [used, *(libraries(used) if used in crates() else [])]:
@@ -198,7 +198,7 @@ def scratch(room: pathlib.Path) -> pathlib.Path:
 
 
 def check_words(top: pathlib.Path, crate: str, law: str) -> list:
-    """The words of a check of one law, with the crates below as source."""
+    """The command that checks one law, with the crates below as source."""
     words = [kit() / "bin/rattle", "check", "--crate-name", crate, "src/lib.rt", "--only", law]
     for one in ["std", *libraries(crate)]:
         if one in crates():
@@ -210,8 +210,8 @@ def check_words(top: pathlib.Path, crate: str, law: str) -> list:
 
 
 def check_copies(room: pathlib.Path, crate: str, copies: dict) -> dict:
-    """Checks modules in one scratch copy of a crate. `copies` has by tag the files and the name of the module that
-    imports the others. The answer has by tag what was refused: the file, line, column, message and source line."""
+    """Checks modules in a scratch copy of a crate. `copies` maps a tag to the files and to the module that imports the
+    others. Returns for each tag what was refused: the file, line, column, message and source line."""
     top = scratch(room)
     folder = top / "crates" / crate
     for tag, (texts, _) in copies.items():
@@ -238,7 +238,7 @@ def check_copies(room: pathlib.Path, crate: str, copies: dict) -> dict:
         encoding="utf-8",
     )
     status, output, errors = run(check_words(top, crate, "bent::bent"), folder)
-    lines = output.decode("utf-8", "replace").splitlines()
+    lines = (output + errors).decode("utf-8", "replace").splitlines()
     if not any(re.match(r"only=1 proved=[01]$", line) for line in lines) or status not in (0, 1):
         raise Bad(f"the check of {crate} gave no verdict (status {status}):\n{(output + errors)[-2000:].decode(errors='replace')}")
     refused = collections.defaultdict(list)
@@ -264,7 +264,7 @@ def is_refused_refl(copy: Copy, error: tuple) -> bool:
 
 @functools.lru_cache(None)
 def words_of_antt() -> tuple:
-    """The constructors that do not begin with a capital, and the definitions: ours, and those that our modules import."""
+    """The constructors that do not begin with a capital, and the definitions, both ours and imported."""
     built, defined = {"true", "false", "zero", "suc", "pos", "negsuc", "tt", "∷", "[]", "refl"}, set()
     for crate, folder, name in modules():
         for block in blocks(source((crate, folder, f"{name}.antt"))):
@@ -283,7 +283,7 @@ PRINTED = re.compile(r"[()]|[^\s(){}\[\],;]+")
 
 
 def waits(word: str) -> bool:
-    """Whether a word that the checker prints is a call that computes no further."""
+    """Whether a word that the checker prints is a call that does not compute."""
     built, defined = words_of_antt()
     name = word.rpartition(".")[2]
     is_elsewhere = "." in word and not name[:1].isupper() and name not in built
@@ -291,7 +291,7 @@ def waits(word: str) -> bool:
 
 
 def constructor(side: str) -> str:
-    """The constructor with which a side of an equation begins, as the checker prints it, or nothing."""
+    """The constructor at the head of a side of an equation, as the checker prints it, or nothing."""
     outer, depth = [], 0
     for word in PRINTED.findall(side):
         depth += (word == "(") - (word == ")")
@@ -301,20 +301,20 @@ def constructor(side: str) -> str:
 
 
 def are_unequal(one: str, other: str) -> bool:
-    """Whether two sides that differ begin with two constructors, or are values as a whole."""
+    """Whether two sides that differ have different constructors at their heads, or are values as a whole."""
     heads = {constructor(one), constructor(other)}
     whole = PRINTED.findall(re.sub(r"\S+ = ", "", f"{one} {other}"))
     return (len(heads) == 2 and "" not in heads) or not any(map(waits, whole))
 
 
 def differs(errors: list) -> bool:
-    """Whether one of the refusals shows two values, and not a call that computes no further."""
+    """Whether one of the refusals shows two values, and not a call that does not compute."""
     shown = [DIFFER.search(message) for *_, message, _ in errors]
     return any(found and are_unequal(found[1], found[2]) for found in shown)
 
 
 def shown(error: tuple) -> str:
-    """A refusal, for a person."""
+    """A refusal as text."""
     file, _, _, message, text = error
     return f"{file}: {text.strip()[:120]}: {message[:700]}"
 
@@ -324,7 +324,7 @@ UNEQUAL = {"unequal": "use Rattle.std.proofs.Common.{◌≡◌, ℕ, zero, suc, 
 
 
 def judge_examples(room: pathlib.Path, crate: str, entries: list) -> dict:
-    """The verdict on each entry whose example is of this crate, by one check."""
+    """Judges all entries whose example belongs to this crate, by one check."""
     verdicts, copies, made, tried = {}, {"unequal": (UNEQUAL, "unequal")}, {}, []
     for number, entry in enumerate(entries):
         try:
@@ -369,7 +369,7 @@ def changed_copy(room: pathlib.Path, texts: dict) -> pathlib.Path:
 
 
 def proves(room: pathlib.Path, entry: Entry, texts: dict) -> str:
-    """Whether a law is proved: `yes`, `no`, or what is wrong with the texts themselves."""
+    """Whether a law is proved: `yes`, `no`, or why it could not be checked."""
     top = changed_copy(room, texts)
     status, output, errors = run(check_words(top, entry.of, entry.name), top / "crates" / entry.of)
     told = (output + errors).decode(errors="replace")
@@ -382,7 +382,7 @@ def proves(room: pathlib.Path, entry: Entry, texts: dict) -> str:
 
 
 def answers(room: pathlib.Path, entry: Entry, texts: dict) -> str:
-    """Whether a vector or a test passes on a trial build, which proves nothing: `yes`, `no`, or why none was made."""
+    """Whether a vector or a test passes on a trial build, which proves nothing: `yes`, `no`, or why there is none."""
     top = changed_copy(room, texts)
     told = tries_test(top, entry.name) if entry.kind == "test" else tries_vector(top, entry.name)
     shutil.rmtree(top)
@@ -422,7 +422,7 @@ def tries_vector(top: pathlib.Path, name: str) -> str:
 
 
 def judge_alone(room: pathlib.Path, entry: Entry, known: dict) -> str:
-    """The verdict on an entry that needs a check or a build of its own. `known` has what passes without a change."""
+    """Judges an entry that needs a check or a build of its own. `known` caches what passes without a change."""
     if entry.kind == "vector" and entry.name not in vectors():
         return f"invalid: vectors/cases.tsv has no {entry.name}"
     passes = proves if entry.kind == "law" else answers

@@ -1,4 +1,4 @@
-"""The files of the crates as text: modules of antt, their declarations, and what each imports."""
+"""The antt files of the crates as text: modules, their declarations, and what each imports."""
 import functools
 import re
 
@@ -6,12 +6,12 @@ from lib import TOP
 
 
 class Bad(Exception):
-    """What is wrong with a list, or why no verdict can be given."""
+    """An invalid list, or a check without a verdict."""
 
 
 @functools.lru_cache(None)
 def crates() -> dict:
-    """What each crate of crates.txt stands on."""
+    """The crates of crates.txt, and what each depends on."""
     lines = [line.partition("#")[0] for line in (TOP / "crates.txt").read_text(encoding="utf-8").splitlines()]
     return {name.split()[0]: uses.split() for name, _, uses in (line.partition(":") for line in lines if line.strip())}
 
@@ -31,7 +31,7 @@ SIGNATURE = re.compile(r"(?:(?:unfoldable|abbrev|pattern|pub|data|record|module)
 
 
 def parts_of(name: str) -> set:
-    """The parts of a name: of an operator's those between its places."""
+    """The parts of a name: for an operator, those between its places."""
     return {part for part in name.split("◌") if part}
 
 
@@ -95,7 +95,7 @@ def modules() -> dict:
 
 @functools.lru_cache(None)
 def below(place: tuple) -> frozenset:
-    """A module and those that it imports, and so on."""
+    """A module with all that it imports, directly or not."""
     seen, todo = set(), [place]
     while todo:
         one = todo.pop()

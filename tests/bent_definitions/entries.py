@@ -1,4 +1,4 @@
-"""The lists of wrong rules: what ../bent_definitions.py says of their form is read here."""
+"""Reads the lists of wrong rules. ../bent_definitions.py describes their form."""
 import pathlib
 
 from antt import Bad, crates, source
@@ -9,7 +9,7 @@ KINDS = ("example", "law", "vector", "test")
 
 
 class Change:
-    """A text of a file that takes the place of another one."""
+    """A text in a file that is replaced by another one."""
 
     def __init__(self, folder: str, crate: str, file: str) -> None:
         self.folder, self.crate, self.file = folder, crate, file
@@ -26,7 +26,7 @@ class Change:
 
 
 class Entry:
-    """A wrong rule, and what must notice it."""
+    """A wrong rule, and what must fail."""
 
     def __init__(self, crate: str, line: int) -> None:
         self.crate, self.line = crate, line
@@ -38,12 +38,12 @@ class Entry:
         return f"{self.file}.txt:{self.line}: {' '.join(self.words)}"
 
     def text(self) -> str:
-        """All that an entry says."""
+        """The text of an entry, for --only."""
         lines = [line for one in self.changes for line in (one.crate, one.file, *one.old, *one.new)]
         return "\n".join([*self.words, *lines, self.kind, self.of, self.name])
 
     def changed(self, places: set) -> dict:
-        """The texts that are changed, by place."""
+        """The changed files, by place."""
         texts = {}
         for change in self.changes:
             place = change.place()
@@ -53,7 +53,7 @@ class Entry:
 
 
 def read_entries(name: str, crate: str):
-    """The entries of a list, which are of this crate. What cannot be read is a Bad."""
+    """The entries of a list, which belong to this crate. Raises Bad for what cannot be read."""
     path = HERE / f"{name}.txt"
     lines = path.read_text(encoding="utf-8").splitlines() if path.is_file() else []
     entry = None
@@ -110,7 +110,7 @@ def read_line(entry: Entry, line: str) -> None:
 
 
 def finished(entry: Entry) -> None:
-    """An entry is whole, and its texts are there."""
+    """Raises Bad unless an entry is complete and its old texts occur."""
     if not entry.words:
         raise Bad("a comment must say the wrong rule, or the reason, in words")
     if entry.free:

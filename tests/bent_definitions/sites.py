@@ -1,4 +1,4 @@
-"""The comparisons, numbers and orders of the definitions, which need an entry, and the entries that they have."""
+"""The sites of the definitions that need an entry, which are comparisons, numbers and orders, and their entries."""
 import difflib
 import functools
 import re
@@ -17,14 +17,12 @@ BOUNDS = {"leasts", "mosts", "greatest_values"}  # lists of bounds, each of whic
 ARITHMETIC = set("∷ [ ] ( ) = ^ * + -".split())
 REFUSALS = set("Err None Wrong Refuses Stray unless only_if".split())
 ACCEPTED = set("Ok Some Continues true".split())
-
-
-PROVED = "a proposition says what is proved, and refuses no input"
+PROVED = "a proposition states what is proved, and refuses no input"
 
 
 class Site:
-    """A comparison, a number or an order of a definition, by its words from `first` up to `last`. Of an order `after`
-    has the words of what is asked second."""
+    """A comparison, a number or an order in a definition: its words from `first` up to `last`. For an order these are the
+    first check, and `after` has the words of the second."""
 
     def __init__(self, kind: str, words: list, first: int, last: int, after=()) -> None:
         self.kind, self.first, self.last, self.after = kind, first, last, after
@@ -43,7 +41,7 @@ class Site:
 
 
 class Definition:
-    """A definition of specs/: its words, those of its comments left out, and its sites."""
+    """A definition of specs/: its words without comments, and its sites."""
 
     def __init__(self, place: tuple, line: int, start: int, text: str) -> None:
         self.place, self.line, self.start, self.text = place, line, start, text
@@ -113,8 +111,8 @@ class Definition:
         return not is_base and (head.startswith(" ") or " = " in head)
 
     def orders(self):
-        """What is asked after one another where both can refuse: statements of a `do` block of which the second does not
-        need the first, and conditions of a chain."""
+        """Pairs of checks that can both refuse: statements of a `do` block, if the second does not need the result of the
+        first, and a condition with what is checked if it holds."""
         steps, bound, is_open = [], [], False
         for line in self.text.split("\n") if "Result" in self.words[: self.body] else []:
             told = re.match(r"  (?:(\S+) ← )?(\S.*)$", line)
@@ -134,7 +132,7 @@ class Definition:
                 yield from self.pairs(self.choice(at))
 
     def end_of(self, at: int, word: str) -> int:
-        """The end of an expression that begins at a word: where another word of its own `if` stands, or where it is closed."""
+        """The end of an expression that begins at a word: at the next word of its own `if`, or where the expression is closed."""
         opened = inner = 0
         while not self.begins_clause(at) and not (opened == 0 and self.words[at] in (")", ",", ";")):
             if opened == 0 and self.words[at] == word:
@@ -147,7 +145,7 @@ class Definition:
         return at
 
     def choice(self, at: int) -> list:
-        """The condition of an `if` that refuses, and what is asked if it does not."""
+        """The condition of an `if` that refuses, and what is checked otherwise."""
         then = self.end_of(at + 1, "then")
         other = self.end_of(then + 1, "else")
         branches = self.words[then + 1 : other], self.words[other + 1 : self.end_of(other + 1, "")]
@@ -171,13 +169,13 @@ class Definition:
 
 
 def place_in(words: list, part) -> int | None:
-    """Where the words of a part stand among others."""
+    """The index of a part in a list of words."""
     part = list(part)
     return next((at for at in range(len(words) - len(part) + 1) if words[at : at + len(part)] == part), None)
 
 
 def times(words: list, part: list, is_open: bool) -> int:
-    """How often words have a part, after which an expression ends if the part is no open one."""
+    """How often a part occurs in a list of words. Unless it is open, an expression must end after it."""
     ends = (at + len(part) for at in range(len(words)) if words[at : at + len(part)] == part)
     return sum(is_open or words[end : end + 1] == [] or words[end] in ENDS for end in ends)
 
@@ -204,7 +202,7 @@ def files() -> list:
 
 
 def cover(entries: list) -> list:
-    """Gives each site the entries that change it, or the reason why it has none. The answer are complaints."""
+    """Assigns to each site the entries that change it, or the reason why it has none. Returns complaints."""
     for entry in entries:
         for change in entry.changes:
             if change.folder == "specs":
@@ -218,7 +216,7 @@ def cover(entries: list) -> list:
 
 
 def note(entry: Entry, change: Change) -> None:
-    """Gives the sites that a change touches their entry."""
+    """Assigns an entry to the sites that one of its changes touches."""
     before = source(change.place())
     start = before.find("\n".join(change.old))
     if start < 0:
@@ -250,7 +248,7 @@ def note(entry: Entry, change: Change) -> None:
 
 
 def set_free(entry: Entry, place: tuple, names: str) -> list:
-    """Gives the sites of definitions, or of a text, that have no entry the reason for it. The answer are these sites."""
+    """Assigns the reason to the sites of definitions, or of a text, that lack an entry. Returns these sites."""
     text, found = names.strip("`"), definitions(place)
     if names.startswith("`"):
         start = source(place).find(text)
@@ -274,12 +272,12 @@ def set_free(entry: Entry, place: tuple, names: str) -> list:
 
 
 def boundaries(place: tuple, name: str) -> list:
-    """The sites of a definition that is computed."""
+    """The sites of a definition, without propositions."""
     return [site for one in definitions(place) if one.name == name for site in one.sites if site.kind != "proposition"]
 
 
 def listed(crate: str, is_whole: bool) -> list:
-    """The lines for each site, and those that are not covered."""
+    """A line for each site, or for each one that is not covered."""
     lines, missing = [], []
     for place in files():
         if crate and place[0] != crate:
