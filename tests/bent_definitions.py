@@ -86,24 +86,23 @@ class Copy:
             raise Bad(f"crates/{entry.of}/proofs/{module}.antt has no {self.example}")
         self.needed = self.need()
 
-    def need(self) -> set:
-        """The words of everything that the example uses, directly or not, before and after the change."""
-        needed, todo = {self.example, ">>="}, True
-        every = [block for of in (self.old, self.new) for found in of.values() for block in found]
-        taken = set()
-        while todo:
-            todo = False
-            for block in every:
-                if block.names & needed and id(block) not in taken:
-                    taken.add(id(block))
-                    todo = True
-                    needed |= block.tokens
-                elif not block.declares:
-                    for name in block.imported():
-                        one, _, other = name.partition(" as ")
-                        if other and parts_of(other) & needed and not parts_of(one) <= needed:
-                            needed |= parts_of(one)
-                            todo = True
+    def need(self) -> dict:
+        """For each module the words of everything in it and above it that the example uses, before and after the change."""
+        needed = {place: {">>="} for place in self.places}
+        needed[self.place].add(self.example)
+        seen_by = {place: [needed[one] for one in self.places if one in below(place)] for place in self.places}
+        left = {place: [block for block in {*self.old[place], *self.new[place]} if block.declares] for place in self.places}
+        renamed = [(place, name.split(" as ")) for place in self.places for block in self.old[place] if " as " in block.text for name in block.imported() if " as " in name]
+        size = 0
+        while size != sum(map(len, needed.values())):
+            size = sum(map(len, needed.values()))
+            found = [(place, parts_of(one)) for place, (one, other) in renamed if parts_of(other) & needed[place]]
+            for place, blocks_left in left.items():
+                found += [(place, block.tokens) for block in blocks_left if block.names & needed[place]]
+                left[place] = [block for block in blocks_left if not block.names & needed[place]]
+            for place, words in found:
+                for others in seen_by[place]:
+                    others |= words
         return needed
 
     def kept(self, of: dict, place: tuple) -> set:
@@ -111,27 +110,28 @@ class Copy:
         found = set()
         for block in of[place]:
             if block.declares:
-                found |= block.names if block.names & self.needed else set()
+                found |= block.names if block.names & self.needed[place] else set()
             elif block.text.startswith(("pub ", "unfoldable ")):
                 found |= set().union(*(parts_of(name.rpartition(" as ")[2]) for name in block.imported()))
-        return found & self.needed
+        return found & self.needed[place]
 
-    def imports(self, of: dict, block: Block) -> str:
-        """A line that imports, reduced to what the copy needs, or nothing."""
+    def imports(self, of: dict, place: tuple, block: Block) -> str:
+        """A line that imports, reduced to what the copy of a module needs, or nothing."""
         head, braces, _ = block.text.partition("{")
-        used = MODULE.search(head)
+        used, needed = MODULE.search(head), self.needed[place]
         if not braces:
-            return block.text if parts_of(head.rpartition(" as ")[2]) & self.needed or " as " not in head else ""
-        wanted = self.kept(of, used.groups()) if used and used.groups() in self.places else self.needed
+            return block.text if parts_of(head.rpartition(" as ")[2]) & needed or " as " not in head else ""
+        wanted = self.kept(of, used.groups()) if used and used.groups() in self.places else needed
         names = [name for name in block.imported() if parts_of(name.partition(" as ")[0]) & wanted]
-        names = [name for name in names if parts_of(name.rpartition(" as ")[2]) & self.needed]
+        names = [name for name in names if parts_of(name.rpartition(" as ")[2]) & needed]
         return f"{head}{{{', '.join(names)}}}" if names else ""
 
     def texts(self, of: dict, crate: str, tag: str) -> dict:
         """The files of the copy by name, for the folder TAG in the proofs of a crate."""
         made = {}
         for place in self.places:
-            lines = [block.text if block.declares else self.imports(of, block) for block in of[place] if block.names & self.needed or not block.declares]
+            used = [block for block in of[place] if block.names & self.needed[place] or not block.declares]
+            lines = [block.text if block.declares else self.imports(of, place, block) for block in used]
             if any(line and not re.match("(use|infix)", line) for line in lines):
                 made["_".join(place)] = "\n".join(filter(None, lines)) + "\n"
         copied = {name: f"Rattle.{crate}.proofs.variants.{tag}.{name}" for name in made}
