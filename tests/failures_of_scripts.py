@@ -340,7 +340,7 @@ def options(trial: Trial) -> None:
     if trial.name in OTHERS:
         return
     done = trial.run([SYNOP, "--help"])
-    holds(f"{trial.name}: --help behind a file", done.returncode == 0 and b"--help" in done.stdout, done)
+    holds(f"{trial.name}: --help behind a file", done.returncode == 0 and trial.name in done.stdout.decode(), done)
     shutil.copy(SYNOP, trial.place / "-")
     for words in (["-"], ["--", "-"], ["./-"], ["--", "./-"]):
         octets = b"" if "./-" in words else SYNOP.read_bytes()
