@@ -171,12 +171,12 @@ def tries_speed(awk: list, text: bytes, folder: pathlib.Path) -> None:
     """Items that were not asked for cost little more than their lines. To look at all takes 12 times as long."""
     path = folder / "text"
     path.write_bytes(text * (16_000_000 // len(text)))
-    least = seconds([*awk, '$1 == "012101" { count++ } END { print count }'], path)
     for columns, most in [
         (["columns=001001,001002,012101"], 2),
         (["levels=1", "keep=001001", "columns=007004,012101,012103"], 4),
     ]:
         words = [word for column in columns for word in ("-v", column)]
+        least = seconds([*awk, '$1 == "012101" { count++ } END { print count }'], path)
         spent = seconds([*awk, *words, "-f", SCRIPT], path)
         want(spent < most * least, f"{awk}: {columns} takes {spent / least:.1f} times as long as a count, over {most}")
 

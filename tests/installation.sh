@@ -121,8 +121,8 @@ if python3 -c 'import pip, venv' 2> errors; then
         rm -r "$prefix"/bin/bufr-* "$prefix/share/bufr"
         environment/bin/bufr-auto "$examples/synop.bufr" | cmp - "$examples/synop.txt" || fail "bufr-auto of the package"
         environment/bin/python -c "$count" "$examples/synop.bufr" | grep -qx 1 || fail "bufr_text of the package"
-        environment/bin/python -c 'import bufr_text; bufr_text.rows([], ["AIR TEMPERATURE"])' 2>&1 |
-            grep -q ' 012001, 012101,' || fail "bufr_text of the package finds no tables"
+        ! environment/bin/python -c 'import bufr_text; bufr_text.rows([], ["AIR TEMPERATURE"])' 2> errors &&
+            grep -q ' 012001, 012101,' errors || fail "bufr_text of the package finds no tables: $(< errors)"
         for script in "$top"/scripts/bufr-*; do
             "environment/bin/${script##*/}" --help > help || fail "${script##*/} of the package"
         done
