@@ -19,7 +19,7 @@ use bufr_bits::{Device, Sink};
 use bufr_cli::{BUFFERED, Buffered, Inputs, Outcome, finish, run};
 use bufr_frame::RunFault;
 use process::Process;
-use std::io::{BufWriter, Error, ErrorKind};
+use std::io::{Error, ErrorKind};
 use std::process::ExitCode;
 
 /// Runs the command line over the process's own inputs and writers.
@@ -30,23 +30,14 @@ fn main(rt: HostRuntime) -> ExitCode {
 /// The exit status of the process.
 // rule: output-held-back
 fn status(rt: &HostRuntime) -> u8 {
-    let Ok(errors) = BufWriter::with_capacity(rt.alloc(), BUFFERED, rt.stderr()) else {
+    let Ok(mut e) = Buffered::new(rt.alloc(), BUFFERED, Device::new(rt.stderr())) else {
         return finish(
             &Outcome::Run(RunFault::Memory),
             &mut Device::new(rt.stderr()),
         );
     };
-    let mut e = Device::new(Buffered::new(errors));
-    let status = match BufWriter::with_capacity(rt.alloc(), BUFFERED, rt.stdout()) {
-        Ok(output) => {
-            let mut inputs = Process { runtime: rt };
-            run_words(
-                rt,
-                &mut inputs,
-                &mut Device::new(Buffered::new(output)),
-                &mut e,
-            )
-        }
+    let status = match Buffered::new(rt.alloc(), BUFFERED, Device::new(rt.stdout())) {
+        Ok(mut w) => run_words(rt, &mut Process { runtime: rt }, &mut w, &mut e),
         Err(_) => finish(&Outcome::Run(RunFault::Memory), &mut e),
     };
     let _ = e.flush();

@@ -1,74 +1,240 @@
 //! A buffered writer that tries nothing again.
-ghost use Rattle.std.specs.Prelude.{◌≡◌, [], true, false, is_err, IsErr, OnOk};
-ghost use Rattle.std.specs.Io.{WritesAtMost};
-ghost use Rattle.std.specs.Io.Buffered.{writer_buffer, writer_contents};
-ghost use Rattle.std.specs.Io.KnownBytes.{WriteAppends, Keeps};
+ghost use Rattle.std.specs.Prelude.{◌≡◌, ◌≤◌, ◌<◌, ◌+◌, ◌-◌, ℕ, List, [], length, drop, false, Ok, IfOk, IsErr, OnOk, OnErr, vec_len, vec_capacity};
+ghost use Rattle.std.specs.Io.KnownBytes.{Keeps, WriteAppends};
+ghost use Rattle.bufr_bits.specs.Device.{all_flushed_after_flush, all_flushed_after_write, empty_writes_after, failures_after};
+ghost use Rattle.bufr_text.specs.Prelude.{Fails, MovesPrefix, Stays};
+ghost use Rattle.bufr_cli.specs.Prelude.{flushed_by, taken_by};
 
-use std::io::{self, BufWriter, ErrorKind, Write};
+use bufr_bits::{Failed, Sink};
+use std::alloc::{AllocError, Global};
 
 /// How many octets the program's own reader and writers hold. So one call of the system serves many
 /// reads of the finder and many lines.
 pub const BUFFERED: usize = 65_536;
 
 /// A buffered writer that tries nothing again. After a call that failed each further one fails at
-/// once. A flush that went through leaves nothing held. At its end it writes nothing, where `std`'s
-/// would try to write what it still holds.
-pub struct Buffered<W: Write + Drop> {
-    writer: BufWriter<W>,
-    failed: bool,
+/// once. A flush that went through leaves nothing held. At its end it writes nothing.
+///
+/// ```
+/// let mut w = Buffered::new(rt.alloc(), BUFFERED, Device::new(rt.stdout()))?;
+/// w.write(b"abc")?; // it is held
+/// w.flush()?;
+/// ```
+#[derive(Drop)]
+pub struct Buffered<S: Sink> {
+    sink: S,
+    held: Vec<u8>,
+    failures: u64,
+    failed_flushes: u64,
 }
 
-impl<W: Write + Drop> Buffered<W> {
-    /// The writer by way of this one.
-    pub fn new(writer: BufWriter<W>) -> Buffered<W>
-        ensures writer { result.writer ≡ writer }
-        ensures begins { result.failed ≡ false }
+impl<S: Sink> Buffered<S> {
+    /// A writer that holds at most `capacity` octets before `sink`.
+    ///
+    /// # Errors
+    ///
+    /// [`AllocError`] where memory ran out.
+    pub fn new(alloc: Global, capacity: usize, sink: S) -> Result<Buffered<S>, AllocError>
+    where
+        S: Drop,
+        ensures sink { IfOk result (λ b. b.sink ≡ sink) }
+        ensures none { IfOk result (λ b. b.held.items ≡ []) }
+        ensures room { IfOk result (λ b. capacity ≤ vec_capacity b.held) }
+        ensures failures { IfOk result (λ b. b.failures ≡ 0) }
+        ensures failed_flushes { IfOk result (λ b. b.failed_flushes ≡ 0) }
     {
-        Buffered {
-            writer,
-            failed: false,
+        Ok(Buffered {
+            sink,
+            held: Vec::with_capacity(alloc, capacity)?,
+            failures: 0,
+            failed_flushes: 0,
+        })
+    }
+}
+
+/// Writes octets, up to a write that fails or takes nothing. Returns how many are left.
+#[tactic(auto, using(bufr_text::proofs::PushLemmas::write_steps))]
+fn write_out<S: Sink>(octets: &[u8], sink: &mut S) -> usize
+    ensures moved { (rest : List ℕ) × (result ≡ length rest)
+        × MovesPrefix (S.taken sink.old) (S.taken sink.new) octets.now rest }
+    ensures whole { result ≡ 0 → Stays (S.failures sink.old) (S.failures sink.new)
+        (S.empty_writes sink.old) (S.empty_writes sink.new) }
+    ensures cut { 0 < result → Fails (S.failures sink.old) (S.failures sink.new)
+        (S.empty_writes sink.old) (S.empty_writes sink.new) }
+    ensures unflushed { result < length octets.now → S.all_flushed sink.new ≡ false }
+    ensures same { result ≡ length octets.now
+        → S.all_flushed sink.new ≡ S.all_flushed sink.old }
+{
+    let mut rest = octets;
+    while !rest.is_empty() {
+        match sink.write(rest) {
+            Ok(0) => return rest.len(),
+            Ok(n) => rest = &rest[n..],
+            Err(_) => return rest.len(),
         }
     }
+    0
 }
 
-impl<W: Write + Drop> Drop for Buffered<W> {
-    fn drop(self) {
-        let Buffered { writer, failed: _ } = self;
-        let (_inner, _unwritten) = writer.into_parts();
+/// Removes all octets but the last `left`.
+fn remove_front(octets: &mut Vec<u8>, left: usize)
+    requires { left ≤ vec_len octets.old }
+    ensures items { octets.new.items ≡ drop (vec_len octets.old - left) octets.old.items }
+    ensures capacity { vec_capacity octets.new ≡ vec_capacity octets.old }
+{
+    let len = octets.len();
+    octets.copy_within(len - left..len, 0);
+    octets.truncate(left);
+}
+
+impl<S: Sink> Buffered<S> {
+    /// Writes what is held. What the sink does not take stays held.
+    fn hand_on(&mut self) -> Result<(), Failed>
+        ensures octets { Keeps (taken_by S.taken self.old) (taken_by S.taken self.new) }
+        ensures none { OnOk result (self.new.held.items ≡ []) }
+        ensures flushed { flushed_by S.all_flushed self.new
+            ≡ flushed_by S.all_flushed self.old }
+        ensures cause { OnErr result (Fails (S.failures self.old.sink) (S.failures self.new.sink)
+            (S.empty_writes self.old.sink) (S.empty_writes self.new.sink)) }
+        ensures stays { OnOk result (Stays (S.failures self.old.sink) (S.failures self.new.sink)
+            (S.empty_writes self.old.sink) (S.empty_writes self.new.sink)) }
+        ensures failures { self.new.failures ≡ self.old.failures }
+        ensures failed_flushes { self.new.failed_flushes ≡ self.old.failed_flushes }
+    {
+        let left = write_out(self.held.as_slice(), &mut self.sink);
+        remove_front(&mut self.held, left);
+        if left > 0 {
+            return Err(Failed);
+        }
+        Ok(())
+    }
+
+    /// Writes octets that do not fit after those that are held.
+    fn write_through(&mut self, buf: &[u8]) -> Result<usize, Failed>
+        ensures bound { IfOk result (λ n. n ≤ length buf.now) }
+        ensures octets { WriteAppends (taken_by S.taken self.old) (taken_by S.taken self.new)
+            result buf.now }
+        ensures some { IfOk result (λ n. 0 < length buf.now → 0 < n) }
+        ensures flushed { flushed_by S.all_flushed self.new
+            ≡ all_flushed_after_write (flushed_by S.all_flushed self.old) result }
+        ensures cause { OnErr result (Fails (S.failures self.old.sink) (S.failures self.new.sink)
+            (S.empty_writes self.old.sink) (S.empty_writes self.new.sink)) }
+        ensures failures { self.new.failures ≡ self.old.failures }
+        ensures failed_flushes { self.new.failed_flushes ≡ self.old.failed_flushes }
+    {
+        self.hand_on()?;
+        if buf.len() <= self.held.capacity() && self.held.extend_from_slice(buf).is_ok() {
+            return Ok(buf.len());
+        }
+        let n = self.sink.write(buf)?;
+        if n == 0 {
+            return Err(Failed);
+        }
+        Ok(n)
+    }
+
+    /// Flushes the sink, after it took what is held.
+    fn flush_through(&mut self) -> Result<(), Failed>
+        ensures octets { Keeps (taken_by S.taken self.old) (taken_by S.taken self.new) }
+        ensures flushed { flushed_by S.all_flushed self.new
+            ≡ all_flushed_after_flush (flushed_by S.all_flushed self.old) result }
+        ensures cause { OnErr result (Fails (S.failures self.old.sink) (S.failures self.new.sink)
+            (S.empty_writes self.old.sink) (S.empty_writes self.new.sink)) }
+        ensures failures { self.new.failures ≡ self.old.failures }
+        ensures failed_flushes { self.new.failed_flushes ≡ self.old.failed_flushes }
+    {
+        self.hand_on()?;
+        self.sink.flush()
+    }
+
+    /// [`Buffered::write`] where the octets do not fit, or a call failed.
+    #[inline(never)]
+    fn write_or_fail(&mut self, buf: &[u8]) -> Result<usize, Failed>
+        ensures bound { IfOk result (λ n. n ≤ length buf.now) }
+        ensures octets { WriteAppends (taken_by S.taken self.old) (taken_by S.taken self.new)
+            result buf.now }
+        ensures failed { self.new.failures ≡ failures_after self.old.failures result }
+        ensures some { IfOk result (λ n. 0 < length buf.now → 0 < n) }
+        ensures flushes { self.new.failed_flushes ≡ self.old.failed_flushes }
+        ensures flushed { flushed_by S.all_flushed self.new
+            ≡ all_flushed_after_write (flushed_by S.all_flushed self.old) result }
+        ensures cause { self.old.failures ≡ 0 → OnErr result (Fails (S.failures self.old.sink)
+            (S.failures self.new.sink) (S.empty_writes self.old.sink)
+            (S.empty_writes self.new.sink)) }
+        ensures again { 0 < self.old.failures → IsErr result × (self.new.sink ≡ self.old.sink)
+            × (self.new.held ≡ self.old.held) }
+    {
+        if self.failures == 0
+            && let Ok(n) = self.write_through(buf)
+        {
+            return Ok(n);
+        }
+        self.failures = self.failures.saturating_add(1);
+        Err(Failed)
     }
 }
 
-impl<W: Write + Drop> Write for Buffered<W> {
-    ghost contents = { λ b. writer_contents W.contents b.writer };
+impl<S: Sink> Sink for Buffered<S> {
+    ghost taken = { λ b. taken_by S.taken b };
+
+    ghost failures = { λ b. b.failures };
+
+    ghost empty_writes = { λ _. 0 };
+
+    ghost failed_flushes = { λ b. b.failed_flushes };
+
+    ghost all_flushed = { λ b. flushed_by S.all_flushed b };
 
     #[inline]
-    fn write(&mut self, buf: &[u8]) -> io::Result<usize>
-        ensures bound { WritesAtMost result buf.now }
-        ensures bytes { WriteAppends (writer_contents W.contents self.old.writer)
-            (writer_contents W.contents self.new.writer) result buf.now }
-        ensures fails { self.new.failed ≡ is_err result }
-        ensures again { self.old.failed ≡ true → IsErr result × (self.new ≡ self.old) }
+    fn write(&mut self, buf: &[u8]) -> Result<usize, Failed>
+        ensures bound { IfOk result (λ n. n ≤ length buf.now) }
+        ensures octets { WriteAppends (taken_by S.taken self.old) (taken_by S.taken self.new)
+            result buf.now }
+        ensures failed { self.new.failures ≡ failures_after self.old.failures result }
+        // Octets that fit are held. A write of some octets takes some, or fails.
+        ensures takes { self.old.failures ≡ 0
+            → vec_len self.old.held + length buf.now ≤ vec_capacity self.old.held
+            → result ≡ Ok (length buf.now) }
+        ensures empty { 0 ≡ empty_writes_after 0 buf.now result }
+        ensures flushed { self.new.failed_flushes ≡ self.old.failed_flushes }
+        ensures handed { flushed_by S.all_flushed self.new
+            ≡ all_flushed_after_write (flushed_by S.all_flushed self.old) result }
+        // The first failure is one of the sink, and after it nothing is tried.
+        ensures cause { self.old.failures ≡ 0 → OnErr result (Fails (S.failures self.old.sink)
+            (S.failures self.new.sink) (S.empty_writes self.old.sink)
+            (S.empty_writes self.new.sink)) }
+        ensures again { 0 < self.old.failures → IsErr result × (self.new.sink ≡ self.old.sink)
+            × (self.new.held ≡ self.old.held) }
     {
-        if self.failed {
-            return Err(ErrorKind::Other.into());
+        if self.failures == 0
+            && buf.len() <= self.held.capacity() - self.held.len()
+            && self.held.extend_from_slice(buf).is_ok()
+        {
+            return Ok(buf.len());
         }
-        let written = self.writer.write(buf);
-        self.failed = written.is_err();
-        written
+        self.write_or_fail(buf)
     }
 
-    fn flush(&mut self) -> io::Result<()>
-        ensures bytes { Keeps (writer_contents W.contents self.old.writer)
-            (writer_contents W.contents self.new.writer) }
-        ensures held { OnOk result (writer_buffer self.new.writer ≡ []) }
-        ensures fails { self.new.failed ≡ is_err result }
-        ensures again { self.old.failed ≡ true → IsErr result × (self.new ≡ self.old) }
+    fn flush(&mut self) -> Result<(), Failed>
+        ensures octets { Keeps (taken_by S.taken self.old) (taken_by S.taken self.new) }
+        ensures failed { self.new.failures ≡ failures_after self.old.failures result }
+        ensures empty { ◌≡◌ {A = ℕ} 0 0 }
+        ensures flushed { self.new.failed_flushes
+            ≡ failures_after self.old.failed_flushes result }
+        ensures handed { flushed_by S.all_flushed self.new
+            ≡ all_flushed_after_flush (flushed_by S.all_flushed self.old) result }
+        // The first failure is one of the sink, and after it nothing is tried.
+        ensures cause { self.old.failures ≡ 0 → OnErr result (Fails (S.failures self.old.sink)
+            (S.failures self.new.sink) (S.empty_writes self.old.sink)
+            (S.empty_writes self.new.sink)) }
+        ensures again { 0 < self.old.failures → IsErr result × (self.new.sink ≡ self.old.sink)
+            × (self.new.held ≡ self.old.held) }
     {
-        if self.failed {
-            return Err(ErrorKind::Other.into());
+        if self.failures == 0 && self.flush_through().is_ok() {
+            return Ok(());
         }
-        let flushed = self.writer.flush();
-        self.failed = flushed.is_err();
-        flushed
+        self.failures = self.failures.saturating_add(1);
+        self.failed_flushes = self.failed_flushes.saturating_add(1);
+        Err(Failed)
     }
 }

@@ -12,7 +12,7 @@ use bufr_frame::RunFault;
 use bufr_text::Form;
 use std::alloc::{AllocError, Global};
 use std::cell::Cell;
-use std::io::{self, BufWriter, ErrorKind, Read, Write};
+use std::io::{self, ErrorKind, Read, Write};
 
 /// The words of a command line: the program's name, a command and its arguments.
 fn line_of(
@@ -382,8 +382,7 @@ fn status_on(
     inputs: &mut Library<'_>,
     octets: &mut Vec<u8>,
 ) -> u8 {
-    let output = BufWriter::with_capacity(rt.alloc(), BUFFERED, octets);
-    let mut w = Device::new(Buffered::new(ok(rt, output)));
+    let mut w = ok(rt, Buffered::new(rt.alloc(), BUFFERED, Device::new(octets)));
     let mut e = writer(rt, 4096, (4096, End::Fail));
     call(rt.alloc(), words, inputs, &mut w, &mut e)
 }
@@ -446,8 +445,8 @@ fn status_if_full(
     capacity: usize,
     calls: &Cell<usize>,
 ) -> u8 {
-    let full = BufWriter::with_capacity(rt.alloc(), capacity, Full { calls });
-    let mut w = Device::new(Buffered::new(ok(rt, full)));
+    let full = Device::new(Full { calls });
+    let mut w = ok(rt, Buffered::new(rt.alloc(), capacity, full));
     let mut e = writer(rt, 4096, (4096, End::Fail));
     let status = call(rt.alloc(), words, inputs, &mut w, &mut e);
     assert_that(rt, w.flush().is_err(), &"flush");
