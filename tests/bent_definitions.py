@@ -133,16 +133,16 @@ class Copy:
             used = [block for block in of[place] if block.names & self.needed[place] or not block.declares]
             lines = [block.text if block.declares else self.imports(of, place, block) for block in used]
             if any(line and not re.match("(use|infix)", line) for line in lines):
-                made["_".join(place)] = "\n".join(filter(None, lines)) + "\n"
-        copied = {name: f"Rattle.{crate}.proofs.variants.{tag}.{name}" for name in made}
+                made[place] = "\n".join(filter(None, lines)) + "\n"
 
         def moved(one: re.Match) -> str:
-            return copied.get("_".join(one.groups()), one[0])
+            return f"Rattle.{crate}.proofs.variants.{tag}.{self.file(one.groups())}" if one.groups() in made else one[0]
 
-        return {name: MODULE.sub(moved, text) for name, text in made.items()}
+        return {self.file(place): MODULE.sub(moved, text) for place, text in made.items()}
 
-    def file(self) -> str:
-        return "_".join(self.place)
+    def file(self, place: tuple) -> str:
+        """The name of the copy of a module. It is short, since the checker leaves out what makes a message long."""
+        return f"m{self.places.index(place)}"
 
 
 # ---------------------------------------------------------------- a check of many copies
@@ -259,7 +259,7 @@ def is_refused_refl(copy: Copy, error: tuple) -> bool:
     """Whether an error says that the two sides of an equation of the example differ."""
     file, _, column, message, text = error
     is_unequal = "expected type" in message and "type `" in message and message.startswith(f"`{copy.example}`: ")
-    return file == copy.file() and is_unequal and text[column - 1 :].startswith("refl")
+    return file == copy.file(copy.place) and is_unequal and text[column - 1 :].startswith("refl")
 
 
 @functools.lru_cache(None)
@@ -279,7 +279,7 @@ def words_of_antt() -> tuple:
 
 
 DIFFER = re.compile(r"computed as far as they go, the two types .*? `(.*?)`\s+\(expected\).*? `(.*?)`\s+\(found\)")
-PRINTED = re.compile(r"[()]|[^\s(){}\[\],;]+")
+PRINTED = re.compile(r"\[\]|[();]|[^\s(){}\[\],;]+")
 
 
 def waits(word: str) -> bool:
@@ -290,20 +290,24 @@ def waits(word: str) -> bool:
     return bool(parts_of(name) & defined) or name == "elim" or is_elsewhere
 
 
-def constructor(side: str) -> str:
-    """The constructor at the head of a side of an equation, as the checker prints it, or nothing."""
+def head(side: str) -> str:
+    """The constructor at the head of a side of an equation, or of its first field, as the checker prints it, or nothing."""
     outer, depth = [], 0
     for word in PRINTED.findall(side):
         depth += (word == "(") - (word == ")")
+        if word == ";" and depth == 0:
+            break
         outer += [word] if depth == 0 and word != ")" else []
-    name = outer[0].rpartition(".")[2] if outer and not any(map(waits, outer)) else ""
+    if not outer or any(map(waits, outer)):
+        return ""
+    name = "∷" if "∷" in outer else outer[0].rpartition(".")[2]
     return name if name[:1].isupper() or name in words_of_antt()[0] else ""
 
 
 def are_unequal(one: str, other: str) -> bool:
     """Whether two sides that differ have different constructors at their heads, or are values as a whole."""
-    heads = {constructor(one), constructor(other)}
-    whole = PRINTED.findall(re.sub(r"\S+ = ", "", f"{one} {other}"))
+    heads = {head(one), head(other)}
+    whole = [word for word in PRINTED.findall(re.sub(r"\S+ = ", "", f"{one} {other}")) if word != ";"]
     return (len(heads) == 2 and "" not in heads) or not any(map(waits, whole))
 
 
@@ -313,10 +317,10 @@ def differs(errors: list) -> bool:
     return any(found and are_unequal(found[1], found[2]) for found in shown)
 
 
-def shown(error: tuple) -> str:
+def shown(copy: Copy, error: tuple) -> str:
     """A refusal as text."""
     file, _, _, message, text = error
-    return f"{file}: {text.strip()[:120]}: {message[:700]}"
+    return f"{'/'.join(copy.places[int(file[1:])])}: {text.strip()[:120]}: {message[:700]}"
 
 
 # An equation that no check may accept.
@@ -339,8 +343,8 @@ def judge_examples(room: pathlib.Path, crate: str, entries: list) -> dict:
         same = repr(sorted(right.items()))
         if same not in made:
             made[same] = f"r{number}"
-            copies[made[same]] = {name: text.replace(".variants.TAG.", f".variants.{made[same]}.") for name, text in right.items()}, copy.file()
-        copies[tag] = copy.texts(copy.new, crate, tag), copy.file()
+            copies[made[same]] = {name: text.replace(".variants.TAG.", f".variants.{made[same]}.") for name, text in right.items()}, copy.file(copy.place)
+        copies[tag] = copy.texts(copy.new, crate, tag), copy.file(copy.place)
         tried.append((entry, copy, tag, made[same]))
     refused = check_copies(room, crate, copies) if tried else {"unequal": True}
     if not refused["unequal"]:
@@ -348,11 +352,11 @@ def judge_examples(room: pathlib.Path, crate: str, entries: list) -> dict:
     for entry, copy, tag, right in tried:
         others = [error for error in refused[tag] if not is_refused_refl(copy, error)]
         if refused[right]:
-            verdicts[entry] = f"invalid: the unchanged copy is refused: {shown(refused[right][0])}"
+            verdicts[entry] = f"invalid: the unchanged copy is refused: {shown(copy, refused[right][0])}"
         elif others:
-            verdicts[entry] = f"invalid: more than the example is refused: {shown(others[0])}"
+            verdicts[entry] = f"invalid: more than the example is refused: {shown(copy, others[0])}"
         elif refused[tag] and not differs(refused[tag]):
-            verdicts[entry] = f"invalid: the refusal does not show two values: {shown(refused[tag][0])}"
+            verdicts[entry] = f"invalid: the refusal does not show two values: {shown(copy, refused[tag][0])}"
         else:
             verdicts[entry] = "caught" if refused[tag] else "survives"
     return verdicts
