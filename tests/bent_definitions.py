@@ -86,24 +86,23 @@ class Copy:
             raise Bad(f"crates/{entry.of}/proofs/{module}.antt has no {self.example}")
         self.needed = self.need()
 
-    def need(self) -> set:
-        """The words of everything that the example uses, directly or not, before and after the change."""
-        needed, todo = {self.example, ">>="}, True
-        every = [block for of in (self.old, self.new) for found in of.values() for block in found]
-        taken = set()
-        while todo:
-            todo = False
-            for block in every:
-                if block.names & needed and id(block) not in taken:
-                    taken.add(id(block))
-                    todo = True
-                    needed |= block.tokens
-                elif not block.declares:
-                    for name in block.imported():
-                        one, _, other = name.partition(" as ")
-                        if other and parts_of(other) & needed and not parts_of(one) <= needed:
-                            needed |= parts_of(one)
-                            todo = True
+    def need(self) -> dict:
+        """For each module the words of everything in it and above it that the example uses, before and after the change."""
+        needed = {place: {">>="} for place in self.places}
+        needed[self.place].add(self.example)
+        seen_by = {place: [needed[one] for one in self.places if one in below(place)] for place in self.places}
+        left = {place: [block for block in {*self.old[place], *self.new[place]} if block.declares] for place in self.places}
+        renamed = [(place, name.split(" as ")) for place in self.places for block in self.old[place] if " as " in block.text for name in block.imported() if " as " in name]
+        size = 0
+        while size != sum(map(len, needed.values())):
+            size = sum(map(len, needed.values()))
+            found = [(place, parts_of(one)) for place, (one, other) in renamed if parts_of(other) & needed[place]]
+            for place, blocks_left in left.items():
+                found += [(place, block.tokens) for block in blocks_left if block.names & needed[place]]
+                left[place] = [block for block in blocks_left if not block.names & needed[place]]
+            for place, words in found:
+                for others in seen_by[place]:
+                    others |= words
         return needed
 
     def kept(self, of: dict, place: tuple) -> set:
@@ -111,38 +110,39 @@ class Copy:
         found = set()
         for block in of[place]:
             if block.declares:
-                found |= block.names if block.names & self.needed else set()
+                found |= block.names if block.names & self.needed[place] else set()
             elif block.text.startswith(("pub ", "unfoldable ")):
                 found |= set().union(*(parts_of(name.rpartition(" as ")[2]) for name in block.imported()))
-        return found & self.needed
+        return found & self.needed[place]
 
-    def imports(self, of: dict, block: Block) -> str:
-        """A line that imports, reduced to what the copy needs, or nothing."""
+    def imports(self, of: dict, place: tuple, block: Block) -> str:
+        """A line that imports, reduced to what the copy of a module needs, or nothing."""
         head, braces, _ = block.text.partition("{")
-        used = MODULE.search(head)
+        used, needed = MODULE.search(head), self.needed[place]
         if not braces:
-            return block.text if parts_of(head.rpartition(" as ")[2]) & self.needed or " as " not in head else ""
-        wanted = self.kept(of, used.groups()) if used and used.groups() in self.places else self.needed
+            return block.text if parts_of(head.rpartition(" as ")[2]) & needed or " as " not in head else ""
+        wanted = self.kept(of, used.groups()) if used and used.groups() in self.places else needed
         names = [name for name in block.imported() if parts_of(name.partition(" as ")[0]) & wanted]
-        names = [name for name in names if parts_of(name.rpartition(" as ")[2]) & self.needed]
+        names = [name for name in names if parts_of(name.rpartition(" as ")[2]) & needed]
         return f"{head}{{{', '.join(names)}}}" if names else ""
 
     def texts(self, of: dict, crate: str, tag: str) -> dict:
         """The files of the copy by name, for the folder TAG in the proofs of a crate."""
         made = {}
         for place in self.places:
-            lines = [block.text if block.declares else self.imports(of, block) for block in of[place] if block.names & self.needed or not block.declares]
+            used = [block for block in of[place] if block.names & self.needed[place] or not block.declares]
+            lines = [block.text if block.declares else self.imports(of, place, block) for block in used]
             if any(line and not re.match("(use|infix)", line) for line in lines):
-                made["_".join(place)] = "\n".join(filter(None, lines)) + "\n"
-        copied = {name: f"Rattle.{crate}.proofs.variants.{tag}.{name}" for name in made}
+                made[place] = "\n".join(filter(None, lines)) + "\n"
 
         def moved(one: re.Match) -> str:
-            return copied.get("_".join(one.groups()), one[0])
+            return f"Rattle.{crate}.proofs.variants.{tag}.{self.file(one.groups())}" if one.groups() in made else one[0]
 
-        return {name: MODULE.sub(moved, text) for name, text in made.items()}
+        return {self.file(place): MODULE.sub(moved, text) for place, text in made.items()}
 
-    def file(self) -> str:
-        return "_".join(self.place)
+    def file(self, place: tuple) -> str:
+        """The name of the copy of a module. It is short, since the checker leaves out what makes a message long."""
+        return f"m{self.places.index(place)}"
 
 
 # ---------------------------------------------------------------- a check of many copies
@@ -259,7 +259,7 @@ def is_refused_refl(copy: Copy, error: tuple) -> bool:
     """Whether an error says that the two sides of an equation of the example differ."""
     file, _, column, message, text = error
     is_unequal = "expected type" in message and "type `" in message and message.startswith(f"`{copy.example}`: ")
-    return file == copy.file() and is_unequal and text[column - 1 :].startswith("refl")
+    return file == copy.file(copy.place) and is_unequal and text[column - 1 :].startswith("refl")
 
 
 @functools.lru_cache(None)
@@ -279,7 +279,7 @@ def words_of_antt() -> tuple:
 
 
 DIFFER = re.compile(r"computed as far as they go, the two types .*? `(.*?)`\s+\(expected\).*? `(.*?)`\s+\(found\)")
-PRINTED = re.compile(r"[()]|[^\s(){}\[\],;]+")
+PRINTED = re.compile(r"\[\]|[();]|[^\s(){}\[\],;]+")
 
 
 def waits(word: str) -> bool:
@@ -290,20 +290,24 @@ def waits(word: str) -> bool:
     return bool(parts_of(name) & defined) or name == "elim" or is_elsewhere
 
 
-def constructor(side: str) -> str:
-    """The constructor at the head of a side of an equation, as the checker prints it, or nothing."""
+def head(side: str) -> str:
+    """The constructor at the head of a side of an equation, or of its first field, as the checker prints it, or nothing."""
     outer, depth = [], 0
     for word in PRINTED.findall(side):
         depth += (word == "(") - (word == ")")
+        if word == ";" and depth == 0:
+            break
         outer += [word] if depth == 0 and word != ")" else []
-    name = outer[0].rpartition(".")[2] if outer and not any(map(waits, outer)) else ""
+    if not outer or any(map(waits, outer)):
+        return ""
+    name = "∷" if "∷" in outer else outer[0].rpartition(".")[2]
     return name if name[:1].isupper() or name in words_of_antt()[0] else ""
 
 
 def are_unequal(one: str, other: str) -> bool:
     """Whether two sides that differ have different constructors at their heads, or are values as a whole."""
-    heads = {constructor(one), constructor(other)}
-    whole = PRINTED.findall(re.sub(r"\S+ = ", "", f"{one} {other}"))
+    heads = {head(one), head(other)}
+    whole = [word for word in PRINTED.findall(re.sub(r"\S+ = ", "", f"{one} {other}")) if word != ";"]
     return (len(heads) == 2 and "" not in heads) or not any(map(waits, whole))
 
 
@@ -313,10 +317,10 @@ def differs(errors: list) -> bool:
     return any(found and are_unequal(found[1], found[2]) for found in shown)
 
 
-def shown(error: tuple) -> str:
+def shown(copy: Copy, error: tuple) -> str:
     """A refusal as text."""
     file, _, _, message, text = error
-    return f"{file}: {text.strip()[:120]}: {message[:700]}"
+    return f"{'/'.join(copy.places[int(file[1:])])}: {text.strip()[:120]}: {message[:700]}"
 
 
 # An equation that no check may accept.
@@ -339,8 +343,8 @@ def judge_examples(room: pathlib.Path, crate: str, entries: list) -> dict:
         same = repr(sorted(right.items()))
         if same not in made:
             made[same] = f"r{number}"
-            copies[made[same]] = {name: text.replace(".variants.TAG.", f".variants.{made[same]}.") for name, text in right.items()}, copy.file()
-        copies[tag] = copy.texts(copy.new, crate, tag), copy.file()
+            copies[made[same]] = {name: text.replace(".variants.TAG.", f".variants.{made[same]}.") for name, text in right.items()}, copy.file(copy.place)
+        copies[tag] = copy.texts(copy.new, crate, tag), copy.file(copy.place)
         tried.append((entry, copy, tag, made[same]))
     refused = check_copies(room, crate, copies) if tried else {"unequal": True}
     if not refused["unequal"]:
@@ -348,11 +352,11 @@ def judge_examples(room: pathlib.Path, crate: str, entries: list) -> dict:
     for entry, copy, tag, right in tried:
         others = [error for error in refused[tag] if not is_refused_refl(copy, error)]
         if refused[right]:
-            verdicts[entry] = f"invalid: the unchanged copy is refused: {shown(refused[right][0])}"
+            verdicts[entry] = f"invalid: the unchanged copy is refused: {shown(copy, refused[right][0])}"
         elif others:
-            verdicts[entry] = f"invalid: more than the example is refused: {shown(others[0])}"
+            verdicts[entry] = f"invalid: more than the example is refused: {shown(copy, others[0])}"
         elif refused[tag] and not differs(refused[tag]):
-            verdicts[entry] = f"invalid: the refusal does not show two values: {shown(refused[tag][0])}"
+            verdicts[entry] = f"invalid: the refusal does not show two values: {shown(copy, refused[tag][0])}"
         else:
             verdicts[entry] = "caught" if refused[tag] else "survives"
     return verdicts
@@ -437,7 +441,7 @@ def judge_alone(room: pathlib.Path, entry: Entry, known: dict) -> str:
 
 # ---------------------------------------------------------------- the run
 
-SAMPLE = 24  # entries of each crate
+SAMPLE = 12  # entries of each crate
 CONTROLS = "controls", "bufr_tables"  # the list whose entries state their verdicts, and the crate that it changes
 
 
