@@ -43,7 +43,9 @@ grep -v '/$' "$doc/MANIFEST" | diff - "$work/installed" || fail "MANIFEST lists 
 DESTDIR=$work/stage "$top/install.sh" --program "$bufr" --unproved /usr > "$work/staged"
 ! grep -q stage "$work/staged" || fail "install.sh speaks of DESTDIR: $(< "$work/staged")"
 diff -r -x MANIFEST "$prefix" "$work/stage/usr" || fail "DESTDIR gives other files"
-DESTDIR=$work/stage "$top/install.sh" --uninstall /usr
+mkdir "$work/temporary"
+TMPDIR=$work/temporary DESTDIR=$work/stage "$top/install.sh" --uninstall /usr
+[ -z "$(ls -A "$work/temporary")" ] || fail "install.sh leaves temporary files"
 [ -z "$(find "$work/stage/usr" -mindepth 1)" ] || fail "--uninstall with DESTDIR leaves $(find "$work/stage/usr" -mindepth 1)"
 
 # Wrong words.

@@ -51,6 +51,9 @@ def same_as_one_run(program: str, folder: pathlib.Path) -> None:
     one = run([program, "dump", *TABLES, path])
     faults = set(line.split(b": ")[1][:2] for line in one[2].splitlines())
     want(one[0] == 1 and faults == {b"1 ", b"3 ", b"10", b"20", b"30"}, f"the made stream has other faults: {faults}")
+    small = TOP / "examples/synop.bufr"
+    most = run([*PARALLEL, "-P", "128", "dump", *TABLES, small])
+    want(most == run([program, "dump", *TABLES, small]), "128 processes are refused")
     # refused for their data alone, at which `bufr ls` ends with 0
     data_faults = lib.message(b"\x14", b"\x01\x01", 3) * 3
     one_of_data = run([program, "dump", *TABLES], input=data_faults)
