@@ -218,8 +218,7 @@ class Trial:
         steps = [
             (texts[0], one, b""),
             (b"\n\n" + texts[1][:50], b"", b""),
-            (texts[1][50:], other, b""),
-            (texts[0][:-2], b"", b""),
+            (texts[1][50:] + texts[0][:-2], other, b""),  # with output, so that both are read before the next step
             (texts[0][-2:], one, b""),
             (b"junk\n", b"", b"line %d: 50 line\n" % ((texts[0] * 2 + texts[1]).count(b"\n") + 3)),
         ]
