@@ -441,7 +441,7 @@ def judge_alone(room: pathlib.Path, entry: Entry, known: dict) -> str:
 
 # ---------------------------------------------------------------- the run
 
-SAMPLE = 12  # entries of each crate
+SAMPLE = 30  # entries of each crate
 CONTROLS = "controls", "bufr_tables"  # the list whose entries state their verdicts, and the crate that it changes
 
 
@@ -454,7 +454,8 @@ def sampled(entries: list) -> list:
 
     found = [entry for entry in entries if entry.file == CONTROLS[0] and entry.kind == "example"]
     for crate in crates():
-        found += sorted((entry for entry in entries if entry.kind == "example" and entry.of == crate), key=rank)[:SAMPLE]
+        of = (entry for entry in entries if entry.kind == "example" and entry.of == crate and entry not in found)
+        found += sorted(of, key=rank)[:SAMPLE]
     return found
 
 
@@ -524,11 +525,12 @@ def main() -> None:
         finish([*wrongs, f"no verdict: {wrong}"])
     except KeyboardInterrupt:
         sys.exit(130)
-    for entry, verdict in verdicts.items():
+    for entry in tried:
+        verdict = verdicts.get(entry, "invalid: it was not tried")
         if verdict.partition(":")[0] != entry.wanted:
             passes = f": {entry.kind} {entry.of}/{entry.name} does not fail" if verdict == "survives" else ""
             wrongs.append(f"{entry}: {verdict}{passes}")
-    right = sum(verdict.partition(":")[0] == entry.wanted for entry, verdict in verdicts.items())
+    right = sum(verdicts.get(entry, "").partition(":")[0] == entry.wanted for entry in tried)
     print(f"bent_definitions: {right} of {len(tried)} entries have their verdict ({len(every)} in all), in {time.monotonic() - start:.0f} s")
     finish(wrongs)
 
