@@ -1,6 +1,7 @@
 pub mod FinderLemmas
 pub mod AgainLemmas
 pub mod LayoutLemmas
+mod HeadExamples
 mod Examples
 mod SectionFaultExamples
 mod StrayExamples

@@ -1,3 +1,4 @@
+mod HeadExamples
 mod AcceptedExamples
 mod AlikeExamples
 pub mod AlikeLemmas
