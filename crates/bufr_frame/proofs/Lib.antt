@@ -1,7 +1,6 @@
 pub mod FinderLemmas
 pub mod AgainLemmas
 pub mod LayoutLemmas
-mod HeadExamples
 mod Examples
 mod SectionFaultExamples
 mod StrayExamples

@@ -1,4 +1,3 @@
-mod HeadExamples
 mod AcceptedExamples
 mod AlikeExamples
 pub mod AlikeLemmas
