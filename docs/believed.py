@@ -3,18 +3,22 @@
 
     docs/believed.py [CALL..]        CALL is a public function or a law of a crate, `run` by default
 
-The contracts come first. The definitions follow under headings, mostly after those that they use, each file in its own
-order, without imports, tags and derives. A name of std, or of another crate of the kit, is not followed. What it counts
-goes to standard error. A file without a heading is named, and the status is 1.
+The contracts come first. The definitions follow under headings: first what the format is, then how a run uses its devices,
+and last what the kit's csv and clap promise. Most definitions come after those that they use. Imports, tags and derives are
+left out. A law that justifies a file is printed after it, and what the law alone needs comes at the end. Names of std, and
+of other crates of the kit, are not followed. The counts go to standard error. A file that has no heading is reported, and
+the status is 1.
 """
+import functools
 import pathlib
 import re
+import subprocess
 import sys
 
 TOP = pathlib.Path(__file__).resolve().parent.parent
 HEADINGS = {
-    "Bits, decimals and devices": "bits: Bits decimal Decimal device Device script Script",
-    "Messages in a stream": "frame: fault Octets finder Input Scan",
+    "Bits and decimals": "bits: Bits decimal Decimal",
+    "Messages in a stream": "frame: fault Octets finder Scan",
     "The sections of a message": "frame: section1 Section1 Sections Numbers",
     "Tables B and D": "tables: Fxy fault Records table_b TableB TableD FaultNumber",
     "A list of descriptors, expanded": "tables: Tree Expansion",
@@ -23,15 +27,28 @@ HEADINGS = {
     "The lines of a text": "fill: Draft; text: Line",
     "The text of a listing and of a dump": "fill: RoundTrip; text: Dump",
     "A message built of a text": "text: document Documents Reader; fill: fault Encoding; frame: Layout; text: encode fault Encoding",
-    "Fault lines and runs": "text: Writing; cli: outcome FaultLine Pieces Running",
+    "Fault lines, and the pieces that a run writes": "text: Writing; cli: outcome FaultLine Pieces",
     "Round trips": "text: Spelling RoundTrip; cli: RoundTrip laws",
-    "The program": "cli: job Line Ending Program program",
+    "The command line": "cli: job Line",
+    "How a run reads and writes (relations between the states of devices before and after; you need to know Agda's ≡, × and →)":
+        "bits: Device device Script script; frame: Input; cli: Running Ending Program program",
+    "What csv promises of the records of a table (definitions of the kit)": "csv: parser Machine Records Reading",
+    "What clap promises of a command line (definitions of the kit)":
+        "clap: error/kind builder/action builder/possible_value builder/range builder/value_parser parser/matches"
+        " Lexer Values ValueTests Takes Kinds Facts Matches Walk Simple Faults",
+    "What the laws need beside these": "walk: KnownRows",
 }
+# The laws that a reader leans on, by the file that they justify.
+LAWS = {
+    "walk/specs/Rules.antt": ["elements_have_their_rows"],
+    "walk/specs/Pass.antt": ["data_are_read_item_by_item"],
+}
+KIT = ("csv", "clap")
 HEAD = re.compile(r"^ {0,2}(?:abbrev |unfoldable |rec )*(?:pub )?(?:record |data )?([^\s:(){}]+) *(?:\([^:]*|\{[^:]*)?:(?: |$)")
-USE = re.compile(r"^use Rattle\.(bufr_\w+)\.specs\.([\w.]+?)(?:\.\{([^}]*)\}| as ([\w-]+))$")
-PASSED = re.compile(r"^(?:unfoldable )?pub use Rattle\.(bufr_\w+)\.specs\.([\w.]+)\.\{([^}]*)\}$")
-GHOST = re.compile(r"ghost use Rattle\.(bufr_\w+)\.specs\.([\w.]+?)(?:\.\{([^}]*)\}| as ([\w-]+));")
-BESIDE = re.compile(r"\s*(?:(?:--|//) rule: |#\[derive|ghost use )")
+USE = re.compile(r"^use Rattle\.(bufr_\w+|csv|clap)\.specs\.([\w.]+?)(?:\.\{([^}]*)\}| as ([\w-]+))$")
+PASSED = re.compile(r"^(?:unfoldable )?pub use Rattle\.(bufr_\w+|csv|clap)\.specs\.([\w.]+)\.\{([^}]*)\}$")
+GHOST = re.compile(r"ghost use Rattle\.(bufr_\w+|csv|clap)\.specs\.([\w.]+?)(?:\.\{([^}]*)\}| as ([\w-]+));")
+BESIDE = re.compile(r"\s*(?:(?:--|//) rule: |#\[(?:derive|error)|ghost use )")
 TOKEN = re.compile(r"[^\s()\[\]{};,:]+")
 
 
@@ -60,6 +77,21 @@ class Item:
             first, _, rest = token.partition(".")
             if first in self.scope and first != self.name and (first not in self.scope.aliases or rest[:1].isupper()):
                 yield self.scope[first]
+
+
+@functools.cache
+def kit():
+    """The folder of the kit's crates."""
+    try:
+        page = subprocess.run(["rt", "doc"], stdout=subprocess.PIPE, text=True, check=True).stdout.strip()
+    except (OSError, subprocess.CalledProcessError) as fault:
+        sys.exit(f"{sys.argv[0]}: cannot print what csv and clap promise without the kit: {fault}")
+    return pathlib.Path(page).parent / "rattle"
+
+
+def sources(crate):
+    """The folder of a crate of this repository or of the kit."""
+    return kit() / crate if crate in KIT else TOP / "crates" / crate
 
 
 def read(path):
@@ -127,16 +159,16 @@ class House:
         declared = re.match(r"declared\.([\w.]+?)(?:\.TheVariants)?$", module)
         if declared:
             return self.declared(crate, declared[1].split("."))
-        path = TOP / "crates" / crate / "specs" / (module.replace(".", "/") + ".antt")
-        if module == "Prelude":
-            passed = (PASSED.match(line) for line in read(path))
-            place = next((it for it in passed if it and name in re.split(r",\s*", it[3])), None)
-            return self.find(place[1], place[2], name) if place else None
-        return self.specs(path).get(name) if path.is_file() else None
+        path = sources(crate) / "specs" / (module.replace(".", "/") + ".antt")
+        if not path.is_file():
+            return None
+        passed = (PASSED.match(line) for line in read(path))
+        place = next((it for it in passed if it and name in re.split(r",\s*", it[3])), None)
+        return self.find(place[1], place[2], name) if place else self.specs(path).get(name)
 
     def declared(self, crate, parts):
         """A struct, enum or trait of src/, with the value by which clauses speak of it."""
-        path = TOP / "crates" / crate / "src" / ("/".join(parts[:-1]) + ".rt")
+        path = sources(crate) / "src" / ("/".join(parts[:-1]) + ".rt")
         key = (path, parts[-1])
         if key in self.files or not path.is_file():
             return self.files.get(key)
@@ -186,8 +218,8 @@ def headed():
         for part in files.split("; "):
             crate, names = part.split(": ")
             for name in names.split():
-                folder, ending = ("specs", "antt") if name[0].isupper() else ("src", "rt")
-                order[TOP / f"crates/bufr_{crate}/{folder}/{name}.{ending}"] = number, len(order)
+                folder, ending = ("specs", "antt") if name.rpartition("/")[2][0].isupper() else ("src", "rt")
+                order[sources(crate if crate in KIT else f"bufr_{crate}") / f"{folder}/{name}.{ending}"] = number, len(order)
     return order
 
 
@@ -196,32 +228,55 @@ def text(item):
     return "\n".join(line for line in item.lines if not BESIDE.match(line))
 
 
-def main():
-    house = House()
-    calls = [contract(call, house) for call in sys.argv[1:] or ["run"]]
+def reached(calls):
+    """The definitions that calls reach, without the calls."""
     seen = []
-    sys.setrecursionlimit(10_000)
     for call in calls:
         reach(call, seen)
-    definitions = [item for item in seen if item not in calls]
-    order = headed()
-    lost = sorted({str(item.path.relative_to(TOP)) for item in definitions if item.path not in order})
+    return [item for item in seen if item not in calls]
+
+
+def size(items):
+    """How many definitions there are, and how many lines they have."""
+    return f"{len(items)} definitions, {sum(text(item).count(chr(10)) + 1 for item in items)} lines"
+
+
+def main():
+    house, order = House(), headed()
+    sys.setrecursionlimit(10_000)
+    calls = [contract(call, house) for call in sys.argv[1:] or ["run"]]
+    definitions = reached(calls)
+    paths = {item.path for item in definitions}
+    laws = {TOP / "crates" / f"bufr_{file}": [contract(law, house) for law in names] for file, names in LAWS.items()}
+    laws = {path: [law for law in ones if law not in calls] for path, ones in laws.items() if path in paths}
+    justifying = sum(laws.values(), [])
+    beside = [item for item in reached(justifying) if item not in definitions + calls]
+    lost = sorted({str(item.path) for item in definitions + beside if item.path not in order})
     if lost:
         sys.exit("\n".join(f"{sys.argv[0]}: HEADINGS has no place for {path}" for path in lost))
     for call in calls:
         print(f"== The contract of {call.name}\n\n{text(call)}\n")
-    titles, number, path, count = list(HEADINGS), -1, None, 0
-    for item in sorted(definitions, key=lambda item: (order[item.path], item.line)):
-        if order[item.path][0] != number:
-            number = order[item.path][0]
+    titles = list(HEADINGS)
+    place = {item: order[item.path][0] for item in definitions} | {item: len(titles) - 1 for item in beside}
+    number, path, count = -1, None, 0
+    for item in [*sorted(place, key=lambda item: (place[item], order[item.path], item.line)), None]:
+        if path and (item is None or item.path != path):
+            for law in laws.pop(path, []):
+                print(f"\n-- a law that justifies these definitions, proved\n{text(law)}")
+        if item is None:
+            break
+        if place[item] != number:
+            number, path = place[item], None
             count += 1
             print(f"\n== {count}. {titles[number]}")
         if item.path != path:
             path = item.path
-            print(f"\n-- {path.relative_to(TOP)}")
+            print(f"\n-- {path.relative_to(TOP if TOP in path.parents else kit())}")
         print(f"\n{text(item)}")
-    lines = sum(text(item).count("\n") + 1 for item in seen)
-    print(f"{len(seen)} definitions, {lines} lines, {len({item.path for item in seen})} files", file=sys.stderr)
+    own = calls + [item for item in definitions if TOP in item.path.parents]
+    print(f"{size(own)}, {len({item.path for item in own})} files", file=sys.stderr)
+    print(f"of csv and clap: {size([item for item in definitions if item not in own])}", file=sys.stderr)
+    print(f"of laws that justify them: {size(justifying + beside)}", file=sys.stderr)
 
 
 if __name__ == "__main__":

@@ -4,6 +4,7 @@
     tests/believed.py
 """
 import re
+import runpy
 import subprocess
 
 from lib import TOP, finish
@@ -33,11 +34,14 @@ def main() -> None:
         for name in re.findall(r"`(\w+)`", rows.get(promise, "`row`")):
             if not re.search(rf"^[\w ]*\bpub (?:record |data )?{name}\b", text, re.M):
                 wrongs.append(f"{name} of promise {promise} is not printed")
-    headings = set(re.findall(r'^    "(.*)": "', (TOP / "docs/believed.py").read_text(encoding="utf-8"), re.M))
+    headings = set(runpy.run_path(str(TOP / "docs/believed.py"))["HEADINGS"])
     for heading in headings - set(re.findall(r"^== \d+\. (.*)$", "\n".join(texts.values()), re.M)):
         wrongs.append(f"{heading} has no definition")
     if headings != {*re.findall(r"^== \d+\. (.*)$", texts["3"], re.M), "Round trips"}:
         wrongs.append("the contract of run has other headings")
+    for law in ("data_are_read_item_by_item", "elements_have_their_rows"):
+        if not re.search(rf"^pub fn {law}\b", texts["3"], re.M):
+            wrongs.append(f"the law {law} is not printed beside what it justifies")
     if re.search(r"^ *(?:--|//) rule:|^\s*(?:pub |ghost )*use ", texts["3"], re.M):
         wrongs.append("a tag or an import is printed")
     finish(wrongs)
