@@ -827,5 +827,5 @@ def work(words: List[str]) -> int:
     if not asked.has("--encode"):
         return dump(asked.files(), longest=asked.last("--max-length"))
     if asked.has("--max-length"):
-        raise bufr_options.misused("--max-length is for messages, not for --encode")
+        raise bufr_options.misused("--max-length cannot be used with --encode")
     return Work(Encode, asked.files()).do()

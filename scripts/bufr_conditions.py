@@ -40,12 +40,12 @@ class Conditions:
     def add(self, word: str) -> None:
         found = re.fullmatch(r"([a-z]+)(!?)=(.*)", word, re.DOTALL)
         if not found:
-            raise ValueError(f"'{word}' is no condition KEY=VALUE or KEY!=VALUE")
+            raise ValueError(f"'{word}' is not a condition: expected KEY=VALUE or KEY!=VALUE")
         key, negated, text = found.groups()
         if key not in KEYS:
             raise ValueError(f"unknown key {key} in '{word}'; the keys are {' '.join(KEYS)}")
         if not re.fullmatch(r"[0-9T:/-]+(,[0-9T:/-]+)*", text):
-            raise ValueError(f"'{word}' has a value that no listing has: use digits, T, colons, slashes and hyphens")
+            raise ValueError(f"the value in '{word}' cannot match a listing: use digits, T, colons, slashes and hyphens")
         values = text.split(",")
         pattern = f"(^| ){key}=({'|'.join(values)})([ T:/-]|$)"
         if key == "time" and not negated:

@@ -107,7 +107,7 @@ class TableSets:
                 tables = TableSet(os.path.join(self.folder, name), int(version), key)
                 self.sets.setdefault(key, {})[tables.version] = tables
         if None not in self.sets:
-            raise bufr_guard.Failed(f"{self.folder} has no set of tables such as wmo-39")
+            raise bufr_guard.Failed(f"{self.folder} has no table set such as wmo-39")
 
     def latest(self) -> TableSet:
         """WMO's latest set."""
@@ -140,7 +140,8 @@ def folder_of_sets() -> str:
     for place in places:
         if os.path.isdir(place):
             return os.path.abspath(place)
-    raise bufr_guard.Failed(f"there is no folder {places[0]}" + ", which BUFR_TABLES names" * bool(named))
+    why = f"BUFR_TABLES is {named}, which is not a folder" if named else f"the table folder {places[0]} is missing; set BUFR_TABLES"
+    raise bufr_guard.Failed(why)
 
 
 def words_of(message: Bytes) -> bytes:
@@ -167,7 +168,7 @@ ECCODES = "/usr/share/eccodes/definitions"
 WREPORT_HAS = {(14, 85, 0), (14, 85, 1), (13, 98, 1), (13, 98, 102), (16, 98, 1), (19, 254, 1)}
 ECCODES_HAS = {(39, 1), *((78, local) for local in range(1, 9)), (98, 1), (98, 2), (98, 3), (98, 4), (98, 101), (254, 1)}
 
-NEWER = "WMO publishes newer tables (wmo-im/BUFR4 on GitHub), which tables/convert.py converts"
+NEWER = "get newer tables from WMO (wmo-im/BUFR4 on GitHub), and convert them with tables/convert.py"
 
 
 def is_local(fxy: str) -> bool:
@@ -190,7 +191,7 @@ def advice(tables: TableSet, centre: int, version: int, local: int) -> str:
     if (version, centre, local) in WREPORT_HAS:
         words = command(tables, centre, local, of_wreport, tables.folder)
         return f"to make it, install wreport-common (Debian), then: {words}"
-    return f"no source of it is known: ask centre {centre} (WMO's Common Code Table C-11 has its name)"
+    return f"no public source is known: ask centre {centre} (WMO's Common Code Table C-11 has its name)"
 
 
 def command(tables: TableSet, centre: int, local: int, *sources: str) -> str:

@@ -29,7 +29,7 @@ TABLE_D = """\
            012101
  301250  1 001213
 """
-ASK = "no source of it is known: ask centre {} (WMO's Common Code Table C-11 has its name)\n"
+ASK = "no public source is known: ask centre {} (WMO's Common Code Table C-11 has its name)\n"
 TEXT = """\
 message
 edition 4
@@ -99,9 +99,9 @@ def versions_and_editions(script, holds) -> None:
     """Whose set serves a version that is later than all, and where the list of descriptors begins in each edition."""
     holds("of a later version", script("bufr-lacks", made(41, 0, 98, "013164", b"\1")), (0, "", ""))
     wanted = "1 message of centre 98/0, tables 0/41/0, lacks 001255\n"
-    newer = "bufr-lacks: there is no wmo-41; WMO publishes newer tables (wmo-im/BUFR4 on GitHub), which tables/convert.py converts\n"
+    newer = "bufr-lacks: there is no wmo-41; get newer tables from WMO (wmo-im/BUFR4 on GitHub), and convert them with tables/convert.py\n"
     holds("a row of a later version", script("bufr-lacks", made(41, 0, 98, "001191", b"\1")), (1, wanted.replace("255", "191"), newer))
-    asking = "bufr-lacks: wmo-13 lacks some rows; ask centre 98 by which version it wrote its messages\n"
+    asking = "bufr-lacks: wmo-13 lacks some rows; ask centre 98 which version its messages use\n"
     wanted = "1 message of centre 98/0, tables 0/13/0, lacks 013164\n"
     holds("a row of another version", script("bufr-lacks", made(13, 0, 98, "013164", b"\1")), (1, wanted, asking))
     for edition, flag in ((3, 15), (4, 17)):

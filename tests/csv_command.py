@@ -375,7 +375,7 @@ def refusals() -> None:
         (["-c", "012101:"], b"a count from 1"),
         (["-c", "012101:x"], b"a count from 1"),
         (["-c", "message"], keys),
-        (["-c", "year", "--where=", "category=0"], b"'' is no condition"),
+        (["-c", "year", "--where=", "category=0"], b"'' is not a condition"),
         (["--levels"], b"--levels needs -c"),
         (["--levels", "-c", "year"], b"--keep takes it"),
         (["--levels", "-c", "012101:2"], b"--keep takes it"),

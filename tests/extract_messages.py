@@ -54,8 +54,8 @@ CONDITIONS = [
 # words that are refused with status 2, and part of the message
 REFUSED = [
     (["categori=0"], "unknown key categori in 'categori=0'"),
-    (["category=land"], "'category=land' has a value that no listing has"),
-    (["category="], "has a value that no listing has"),
+    (["category=land"], "the value in 'category=land' cannot match a listing"),
+    (["category="], "cannot match a listing"),
     (["category", SYNOP], "category has no value: write category=VALUE"),
     ([SYNOP, "time"], "time has no value: write time=VALUE"),
     (["--awk", "1)"], "awk does not accept the condition 1)"),
