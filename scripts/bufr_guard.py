@@ -24,6 +24,7 @@ It imports next to nothing, since each script loads it.
 """
 from __future__ import annotations
 
+import errno
 import os
 import select
 import stat
@@ -187,7 +188,10 @@ def reason(error: BaseException) -> str:
         return f"{error.name} is not installed for this Python (Debian: apt-get install python3-{error.name})"
     if isinstance(error, OSError) and error.strerror:
         is_named = isinstance(error.filename, (str, bytes))
-        return f"{os.fsdecode(error.filename)}: {error.strerror}" if is_named else error.strerror
+        if is_named:
+            return f"{os.fsdecode(error.filename)}: {error.strerror}"
+        is_write = error.errno in (errno.EPIPE, errno.ENOSPC, errno.EFBIG)
+        return f"write failed: {error.strerror}" if is_write else error.strerror
     place, where = error.__traceback__, ""
     while place:
         where = f" ({os.path.basename(place.tb_frame.f_code.co_filename)}, line {place.tb_lineno})"
@@ -353,7 +357,8 @@ def spawned(words: Sequence[str], descriptors: Sequence[int], mask: Iterable[int
             words[0], list(words), os.environ, file_actions=actions, setsigmask=mask, setsigdef=[signal.SIGPIPE]
         )
     except OSError as error:
-        raise Failed(f"cannot run {words[0]}: {error.strerror}") from None
+        advice = "; install bufr, or set BUFR to its path" if words[0] == program() else ""
+        raise Failed(f"cannot run {words[0]}: {error.strerror}{advice}") from None
 
 
 def wait(process: int) -> int:
@@ -378,7 +383,7 @@ def lines_from(pipe: int, progress: Progress, place: Callable[[], int]) -> Itera
         block = os.read(pipe, BLOCK)
         lines, end, rest = (rest + block).rpartition(b"\n")
         if len(rest) > BLOCK:
-            raise Failed("a line of the listing is over 1 MB long")
+            raise Failed("a line of the listing is longer than 1 MB")
         yield lines + end
     yield rest
 
@@ -416,7 +421,7 @@ def leave(number: int, _frame: Optional[FrameType]) -> None:
 def opened(file: Optional[str]) -> int:
     """A descriptor of a file, or of standard input, that can be read at any offset; of a copy if need be."""
     descriptor = to_read(file)
-    return descriptor if is_regular(descriptor) else copied(descriptor)
+    return descriptor if is_regular(descriptor) else copied(descriptor, named(file))
 
 
 def to_read(file: Optional[str]) -> int:
@@ -476,14 +481,14 @@ def put_aside(octets: bytes) -> int:
     return descriptor
 
 
-def copied(source: int) -> int:
+def copied(source: int, name: str) -> int:
     """A temporary file with everything that a descriptor gives, at its start."""
     descriptor, octets, progress, size = temporary(), b" ", Progress(has_texts=False), 0
     while octets:
         try:
             octets = os.read(source, BLOCK)
-        except OSError:
-            raise Failed("read failed") from None
+        except OSError as error:
+            raise Failed(f"cannot read {name}: {error.strerror}") from None
         keep(descriptor, octets)
         size += len(octets)
         progress.at(size)
@@ -498,8 +503,8 @@ def read_at(descriptor: int, offset: int, length: int) -> bytes:
     while offset < end:
         try:
             pieces.append(os.pread(descriptor, end - offset, offset))
-        except OSError:
-            raise Failed("read failed") from None
+        except OSError as error:
+            raise Failed(f"read failed: {error.strerror}") from None
         if not pieces[-1]:
             raise Failed("the file became shorter while it was read")
         offset += len(pieces[-1])

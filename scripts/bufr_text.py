@@ -443,7 +443,7 @@ def _named(word: str) -> str:
     asked = word.upper()
     names_of = [(fxy, name.upper()) for fxy, (name, _) in names.items() if asked in name.upper()]
     found = sorted((asked not in name.split("/"), fxy) for fxy, name in names_of)
-    return f"; in Table B it is in the names of {', '.join(fxy for _, fxy in found)}" if word and found else ""
+    return f"; it is in the names of {', '.join(fxy for _, fxy in found)}" if word and found else ""
 
 
 def _messages(
@@ -452,7 +452,7 @@ def _messages(
     if isinstance(messages, (str, os.PathLike)):
         return dump(messages, faults=faults, where=where)
     if faults is not None or where:
-        raise TypeError("faults and where are for the messages of a file: give them to dump")
+        raise TypeError("faults and where work with the name of a file; otherwise give them to dump")
     return messages
 
 
@@ -491,7 +491,7 @@ def _levels(
             if found[0] and (len(found) == 1 or any(found[1:])):
                 yield (*header, *kept, *map(_cell, found))
     if unclear:
-        text = f"subsets with a descriptor twice in a level: {unclear}, the first is {first}"
+        text = f"skipped subsets whose levels cannot be told apart: {unclear}, the first is {first}"
         warnings.warn(text, DumpWarning, stacklevel=2)
 
 
@@ -709,7 +709,7 @@ def _listed(stream: IO[bytes], errors: IO[bytes], told: _Told) -> Iterator[Liste
         for line in lines:
             found = _LISTED.fullmatch(line)
             if not found:
-                raise RunError(2, f"{words[0]} ls does not write the lines of this version of bufr")
+                raise RunError(2, f"{words[0]} ls is not of this version: install bufr and bufr_text from one release")
             if told.conditions is None or told.conditions.are_met(line):
                 yield Listed._make(map(int, found.groups()))
 
@@ -761,7 +761,7 @@ def _run(words: List[str], source: IO[bytes], target: IO[bytes]) -> subprocess.C
 def _failure(status: int, words: List[str], errors: Iterable[bytes]) -> RunError:
     """The error with what the program printed, or with its status if it printed nothing, and whether a disk is full."""
     told = b"".join(line for line in errors if not _FAULT.match(line)).decode(errors="replace").strip()
-    told = told or f"{words[0]} ended with status {status}"
+    told = told or f"{words[0]} " + (f"was killed (signal {-status})" if status < 0 else f"stopped with status {status}")
     folder = tempfile.gettempdir()  # which takes all output
     return RunError(status, f"{told}: {folder} is full" if shutil.disk_usage(folder).free < 1 << 16 else told)
 

@@ -143,7 +143,7 @@ class Trial:
             self.holds("a table at fault", (done.stdout, done.stderr, done.returncode) == wanted, (done, wanted))
         with open("/dev/full", "w") as full:
             done = subprocess.run(AUTO, input=before, stdout=full, stderr=subprocess.PIPE, env=self.environment)
-        told = done.stderr.endswith(b"bufr-auto: No space left on device\n")
+        told = done.stderr.endswith(b"bufr-auto: write failed: No space left on device\n")
         self.holds("a full device", told and done.returncode == 2, done)
 
     def encodes(self) -> None:
@@ -451,7 +451,7 @@ class Trial:
             (f"{empty} has no table set such as wmo-39", [file], {"BUFR_TABLES": str(empty)}),
             ("cannot open nosuch: No such file or directory", ["nosuch"], {}),
             ("cannot open '': No such file or directory", [""], {}),
-            ("cannot run /nosuch: No such file or directory", [file], {"BUFR": "/nosuch"}),
+            ("cannot run /nosuch: No such file or directory; install bufr, or set BUFR to its path", [file], {"BUFR": "/nosuch"}),
         ):
             done = self.auto(*words, **environment)
             wanted = (2, b"", f"bufr-auto: {told}\n".encode())
@@ -494,7 +494,7 @@ class Trial:
     def ends(self) -> None:
         """A reader that has gone, a file that becomes shorter, a signal of children that is ignored."""
         many = b"".join(made(version, LISTS[1], b"\1\1\0", section_2=bytes(60_000)) for version in (13, 39))
-        for stream, told in ((many * 20, b"bufr-auto: Broken pipe\n"), (many[: len(many) // 2] * 20, b"bufr: 71 write failed\n")):
+        for stream, told in ((many * 20, b"bufr-auto: write failed: Broken pipe\n"), (many[: len(many) // 2] * 20, b"bufr: 71 write failed\n")):
             (self.place / "stream").write_bytes(stream)
             pipes = dict(stdout=subprocess.PIPE, stderr=subprocess.PIPE, env=self.environment)
             with subprocess.Popen([*AUTO, str(self.place / "stream")], **pipes) as child:

@@ -121,7 +121,7 @@ def tries(trial: Trial) -> None:
     fails(done, b"small.bufr from offset 0: ")
     for script, told in [
         ('[ "$1" = ls ] && exec "$REAL" "$@"; exit 7', b"small.bufr from offset 0: "),
-        ("exit 7", b"ended with status 7"),
+        ("exit 7", b"stopped with status 7"),
     ]:
         fails(trial.run("2", COLUMNS, "small.bufr", program=trial.program(script)), told)
     for words, told in [

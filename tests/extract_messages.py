@@ -65,9 +65,9 @@ REFUSED = [
     (["--awk"], "--awk needs a value"),
     (["--max-length", "11"], "--max-length '11': expected a whole number, at least 12"),
     (["--all"], "unknown option --all"),
-    (["one", "two"], "only one file: use cat one two | bufr-extract"),
+    (["one", "two"], "expected one file; to read several, use cat one two | bufr-extract"),
     (["nosuch"], "cannot open nosuch"),
-    (["/"], "read failed"),
+    (["/"], "read failed: Is a directory"),
 ]
 # Conditions of awk that do more than select lines.
 NO_CONDITIONS = [
@@ -130,7 +130,7 @@ def refuses_what_it_cannot(path: pathlib.Path) -> None:
             ("a pipe", run(["--awk", condition], input=path.read_bytes(), timeout=60)),
         ):
             lines = done.stderr.decode().splitlines()
-            told = "a line of the listing is over 1 MB long" if "while" in condition else "--awk printed or changed a line"
+            told = "a line of the listing is longer than 1 MB" if "while" in condition else "--awk printed or changed a line"
             is_refused = done.returncode == 2 and done.stdout in (b"", made(1)) and len(lines) == 1 and told in lines[0]
             want(is_refused, f"--awk '{condition}' over {name}: {done}")
     done = run(["--awk", 'NR == 2 { print last } { last = $0; next }', path])

@@ -172,8 +172,8 @@ def draws(python: str, program: str, folder: pathlib.Path) -> None:
     for words, text, status, told in [
         (["map", folder / "b.png"], texts["one_block_number"], 1, "no subset has a latitude and a longitude"),
         (["map", "--value", "012104", folder / "b.png"], texts["synop"], 1, "no subset has 012104"),
-        (["sounding", folder / "b.png"], texts["synop"], 1, "no subset asked for has levels"),
-        (["sounding", "--subset", "2", folder / "b.png"], texts["sounding"], 1, "no subset asked for has levels"),
+        (["sounding", folder / "b.png"], texts["synop"], 1, "the chosen subsets have no levels"),
+        (["sounding", "--subset", "2", folder / "b.png"], texts["sounding"], 1, "the chosen subsets have no levels"),
         (["map", folder / "b.png"], b"", 1, "bufr-plot: the input has no message"),
         (["sounding", folder / "b.png"], b"# a note\n", 1, "bufr-plot: the input has no message"),
         (["map", "--value", "", folder / "b.png"], texts["synop"], 2, "--value '': a column is a number such as 012101, not ''"),
