@@ -200,6 +200,12 @@ def draws(python: str, program: str, folder: pathlib.Path) -> None:
         )
         want(done.stderr.count(b"\n") == 1, f"{words} tells {done.stderr}")
         want(not (folder / "b.png").exists(), f"{words} leaves a picture")
+    for words, name in ((["map", "--value", "011002"], "buoys"), (["sounding"], "sounding")):
+        kept, picture = (TOP / f"docs/pictures/{name}.png").read_bytes(), folder / f"{name}.png"
+        want(run(python, [*words, picture], texts[name]).returncode == 0, f"the guide's picture of {name} is not drawn")
+        version = re.search(rb"Matplotlib version[\d.]+", kept)[0]
+        drawn = picture.read_bytes()
+        want(version not in drawn or drawn == kept, f"docs/pictures/{name}.png is not what the guide's command draws")
     done = run(python, ["--version"], env={**os.environ, "BUFR": program})
     want(done.stdout.startswith(b"bufr-plot, with bufr "), f"its version is {done.stdout}")
     strange(python, folder)
