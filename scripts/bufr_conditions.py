@@ -63,7 +63,7 @@ class Conditions:
         return f" edition=3 .* time=(?:{'|'.join(self.of_century)})[ T:/-]" if self.of_century else "(?!)"
 
     def are_met(self, line: bytes) -> bool:
-        """Whether a line meets all. Counts one that is left out."""
+        """Whether a line meets all conditions. Counts the messages that are left out."""
         line = line.rstrip(b"\n")
         if any(bool(pattern.search(line)) == negated for negated, pattern in self.compiled):
             return False

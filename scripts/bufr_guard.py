@@ -126,7 +126,7 @@ def guarded(work: Callable[[List[str]], int], text: str) -> int:
 
 
 def end_badly(told: str) -> None:
-    """Reports what ends the script, after flushing its output; does as much of both as possible."""
+    """Flushes the output and then reports why the script stops, as far as either is possible."""
     Progress.clear()
     line = Output(2)
     line.write(os.fsencode(shown(f"{name()}: {told}") + "\n"))
@@ -181,7 +181,7 @@ def build() -> str:
 
 
 def reason(error: BaseException) -> str:
-    """What is reported of an exception; if no script raised it on purpose, also where it came from."""
+    """The message for an exception. For one that no script raises on purpose, it includes the place in the code."""
     if isinstance(error, Failed):
         return str(error)
     if isinstance(error, ModuleNotFoundError):
@@ -216,7 +216,7 @@ def shown(text: str) -> str:
 
 
 class Output:
-    """A descriptor that is written in large blocks, which `flush` passes on."""
+    """A descriptor that is written in large blocks."""
 
     def __init__(self, descriptor: int) -> None:
         self.descriptor = descriptor
@@ -249,7 +249,7 @@ def written() -> List[Any]:
 
 
 def flush() -> None:
-    """Passes on what was written. Raises `OSError` if it cannot."""
+    """Flushes all output. Raises `OSError` if that fails."""
     for file in written():
         file.flush()
 
@@ -263,7 +263,7 @@ def write_all(descriptor: int, octets: Union[bytes, bytearray, memoryview]) -> N
 
 
 def say(lines: bytes) -> None:
-    """Writes lines to standard error, at the next `flush` at the latest."""
+    """Writes lines to standard error. The next `flush` prints them, if not earlier."""
     if lines:
         Progress.clear()
         output(2).write(lines)
@@ -419,7 +419,7 @@ def leave(number: int, _frame: Optional[FrameType]) -> None:
 
 
 def opened(file: Optional[str]) -> int:
-    """A descriptor of a file, or of standard input, that can be read at any offset; of a copy if need be."""
+    """A descriptor of a file, or of standard input, that can be read at any offset. If necessary, it is that of a copy."""
     descriptor = to_read(file)
     return descriptor if is_regular(descriptor) else copied(descriptor, named(file))
 
@@ -433,7 +433,7 @@ def to_read(file: Optional[str]) -> int:
 
 
 def named(file: Optional[str]) -> str:
-    """A file as messages name it."""
+    """The name of a file in a message."""
     return "standard input" if file is None else shown(file) or "''"
 
 

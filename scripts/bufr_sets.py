@@ -1,4 +1,4 @@
-"""What the scripts share about table sets: the set that a message asks for, and the entries that its descriptors use."""
+"""Table sets: the set that a message asks for, and the entries that its descriptors use."""
 from __future__ import annotations
 
 import os
@@ -20,7 +20,7 @@ CACHED = 8
 
 
 class TableSet:
-    """A folder of tables: of a WMO version, and perhaps with the rows of a centre (its number, its local version)."""
+    """A folder with the tables of a WMO version, perhaps with the rows of a centre (its number and local version)."""
 
     def __init__(self, folder: str, version: int, own: Optional[Tuple[int, int]]) -> None:
         self.folder, self.name, self.version, self.own = folder, os.path.basename(folder), version, own
@@ -31,7 +31,7 @@ class TableSet:
         return os.path.join(self.folder, name)
 
     def rows(self, name: str, *columns: str) -> Iterator[List[str]]:
-        """These columns of a table. `bufr` reports what it refuses in it."""
+        """These columns of a table. Invalid rows are left to `bufr` to report."""
         import csv
 
         csv.field_size_limit(1 << 30)
@@ -140,12 +140,13 @@ def folder_of_sets() -> str:
     for place in places:
         if os.path.isdir(place):
             return os.path.abspath(place)
-    why = f"BUFR_TABLES is {named}, which is not a folder" if named else f"the table folder {places[0]} is missing; set BUFR_TABLES"
-    raise bufr_guard.Failed(why)
+    if named:
+        raise bufr_guard.Failed(f"BUFR_TABLES is {named}, which is not a folder")
+    raise bufr_guard.Failed(f"there is no folder {places[0]}; set BUFR_TABLES to the folder of the table sets")
 
 
 def words_of(message: Bytes) -> bytes:
-    """The descriptor list in section 3 of a message, two bytes each, but no more than a template has."""
+    """The descriptor list in section 3 of a message, two bytes each, up to the length of the longest template."""
     begin = message(0, 26)
     at, flags = 8, begin[17 if begin[7:8] == b"\4" else 15 :][:1]
     for _ in range(2 if flags >= b"\x80" else 1):
@@ -177,7 +178,7 @@ def is_local(fxy: str) -> bool:
 
 
 def advice(tables: TableSet, centre: int, version: int, local: int) -> str:
-    """How to get the set with a centre's rows that belongs to a WMO set: the command that makes it, or whom to ask."""
+    """How to get the set that adds a centre's rows to a WMO set: the command that makes it, or whom to ask."""
     folders = [*os.environ.get("ECCODES_DEFINITION_PATH", "").split(":"), ECCODES]
     of_eccodes = [f"{folder}/bufr/tables/0/local/{local}/{centre}/0" for folder in folders if folder]
     of_wreport = f"{WREPORT}/B00000000{centre:05}{version:03}{local:03}.txt"
@@ -195,7 +196,7 @@ def advice(tables: TableSet, centre: int, version: int, local: int) -> str:
 
 
 def command(tables: TableSet, centre: int, local: int, *sources: str) -> str:
-    """The command that converts the sources into the set of a centre's rows beside a WMO set."""
+    """The command that makes the set with a centre's rows from these sources."""
     import shlex
 
     out = os.path.join(os.path.dirname(tables.folder), own_name(tables, centre, local))
@@ -206,5 +207,5 @@ def command(tables: TableSet, centre: int, local: int, *sources: str) -> str:
 
 
 def own_name(tables: TableSet, centre: int, local: int) -> str:
-    """The name of the set with a centre's rows that belongs to a WMO set."""
+    """The name of the set that adds a centre's rows to a WMO set."""
     return f"wmo-{tables.version:02}+{centre}-{local}"

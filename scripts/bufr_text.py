@@ -114,7 +114,7 @@ class TextError(ValueError):
 
 
 class RunError(RuntimeError):
-    """The program failed or refused a text. `status` is its exit status, negative if a signal ended it."""
+    """The program failed or refused a text. `status` is its exit status, negative if a signal killed it."""
 
     def __init__(self, status: int, reason: str) -> None:
         super().__init__(status, reason)
@@ -432,7 +432,7 @@ def _check(columns: List[str], form: re.Pattern[str], header: Sequence[str]) -> 
 
 
 def _named(word: str) -> str:
-    """Which elements of the latest tables have a word in their name. Those of just this name come first."""
+    """The elements of the latest tables whose names contain a word, exact names first, as part of an error."""
     import bufr_guard
     import bufr_sets
 
@@ -613,7 +613,7 @@ def _dumped(words: List[str], told: _Told, places: Optional[Iterable[Listed]]) -
 
 
 class _Told:
-    """What is reported of a file: its faults in order, where `bufr ls` has those between messages, and then notes."""
+    """What is reported about a file: its faults in order, including those between messages, and then notes."""
 
     def __init__(self, file: _Path, faults: Optional[List[Fault]]) -> None:
         self.file, self.faults, self.count, self.is_bare = file, faults, 0, False
@@ -638,7 +638,7 @@ class _Told:
             self.stray = next(self.strays, None)
 
     def of_part(self, errors: bytes, part: List[Listed]) -> Dict[int, Fault]:
-        """The faults of the messages of a part, by their offsets. Its notes are counted for the end."""
+        """The faults in a part, by offset. Its notes are counted and reported at the end."""
         begins = itertools.accumulate((place.length for place in part), initial=0)
         offsets = {begin: place.offset for begin, place in zip(begins, part)}
         refused = {}
@@ -687,7 +687,7 @@ def _octets(stream: IO[bytes], place: Listed) -> bytes:
 
 
 def _looks(stream: IO[bytes]) -> str:
-    """What a file without a message looks like. `bufr-auto` guesses it from the beginning."""
+    """The likely type of a file without a message. `bufr-auto` guesses it from the first bytes."""
     words, begin = [_program("bufr-auto")], os.pread(stream.fileno(), 256, 0)
     told = subprocess.run(words, input=begin, stdout=subprocess.PIPE, stderr=subprocess.PIPE).stderr
     return told.decode(errors="replace").rstrip().rpartition("has no message")[2]
@@ -759,7 +759,7 @@ def _run(words: List[str], source: IO[bytes], target: IO[bytes]) -> subprocess.C
 
 
 def _failure(status: int, words: List[str], errors: Iterable[bytes]) -> RunError:
-    """The error with what the program printed, or with its status if it printed nothing, and whether a disk is full."""
+    """The error with the output of the program, or with its status if there is none, and whether a disk is full."""
     told = b"".join(line for line in errors if not _FAULT.match(line)).decode(errors="replace").strip()
     told = told or f"{words[0]} " + (f"was killed (signal {-status})" if status < 0 else f"stopped with status {status}")
     folder = tempfile.gettempdir()  # which takes all output

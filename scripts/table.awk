@@ -281,7 +281,7 @@ BEGIN {
         level_count = split_columns(columns, level, "")
     is_joined = !placed && ("offset" in is_key || "length" in is_key)
     if (is_joined && (listing == "" || faults == ""))
-        fail("columns offset and length need -v listing=FILE (output of bufr ls) and -v faults=FILE (fault lines of this dump)")
+        fail("columns offset and length need -v listing=FILE (output of bufr ls) and -v faults=FILE (faults of the dump)")
     fault = -1
     for (column = 1; column <= kept_count; column++) {
         word = kept[column]
