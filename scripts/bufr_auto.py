@@ -47,7 +47,7 @@ CHANGED_SINCE_6 = set(
 
 
 class Unread(Exception):
-    """Why a file could not be read, or not to its end."""
+    """The reason why a file could not be read, or not to its end."""
 
 
 class Feed:
@@ -150,7 +150,7 @@ class Finder:
 
 
 def is_stray(fault: bytes) -> bool:
-    """Whether a fault is that of a stray `BUFR`, rather than nothing or a note on a message that was skipped."""
+    """Whether there is a fault, and it is that of a stray `BUFR`, not a note on a skipped message."""
     return fault[:1].isdigit()
 
 

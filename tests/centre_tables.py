@@ -119,7 +119,7 @@ def limits(script, holds) -> None:
     kinds = b"".join(made(13, 1, centre, "063255", b"") for centre in range(1, 1004)) * 2
     status, output, errors = script("bufr-lacks", kinds)
     holds("the kinds that are listed", (status, output.count("\n"), output.count("2 messages")), (1, 1000, 1000))
-    first = "bufr-lacks: messages of further kinds that lack rows: 6; only 1000 kinds are listed"
+    first = "bufr-lacks: left out 6 messages of other kinds that lack rows: only 1000 kinds are listed"
     holds("the notes on kinds", (errors.splitlines()[0], errors.count("\n")), (first, 1001))
     # Two kinds whose missing set is the same.
     _, output, errors = script("bufr-lacks", made(12, 1, 7, "063255", b"") + made(13, 1, 7, "063255", b""))
@@ -127,7 +127,7 @@ def limits(script, holds) -> None:
     many = " ".join(f"0{x}{y:03}" for x in range(48, 64) for y in range(256))
     status, output, errors = script("bufr-lacks", b"".join(made(13, 1, centre, many, b"") for centre in range(1, 15)))
     rows = sum(len(line.partition("lacks")[2].split()) for line in output.splitlines())
-    told = errors.startswith("bufr-lacks: some rows are left out: only 50000 are listed\n")
+    told = errors.startswith("bufr-lacks: left out some rows: only 50000 are listed\n")
     holds("the rows that are listed", (status, rows, told), (1, 50_000, True))
 
 
