@@ -77,4 +77,4 @@ class Conditions:
             return ""
         messages = "1 edition 3 message" if self.left_out == 1 else f"{self.left_out} edition 3 messages"
         both = f"{self.asked},{','.join(self.of_century)}"
-        return f"left out {messages}, whose years have two digits: {both} takes both editions"
+        return f"left out {messages}, whose years have two digits: {both} selects both editions"

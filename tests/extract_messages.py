@@ -169,8 +169,8 @@ def tells_years_of_the_century(folder: pathlib.Path) -> None:
     first, second, next_year, whole, of_14, whole_next = dates
     two_digits = "whose years have two digits"
     for words, taken, told in (
-        (["time=2014"], [whole], f"2 edition 3 messages, {two_digits}: time=2014,0014 takes both editions"),
-        (["time=2014-06"], [], f"1 edition 3 message, {two_digits}: time=2014-06,0014-06 takes both editions"),
+        (["time=2014"], [whole], f"2 edition 3 messages, {two_digits}: time=2014,0014 selects both editions"),
+        (["time=2014-06"], [], f"1 edition 3 message, {two_digits}: time=2014-06,0014-06 selects both editions"),
         (["time=2014,0014"], [first, second, whole, of_14], ""),
         (["time=2014,0014-05"], [first, whole, of_14], ""),
         (["time=2015", "edition=4"], [whole_next], ""),
@@ -179,7 +179,7 @@ def tells_years_of_the_century(folder: pathlib.Path) -> None:
         (
             ["time=2014,0015", "time=2015,0014"],
             [],
-            f"3 edition 3 messages, {two_digits}: time=2014,0015,0014,0015 takes both editions",
+            f"3 edition 3 messages, {two_digits}: time=2014,0015,0014,0015 selects both editions",
         ),
         (["time!=2014,0014"], [next_year, whole_next], ""),
     ):
