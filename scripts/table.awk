@@ -338,7 +338,7 @@ $1 == "message" {
     message++
     is_open = 1
     if (is_joined && !next_listed())
-        fail("the text has more messages than the listing")
+        fail("the text has more messages than the listing: make both from the same file")
     next
 }
 $1 == "end" {
@@ -372,9 +372,9 @@ END {
     if (failed)
         exit failed
     if (is_open)
-        fail("the text ends inside a message")
+        fail("the text ends inside a message; the dump is incomplete")
     if (is_joined && next_listed())
-        fail("the listing has more messages than the text and the fault lines")
+        fail("the listing has more messages than the text and the fault lines: make them from the same file")
     if (!message)
         exit
     for (column = 1; column <= kept_count; column++)

@@ -102,7 +102,7 @@ def tries_wide(awk: list, text: bytes) -> None:
         status, output, _ = run(awk, text, **words)
         want((status, output) == (2, ""), f"{awk}: it takes {words}")
     status, _, errors = run(awk, text[:-4], columns="001001")
-    want((status, errors) == (2, "table.awk: the text ends inside a message\n"), f"{awk}: a cut text gives {errors}")
+    want((status, errors) == (2, "table.awk: the text ends inside a message; the dump is incomplete\n"), f"{awk}: a cut text gives {errors}")
 
 
 class Stream:
@@ -231,7 +231,7 @@ def tries_levels(awk: list, sounding: bytes, synop: bytes) -> None:
     wanted = (0, [["1", "1", "74", "28.5", 'A \\"B\\\\']] * 3, "")
     want((status, rows, errors) == wanted, f"{awk}: of odd texts the levels are {rows}: {errors}")
     status, _, errors = run(awk, NESTED[:-4], levels="1", columns="007004")
-    want((status, errors) == (2, "table.awk: the text ends inside a message\n"), f"{awk}: a cut text gives {errors}")
+    want((status, errors) == (2, "table.awk: the text ends inside a message; the dump is incomplete\n"), f"{awk}: a cut text gives {errors}")
     for word in WORDS:
         for names in ({"columns": word}, {"keep": word, "columns": "007004"}):
             status, output, errors = run(awk, sounding, levels="1", **names)
