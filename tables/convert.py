@@ -188,7 +188,7 @@ def is_whole(text: str, least: int, most: int) -> bool:
 
 
 def whole(text: str) -> int:
-    """The number that a text gives, after any number of leading zeros."""
+    """The number in a text, which may have any number of leading zeros."""
     return int(re.sub("^(-?)0+(?=[0-9])", r"\1", text))
 
 
