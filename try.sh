@@ -1,10 +1,10 @@
 #!/bin/sh
 # Dumps a BUFR file with a trial build of the program: nothing is proved, and nothing is installed.
 #
-#     ./try.sh FILE        takes a minute or two
+#     ./try.sh FILE        takes one or two minutes
 set -eu
 [ $# -eq 1 ] || { echo "usage: $0 FILE" >&2; exit 2; }
-command -v rt > /dev/null || { echo "$0: the toolchain (rt) is not on the PATH; README.md says which one it is" >&2; exit 1; }
+command -v rt > /dev/null || { echo "$0: the toolchain (rt) is not on the PATH; README.md names the one that you need" >&2; exit 1; }
 file=$(realpath -e -- "$1")
 cd "$(dirname "$0")/crates/bufr"
 tables=../../tables/wmo-39

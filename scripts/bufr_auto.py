@@ -47,7 +47,7 @@ CHANGED_SINCE_6 = set(
 
 
 class Unread(Exception):
-    """Why a file is not read, or not to its end."""
+    """The reason why a file could not be read, or not to its end."""
 
 
 class Feed:
@@ -127,7 +127,7 @@ class Finder:
         self.has_ended = not octets
 
     def find(self) -> Optional[Tuple[int, int, bytes]]:
-        """Where the next message begins and ends; or of a stray `BUFR` its fault. None if more bytes must decide."""
+        """Where the next message, or a stray `BUFR` with its fault, begins and ends. None if more bytes are needed."""
         at = self.held.find(b"BUFR", self.at, self.end)
         if at < 0:
             self.at = max(self.at, self.end - 3)
@@ -150,7 +150,7 @@ class Finder:
 
 
 def is_stray(fault: bytes) -> bool:
-    """Whether a fault is that of a stray `BUFR`, rather than nothing or a note on a message that was skipped."""
+    """Whether there is a fault, and it is that of a stray `BUFR`, not a note on a skipped message."""
     return fault[:1].isdigit()
 
 
@@ -170,7 +170,7 @@ class Masker:
         self.finder, self.count = Finder(longest), 0
 
     def take(self, octets: bytes) -> Iterator[bytes]:
-        """Takes the next block, which is empty at the end, and yields what the program may read by now."""
+        """Takes the next block, which is empty at the end, and yields the bytes that the program may now read."""
         finder = self.finder
         finder.put(octets)
         first = finder.at
@@ -226,7 +226,7 @@ class Messages(Source):
 
 
 class Documents(Source):
-    """The documents of a text, at their first lines, each with what precedes it. What follows the last is one more."""
+    """The documents of a text, at their first lines. Each includes what precedes it; what follows the last is another."""
 
     def __init__(self, feed: Feed, _longest: Optional[int]) -> None:
         self.feed, self.held, self.has_ended = feed, bytearray(b"\n"), False
@@ -347,7 +347,7 @@ class Run:
 
     @staticmethod
     def size_of(octets: Octets) -> int:
-        """How far a piece extends, in the units of the place of a fault."""
+        """The size of a piece, in the unit that fault lines use: bytes or lines."""
         raise NotImplementedError
 
     @staticmethod
@@ -527,14 +527,14 @@ class Part:
 
 
 class Notes:
-    """How many pieces no set matches exactly, by the reason, and where the first one is."""
+    """How many pieces no set matches exactly, for each reason, and where the first one is."""
 
     def __init__(self) -> None:
         self.reasons: Dict[str, Reason] = {}
         self.others = Reason("no set matches these exactly, for other reasons", bool)
 
     def known(self, reason: Reason) -> Reason:
-        """The reason with this text, so that each is retained once; if there are too many, that of all others."""
+        """The known reason with this text, or the one for all others if there are too many."""
         if reason.text not in self.reasons and len(self.reasons) >= KINDS_OF_NOTES:
             return self.others
         return self.reasons.setdefault(reason.text, reason)
@@ -567,7 +567,7 @@ def reasons(asked: Tables, tables: bufr_sets.TableSet) -> List[Reason]:
 
 
 class Work:
-    """The work on all files, which are dumped or encoded: its status, and what is reported last."""
+    """Dumps or encodes all files: the status so far, and what is reported at the end."""
 
     def __init__(self, kind: Type[Run], files: Sequence[Optional[str]], output: int = 1) -> None:
         self.kind, self.files, self.sets, self.target = kind, files, bufr_sets.TableSets(), bufr_guard.output(output)
@@ -592,18 +592,18 @@ class Work:
         return self.status
 
     def report_last(self) -> None:
-        """Reports the notes, and what the files and programs failed by."""
+        """Reports the notes, and why files and programs failed."""
         note = self.conditions.note() if self.conditions else ""
         told = [f"{bufr_guard.name()}: {note}\n".encode()] if note else []
         bufr_guard.say(b"".join([*self.notes.lines(self.kind.PIECE), *told, *self.last]))
 
     def fail(self, unread: Unread) -> None:
-        """Retains why a file failed. The work continues with the next one."""
+        """Records why a file failed. The work continues with the next one."""
         self.last.append(os.fsencode(f"{bufr_guard.name()}: {unread}\n"))
         self.status = 2
 
     def serve(self, file: Optional[str]) -> None:
-        """Does the work for a file. A part with several runs is started while the part before it is written."""
+        """Does the work for a file. A part with several runs starts while the part before it is written."""
         try:
             feed = Feed(file)
         except Unread as unread:
@@ -643,7 +643,7 @@ class Work:
         yield None
 
     def full_parts(self, feed: Feed, source: Source, pieces: Iterator[Optional[Piece]]) -> Iterator[Optional[Part]]:
-        """The parts of a file but for the last one, which is begun."""
+        """The parts of a file, except the last one, which is still open."""
         count = 0
         for piece in pieces:
             count += piece is not None and not is_stray(piece[2])
@@ -697,7 +697,7 @@ class Work:
         part.pieces.append((place, source.lines, run, notes, b""))
 
     def selected(self, part: Part) -> Part:
-        """The part with those candidates that meet the conditions, and those that have no line in a listing."""
+        """The part with the candidates that meet the conditions, or have no line in a listing."""
         if part.candidates is None:
             return part
         candidates, chosen, begin = part.candidates.descriptor(), Part(), 0
@@ -761,7 +761,7 @@ class Work:
         return is_concerned
 
     def write(self, part: Part, feed: Feed) -> None:
-        """Writes what the runs of a part gave, in the order of its pieces."""
+        """Writes the output of the runs of a part, in the order of its pieces."""
         for run in part.runs.values():
             run.finish()
         prefix, within = (b"", "") if len(self.files) == 1 else (os.fsencode(feed.name) + b":", f"in {feed.name} ")
@@ -795,7 +795,7 @@ class Work:
             self.end(worst, is_whole)
 
     def end(self, run: Run, is_whole: bool) -> None:
-        """Takes over the status of a run."""
+        """Adds the status of a run to that of the work."""
         self.last += run.others
         status = bufr_guard.checked(run.status, bool(run.others))
         if not is_whole and status < 2:
@@ -827,5 +827,5 @@ def work(words: List[str]) -> int:
     if not asked.has("--encode"):
         return dump(asked.files(), longest=asked.last("--max-length"))
     if asked.has("--max-length"):
-        raise bufr_options.misused("--max-length is for messages, not for --encode")
+        raise bufr_options.misused("--max-length cannot be used with --encode")
     return Work(Encode, asked.files()).do()

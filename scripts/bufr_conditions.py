@@ -40,12 +40,12 @@ class Conditions:
     def add(self, word: str) -> None:
         found = re.fullmatch(r"([a-z]+)(!?)=(.*)", word, re.DOTALL)
         if not found:
-            raise ValueError(f"'{word}' is no condition KEY=VALUE or KEY!=VALUE")
+            raise ValueError(f"'{word}' is not a condition: expected KEY=VALUE or KEY!=VALUE")
         key, negated, text = found.groups()
         if key not in KEYS:
             raise ValueError(f"unknown key {key} in '{word}'; the keys are {' '.join(KEYS)}")
         if not re.fullmatch(r"[0-9T:/-]+(,[0-9T:/-]+)*", text):
-            raise ValueError(f"'{word}' has a value that no listing has: use digits, T, colons, slashes and hyphens")
+            raise ValueError(f"the value in '{word}' cannot match a listing: use digits, T, colons, slashes and hyphens")
         values = text.split(",")
         pattern = f"(^| ){key}=({'|'.join(values)})([ T:/-]|$)"
         if key == "time" and not negated:
@@ -63,7 +63,7 @@ class Conditions:
         return f" edition=3 .* time=(?:{'|'.join(self.of_century)})[ T:/-]" if self.of_century else "(?!)"
 
     def are_met(self, line: bytes) -> bool:
-        """Whether a line meets all. Counts one that is left out."""
+        """Whether a line meets all conditions. Counts the messages that are left out."""
         line = line.rstrip(b"\n")
         if any(bool(pattern.search(line)) == negated for negated, pattern in self.compiled):
             return False
@@ -77,4 +77,4 @@ class Conditions:
             return ""
         messages = "1 edition 3 message" if self.left_out == 1 else f"{self.left_out} edition 3 messages"
         both = f"{self.asked},{','.join(self.of_century)}"
-        return f"left out {messages}, whose years have two digits: {both} takes both editions"
+        return f"left out {messages}, whose years have two digits: {both} selects both editions"

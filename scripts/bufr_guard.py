@@ -24,6 +24,7 @@ It imports next to nothing, since each script loads it.
 """
 from __future__ import annotations
 
+import errno
 import os
 import select
 import stat
@@ -125,7 +126,7 @@ def guarded(work: Callable[[List[str]], int], text: str) -> int:
 
 
 def end_badly(told: str) -> None:
-    """Reports what ends the script, after flushing its output; does as much of both as possible."""
+    """Flushes the output and then reports why the script stops, as far as either is possible."""
     Progress.clear()
     line = Output(2)
     line.write(os.fsencode(shown(f"{name()}: {told}") + "\n"))
@@ -180,14 +181,17 @@ def build() -> str:
 
 
 def reason(error: BaseException) -> str:
-    """What is reported of an exception; if no script raised it on purpose, also where it came from."""
+    """The message for an exception. For one that no script raises on purpose, it includes the place in the code."""
     if isinstance(error, Failed):
         return str(error)
     if isinstance(error, ModuleNotFoundError):
         return f"{error.name} is not installed for this Python (Debian: apt-get install python3-{error.name})"
     if isinstance(error, OSError) and error.strerror:
         is_named = isinstance(error.filename, (str, bytes))
-        return f"{os.fsdecode(error.filename)}: {error.strerror}" if is_named else error.strerror
+        if is_named:
+            return f"{os.fsdecode(error.filename)}: {error.strerror}"
+        is_write = error.errno in (errno.EPIPE, errno.ENOSPC, errno.EFBIG)
+        return f"write failed: {error.strerror}" if is_write else error.strerror
     place, where = error.__traceback__, ""
     while place:
         where = f" ({os.path.basename(place.tb_frame.f_code.co_filename)}, line {place.tb_lineno})"
@@ -212,7 +216,7 @@ def shown(text: str) -> str:
 
 
 class Output:
-    """A descriptor that is written in large blocks, which `flush` passes on."""
+    """A descriptor that is written in large blocks."""
 
     def __init__(self, descriptor: int) -> None:
         self.descriptor = descriptor
@@ -245,7 +249,7 @@ def written() -> List[Any]:
 
 
 def flush() -> None:
-    """Passes on what was written. Raises `OSError` if it cannot."""
+    """Flushes all output. Raises `OSError` if that fails."""
     for file in written():
         file.flush()
 
@@ -259,7 +263,7 @@ def write_all(descriptor: int, octets: Union[bytes, bytearray, memoryview]) -> N
 
 
 def say(lines: bytes) -> None:
-    """Writes lines to standard error, at the next `flush` at the latest."""
+    """Writes lines to standard error. The next `flush` prints them, if not earlier."""
     if lines:
         Progress.clear()
         output(2).write(lines)
@@ -353,7 +357,8 @@ def spawned(words: Sequence[str], descriptors: Sequence[int], mask: Iterable[int
             words[0], list(words), os.environ, file_actions=actions, setsigmask=mask, setsigdef=[signal.SIGPIPE]
         )
     except OSError as error:
-        raise Failed(f"cannot run {words[0]}: {error.strerror}") from None
+        advice = "; install bufr, or set BUFR to its path" if words[0] == program() else ""
+        raise Failed(f"cannot run {words[0]}: {error.strerror}{advice}") from None
 
 
 def wait(process: int) -> int:
@@ -378,7 +383,7 @@ def lines_from(pipe: int, progress: Progress, place: Callable[[], int]) -> Itera
         block = os.read(pipe, BLOCK)
         lines, end, rest = (rest + block).rpartition(b"\n")
         if len(rest) > BLOCK:
-            raise Failed("a line of the listing is over 1 MB long")
+            raise Failed("a line of the listing is longer than 1 MB")
         yield lines + end
     yield rest
 
@@ -414,9 +419,9 @@ def leave(number: int, _frame: Optional[FrameType]) -> None:
 
 
 def opened(file: Optional[str]) -> int:
-    """A descriptor of a file, or of standard input, that can be read at any offset; of a copy if need be."""
+    """A descriptor of a file, or of standard input, that can be read at any offset. If necessary, it is that of a copy."""
     descriptor = to_read(file)
-    return descriptor if is_regular(descriptor) else copied(descriptor)
+    return descriptor if is_regular(descriptor) else copied(descriptor, named(file))
 
 
 def to_read(file: Optional[str]) -> int:
@@ -428,7 +433,7 @@ def to_read(file: Optional[str]) -> int:
 
 
 def named(file: Optional[str]) -> str:
-    """A file as messages name it."""
+    """The name of a file in a message."""
     return "standard input" if file is None else shown(file) or "''"
 
 
@@ -476,14 +481,14 @@ def put_aside(octets: bytes) -> int:
     return descriptor
 
 
-def copied(source: int) -> int:
+def copied(source: int, name: str) -> int:
     """A temporary file with everything that a descriptor gives, at its start."""
     descriptor, octets, progress, size = temporary(), b" ", Progress(has_texts=False), 0
     while octets:
         try:
             octets = os.read(source, BLOCK)
-        except OSError:
-            raise Failed("read failed") from None
+        except OSError as error:
+            raise Failed(f"cannot read {name}: {error.strerror}") from None
         keep(descriptor, octets)
         size += len(octets)
         progress.at(size)
@@ -498,8 +503,8 @@ def read_at(descriptor: int, offset: int, length: int) -> bytes:
     while offset < end:
         try:
             pieces.append(os.pread(descriptor, end - offset, offset))
-        except OSError:
-            raise Failed("read failed") from None
+        except OSError as error:
+            raise Failed(f"read failed: {error.strerror}") from None
         if not pieces[-1]:
             raise Failed("the file became shorter while it was read")
         offset += len(pieces[-1])

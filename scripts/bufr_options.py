@@ -9,9 +9,9 @@
     bufr_guard.run(work, __doc__)
 
 `-c VALUE` and `-cVALUE` are the same, and so are `--name VALUE` and `--name=VALUE`. Options may follow operands. After
-`--` each word is an operand. A function in `values` turns a word into a value; its ValueError says what it expected.
+`--` each word is an operand. A function in `values` turns a word into a value; its ValueError states what was expected.
 
-A command line that is not understood raises `bufr_guard.Failed`: one line that points to --help, and status 2. `run`
+An invalid command line raises `bufr_guard.Failed`: one line that points to --help, and status 2. `run`
 answers --help and --version, which are recognised here.
 """
 from __future__ import annotations
@@ -88,7 +88,7 @@ class Asked:
         return [None if file == "-" else file for file in self.operands[skipped:]] or [None]
 
     def conditions(self) -> Optional[Conditions]:
-        """What --where asks for, or None without it."""
+        """The conditions of --where, or None without it."""
         if not self.has("--where"):
             return None
         import bufr_conditions
@@ -115,7 +115,7 @@ def parts(word: str) -> tuple[str, Optional[str]]:
 
 
 def misused(why: str) -> bufr_guard.Failed:
-    """What is raised for a command line that is not understood."""
+    """The exception for an invalid command line."""
     return bufr_guard.Failed(f"{why}; see {bufr_guard.name()} --help")
 
 

@@ -1,4 +1,4 @@
-"""What the scripts share about table sets: the set that a message asks for, and the entries that its descriptors use."""
+"""Table sets: the set that a message asks for, and the entries that its descriptors use."""
 from __future__ import annotations
 
 import os
@@ -20,7 +20,7 @@ CACHED = 8
 
 
 class TableSet:
-    """A folder of tables: of a WMO version, and perhaps with the rows of a centre (its number, its local version)."""
+    """A folder with the tables of a WMO version, perhaps with the rows of a centre (its number and local version)."""
 
     def __init__(self, folder: str, version: int, own: Optional[Tuple[int, int]]) -> None:
         self.folder, self.name, self.version, self.own = folder, os.path.basename(folder), version, own
@@ -31,7 +31,7 @@ class TableSet:
         return os.path.join(self.folder, name)
 
     def rows(self, name: str, *columns: str) -> Iterator[List[str]]:
-        """These columns of a table. `bufr` reports what it refuses in it."""
+        """These columns of a table. Invalid rows are left to `bufr` to report."""
         import csv
 
         csv.field_size_limit(1 << 30)
@@ -107,7 +107,7 @@ class TableSets:
                 tables = TableSet(os.path.join(self.folder, name), int(version), key)
                 self.sets.setdefault(key, {})[tables.version] = tables
         if None not in self.sets:
-            raise bufr_guard.Failed(f"{self.folder} has no set of tables such as wmo-39")
+            raise bufr_guard.Failed(f"{self.folder} has no table set such as wmo-39")
 
     def latest(self) -> TableSet:
         """WMO's latest set."""
@@ -140,11 +140,13 @@ def folder_of_sets() -> str:
     for place in places:
         if os.path.isdir(place):
             return os.path.abspath(place)
-    raise bufr_guard.Failed(f"there is no folder {places[0]}" + ", which BUFR_TABLES names" * bool(named))
+    if named:
+        raise bufr_guard.Failed(f"BUFR_TABLES is {named}, which is not a folder")
+    raise bufr_guard.Failed(f"there is no folder {places[0]}; set BUFR_TABLES to the folder of the table sets")
 
 
 def words_of(message: Bytes) -> bytes:
-    """The descriptor list in section 3 of a message, two bytes each, but no more than a template has."""
+    """The descriptor list in section 3 of a message, two bytes each, up to the length of the longest template."""
     begin = message(0, 26)
     at, flags = 8, begin[17 if begin[7:8] == b"\4" else 15 :][:1]
     for _ in range(2 if flags >= b"\x80" else 1):
@@ -167,7 +169,7 @@ ECCODES = "/usr/share/eccodes/definitions"
 WREPORT_HAS = {(14, 85, 0), (14, 85, 1), (13, 98, 1), (13, 98, 102), (16, 98, 1), (19, 254, 1)}
 ECCODES_HAS = {(39, 1), *((78, local) for local in range(1, 9)), (98, 1), (98, 2), (98, 3), (98, 4), (98, 101), (254, 1)}
 
-NEWER = "WMO publishes newer tables (wmo-im/BUFR4 on GitHub), which tables/convert.py converts"
+NEWER = "get newer tables from WMO (wmo-im/BUFR4 on GitHub), and convert them with tables/convert.py"
 
 
 def is_local(fxy: str) -> bool:
@@ -176,7 +178,7 @@ def is_local(fxy: str) -> bool:
 
 
 def advice(tables: TableSet, centre: int, version: int, local: int) -> str:
-    """How to get the set with a centre's rows that belongs to a WMO set: the command that makes it, or whom to ask."""
+    """How to get the set that adds a centre's rows to a WMO set: the command that makes it, or whom to ask."""
     folders = [*os.environ.get("ECCODES_DEFINITION_PATH", "").split(":"), ECCODES]
     of_eccodes = [f"{folder}/bufr/tables/0/local/{local}/{centre}/0" for folder in folders if folder]
     of_wreport = f"{WREPORT}/B00000000{centre:05}{version:03}{local:03}.txt"
@@ -190,11 +192,11 @@ def advice(tables: TableSet, centre: int, version: int, local: int) -> str:
     if (version, centre, local) in WREPORT_HAS:
         words = command(tables, centre, local, of_wreport, tables.folder)
         return f"to make it, install wreport-common (Debian), then: {words}"
-    return f"no source of it is known: ask centre {centre} (WMO's Common Code Table C-11 has its name)"
+    return f"no public source is known: ask centre {centre} (WMO's Common Code Table C-11 has its name)"
 
 
 def command(tables: TableSet, centre: int, local: int, *sources: str) -> str:
-    """The command that converts the sources into the set of a centre's rows beside a WMO set."""
+    """The command that makes the set with a centre's rows from these sources."""
     import shlex
 
     out = os.path.join(os.path.dirname(tables.folder), own_name(tables, centre, local))
@@ -205,5 +207,5 @@ def command(tables: TableSet, centre: int, local: int, *sources: str) -> str:
 
 
 def own_name(tables: TableSet, centre: int, local: int) -> str:
-    """The name of the set with a centre's rows that belongs to a WMO set."""
+    """The name of the set that adds a centre's rows to a WMO set."""
     return f"wmo-{tables.version:02}+{centre}-{local}"

@@ -114,7 +114,7 @@ class TextError(ValueError):
 
 
 class RunError(RuntimeError):
-    """The program failed or refused a text. `status` is its exit status, negative if a signal ended it."""
+    """The program failed or refused a text. `status` is its exit status, negative if a signal killed it."""
 
     def __init__(self, status: int, reason: str) -> None:
         super().__init__(status, reason)
@@ -432,7 +432,7 @@ def _check(columns: List[str], form: re.Pattern[str], header: Sequence[str]) -> 
 
 
 def _named(word: str) -> str:
-    """Which elements of the latest tables have a word in their name. Those of just this name come first."""
+    """The elements of the latest tables whose names contain a word, exact names first, as part of an error."""
     import bufr_guard
     import bufr_sets
 
@@ -443,7 +443,7 @@ def _named(word: str) -> str:
     asked = word.upper()
     names_of = [(fxy, name.upper()) for fxy, (name, _) in names.items() if asked in name.upper()]
     found = sorted((asked not in name.split("/"), fxy) for fxy, name in names_of)
-    return f"; in Table B it is in the names of {', '.join(fxy for _, fxy in found)}" if word and found else ""
+    return f"; it is in the names of {', '.join(fxy for _, fxy in found)}" if word and found else ""
 
 
 def _messages(
@@ -452,7 +452,7 @@ def _messages(
     if isinstance(messages, (str, os.PathLike)):
         return dump(messages, faults=faults, where=where)
     if faults is not None or where:
-        raise TypeError("faults and where are for the messages of a file: give them to dump")
+        raise TypeError("faults and where work with the name of a file; otherwise give them to dump")
     return messages
 
 
@@ -491,7 +491,7 @@ def _levels(
             if found[0] and (len(found) == 1 or any(found[1:])):
                 yield (*header, *kept, *map(_cell, found))
     if unclear:
-        text = f"subsets with a descriptor twice in a level: {unclear}, the first is {first}"
+        text = f"skipped subsets whose levels cannot be told apart: {unclear}, the first is {first}"
         warnings.warn(text, DumpWarning, stacklevel=2)
 
 
@@ -613,7 +613,7 @@ def _dumped(words: List[str], told: _Told, places: Optional[Iterable[Listed]]) -
 
 
 class _Told:
-    """What is reported of a file: its faults in order, where `bufr ls` has those between messages, and then notes."""
+    """What is reported about a file: its faults in order, including those between messages, and then notes."""
 
     def __init__(self, file: _Path, faults: Optional[List[Fault]]) -> None:
         self.file, self.faults, self.count, self.is_bare = file, faults, 0, False
@@ -638,7 +638,7 @@ class _Told:
             self.stray = next(self.strays, None)
 
     def of_part(self, errors: bytes, part: List[Listed]) -> Dict[int, Fault]:
-        """The faults of the messages of a part, by their offsets. Its notes are counted for the end."""
+        """The faults in a part, by offset. Its notes are counted and reported at the end."""
         begins = itertools.accumulate((place.length for place in part), initial=0)
         offsets = {begin: place.offset for begin, place in zip(begins, part)}
         refused = {}
@@ -687,7 +687,7 @@ def _octets(stream: IO[bytes], place: Listed) -> bytes:
 
 
 def _looks(stream: IO[bytes]) -> str:
-    """What a file without a message looks like. `bufr-auto` guesses it from the beginning."""
+    """The likely type of a file without a message. `bufr-auto` guesses it from the first bytes."""
     words, begin = [_program("bufr-auto")], os.pread(stream.fileno(), 256, 0)
     told = subprocess.run(words, input=begin, stdout=subprocess.PIPE, stderr=subprocess.PIPE).stderr
     return told.decode(errors="replace").rstrip().rpartition("has no message")[2]
@@ -709,7 +709,7 @@ def _listed(stream: IO[bytes], errors: IO[bytes], told: _Told) -> Iterator[Liste
         for line in lines:
             found = _LISTED.fullmatch(line)
             if not found:
-                raise RunError(2, f"{words[0]} ls does not write the lines of this version of bufr")
+                raise RunError(2, f"{words[0]} ls is not of this version: install bufr and bufr_text from one release")
             if told.conditions is None or told.conditions.are_met(line):
                 yield Listed._make(map(int, found.groups()))
 
@@ -759,9 +759,9 @@ def _run(words: List[str], source: IO[bytes], target: IO[bytes]) -> subprocess.C
 
 
 def _failure(status: int, words: List[str], errors: Iterable[bytes]) -> RunError:
-    """The error with what the program printed, or with its status if it printed nothing, and whether a disk is full."""
+    """The error with the output of the program, or with its status if there is none, and whether a disk is full."""
     told = b"".join(line for line in errors if not _FAULT.match(line)).decode(errors="replace").strip()
-    told = told or f"{words[0]} ended with status {status}"
+    told = told or f"{words[0]} " + (f"was killed (signal {-status})" if status < 0 else f"stopped with status {status}")
     folder = tempfile.gettempdir()  # which takes all output
     return RunError(status, f"{told}: {folder} is full" if shutil.disk_usage(folder).free < 1 << 16 else told)
 

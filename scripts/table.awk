@@ -92,7 +92,7 @@ function next_listed(   line, words, is_read) {
         if ((is_read = (getline line < listing)) <= 0)
             return is_read < 0 ? fail("cannot read " listing) : 0
         if (line !~ /^offset=[0-9]+ /)
-            fail(listing " is not a listing by bufr ls")
+            fail(listing " is not the output of bufr ls")
         split(line, words, /[= ]/)
         header["offset"] = words[2]
         header["length"] = words[4]
@@ -122,11 +122,11 @@ function split_columns(words, list, keys,   count, column, word) {
         if (word != "" && index(keys, " " word " "))
             is_key[word] = wanted[word] = 1
         else if (by_item)
-            fail("no key of the header, which keep needs without columns: " word)
+            fail("without columns, keep must have keys of the header, not: " word)
         else if (is_descriptor(word, keys != ""))
             wanted[substr(word, 1, 6)] = 1
         else
-            fail("no descriptor of six digits" (keys == "" ? "" : ", and no key of the header") ": " word)
+            fail("expected a descriptor of six digits" (keys == "" ? "" : " or a key of the header") ", found: " word)
         if (!(++total in label))
             label[total] = json ? "\"" word "\"" : word
         before[total] = json ? "," label[total] ":" : ","
@@ -270,7 +270,7 @@ BEGIN {
     if (levels && by_item)
         fail("name the columns of the levels: -v columns=007004,012101")
     if (keep != "" && !levels && !by_item)
-        fail("keep goes with levels=1, or without columns")
+        fail("keep works with levels=1 or without columns")
     keys = " offset length edition master centre subcentre update category subcategory localsubcategory masterversion" \
         " localversion year month day hour minute second observed compressed optional subsets "
     if (placed)
@@ -281,7 +281,7 @@ BEGIN {
         level_count = split_columns(columns, level, "")
     is_joined = !placed && ("offset" in is_key || "length" in is_key)
     if (is_joined && (listing == "" || faults == ""))
-        fail("offset and length need the files -v listing= (of bufr ls) and -v faults= (the fault lines of this dump)")
+        fail("columns offset and length need -v listing=FILE (output of bufr ls) and -v faults=FILE (faults of the dump)")
     fault = -1
     for (column = 1; column <= kept_count; column++) {
         word = kept[column]
@@ -338,7 +338,7 @@ $1 == "message" {
     message++
     is_open = 1
     if (is_joined && !next_listed())
-        fail("the text has more messages than the listing")
+        fail("the text has more messages than the listing: make both from the same file")
     next
 }
 $1 == "end" {
@@ -372,9 +372,9 @@ END {
     if (failed)
         exit failed
     if (is_open)
-        fail("the text ends inside a message")
+        fail("the text ends inside a message; the dump is incomplete")
     if (is_joined && next_listed())
-        fail("the listing has more messages than the text and the fault lines")
+        fail("the listing has more messages than the text and the fault lines: make them from the same file")
     if (!message)
         exit
     for (column = 1; column <= kept_count; column++)
@@ -384,9 +384,9 @@ END {
         if (!(level[column] in had))
             print name ": no row has " level[column] | "cat >&2"
     if (bare)
-        print name ": subsets without such a level: " bare ", the first is message " first_bare | "cat >&2"
+        print name ": skipped subsets without such a level: " bare ", the first is message " first_bare | "cat >&2"
     if (unclear) {
-        line = name ": subsets with a descriptor twice in a level: " unclear
+        line = name ": skipped subsets whose levels cannot be told apart: " unclear
         print line ", the first is message " first_unclear | "cat >&2"
         exit 1
     }

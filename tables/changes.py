@@ -1,10 +1,11 @@
 #!/usr/bin/env python3
-"""Tells what changed from one set of tables to another.
+"""Lists what changed from one table set to another.
 
     tables/changes.py OLD NEW
 
-An element counts as changed where its scale, reference or width did, or the kind that its unit says: these decide how
-data are read. A new name changes nothing but what stands behind `#`.
+OLD and NEW are folders with B.csv and D.csv. An element has changed if its scale, reference or width is different, or if
+its unit makes it another kind of value (number, code or text), because these determine how data are read. New names are
+not listed: they only change the comments of a dump.
 """
 import os
 import sys
@@ -42,7 +43,7 @@ def rows(folder: str, name: str, *columns: str):
 
 
 def read(folder: str):
-    """The elements, each with what its field is read by, and the members of each sequence."""
+    """What determines how each element is read, and the members of each sequence."""
     elements = {
         fxy: (*numbers, kind(unit))
         for fxy, unit, *numbers in rows(folder, "B.csv", "fxy", "unit", "scale", "reference", "width")
@@ -53,7 +54,7 @@ def read(folder: str):
     return elements, sequences
 
 
-def tell(what: str, names: list) -> None:
+def report(what: str, names: list) -> None:
     text = f"{what}: {len(names)}" + (": " + " ".join(names) if names else "")
     print(textwrap.fill(text, 100, initial_indent="  ", subsequent_indent="    "))
 
@@ -61,12 +62,12 @@ def tell(what: str, names: list) -> None:
 def work(words: list) -> int:
     words = bufr_options.Asked(words).operands
     if len(words) != 2:
-        raise bufr_guard.Failed("OLD and NEW are wanted; changes.py --help tells more")
+        raise bufr_options.misused("expected OLD and NEW")
     old, new = map(read, words)
     print(" to ".join(bufr_guard.shown(pathlib.Path(folder).name) for folder in words))
     for kind_of_row, before, after in zip(("elements", "sequences"), old, new):
-        tell(f"{kind_of_row} changed", [fxy for fxy in before if before[fxy] != after.get(fxy, before[fxy])])
-        tell(f"{kind_of_row} gone", [fxy for fxy in before if fxy not in after])
+        report(f"{kind_of_row} changed", [fxy for fxy in before if before[fxy] != after.get(fxy, before[fxy])])
+        report(f"{kind_of_row} gone", [fxy for fxy in before if fxy not in after])
         print(f"  {kind_of_row} new: {len(after.keys() - before.keys())}")
     return 0
 

@@ -1,24 +1,28 @@
 #!/usr/bin/env python3
-"""Makes a set of tables for `bufr` of published ones.
+"""Makes a table set for `bufr` from published tables.
 
     tables/convert.py OUT SOURCE..
 
-Each SOURCE is a folder. What it holds says what it is:
+Each SOURCE is a folder. Its files determine its format:
 
     B.csv, D.csv                      a set as in this folder
-    BUFRCREX_TableB_en*.csv,          WMO's published CSV files
+    BUFRCREX_TableB_en*.csv,          the CSV files that WMO publishes
     BUFR_TableD_en*.csv
-    element.table, sequence.def       definition files of ecCodes, a centre's local ones too
-    B*.txt, D*.txt                    wreport's files of fixed columns
+    element.table, sequence.def       ecCodes definition files, including those of local tables
+    B*.txt, D*.txt                    the fixed-column files of wreport
 
-wreport keeps many tables in one folder. There SOURCE is one file, B*.txt, and the D*.txt of that name goes with it.
+wreport has many tables in one folder. To choose one, give its B*.txt file as SOURCE; the D*.txt file with the same name
+is read too.
 
-The rows of a later SOURCE take the place of those of an earlier one, so a centre's local tables stand behind the
-master table that they belong to. OUT/B.csv and OUT/D.csv are written, in the order of the descriptors.
+Rows of a later SOURCE replace those of an earlier one, so name the master table first and local tables after it. The
+tables are written to OUT/B.csv and OUT/D.csv, sorted by descriptor.
 
-An element or a sequence that `bufr` would refuse is left out, a sequence as a whole, and told on standard error with
-the reason; what an earlier SOURCE says of it stays. The status is 0 where nothing was left out, 1 where something was,
-and 2 where nothing was written: a SOURCE that holds no tables, a file that is not laid out as above, or a full device.
+Elements and sequences that `bufr` would refuse are left out, and standard error has a line with the reason for each. If
+one member of a sequence is invalid, the whole sequence is left out. Rows of an earlier SOURCE for the same descriptor
+remain.
+
+The exit status is 0 if nothing was left out, and 1 if something was. It is 2 if nothing was written because a SOURCE has
+no tables, a file has another layout, or the output failed.
 """
 import os
 import sys
@@ -36,12 +40,12 @@ import re  # noqa: E402
 import bufr_options  # noqa: E402
 from bufr_guard import Failed  # noqa: E402
 
-# The columns of WMO's files that are read; others may stand between them.
+# The columns of WMO's files that are read. Other columns may come between them.
 WMO_B = "FXY ElementName_en BUFR_Unit BUFR_Scale BUFR_ReferenceValue BUFR_DataWidth_Bits".split()
 WMO_D = "FXY1 FXY2".split()
 OURS_B = "fxy name unit scale reference width".split()
 OURS_D = "fxy member".split()
-# Where the columns of wreport's B*.txt begin, in characters: the six of OURS_B, and what stands behind them.
+# Where the columns of wreport's B*.txt begin, in characters: the six of OURS_B, and what follows them.
 WREPORT_B = [1, 8, 73, 97, 101, 114, 118]
 # How wreport's files shorten the beginning of a unit.
 WREPORT_UNITS = {
@@ -50,7 +54,7 @@ WREPORT_UNITS = {
     "CODETABLE": "CODE TABLE ",
     "FLAGTABLE": "FLAG TABLE ",
 }
-# Octets that are not UTF-8 are passed on as they are, since `bufr` does not look at them either.
+# Bytes that are not UTF-8 are copied unchanged, since `bufr` accepts them too.
 AS_IT_IS = {"encoding": "utf-8", "errors": "surrogateescape"}
 # The widths of the factors of delayed replications.
 FACTORS = {"031000": 1, "031001": 8, "031002": 16}
@@ -61,7 +65,7 @@ def one_line(text: str) -> str:
 
 
 def of_csv(folder: pathlib.Path, pattern: str, columns: list):
-    """The named columns of each row of the files, which may begin with a byte order mark."""
+    """These columns of each row of the files, which may begin with a byte order mark."""
     for path in sorted(folder.glob(pattern)):
         with open(path, newline="", **{**AS_IT_IS, "encoding": "utf-8-sig"}) as file:
             rows = csv.reader(file)
@@ -73,14 +77,14 @@ def of_csv(folder: pathlib.Path, pattern: str, columns: list):
             try:
                 for row in filter(None, rows):
                     if len(row) != len(header):
-                        raise Failed(f"{path}, line {rows.line_num}: another number of fields than the header")
+                        raise Failed(f"{path}, line {rows.line_num}: the number of fields differs from the header")
                     yield [one_line(row[place]) for place in places]
             except csv.Error as error:
                 raise Failed(f"{path}, line {rows.line_num}: {error}") from None
 
 
 def sequences_of(rows):
-    """Each run of rows with one sequence, as that and its members."""
+    """Each run of rows with the same sequence, as a list of the sequence and its members."""
     for fxy, run in itertools.groupby(rows, key=lambda row: row[0]):
         yield [fxy, *(member for _, member in run)]
 
@@ -98,7 +102,7 @@ def of_element_table(path: pathlib.Path):
         if not line.startswith("#"):
             fields = [one_line(field) for field in line.split("|")]
             if len(fields) < 8:
-                raise Failed(f"{path}, line {number}: fewer than eight fields")
+                raise Failed(f"{path}, line {number}: expected at least eight fields")
             yield [fields[0], *fields[3:8]]
 
 
@@ -108,7 +112,7 @@ def of_sequence_def(path: pathlib.Path):
     one = r'"([^"]*)"\s*=\s*\[([^\]]*)\]'
     rest = re.sub(one, "", text).split()
     if rest:
-        raise Failed(f"{path}: what is {shown(rest)}")
+        raise Failed(f"{path}: expected \"FXY\" = [ MEMBER, .. ], found {shown(rest)}")
     for fxy, members in re.findall(one, text):
         yield [one_line(fxy), *(one_line(member) for member in members.split(",") if member.strip())]
 
@@ -118,7 +122,7 @@ def of_wreport_b(path: pathlib.Path):
     for number, line in lines_of(path):
         fxy, name, unit, *numbers = (one_line(line[at:end]) for at, end in zip(WREPORT_B, WREPORT_B[1:]))
         if not all(numbers):
-            raise Failed(f"{path}, line {number}: no scale, reference and width in columns 98 to 118")
+            raise Failed(f"{path}, line {number}: expected a scale, a reference and a width in columns 98 to 118")
         for short, whole in WREPORT_UNITS.items():
             if unit.startswith(short):
                 unit = one_line(whole + unit[len(short) :])
@@ -127,9 +131,9 @@ def of_wreport_b(path: pathlib.Path):
 
 
 def of_wreport_d(path: pathlib.Path):
-    """The sequences of wreport's D*.txt, where a count of its members stands behind each.
+    """The sequences of wreport's D*.txt, where each is followed by the number of its members.
 
-    Where a sequence stands there twice, the first counts.
+    If a sequence is there twice, the first one is used.
     """
     runs = []
     for number, line in lines_of(path):
@@ -137,18 +141,18 @@ def of_wreport_d(path: pathlib.Path):
         if found and found[1]:
             runs.append((found[1], int(found[2]), []))
         if not found or not runs:
-            raise Failed(f"{path}, line {number}: no member of a sequence")
+            raise Failed(f"{path}, line {number}: expected a sequence or one of its members")
         runs[-1][2].append(found[3])
     first = {}
     for fxy, count, members in runs:
         if count != len(members):
-            raise Failed(f"{path}: {fxy} states {count} members and has {len(members)}")
+            raise Failed(f"{path}: {fxy} declares {count} members but has {len(members)}")
         first.setdefault(fxy, [fxy, *members])
     return first.values()
 
 
 def of_wreport(path: pathlib.Path):
-    """The rows and the sequences of wreport's B*.txt and D*.txt of one name, of which one may be missing."""
+    """The rows and the sequences of a B*.txt and a D*.txt of wreport with the same name. One of them may be missing."""
     table_b, table_d = (path.with_name(letter + path.name[1:]) for letter in "BD")
     return of_wreport_b(table_b) if table_b.exists() else [], of_wreport_d(table_d) if table_d.exists() else []
 
@@ -168,10 +172,10 @@ def source(folder: pathlib.Path):
         return of_csv(folder, "BUFRCREX_TableB_en*.csv", WMO_B), sequences_of(table_d)
     texts = [folder] if folder.match("[BD]*.txt") else sorted(folder.glob("[BD]*.txt"))
     if len({text.name[1:] for text in texts}) > 1:
-        raise Failed(f"{folder} holds many tables of wreport: name one of its files B*.txt")
+        raise Failed(f"{folder} has several wreport tables: name one of its B*.txt files")
     if texts and texts[0].exists():
         return of_wreport(texts[0])
-    raise Failed(f"{folder} holds no tables that are known here")
+    raise Failed(f"{folder} has no tables in a known format; see convert.py --help")
 
 
 def octets(text: str) -> bytes:
@@ -179,75 +183,75 @@ def octets(text: str) -> bytes:
 
 
 def is_whole(text: str, least: int, most: int) -> bool:
-    """Whether a text is a whole number in these limits."""
+    """Whether a text is a whole number within these limits."""
     return re.fullmatch(r"-?0*[0-9]{1,19}", text) is not None and least <= whole(text) <= most
 
 
 def whole(text: str) -> int:
-    """The number of a text, which may have any number of zeros in front."""
+    """The number in a text, which may have any number of leading zeros."""
     return int(re.sub("^(-?)0+(?=[0-9])", r"\1", text))
 
 
 def no_descriptor(fxy: str, first: str) -> str:
-    """Why a text is no descriptor with such a figure in front."""
+    """Why a text is not a descriptor with this first digit."""
     if not re.fullmatch(f"[{first}][0-9]{{5}}", fxy):
-        return f"not six digits, the first {first}"
+        return f"expected six digits, the first one {first}"
     return "X over 63" if int(fxy[1:3]) > 63 else "Y over 255" if int(fxy[3:]) > 255 else ""
 
 
 def no_text(what: str, text: str) -> str:
-    """Why `bufr` does not take a name or a unit."""
+    """Why `bufr` would refuse a name or a unit."""
     if len(octets(text)) > 512:
-        return f"a {what} of over 512 octets"
+        return f"the {what} is longer than 512 bytes"
     return f"a control character in the {what}" if re.search(r"[\0-\x1f\x7f]", text) else ""
 
 
 def no_numbers(is_text: bool, scale: str, reference: str, width: str) -> str:
-    """Why `bufr` does not take the numbers of an element."""
+    """Why `bufr` would refuse the numbers of an element."""
     if not width:
         return "no width"
     if not is_whole(scale, -127, 127):
-        return "no scale from -127 to 127"
+        return "the scale must be a whole number from -127 to 127"
     if not is_whole(reference, -(2**63), 2**63 - 1):
-        return "no reference of 64 bits with sign"
+        return "the reference must be a signed 64-bit number"
     if is_text and not (is_whole(width, 8, 2040) and whole(width) % 8 == 0):
-        return "no width of 8 to 2040 bits in whole octets"
-    return "" if is_text or is_whole(width, 1, 63) else "no width of 1 to 63 bits"
+        return "the width of a text must be whole bytes, from 8 to 2040 bits"
+    return "" if is_text or is_whole(width, 1, 63) else "the width must be from 1 to 63 bits"
 
 
 def no_element(row: list) -> str:
-    """Why `bufr` does not take the row of an element, or nothing where it does."""
+    """Why `bufr` would refuse the row of an element, or nothing if it accepts it."""
     fxy, name, unit, *numbers = row
     is_text = octets(unit).upper() == b"CCITT IA5"
     reason = no_descriptor(fxy, "0") or no_text("name", name) or no_text("unit", unit) or no_numbers(is_text, *numbers)
     if not reason and fxy in FACTORS and (is_text or list(map(whole, numbers)) != [0, 0, FACTORS[fxy]]):
-        return f"a factor, which has scale 0, reference 0, width {FACTORS[fxy]} and is no text"
+        return f"a replication factor is a number with scale 0, reference 0 and width {FACTORS[fxy]}"
     return reason
 
 
 def no_sequence(sequence: list) -> str:
-    """Why `bufr` does not take the rows of a sequence, or nothing where it does."""
+    """Why `bufr` would refuse the rows of a sequence, or nothing if it accepts them."""
     fxy, *members = sequence
     if no_descriptor(fxy, "3") or not members:
         return no_descriptor(fxy, "3") or "no members"
     wrong = next((member for member in members if no_descriptor(member, "0-3")), None)
-    return "" if wrong is None else f"the member {shown([wrong])}: {no_descriptor(wrong, '0-3')}"
+    return "" if wrong is None else f"member '{shown([wrong])}': {no_descriptor(wrong, '0-3')}"
 
 
 def shown(words: list) -> str:
-    """The words, but cut where they are many, and without what a screen does not show."""
+    """The words in at most 80 characters, with escapes for those that cannot be printed."""
     text = "".join(sign if sign.isprintable() else ascii(sign)[1:-1] for sign in " ".join(words))
     return text if len(text) <= 80 else text[:78] + ".."
 
 
 def taken(folder: pathlib.Path, entries, refused) -> tuple:
-    """What `bufr` takes of a source, by the descriptors, and how many entries are left out, which are told."""
+    """The entries of a source that `bufr` accepts, by descriptor, and how many it refuses. Each of those is reported."""
     found, left_out = {}, 0
     for entry in entries:
         found.setdefault(entry[0], []).append(entry)
     for fxy, alike in list(found.items()):
         for entry in alike:
-            reason = refused(entry) or ("one of several, not alike" if alike.count(entry) < len(alike) else "")
+            reason = refused(entry) or ("the source has different rows for it" if alike.count(entry) < len(alike) else "")
             if reason:
                 told = f"left out of {bufr_guard.shown(str(folder))}: {shown(entry)}: {reason}\n"
                 bufr_guard.say(told.encode(**AS_IT_IS))
@@ -256,17 +260,21 @@ def taken(folder: pathlib.Path, entries, refused) -> tuple:
     return {fxy: alike[0] for fxy, alike in found.items()}, left_out
 
 
-def write(path: pathlib.Path, header: list, rows) -> None:
-    with open(path, "w", newline="", **AS_IT_IS) as file:
-        table = csv.writer(file, lineterminator="\n")
-        table.writerow(header)
-        table.writerows(rows)
+def write(path: pathlib.Path, aside: pathlib.Path, header: list, rows) -> None:
+    """Writes a table under a temporary name. `path` is its name in an error."""
+    try:
+        with open(aside, "w", newline="", **AS_IT_IS) as file:
+            table = csv.writer(file, lineterminator="\n")
+            table.writerow(header)
+            table.writerows(rows)
+    except OSError as error:
+        raise Failed(f"cannot write {path}: {error.strerror}") from None
 
 
 def work(words: list) -> int:
     words = bufr_options.Asked(words).operands
     if len(words) < 2:
-        raise Failed("OUT and a SOURCE are wanted; convert.py --help tells more")
+        raise bufr_options.misused("expected OUT and at least one SOURCE")
     out, *folders = map(pathlib.Path, words)
     elements, sequences, left_out = {}, {}, 0
     for folder in folders:
@@ -276,13 +284,13 @@ def work(words: list) -> int:
             left_out += count
     members = ([fxy, member] for fxy in sorted(sequences) for member in sequences[fxy][1:])
     out.mkdir(parents=True, exist_ok=True)
-    # Both are written aside first, so that a set that cannot be written whole leaves what was there.
+    # Both are written to temporary names first, so that a failure leaves an earlier set unchanged.
     tables = {out / name: out / f".{name}.{os.getpid()}" for name in ("B.csv", "D.csv")}
     try:
-        for aside, header, rows in zip(
-            tables.values(), (OURS_B, OURS_D), ((elements[fxy] for fxy in sorted(elements)), members)
+        for (path, aside), header, rows in zip(
+            tables.items(), (OURS_B, OURS_D), ((elements[fxy] for fxy in sorted(elements)), members)
         ):
-            write(aside, header, rows)
+            write(path, aside, header, rows)
         for path, aside in tables.items():
             aside.replace(path)
     finally:

@@ -24,7 +24,7 @@ from lib import TOP, finish, program
 AUTO = [sys.executable, str(TOP / "scripts/bufr-auto")]
 TABLES = TOP / "tables"
 # 0 12 101 has 16 bits; 0 13 164 is unknown in the sets up to wmo-16; 14 001 has another reference from version 14 on.
-NEWER = "; WMO publishes newer tables (wmo-im/BUFR4 on GitHub), which tables/convert.py converts"
+NEWER = "; get newer tables from WMO (wmo-im/BUFR4 on GitHub), and convert them with tables/convert.py"
 LISTS = ["012101", "001001 012101", "014001", "013164", "102002 001001 012101", "063255"]
 
 
@@ -143,7 +143,7 @@ class Trial:
             self.holds("a table at fault", (done.stdout, done.stderr, done.returncode) == wanted, (done, wanted))
         with open("/dev/full", "w") as full:
             done = subprocess.run(AUTO, input=before, stdout=full, stderr=subprocess.PIPE, env=self.environment)
-        told = done.stderr.endswith(b"bufr-auto: No space left on device\n")
+        told = done.stderr.endswith(b"bufr-auto: write failed: No space left on device\n")
         self.holds("a full device", told and done.returncode == 2, done)
 
     def encodes(self) -> None:
@@ -422,7 +422,7 @@ class Trial:
             ([file, "--max-length"], "--max-length needs a value"),
             (["--max-length", "11"], "--max-length '11': expected a whole number, at least 12"),
             (["--max-length=\u0663\u0663"], "--max-length '\u0663\u0663': expected a whole number, at least 12"),
-            (["--encode", "--max-length=99"], "--max-length is for messages, not for --encode"),
+            (["--encode", "--max-length=99"], "--max-length cannot be used with --encode"),
         ):
             done = self.auto(*words)
             told = f"bufr-auto: {why}; see bufr-auto --help\n"
@@ -446,12 +446,12 @@ class Trial:
         empty = self.place / "empty"
         empty.mkdir()
         for told, words, environment in (
-            ("there is no folder /nosuch, which BUFR_TABLES names", [file], {"BUFR_TABLES": "/nosuch"}),
-            (f"there is no folder {file}, which BUFR_TABLES names", [file], {"BUFR_TABLES": file}),
-            (f"{empty} has no set of tables such as wmo-39", [file], {"BUFR_TABLES": str(empty)}),
+            ("BUFR_TABLES is /nosuch, which is not a folder", [file], {"BUFR_TABLES": "/nosuch"}),
+            (f"BUFR_TABLES is {file}, which is not a folder", [file], {"BUFR_TABLES": file}),
+            (f"{empty} has no table set such as wmo-39", [file], {"BUFR_TABLES": str(empty)}),
             ("cannot open nosuch: No such file or directory", ["nosuch"], {}),
             ("cannot open '': No such file or directory", [""], {}),
-            ("cannot run /nosuch: No such file or directory", [file], {"BUFR": "/nosuch"}),
+            ("cannot run /nosuch: No such file or directory; install bufr, or set BUFR to its path", [file], {"BUFR": "/nosuch"}),
         ):
             done = self.auto(*words, **environment)
             wanted = (2, b"", f"bufr-auto: {told}\n".encode())
@@ -494,7 +494,7 @@ class Trial:
     def ends(self) -> None:
         """A reader that has gone, a file that becomes shorter, a signal of children that is ignored."""
         many = b"".join(made(version, LISTS[1], b"\1\1\0", section_2=bytes(60_000)) for version in (13, 39))
-        for stream, told in ((many * 20, b"bufr-auto: Broken pipe\n"), (many[: len(many) // 2] * 20, b"bufr: 71 write failed\n")):
+        for stream, told in ((many * 20, b"bufr-auto: write failed: Broken pipe\n"), (many[: len(many) // 2] * 20, b"bufr: 71 write failed\n")):
             (self.place / "stream").write_bytes(stream)
             pipes = dict(stdout=subprocess.PIPE, stderr=subprocess.PIPE, env=self.environment)
             with subprocess.Popen([*AUTO, str(self.place / "stream")], **pipes) as child:

@@ -29,7 +29,7 @@ TABLE_D = """\
            012101
  301250  1 001213
 """
-ASK = "no source of it is known: ask centre {} (WMO's Common Code Table C-11 has its name)\n"
+ASK = "no public source is known: ask centre {} (WMO's Common Code Table C-11 has its name)\n"
 TEXT = """\
 message
 edition 4
@@ -99,9 +99,9 @@ def versions_and_editions(script, holds) -> None:
     """Whose set serves a version that is later than all, and where the list of descriptors begins in each edition."""
     holds("of a later version", script("bufr-lacks", made(41, 0, 98, "013164", b"\1")), (0, "", ""))
     wanted = "1 message of centre 98/0, tables 0/41/0, lacks 001255\n"
-    newer = "bufr-lacks: there is no wmo-41; WMO publishes newer tables (wmo-im/BUFR4 on GitHub), which tables/convert.py converts\n"
+    newer = "bufr-lacks: there is no wmo-41; get newer tables from WMO (wmo-im/BUFR4 on GitHub), and convert them with tables/convert.py\n"
     holds("a row of a later version", script("bufr-lacks", made(41, 0, 98, "001191", b"\1")), (1, wanted.replace("255", "191"), newer))
-    asking = "bufr-lacks: wmo-13 lacks some rows; ask centre 98 by which version it wrote its messages\n"
+    asking = "bufr-lacks: wmo-13 lacks some rows; ask centre 98 which version its messages use\n"
     wanted = "1 message of centre 98/0, tables 0/13/0, lacks 013164\n"
     holds("a row of another version", script("bufr-lacks", made(13, 0, 98, "013164", b"\1")), (1, wanted, asking))
     for edition, flag in ((3, 15), (4, 17)):
@@ -119,7 +119,7 @@ def limits(script, holds) -> None:
     kinds = b"".join(made(13, 1, centre, "063255", b"") for centre in range(1, 1004)) * 2
     status, output, errors = script("bufr-lacks", kinds)
     holds("the kinds that are listed", (status, output.count("\n"), output.count("2 messages")), (1, 1000, 1000))
-    first = "bufr-lacks: messages of further kinds that lack rows: 6; only 1000 kinds are listed"
+    first = "bufr-lacks: left out 6 messages of other kinds that lack rows: only 1000 kinds are listed"
     holds("the notes on kinds", (errors.splitlines()[0], errors.count("\n")), (first, 1001))
     # Two kinds whose missing set is the same.
     _, output, errors = script("bufr-lacks", made(12, 1, 7, "063255", b"") + made(13, 1, 7, "063255", b""))
@@ -127,7 +127,7 @@ def limits(script, holds) -> None:
     many = " ".join(f"0{x}{y:03}" for x in range(48, 64) for y in range(256))
     status, output, errors = script("bufr-lacks", b"".join(made(13, 1, centre, many, b"") for centre in range(1, 15)))
     rows = sum(len(line.partition("lacks")[2].split()) for line in output.splitlines())
-    told = errors.startswith("bufr-lacks: some rows are left out: only 50000 are listed\n")
+    told = errors.startswith("bufr-lacks: left out some rows: only 50000 are listed\n")
     holds("the rows that are listed", (status, rows, told), (1, 50_000, True))
 
 

@@ -121,14 +121,14 @@ def tries(trial: Trial) -> None:
     fails(done, b"small.bufr from offset 0: ")
     for script, told in [
         ('[ "$1" = ls ] && exec "$REAL" "$@"; exit 7', b"small.bufr from offset 0: "),
-        ("exit 7", b"ended with status 7"),
+        ("exit 7", b"stopped with status 7"),
     ]:
         fails(trial.run("2", COLUMNS, "small.bufr", program=trial.program(script)), told)
     for words, told in [
         (["2", COLUMNS, "small.bufr", "nosuch"], b"nosuch"),
         (["2", "offset,place", "small.bufr"], b"the header has no key 'place'"),
         (["2", "012", "small.bufr"], b"a column is a number such as 012101, not '012'"),
-        (["2", COLUMNS], b"expected a cluster, columns and files; see bufr-dask --help"),
+        (["2", COLUMNS], b"expected CLUSTER, COLUMNS and at least one FILE; see bufr-dask --help"),
         (["tcp://127.0.0.1:9", COLUMNS, "small.bufr"], b"127.0.0.1:9"),
     ]:
         fails(trial.run(*words), told)
@@ -148,8 +148,9 @@ def fails(done: subprocess.CompletedProcess, told: bytes) -> None:
 
 
 def main() -> None:
-    lines = [line for line in SCRIPT.read_text(encoding="utf-8").splitlines() if line]
-    want(len(lines) <= 60, f"it has {len(lines)} lines")
+    code = SCRIPT.read_text(encoding="utf-8").split('"""', 2)[2]  # without the help text
+    lines = [line for line in code.splitlines() if line]
+    want(len(lines) <= 53, f"its code has {len(lines)} lines")
     python = python_with_dask()
     if not python:
         print("dask_table: skipped, no python3 here has Dask (Debian: apt-get install python3-distributed)")

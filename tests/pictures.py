@@ -172,8 +172,8 @@ def draws(python: str, program: str, folder: pathlib.Path) -> None:
     for words, text, status, told in [
         (["map", folder / "b.png"], texts["one_block_number"], 1, "no subset has a latitude and a longitude"),
         (["map", "--value", "012104", folder / "b.png"], texts["synop"], 1, "no subset has 012104"),
-        (["sounding", folder / "b.png"], texts["synop"], 1, "no subset asked for has levels"),
-        (["sounding", "--subset", "2", folder / "b.png"], texts["sounding"], 1, "no subset asked for has levels"),
+        (["sounding", folder / "b.png"], texts["synop"], 1, "the chosen subsets have no levels"),
+        (["sounding", "--subset", "2", folder / "b.png"], texts["sounding"], 1, "the chosen subsets have no levels"),
         (["map", folder / "b.png"], b"", 1, "bufr-plot: the input has no message"),
         (["sounding", folder / "b.png"], b"# a note\n", 1, "bufr-plot: the input has no message"),
         (["map", "--value", "", folder / "b.png"], texts["synop"], 2, "--value '': a column is a number such as 012101, not ''"),
@@ -200,6 +200,12 @@ def draws(python: str, program: str, folder: pathlib.Path) -> None:
         )
         want(done.stderr.count(b"\n") == 1, f"{words} tells {done.stderr}")
         want(not (folder / "b.png").exists(), f"{words} leaves a picture")
+    for words, name in ((["map", "--value", "011002"], "buoys"), (["sounding"], "sounding")):
+        kept, picture = (TOP / f"docs/pictures/{name}.png").read_bytes(), folder / f"{name}.png"
+        want(run(python, [*words, picture], texts[name]).returncode == 0, f"the guide's picture of {name} is not drawn")
+        version = re.search(rb"Matplotlib version[\d.]+", kept)[0]
+        drawn = picture.read_bytes()
+        want(version not in drawn or drawn == kept, f"docs/pictures/{name}.png is not what the guide's command draws")
     done = run(python, ["--version"], env={**os.environ, "BUFR": program})
     want(done.stdout.startswith(b"bufr-plot, with bufr "), f"its version is {done.stdout}")
     strange(python, folder)

@@ -342,7 +342,7 @@ class Tables(unittest.TestCase):
             bufr_text.levels([], ["012101"], keep=["012101:2"])
 
     def test_a_column_by_name_is_answered_with_numbers(self):
-        said = "a column is a number such as 012101, not 'AIR TEMPERATURE'; in Table B it is in the names of "
+        said = "a column is a number such as 012101, not 'AIR TEMPERATURE'; it is in the names of "
         for call in (bufr_text.rows, bufr_text.levels):
             for word in ("AIR TEMPERATURE", "air temperature"):
                 with self.assertRaises(ValueError) as error:
@@ -379,7 +379,7 @@ class Tables(unittest.TestCase):
                 rows = list(bufr_text.levels(messages, *names))
             self.assertEqual(self.alike(rows), self.alike(wanted))
             count += len(rows)
-            lines = [line for line in done.stderr.decode().splitlines() if "twice" in line]
+            lines = [line for line in done.stderr.decode().splitlines() if "told apart" in line]
             self.assertEqual([f"table.awk: {one.message}" for one in told], lines)
             unclear += done.returncode
         self.assertGreater(count, 100)
@@ -630,15 +630,15 @@ class Runs(unittest.TestCase):
         with self.assertRaises(ValueError):
             bufr_text.encode([], *TABLES, form="small")
         for script, told, status in [
-            ("kill -9 $$", "ended with status -9", -9),
+            ("kill -9 $$", "was killed .signal 9.", -9),
             ('[ "$1" = ls ] || exec > /dev/full; exec "$REAL" "$@"', "71 write failed$", 2),
-            ("exit 7", "ended with status 7", 7),
-            ("exit 1", "ended with status 1", 1),
-            ('[ "$1" = ls ] && exec "$REAL" "$@"; exit 1', "ended with status 1", 1),
-            ("echo nonsense", "does not write the lines of this version", 2),
-            ('[ "$1" = ls ] && exec "$REAL" "$@" | sed "s/ .*/ /"', "does not write the lines of this version", 2),
+            ("exit 7", "stopped with status 7", 7),
+            ("exit 1", "stopped with status 1", 1),
+            ('[ "$1" = ls ] && exec "$REAL" "$@"; exit 1', "stopped with status 1", 1),
+            ("echo nonsense", "is not of this version", 2),
+            ('[ "$1" = ls ] && exec "$REAL" "$@" | sed "s/ .*/ /"', "is not of this version", 2),
             ('[ "$1" = dump ] || exec "$REAL" "$@"', "wrote no text for the message at offset 0", 2),
-            ('[ "$1" = ls ] && exec "$REAL" "$@"; kill -9 $$', "ended with status -9", -9),
+            ('[ "$1" = ls ] && exec "$REAL" "$@"; kill -9 $$', "was killed .signal 9.", -9),
             ('[ "$1" = ls ] && "$REAL" "$@" | sed s/length=694/length=9999999/', "at offset 0 is no longer complete", 2),
         ]:
             self.use_program(script)
@@ -650,7 +650,7 @@ class Runs(unittest.TestCase):
         self.use_program("exit 2")
         with unittest.mock.patch("shutil.disk_usage") as usage:
             usage.return_value.free = 0
-            with self.assertRaisesRegex(bufr_text.RunError, f"ended with status 2: {tempfile.gettempdir()} is full$"):
+            with self.assertRaisesRegex(bufr_text.RunError, f"stopped with status 2: {tempfile.gettempdir()} is full$"):
                 list(bufr_text.dump(self.stream, *TABLES, []))
 
     def test_errors_go_from_one_process_to_another(self):

@@ -1,5 +1,5 @@
 #!/usr/bin/env python3
-"""Tries rows of tables on tables/convert.py and on the program: the one leaves out, and tells, what the other refuses.
+"""Tries rows of tables on tables/convert.py and on the program: convert.py leaves out, and reports, what the program refuses.
 
     tests/table_converter.py [PROGRAM]
 
@@ -17,29 +17,29 @@ from lib import TOP, finish, program
 
 AS_IT_IS = {"encoding": "utf-8", "errors": "surrogateescape"}
 HEADERS = {"B": "fxy,name,unit,scale,reference,width", "D": "fxy,member"}
-WIDE, WHOLE = "no width of 1 to 63 bits", "no width of 8 to 2040 bits in whole octets"
-SCALE, REFERENCE = "no scale from -127 to 127", "no reference of 64 bits with sign"
-FACTOR = "a factor, which has scale 0, reference 0, width 8 and is no text"
+WIDE, WHOLE = "the width must be from 1 to 63 bits", "the width of a text must be whole bytes, from 8 to 2040 bits"
+SCALE, REFERENCE = "the scale must be a whole number from -127 to 127", "the reference must be a signed 64-bit number"
+FACTOR = "a replication factor is a number with scale 0, reference 0 and width 8"
 
 # fxy,name,unit,scale,reference,width | the reason
 ELEMENTS = f"""
 063255,NAME,K,2,-7,16 |
 064000,NAME,K,2,0,16 | X over 63
 012256,NAME,K,2,0,16 | Y over 255
-112101,NAME,K,2,0,16 | not six digits, the first 0
-12101,NAME,K,2,0,16 | not six digits, the first 0
-0121010,NAME,K,2,0,16 | not six digits, the first 0
-01210\u0661,NAME,K,2,0,16 | not six digits, the first 0
+112101,NAME,K,2,0,16 | expected six digits, the first one 0
+12101,NAME,K,2,0,16 | expected six digits, the first one 0
+0121010,NAME,K,2,0,16 | expected six digits, the first one 0
+01210\u0661,NAME,K,2,0,16 | expected six digits, the first one 0
 012101,{'n' * 512},K,2,0,16 |
-012101,{'n' * 513},K,2,0,16 | a name of over 512 octets
+012101,{'n' * 513},K,2,0,16 | the name is longer than 512 bytes
 012101,{'°' * 256},K,2,0,16 |
-012101,{'°' * 257},K,2,0,16 | a name of over 512 octets
+012101,{'°' * 257},K,2,0,16 | the name is longer than 512 bytes
 012101,\udcb0\udcff,\udcb0C,2,0,16 |
 012101,A\x01B,K,2,0,16 | a control character in the name
 012101,A\x1bB,K,2,0,16 | a control character in the name
 012101,A\x7fB,K,2,0,16 | a control character in the name
 012101,NAME,{'u' * 512},2,0,16 |
-012101,NAME,{'u' * 513},2,0,16 | a unit of over 512 octets
+012101,NAME,{'u' * 513},2,0,16 | the unit is longer than 512 bytes
 012101,NAME,A\x08B,2,0,16 | a control character in the unit
 012101,,,-127,0,16 |
 012101,NAME,K,127,0,16 |
@@ -82,14 +82,14 @@ SEQUENCES = """
 363255,363254 |
 364000,001001 | X over 63
 307256,001001 | Y over 255
-207060,001001 | not six digits, the first 3
-30706,001001 | not six digits, the first 3
+207060,001001 | expected six digits, the first one 3
+30706,001001 | expected six digits, the first one 3
 307060,263255 |
 307060,163255 |
-307060,064000 | the member 064000: X over 63
-307060,107256 | the member 107256: Y over 255
-307060,400000 | the member 400000: not six digits, the first 0-3
-307060, | the member : not six digits, the first 0-3
+307060,064000 | member '064000': X over 63
+307060,107256 | member '107256': Y over 255
+307060,400000 | member '400000': expected six digits, the first one 0-3
+307060, | member '': expected six digits, the first one 0-3
 """.strip("\n")
 
 
@@ -103,7 +103,7 @@ def wreport_row(fxy: str, name: str, unit: str, scale: str, reference: str, widt
 ELEMENT = "012101,NAME,K,2,0,16\n"
 # The elements that version 14 defines otherwise than version 13, on the first of two lines.
 CHANGED = "  elements changed: 13: 014001 014002 014003 014004 014011 014012 014013 014014 014017 014018 014028"
-TWICE = "left out of source: %s: one of several, not alike\n"
+TWICE = "left out of source: %s: the source has different rows for it\n"
 SOURCES = [
     ("B.csv", f"{HEADERS['B']}\n{ELEMENT}{ELEMENT}", 0, "", ELEMENT),
     (
@@ -124,7 +124,7 @@ SOURCES = [
         "sequence.def",
         '"307060" = [ 001001, 12101, 001002 ]\n"307061" = [ ]\n"307062" = [ 001001 , 001002, ] # a comment\n',
         1,
-        "left out of source: 307060 001001 12101 001002: the member 12101: not six digits, the first 0-3\n"
+        "left out of source: 307060 001001 12101 001002: member '12101': expected six digits, the first one 0-3\n"
         "left out of source: 307061: no members\n",
         "307062,001001\n307062,001002\n",
     ),
@@ -132,20 +132,20 @@ SOURCES = [
         "element.table",
         "#code|..\n\n012101|a|long|A | NAME|K|2|0|16|C|2|4\n",
         1,
-        "left out of source: 012101 A NAME K 2 0: no scale from -127 to 127\n",
+        "left out of source: 012101 A NAME K 2 0: the scale must be a whole number from -127 to 127\n",
         "",
     ),
-    ("element.table", "012101|a|long|NAME|K|2\n", 2, "source/element.table, line 1: fewer than eight fields\n", None),
-    ("sequence.def", '"307060" = 001001\n', 2, 'source/sequence.def: what is "307060" = 001001\n', None),
+    ("element.table", "012101|a|long|NAME|K|2\n", 2, "source/element.table, line 1: expected at least eight fields\n", None),
+    ("sequence.def", '"307060" = 001001\n', 2, 'source/sequence.def: expected "FXY" = [ MEMBER, .. ], found "307060" = 001001\n', None),
     (
         "B.csv",
         f"{HEADERS['B']}\n012101,A, B,K,2,0,16\n",
         2,
-        "source/B.csv, line 2: another number of fields than the header\n",
+        "source/B.csv, line 2: the number of fields differs from the header\n",
         None,
     ),
     ("D.csv", "fxy\n307060\n", 2, "source/D.csv has no column member\n", None),
-    ("other.csv", "", 2, "source holds no tables that are known here\n", None),
+    ("other.csv", "", 2, "source has no tables in a known format; see convert.py --help\n", None),
     # wreport's layout: units without spaces, a sign apart, a name that fills its columns, letters of two octets.
     (
         "Bmade.txt",
@@ -158,7 +158,7 @@ SOURCES = [
         + wreport_row("041003", "DISSOLVED NITRATES", "\u03bcMOL KG-1", "3", "0", "17")
         + wreport_row("041004", "OF NO WIDTH", "K", "3", "0", "0"),
         1,
-        "left out of source: 041004 OF NO WIDTH K 3 0 0: no width of 1 to 63 bits\n",
+        "left out of source: 041004 OF NO WIDTH K 3 0 0: the width must be from 1 to 63 bits\n",
         "001210,MADE UP,CCITT IA5,0,0,72\n001211,A CODE,CODE TABLE 1211,0,0,8\n001212,A FLAG,FLAG TABLE 1212,0,0,8\n"
         f"001213,A COMMON ONE,COMMON CODE TABLE C-1,0,0,16\n007030,{'N' * 65},M,1,-4000,17\n"
         "041003,DISSOLVED NITRATES,\u03bcMOL KG-1,3,0,17\n",
@@ -175,14 +175,14 @@ SOURCES = [
         + "307213,001210\n"
         + "307213,001212\n" * 100,
     ),
-    ("Dmade.txt", " 307210  2 001210\n", 2, "source/Dmade.txt: 307210 states 2 members and has 1\n", None),
-    ("Dmade.txt", "           001210\n", 2, "source/Dmade.txt, line 1: no member of a sequence\n", None),
-    ("Dmade.txt", " D07210  1 B01210\n", 2, "source/Dmade.txt, line 1: no member of a sequence\n", None),
+    ("Dmade.txt", " 307210  2 001210\n", 2, "source/Dmade.txt: 307210 declares 2 members but has 1\n", None),
+    ("Dmade.txt", "           001210\n", 2, "source/Dmade.txt, line 1: expected a sequence or one of its members\n", None),
+    ("Dmade.txt", " D07210  1 B01210\n", 2, "source/Dmade.txt, line 1: expected a sequence or one of its members\n", None),
     (
         "Bmade.txt",
         " 012101 NAME K 2 0 16\n",
         2,
-        "source/Bmade.txt, line 1: no scale, reference and width in columns 98 to 118\n",
+        "source/Bmade.txt, line 1: expected a scale, a reference and a width in columns 98 to 118\n",
         None,
     ),
 ]
@@ -242,14 +242,14 @@ def failures(place: pathlib.Path) -> list:
     for limit in (0, 100, 40_000):
         limited = functools.partial(resource.setrlimit, resource.RLIMIT_FSIZE, (limit, limit))
         done = run("convert.py", "out", TOP / "tables/wmo-39", preexec_fn=limited)
-        holds(f"files of {limit} octets", done, (2, "", "convert.py: File too large\n"))
+        holds(f"files of {limit} octets", done, (2, "", "convert.py: cannot write out/B.csv: File too large\n"))
         holds(f"the set behind files of {limit} octets", behind_headers(place), before)
         holds(f"what is left behind files of {limit} octets", len(list((place / "out").iterdir())), 2)
     holds("a whole set", run("convert.py", "out", TOP / "tables/wmo-39"), (0, "", ""))
     holds("what is left", len(list((place / "out").iterdir())), 2)
     for told, words in (
-        ("OUT and a SOURCE are wanted; convert.py --help tells more", ["out"]),
-        (r"no\x1Bsuch holds no tables that are known here", ["out", "no\x1bsuch"]),
+        ("expected OUT and at least one SOURCE; see convert.py --help", ["out"]),
+        (r"no\x1Bsuch has no tables in a known format; see convert.py --help", ["out", "no\x1bsuch"]),
         ("long/B.csv, line 2: field larger than field limit (131072)", ["out", "long"]),
     ):
         (place / "long").mkdir(exist_ok=True)
@@ -258,7 +258,7 @@ def failures(place: pathlib.Path) -> list:
     holds("convert.py of a full device", run("convert.py", "/dev/full", TOP / "tables/wmo-39")[0], 2)
     old = TOP / "tables/wmo-39"
     for told, words in (
-        ("OLD and NEW are wanted; changes.py --help tells more", [old]),
+        ("expected OLD and NEW; see changes.py --help", [old]),
         ("nosuch/B.csv: No such file or directory", ["nosuch", old]),
         ("out/D.csv has no column member", [old, "out"]),
     ):
