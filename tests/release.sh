@@ -15,12 +15,76 @@ export GIT_COMMITTER_DATE=2020-02-02T02:02:02Z
 clone "$work/one"
 clone "$work/another/folder"
 "$work/one/release.sh" --unproved "$bufr" "$work/first" > "$work/told"
-(umask 077 && cd / && TZ=Asia/Tokyo "$work/another/folder/release.sh" --unproved "$bufr" "$work/second") > "$work/told"
+# The second time by another user, if this one may become one, with other settings.
+mkdir "$work/home" "$work/program" "$work/second"
+printf '[core]\nautocrlf = true\n[tar]\numask = 077\n' > "$work/home/.gitconfig"
+cp "$bufr" "$work/program/bufr"
+as=()
+if [ "$(id -u)" -eq 0 ] && [ -x /usr/bin/python3 ]; then
+    chmod 755 "$work"
+    chown -R nobody "$work"/{another,second,home}
+    as=(setpriv --reuid nobody --regid nogroup --clear-groups)
+fi
+(umask 077 && cd / && "${as[@]}" env TZ=Asia/Tokyo LC_ALL="$(locale -a | grep -iE '_.*utf-?8' | head -n 1)" HOME="$work/home" \
+    PATH="/usr/bin:/bin:$PATH" "$work/another/folder/release.sh" --unproved "$work/program/bufr" "$work/second") > "$work/told"
 for file in "$work"/first/*; do
     cmp "$file" "$work/second/${file##*/}" || fail "two clones of one commit give different releases"
 done
 (cd "$work/first" && sha256sum --quiet -c SHA256SUMS) || fail "the sums are not those of the files"
 archive=$(echo "$work"/first/*.tar.gz)
+
+# refuses STATUS TEXT WORD..: these words fail with this status, say why, and leave the first release as it was.
+refuses() {
+    local wanted=$1 text=$2
+    shift 2
+    find "$work/first" -type f -exec sha256sum {} + | sort > "$work/before"
+    status=0
+    "$@" > "$work/told" 2>&1 || status=$?
+    [ $status -eq "$wanted" ] && grep -q -- "$text" "$work/told" || fail "release.sh: status $status, $(< "$work/told")"
+    find "$work/first" -type f -exec sha256sum {} + | sort | cmp - "$work/before" && [ "$(ls -A "$work/first" | wc -l)" -eq 3 ] ||
+        fail "release.sh leaves $(ls -A "$work/first") after: $(< "$work/told")"
+}
+make=$work/one/release.sh
+for words in --unproved --wrong 'one two'; do
+    # shellcheck disable=SC2086
+    refuses 2 usage "$make" $words
+done
+printf '#!/bin/sh\necho bufr 0.0.9\n' > "$work/older"
+chmod +x "$work/older"
+refuses 1 'the program has version 0.0.9, but the wheel is' "$make" --unproved "$work/older" "$work/first"
+refuses 1 'does not run' "$make" --unproved /bin/false "$work/first"
+mkdir "$work/alone" "$work/fake"
+cp "$make" "$work/alone"
+refuses 1 'in a clone' "$work/alone/release.sh" --unproved "$bufr" "$work/first"
+# A toolchain with another logic, whose gate fails, or that takes so long that the run is interrupted.
+logic=$(sed -n 's/.*`logic \([0-9a-f]\{16\}\)`.*/\1/p' README.md | head -n 1)
+fake() {
+    printf '#!/bin/sh\n[ "$1" != version ] || exec echo kit logic %s\n%s\n' "$1" "$2" > "$work/fake/rt"
+    chmod +x "$work/fake/rt"
+}
+PATH=$work/fake:$PATH
+refuses 1 'not on the PATH' env PATH=/usr/bin:/bin "$make" "$work/first"
+fake 0123456789abcdef 'exit 0'
+refuses 1 "README.md names logic $logic" "$make" "$work/first"
+fake "$logic" 'echo low: not proved; exit 1'
+refuses 1 'the gate failed' "$make" "$work/first"
+grep -q 'low: not proved' "$work/told" || fail "release.sh hides what the gate said: $(< "$work/told")"
+fake "$logic" "echo \$\$ > '$work/pid'; exec sleep 60"
+for signal in INT TERM; do
+    rm -f "$work/pid"
+    refuses $((128 + $(kill -l $signal))) 'no release was made' timeout --preserve-status -s $signal 3 "$make" "$work/first"
+    [ ! -e "$work/pid" ] || ! kill -0 "$(< "$work/pid")" 2> "$work/errors" || fail "the gate goes on after SIG$signal"
+done
+PATH=${PATH#*:}
+# A full disk: at the archive, which is the largest file, and at once.
+refuses $((128 + $(kill -l XFSZ))) 'no release was made' bash -c 'ulimit -f "$0" && exec "$@"' \
+    $(($(stat -c %s "$archive") / 1024)) "$make" --unproved "$bufr" "$work/first"
+if unshare -m true 2> "$work/errors"; then
+    mkdir "$work/small"
+    # shellcheck disable=SC2016
+    unshare -m bash -c 'mount -t tmpfs -o size=1m none "$1" && ! "$2" --unproved "$3" "$1" 2> "$4" && [ -z "$(ls -A "$1")" ]' - \
+        "$work/small" "$make" "$bufr" "$work/told" && grep -q 'No space left' "$work/told" || fail "on a full disk: $(< "$work/told")"
+fi
 
 # A change that was not committed is not released.
 echo changed >> "$work/one/README.md"
