@@ -87,10 +87,10 @@ if unshare -m true 2> "$work/errors"; then
 fi
 
 # A change that was not committed is not released.
-echo changed >> "$work/one/README.md"
+echo '# changed' | tee -a "$work/one/README.md" >> "$work/one/scripts/bufr_text.py"
 "$work/one/release.sh" --unproved "$bufr" "$work/third" > "$work/told" 2> "$work/errors"
 grep -q 'uncommitted changes' "$work/errors" || fail "release.sh does not say that it leaves changes out"
-cmp "$archive" "$work/third/${archive##*/}" || fail "an uncommitted change is in the release"
+diff "$work/first" "$work/third" || fail "an uncommitted change is in the release"
 
 # A damaged archive is not installed.
 mkdir "$work/damaged"
@@ -123,7 +123,7 @@ for folder in /usr/lib/gcc /usr/lib/llvm*; do [ ! -d "$folder" ] || mount -t tmp
 for file in /usr/bin/{,*-}{cc,c++,gcc,g++,cpp,clang,tcc,as,ld,ld.bfd,ld.gold,ld.lld,rustc,cargo}{,-[0-9]*}; do
     [ ! -f "$file" ] || mount --bind /dev/null "$root$(realpath "$file")" 2> /dev/null || true
 done
-cp "$2" "$3/docs_commands.py" "$3/lib.py" "$root/tests"
+cp "${2%/*}"/* "$3/docs_commands.py" "$3/lib.py" "$root/tests"
 cp "$4" "$root/operator"
 cd "$root"
 pivot_root . old
@@ -153,7 +153,7 @@ bufr-auto bufr/share/doc/bufr/examples/synop.bufr | cmp - bufr/share/doc/bufr/ex
 mkdir own
 ln -s $prefix/share/doc/bufr/* own
 ln -s /tests own/tests
-/usr/bin/python3 own/tests/docs_commands.py $prefix/bin/bufr own/README.md || fail "the commands of README"
+/usr/bin/python3 own/tests/docs_commands.py $prefix/bin/bufr own/README.md own/docs/operations.md || fail "the commands of README and operations.md"
 rm -r own
 # Another set of tables is used by the messages of its centre, and is the operator's own.
 set=$prefix/share/bufr/tables
@@ -174,9 +174,49 @@ rm -r $prefix
 bufr-auto --version > told
 /tmp/bufr-*/install.sh --uninstall $prefix > told
 [ -z "$(find $prefix -mindepth 1)" ] || fail "--uninstall leaves $(find $prefix -mindepth 1)"
-echo clean > /home/done
-cat /home/done
+# The page for operators: each block of its commands, the unit's commands, and the steps of its Dockerfile.
+page=$(echo /tmp/bufr-*/docs/operations.md) examples=$(echo /tmp/bufr-*/examples)
+mkdir /home/page
+cd /home/page
+cp /tests/*.tar.gz /tests/SHA256SUMS .
+cp -r /tmp/bufr-*/tables/wmo-39 /home/wmo-csv
+cp $examples/buoys.bufr /home/day.bufr
+awk '/^```$/ { name = "" } name { print > name } /^```sh$/ { name = "block" ++blocks } /^```ini$/ { name = "unit" }
+    /^```dockerfile$/ { name = "steps" }' $page
+sed -i 's,install.sh /,install.sh --unproved /,' block* steps
+[ "$(ls block* | wc -w)" -eq 5 ] || fail "$page has other blocks"
+types() { PATH=/opt/bufr/bin:$PATH bash -eu "$1" > told 2>&1 || fail "$1 of $page: $(cat "$1" told)"; }
+types block1
+types block2
+mkdir -p /var/lib/feed
+(
+    cd /var/lib/feed
+    sed -n 's/^ExecStartPre=//p' /home/page/unit | bash
+    sed -n 's/^ExecStart=//p' /home/page/unit | bash &
+    cat $examples/synop.bufr > bufr.fifo
+    wait $!
+    cmp dump.txt $examples/synop.txt
+) || fail 'the commands of the unit'
+types block3
+grep -q 'elements new: 0' told && [ -s /home/day.before ] && cmp /home/day.before /home/day.after || fail "changes.py says $(cat told)"
+types block4
+tar -xzf *.tar.gz
+types block5
+find /opt ! -type d ! -path '/opt/bufr-0.1.0/share/bufr/tables/wmo-99/*' > left
+[ ! -s left ] && [ -s /opt/bufr-0.1.0/share/bufr/tables/wmo-99/B.csv ] || fail "--uninstall of $page leaves $(cat left)"
+sed -n 's/^RUN \(.*install.sh\)/\1/p' steps > install
+[ -s install ] || fail "$page has no Dockerfile that installs"
+cp $examples/synop.* /home
+types install
+cd /
+setpriv --reuid 65534 --regid 65534 --clear-groups env -i PATH=/usr/local/bin:/usr/bin:/bin bufr-auto < /home/synop.bufr |
+    cmp - /home/synop.txt || fail 'the program of the Dockerfile'
+echo clean
 END
+# The unit has only words that systemd knows; it says the others on standard error, with status 0.
+awk '/^```$/ { is_unit = 0 } is_unit; /^```ini$/ { is_unit = 1 }' docs/operations.md > "$work/bufr-feed.service"
+! command -v systemd-analyze > "$work/told" || systemd-analyze verify "$work/bufr-feed.service" > "$work/told" 2>&1 && [ ! -s "$work/told" ] ||
+    fail "the unit of operations.md: $(< "$work/told")"
 unshare -mnpf bash "$work/machine" "$work/root" "$archive" "$PWD/tests" "$work/operator" > "$work/told" 2> "$work/errors" ||
     fail "$(cat "$work/told" "$work/errors")"
 grep -qx clean "$work/told" || fail "the clean machine did not get to its end: $(cat "$work/told" "$work/errors")"
