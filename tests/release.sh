@@ -15,20 +15,23 @@ export GIT_COMMITTER_DATE=2020-02-02T02:02:02Z
 clone "$work/one"
 clone "$work/another/folder"
 "$work/one/release.sh" --unproved "$bufr" "$work/first" > "$work/told"
-# The second time by another user, if this one may become one, with other settings.
-mkdir "$work/home" "$work/program" "$work/second"
+# The second time by another user, if this one may become one, with other settings, and in memory if there is room: there
+# a folder lists its files in another order.
+second=$(mktemp -d -p /dev/shm 2> "$work/errors" || mktemp -d)
+trap 'rm -r "$work" "$second"' EXIT
+mkdir "$work/home" "$work/program"
 printf '[core]\nautocrlf = true\n[tar]\numask = 077\n' > "$work/home/.gitconfig"
 cp "$bufr" "$work/program/bufr"
 as=()
 if [ "$(id -u)" -eq 0 ] && [ -x /usr/bin/python3 ]; then
     chmod 755 "$work"
-    chown -R nobody "$work"/{another,second,home}
+    chown -R nobody "$work"/{another,home} "$second"
     as=(setpriv --reuid nobody --regid nogroup --clear-groups)
 fi
 (umask 077 && cd / && "${as[@]}" env TZ=Asia/Tokyo LC_ALL="$(locale -a | grep -iE '_.*utf-?8' | head -n 1)" HOME="$work/home" \
-    PATH="/usr/bin:/bin:$PATH" "$work/another/folder/release.sh" --unproved "$work/program/bufr" "$work/second") > "$work/told"
+    PATH="/usr/bin:/bin:$PATH" "$work/another/folder/release.sh" --unproved "$work/program/bufr" "$second") > "$work/told"
 for file in "$work"/first/*; do
-    cmp "$file" "$work/second/${file##*/}" || fail "two clones of one commit give different releases"
+    cmp "$file" "$second/${file##*/}" || fail "two clones of one commit give different releases"
 done
 (cd "$work/first" && sha256sum --quiet -c SHA256SUMS) || fail "the sums are not those of the files"
 archive=$(echo "$work"/first/*.tar.gz)
