@@ -24,6 +24,7 @@ It imports next to nothing, since each script loads it.
 """
 from __future__ import annotations
 
+import errno
 import os
 import select
 import stat
@@ -127,13 +128,16 @@ def guarded(work: Callable[[List[str]], int], text: str) -> int:
 def end_badly(told: str) -> None:
     """Reports what ends the script, after flushing its output; does as much of both as possible."""
     Progress.clear()
-    line = Output(2)
-    line.write(os.fsencode(shown(f"{name()}: {told}") + "\n"))
-    for file in [*written(), line]:
+    for file in written():
         try:
             file.flush()
         except Exception:
             pass
+    # Not through `output`, whose buffer may not fit into the memory that is left.
+    try:
+        write_all(2, os.fsencode(shown(f"{name()}: {told}") + "\n"))
+    except OSError:
+        pass
 
 
 def hook(_kind: Type[BaseException], error: BaseException, _place: Optional[TracebackType]) -> None:
@@ -440,8 +444,9 @@ def temporary() -> int:
     """A descriptor of a new file without a name, below TMPDIR."""
     try:
         return os.open(folder_of_temporary(), os.O_TMPFILE | os.O_RDWR, 0o600)
-    except OSError:
-        pass
+    except OSError as error:
+        if error.errno in (errno.EMFILE, errno.ENFILE):
+            raise Failed("too many open files; raise the limit (ulimit -n)") from None
     # The folder cannot be written, or its file system has no unnamed files.
     import tempfile
 

@@ -282,13 +282,14 @@ def copied(place: str) -> pathlib.Path:
 
 
 def told(top: pathlib.Path, test: str, program: str) -> tuple:
-    """Whether a test fails in a copy, and whether it skips something."""
+    """Whether a test fails in a copy, whether it skips something, and the last line that it prints."""
     script, *words = test.split()
     try:
         done = subprocess.run([top / script, program, *words], stdout=subprocess.PIPE, stderr=subprocess.STDOUT, timeout=900)
     except subprocess.TimeoutExpired:
-        return True, False
-    return done.returncode != 0, b"skipped" in done.stdout
+        return True, False, "no end in 900 s"
+    lines = done.stdout.decode(errors="replace").splitlines() or [""]
+    return done.returncode != 0, "skipped" in "".join(lines), lines[-1][:200]
 
 
 def told_of(top: pathlib.Path, mutation: tuple, program: str) -> tuple:
@@ -320,9 +321,9 @@ def main() -> None:
         wrongs += [f"{test} fails without a change" for test in tests if told(top, test, program)[0]]
         for mutation in asked:
             file, old, new, test = mutation
-            is_told, is_skipped = told_of(top, mutation, program)
+            is_told, is_skipped, last = told_of(top, mutation, program)
             if is_told:
-                print(f"mutations: told: {file}: {old!r}", flush=True)
+                print(f"mutations: told: {file}: {old!r}: {last}", flush=True)
             elif is_skipped:
                 print(f"mutations: skipped, as a part of {test} is: {file}: {old!r}", flush=True)
             else:
