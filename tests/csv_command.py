@@ -444,6 +444,10 @@ def failures(folder: pathlib.Path) -> None:
         done = run(*words, large, environment={"BUFR": other})
         lines = done.stderr.splitlines()
         holds(f"{words}: bufr is killed", done.returncode == 2 and len(lines) == 1 and b"bufr" in lines[0][9:], done)
+    other = script("bufr", f"[ \"$1\" = dump ] || kill -9 $$; exec '{program()}' \"$@\"")
+    done = run("-c", "001015", "--where", "category=0", SYNOP, environment={"BUFR": other})
+    told = b"bufr-csv: bufr was killed (signal 9); output is incomplete\n"
+    holds("bufr ls is killed", (done.returncode, done.stderr) == (2, told), done)
     done = run("-c", "001015", SYNOP, environment={"BUFR": "/nosuch/bufr"})
     holds("there is no bufr", done.returncode == 2 and b"cannot run /nosuch/bufr" in done.stderr, done)
     done = run("-c", "AIR TEMPERATURE", SYNOP, environment={"BUFR_TABLES": "/nosuch"})
@@ -508,7 +512,8 @@ def main() -> None:
                     feed(awk)
             else:
                 print(f"csv_command: skipped, {awk[0]} is not installed")
-        seconds(["-c", "001015,012101"], folder)
+        if not complaints:
+            seconds(["-c", "001015,012101"], folder)
     finish(complaints)
 
 
