@@ -435,6 +435,8 @@ def main() -> None:
     for name in asked:
         of_all = (descriptors, memory, room, shorter, killed, signals, tables, options, progress)
         for test in of_all if name in SCRIPTS else (options,):
+            if complaints:
+                break
             with tempfile.TemporaryDirectory() as place:
                 test(Trial(name, {**SCRIPTS, **OTHERS}[name], place))
     finish(complaints)

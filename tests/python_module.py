@@ -766,4 +766,4 @@ if __name__ == "__main__":
     os.environ["BUFR"] = lib.program()
     if not shutil.which("mypy"):
         print("python_module: its types are skipped, mypy is not installed")
-    unittest.main(argv=sys.argv[:1])
+    unittest.main(argv=sys.argv[:1], failfast=True)
