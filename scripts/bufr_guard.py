@@ -128,13 +128,16 @@ def guarded(work: Callable[[List[str]], int], text: str) -> int:
 def end_badly(told: str) -> None:
     """Flushes the output and then reports why the script stops, as far as either is possible."""
     Progress.clear()
-    line = Output(2)
-    line.write(os.fsencode(shown(f"{name()}: {told}") + "\n"))
-    for file in [*written(), line]:
+    for file in written():
         try:
             file.flush()
         except Exception:
             pass
+    # Not through `output`, whose buffer may not fit into the memory that is left.
+    try:
+        write_all(2, os.fsencode(shown(f"{name()}: {told}") + "\n"))
+    except OSError:
+        pass
 
 
 def hook(_kind: Type[BaseException], error: BaseException, _place: Optional[TracebackType]) -> None:
@@ -445,8 +448,9 @@ def temporary() -> int:
     """A descriptor of a new file without a name, below TMPDIR."""
     try:
         return os.open(folder_of_temporary(), os.O_TMPFILE | os.O_RDWR, 0o600)
-    except OSError:
-        pass
+    except OSError as error:
+        if error.errno in (errno.EMFILE, errno.ENFILE):
+            raise Failed("too many open files; raise the limit (ulimit -n)") from None
     # The folder cannot be written, or its file system has no unnamed files.
     import tempfile
 

@@ -5,6 +5,7 @@
 
 It encodes by the same rule, is quick, and leaves nothing behind. How it fails failures_of_scripts.py has too.
 """
+import fcntl
 import os
 import pathlib
 import random
@@ -16,6 +17,7 @@ import signal
 import subprocess
 import sys
 import tempfile
+import termios
 import time
 
 import lib
@@ -184,6 +186,9 @@ class Trial:
         text = self.auto(stream=made(39, LISTS[0], b"\1\1")).stdout.replace(b"masterversion 39", b"masterversion 41")
         done = self.auto("--encode", stream=b"\n\n" + text)
         self.same("a note", (done.stdout[21:22], done.stderr, done.returncode), (b"\x29", note.replace(b"3", b"1", 1), 0))
+        text = b"# A comment before a document.\n" * 200_000 + b"\nmessage\nedition 4\nnonsense\n"
+        done = self.auto("--encode", stream=text)
+        self.same("many comments", (done.stdout, done.stderr, done.returncode), (b"", b"line 200004: 50 line\n", 1))
         # What is no text is refused before its end.
         self.feed("no text", ["--encode"], [(b"BUFR" + bytes(100) + b"\n", b"", b"line 1: 50 line\n")], (b"", b""), 1)
 
@@ -234,6 +239,17 @@ class Trial:
         ]
         last = (texts[0], fault % (len(one * 2 + false * 2 + other), b"1 cut"))
         self.feed("lengths", ["--max-length", "1024"], steps, last, 1)
+
+    def few_files(self) -> None:
+        """40 parts of a feed with at most 32 open files, and 60 files with at most 40, most of them open at once."""
+        message = made(39, LISTS[1], b"\1\1\0")
+        text = self.one_by_one(message)[0]
+        self.feed("40 parts", [], [(message, text, b"")] * 40, (b"", b""), 0, 32)
+        (self.place / "one").write_bytes(message)
+        words = [*AUTO, *[self.place / "one"] * 60]
+        limit = lambda: resource.setrlimit(resource.RLIMIT_NOFILE, (40, 40))  # noqa: E731
+        done = subprocess.run(words, env=self.environment, capture_output=True, preexec_fn=limit)
+        self.same("60 files", (done.stdout, done.stderr, done.returncode), (text * 60, b"", 0))
 
     def lengths(self) -> None:
         """Messages that declare more than --max-length are skipped, and nothing else changes; so for `Masker`."""
@@ -287,16 +303,17 @@ class Trial:
             words = [sys.executable, "-c", code, str(TOP / "scripts"), "centre=98", file]
             with open(self.place / "a file", "rb") as given:
                 done = subprocess.run(words, stdin=given, cwd=self.place, env=self.environment, capture_output=True)
-            places = [(found.start(), len(both)) for found in re.finditer(re.escape(both), stream)]
-            wanted = b"".join(comment.format(*place, file).encode() + texts[98] for place in places)
+            places = (stream.find(both), stream.rfind(both))
+            wanted = b"".join(comment.format(place, len(both), file).encode() + texts[98] for place in places)
             at = [found.start() for found in re.finditer(b"BUFR", stream)]
             told = f"offset {at[1]}: 3 no end\noffset {at[3]}: 20 unknown element 063255\noffset {at[4]}: 3 no end\n"
             self.same("a condition", (done.stdout, done.stderr.decode(), done.returncode), (wanted, told, 1))
 
-    def feed(self, what: str, words: list, steps: list, last: tuple, status: int) -> None:
-        """Writes each step to a pipe, and waits for what is to come of it."""
+    def feed(self, what: str, words: list, steps: list, last: tuple, status: int, files: int = 256) -> None:
+        """Writes each step to a pipe, and waits for what is to come of it. At most so many files may be open."""
         pipes = dict(stdin=subprocess.PIPE, stdout=subprocess.PIPE, stderr=subprocess.PIPE, bufsize=0)
-        with subprocess.Popen([*AUTO, *words], **pipes, env=self.environment) as child:
+        limit = lambda: resource.setrlimit(resource.RLIMIT_NOFILE, (files, files))  # noqa: E731
+        with subprocess.Popen([*AUTO, *words], **pipes, env=self.environment, preexec_fn=limit) as child:
             for number, (given, *wanted) in enumerate([*steps, (None, *last)]):
                 if given is None:
                     child.stdin.close()
@@ -344,10 +361,18 @@ class Trial:
         for begin, kind, status in (
             (subprocess.run(["gzip", "-c", synop], stdout=subprocess.PIPE).stdout, "looks like gzip data (zcat)", 0),
             (b"BZh9", "looks like bzip2 data (bzcat)", 0),
+            (b"\xfd7zXZ\0", "looks like xz data (xzcat)", 0),
+            (b"\x28\xb5\x2f\xfd\4", "looks like zstd data (zstdcat)", 0),
+            (b"PK\3\4\n", "looks like a zip archive (unzip -p)", 0),
+            (b"GRIB\xff", "looks like GRIB", 0),
+            (b"CDF\1", "looks like netCDF", 0),
+            (b"\x89HDF\r\n", "looks like HDF5", 0),
             (b"\n<!DOCTYPE HTML><p>BUFR", "looks like HTML", 1),
+            (b"<HTML>", "looks like HTML", 0),
             (b"<?xml version='1.0'?>", "looks like XML", 0),
             ((TOP / "examples/synop.txt").read_bytes(), "looks like the text of a dump (--encode)", 0),
             (b"SMVD01 EKMI 010000\r\r\n", "looks like text", 0),
+            (b"\1\r\r\n123\r\r\nSMVD01 EKMI 010000\tA\r\r\n\3", "looks like text", 0),
             (b"", "is empty", 0),
             (b"\0\7\xff", None, 0),
         ):
@@ -357,6 +382,18 @@ class Trial:
             note = f"bufr-auto: {file} has no message{': it ' + kind if kind else ''}\n".encode()
             told = done.stderr.splitlines(True)[-1:] == [note]
             self.holds(f"{kind}", told and (done.stdout, done.returncode) == (b"", status), (done, note))
+        file = self.place / "a\x1b[31mb"
+        file.write_bytes(b"x" * 300 + b"\0")
+        note = f"bufr-auto: {self.place}/a\\x1B[31mb has no message: it looks like text\n".encode()
+        self.holds("a name with an escape", self.auto(str(file)).stderr == note, self.auto(str(file)))
+        # What two reads give is looked at as a whole.
+        pipes = dict(stdin=subprocess.PIPE, stdout=subprocess.PIPE, stderr=subprocess.PIPE, bufsize=0)
+        with subprocess.Popen(AUTO, **pipes, env=self.environment) as child:
+            child.stdin.write(b"\x1f")
+            self.wait(lambda: fcntl.ioctl(child.stdin, termios.FIONREAD, bytes(4)) == bytes(4))
+            _, told = child.communicate(b"\x8b\x08abc")
+        note = b"bufr-auto: standard input has no message: it looks like gzip data (zcat)\n"
+        self.holds("gzip data in two reads", (child.returncode, told) == (0, note), told)
         done = self.auto(stream=b"")
         self.holds("an empty input", done.stderr == b"bufr-auto: standard input has no message: it is empty\n", done)
         done = self.auto("--encode", stream=b"")
@@ -582,20 +619,25 @@ class Trial:
 def main() -> None:
     with tempfile.TemporaryDirectory() as place:
         trial = Trial(place)
-        trial.same_as_one_by_one()
-        trial.stops()
-        trial.encodes()
-        trial.feeds()
-        trial.lengths()
-        trial.conditions()
-        trial.files()
-        trial.no_message()
-        trial.notes()
-        trial.command_line()
-        trial.signals()
-        trial.ends()
-        trial.start_up()
-        trial.speed()
+        for part in (
+            trial.few_files,
+            trial.command_line,
+            trial.files,
+            trial.no_message,
+            trial.notes,
+            trial.conditions,
+            trial.stops,
+            trial.feeds,
+            trial.lengths,
+            trial.encodes,
+            trial.same_as_one_by_one,
+            trial.signals,
+            trial.ends,
+            trial.start_up,
+            trial.speed,
+        ):
+            if not trial.complaints:
+                part()
     finish(trial.complaints)
 
 

@@ -5,6 +5,7 @@ refused, rows joined to a listing, and the time.
     tests/csv_by_awk.py [PROGRAM]
 """
 import csv
+import itertools
 import os
 import pathlib
 import re
@@ -181,6 +182,20 @@ def tries_speed(awk: list, text: bytes, folder: pathlib.Path) -> None:
         want(spent < most * least, f"{awk}: {columns} takes {spent / least:.1f} times as long as a count, over {most}")
 
 
+def tries_memory(awk: list, folder: pathlib.Path) -> None:
+    """The names of items are not all cached: 100,000 take less than 10 MB more than 20,000."""
+    sizes = []
+    for count in (20_000, 100_000):
+        lines = (f"012101 1  # A NAME OF AN ELEMENT OF A TABLE {number} [K]\n" for number in range(count))
+        path = folder / "names"
+        with open(path, "w") as text:  # in pieces, since a child's measure begins with the memory of this process
+            text.writelines(itertools.chain(["message\nsubset 1\n"], lines, ["end\n"]))
+        status, usage = lib.usage_of([*awk, "-f", SCRIPT, path], stdout=subprocess.DEVNULL)
+        want(status == 0, f"{awk}: {count} names end with {status}")
+        sizes.append(usage.ru_maxrss)
+    want(sizes[1] - sizes[0] < 10_000, f"{awk}: 20,000 and 100,000 names take {sizes} KB")
+
+
 def tries_levels(awk: list, sounding: bytes, synop: bytes) -> None:
     status, output, errors = run(
         awk, sounding, levels="1", keep="001002", columns="007004,010009,012101,012103,011002"
@@ -260,6 +275,7 @@ def main() -> None:
             tries_offsets(awk, stream)
             if awk == ["gawk"]:
                 tries_speed(awk, synop + sounding, folder)
+                tries_memory(awk, folder)
 
 
 if __name__ == "__main__":

@@ -137,6 +137,10 @@ def refuses_what_it_cannot(path: pathlib.Path) -> None:
     want((done.returncode, done.stdout) == (0, made(1)), f"a line that awk selects later is refused: {done}")
     done = run(["--awk", "NR == 2 { exit 2 } 1", path])
     want((done.returncode, done.stdout) == (2, made(1)), f"an awk that fails is no failure: {done}")
+    # More lines than a pipe holds: `bufr ls` does not wait for an awk that has ended.
+    path.write_bytes(made(1) * 4000)
+    done = run(["--awk", "NR == 2 { exit 2 } 1", path], timeout=60)
+    want((done.returncode, done.stdout) == (2, made(1)), f"of an awk that ends early: {done}")
     killed = path.with_name("killed")
     killed.write_text('#!/bin/sh\nprintf "offset=0 length=5"\nkill -9 $$\n')
     killed.chmod(0o755)

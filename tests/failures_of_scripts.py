@@ -122,6 +122,17 @@ runpy.run_path(sys.argv[0], run_name="__main__")
 """
 
 
+# A script whose programs start a moment later.
+LATE = """
+import runpy, sys, time
+sys.path[0], sys.argv = "{}", sys.argv[1:]
+import bufr_guard
+spawned = bufr_guard.spawned
+bufr_guard.spawned = lambda *words: time.sleep(0.3) or spawned(*words)
+runpy.run_path(sys.argv[0], run_name="__main__")
+"""
+
+
 def memory(trial: Trial) -> None:
     """With less and less memory it gives all of it, or says that there is not enough."""
     stream = trial.place / "strays"
@@ -129,21 +140,29 @@ def memory(trial: Trial) -> None:
     whole = trial.run([stream])
     holds(f"{trial.name}: strays", whole.returncode == 1 and whole.stderr.count(b"\n") == 50_000, whole.returncode)
     # From what Python needs to read the script and the module that all share.
-    code, least = "import sys; script, sys.path[0] = sys.argv[1:]; compile(open(script).read(), '', 'exec'); import bufr_guard", 8
-    words = [sys.executable, "-c", code, trial.words[1], TOP / "scripts"]
-    while subprocess.run(words, stderr=subprocess.DEVNULL, preexec_fn=functools.partial(limit_memory, least)).returncode:
-        least += 1
-        if least > 200:
-            holds(f"{trial.name}: a module that Python can load", False)
-            return
+    code = "import sys; script, sys.path[0] = sys.argv[1:]; compile(open(script).read(), '', 'exec'); import bufr_guard"
+    least = least_memory([sys.executable, "-c", code, trial.words[1], TOP / "scripts"], 200)
+    if least is None:
+        holds(f"{trial.name}: a module that Python can load", False)
+        return
     for megabytes in [*range(least + 2, least + 24, 2), 150]:
         done = trial.run([stream], limits={resource.RLIMIT_AS: megabytes << 20})
         is_whole = (done.returncode, done.stdout, done.stderr) == (1, whole.stdout, whole.stderr)
-        is_told = done.returncode == 2 and not done.stderr.splitlines()[-1:] == whole.stderr.splitlines()[-1:]
+        last = done.stderr.splitlines()[-1:]
+        is_told = done.returncode == 2 and last and not last[0].startswith(b"offset")
         holds(f"{trial.name} in {megabytes} MB", is_whole or is_told, (done.returncode, done.stderr[-300:]))
         holds(f"{trial.name} in {megabytes} MB: a prefix", whole.stdout.startswith(done.stdout), done.stdout[-300:])
     trial.words[1:1] = ["-c", REFUSED.format(TOP / "scripts")]
     trial.fails("want of memory", trial.run([stream]), f"{trial.name}: out of memory")
+
+
+def least_memory(words: list, most: int):
+    """The least megabytes, at most so many, in which a program ends with 0, or None."""
+    for megabytes in range(8, most + 1):
+        limit = functools.partial(limit_memory, megabytes)
+        if subprocess.run(words, stderr=subprocess.DEVNULL, preexec_fn=limit).returncode == 0:
+            return megabytes
+    return None
 
 
 def limit_memory(megabytes: int) -> None:
@@ -165,8 +184,18 @@ def room(trial: Trial) -> None:
         trial.fails("no room", done)
         holds(f"{trial.name}, no room: a prefix", whole.stdout.startswith(done.stdout), done.stdout[-300:])
     if trial.name in ("bufr-extract", "bufr-parallel", "bufr-lacks"):
-        told = f"{trial.name}: no room in {trial.place}; set TMPDIR to another folder\n"
-        holds(f"{trial.name}: no room", done.stderr.decode() == told, done)
+        for folder in (str(trial.place), ""):
+            done = trial.run(input=octets, limits={resource.RLIMIT_FSIZE: 4096}, environment={"TMPDIR": folder})
+            told = f"{trial.name}: no room in {folder or '/tmp'}; set TMPDIR to another folder\n"
+            holds(f"{trial.name}: no room in {folder!r}", done.stderr.decode() == told, done)
+    if trial.name == "bufr-extract":
+        # `bufr ls` gets a part of the stream, and starts late or at once: the cut is no fault of the stream.
+        octets *= 20
+        for begin in (trial.words[:1], [*trial.words[:1], "-c", LATE.format(TOP / "scripts")]):
+            trial.words[:1] = begin
+            done = trial.run(input=octets, limits={resource.RLIMIT_FSIZE: 100_000})
+            trial.fails("room for a part", done, f"no room in {trial.place}; set TMPDIR to another folder")
+            holds("bufr-extract, room for a part: fault lines", b"offset" not in done.stderr, done.stderr)
 
 
 def shorter(trial: Trial) -> None:
@@ -256,6 +285,20 @@ def signals(trial: Trial) -> None:
         holds(f"{trial.name} at {name.name}", is_begun and (run.returncode, told) == (-name, b""), (run.returncode, told))
         started = pathlib.Path("/proc") / number.read_text().strip()
         holds(f"{trial.name} at {name.name}: what still runs", wait_until(lambda: not started.exists()))
+    number.unlink()
+    waiting = trial.program(f"echo $$ > {number}; while [ -e {number} ]; do sleep 0.05; done")
+    run = subprocess.Popen(
+        [*trial.words, SYNOP], stdout=subprocess.DEVNULL, stderr=subprocess.PIPE, env={**trial.environment, **waiting},
+        preexec_fn=lambda: signal.signal(signal.SIGHUP, signal.SIG_IGN),
+    )
+    wait_until(number.exists)
+    run.send_signal(signal.SIGHUP)
+    while run.poll() is None:
+        number.unlink(missing_ok=True)
+        time.sleep(0.05)
+    told = run.stderr.read()
+    run.stderr.close()
+    holds(f"{trial.name} at a SIGHUP that nohup ignores", (run.returncode, told) == (0, b""), (run.returncode, told))
     done = subprocess.run(
         [*trial.words, SYNOP], capture_output=True, env=trial.environment,
         preexec_fn=lambda: signal.signal(signal.SIGCHLD, signal.SIG_IGN),
@@ -376,11 +419,24 @@ def progress(trial: Trial) -> None:
         holds(f"{trial.name}: progress to a pipe", done.stderr == b"", done.stderr)
 
 
+def too_many_files() -> None:
+    """A temporary file for which there is no descriptor."""
+    code = "import bufr_guard, resource; resource.setrlimit(resource.RLIMIT_NOFILE, (3, 3)); "
+    words = [sys.executable, "-c", code + "bufr_guard.run(lambda _: bufr_guard.temporary(), '')"]
+    done = subprocess.run(words, cwd=TOP / "scripts", capture_output=True)
+    told = b"-c: too many open files; raise the limit (ulimit -n)\n"
+    holds("too many open files", (done.returncode, done.stderr) == (2, told), done)
+
+
 def main() -> None:
+    holds("a program for which no memory is enough", least_memory(["false"], 9) is None)
+    too_many_files()
     asked = sys.argv[2:] or [*SCRIPTS, *OTHERS]
     for name in asked:
         of_all = (descriptors, memory, room, shorter, killed, signals, tables, options, progress)
         for test in of_all if name in SCRIPTS else (options,):
+            if complaints:
+                break
             with tempfile.TemporaryDirectory() as place:
                 test(Trial(name, {**SCRIPTS, **OTHERS}[name], place))
     finish(complaints)

@@ -16,7 +16,8 @@ for set in wmo-38 wmo-39; do ln -s "../../../bufr/tables/$set" "$doc/tables"; do
     cd "$work/here"
     umask 077
     CDPATH=$work/other "$top/install.sh" --program "$bufr" --unproved prefix
-) > "$work/told" || fail "install.sh fails"
+) > "$work/told" 2> "$work/errors" || fail "install.sh fails: $(< "$work/errors")"
+[ ! -s "$work/errors" ] || fail "install.sh prints $(< "$work/errors")"
 [ ! -e "$older/wmo-38" ] && [ ! -e "$prefix/share/bufr/__pycache__" ] || fail "install.sh leaves files of an older version"
 [ -s "$older/own/B.csv" ] || fail "install.sh removes a set of the user's own"
 [ ! -L "$older/wmo-39/B.csv" ] && cmp "$older/wmo-39/B.csv" tables/wmo-39/B.csv || fail "another set wmo-39"

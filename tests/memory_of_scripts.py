@@ -67,6 +67,18 @@ def long():
         yield b"7777"
 
 
+def long_lists():
+    """80 messages with a list of 65,000 descriptors each."""
+    for number in range(80):
+        yield lib.asking(lib.message(b"", bytes([0x30, number]) * 65_000), 13, 1)
+
+
+def versions():
+    """Messages of 40 versions, each with a set of tables of its own."""
+    for version in range(1, 41):
+        yield lib.asking(lib.message(b"", lib.words("307080 063255")), version)
+
+
 def no_end():
     """A document that does not end."""
     yield b"message\n"
@@ -75,7 +87,9 @@ def no_end():
 
 
 # Each stream, with the status that a script gives and how many fault lines.
-STREAMS = {strays: (1, 300_000), messages: (0, 0), kinds: (1, 30_040), long: (0, 0)}
+STREAMS = {strays: (1, 300_000), messages: (0, 0), kinds: (1, 30_040), long: (0, 0), long_lists: (1, 80), versions: (1, 0)}
+# Streams that matter to one script.
+ONLY = {long_lists: "bufr-auto", versions: "bufr-lacks"}
 TEXTS = {no_end: (1, 1)}
 
 
@@ -92,6 +106,8 @@ def is_tried(name: str, stream) -> bool:
     option = "".join(name.split()[1:])
     if stream in TEXTS:
         return option == "--encode"
+    if stream in ONLY:
+        return name == ONLY[stream]
     return not option or (stream is long and option != "--encode")
 
 
@@ -128,6 +144,10 @@ def main() -> None:
         if not stated(name.split()[0])[0]:
             wrongs.append(f"{name} --help states no bound")
     with tempfile.TemporaryDirectory() as place:
+        sets = pathlib.Path(place) / "sets"
+        sets.mkdir()
+        for version in range(1, 41):
+            (sets / f"wmo-{version}").symlink_to(TOP / "tables/wmo-39")
         for stream in [*STREAMS, *TEXTS]:
             path, third = (pathlib.Path(place) / name for name in (stream.__name__, f"a third of {stream.__name__}"))
             # In pieces, since a child's measure begins with the memory of this process.
@@ -139,6 +159,7 @@ def main() -> None:
             for name in scripts:
                 if not is_tried(name, stream):
                     continue
+                os.environ["BUFR_TABLES"] = str(sets if stream is versions else TOP / "tables")
                 *told, kilobytes = measured(name, path)
                 if tuple(told) != wanted(name, stream):
                     wrongs.append(f"{name}, {path.name}: status and fault lines {told}, not {wanted(name, stream)}")

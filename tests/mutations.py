@@ -278,6 +278,43 @@ MUTATIONS = [
     ("scripts/bufr-plot", 'bufr_guard.Failed(f"cannot write {name}:', 'bufr_guard.Failed(f"cannot write {aside}:', "tests/pictures.py"),
     ("scripts/bufr-dask", "sorted(strays + faults)", "strays + faults", "tests/dask_table.py"),
     ("scripts/bufr-dask", "status |= bool(strays or faults)", "status |= bool(faults)", "tests/dask_table.py"),
+    ("scripts/bufr_auto.py", "        os.close(given)\n        self.errors", "        self.errors", "tests/bufr_auto.py"),
+    ("scripts/bufr_auto.py", "        feed.close()\n", "", "tests/bufr_auto.py"),
+    ("scripts/bufr_auto.py", "self.begin += octets[: 256 - len(self.begin)]", "self.begin = self.begin or octets[:256]", "tests/bufr_auto.py"),
+    ("scripts/bufr_auto.py", "number += held.count(b\"\\n\", 1, begin)", "pass", "tests/bufr_auto.py"),
+    ("scripts/bufr_auto.py", "if len(words) <= 7 * REMEMBERED:", "if True:", "tests/memory_of_scripts.py bufr-auto"),
+    ("scripts/bufr_auto.py", "bufr_guard.checked(bufr_guard.wait(process), False)", "bufr_guard.wait(process)", "tests/csv_command.py"),
+    ("scripts/bufr_text.py", "        elif sys.stderr is not None:\n", "        else:\n", "tests/python_module.py"),
+    ("scripts/bufr_text.py", "except (bufr_guard.Failed, OSError):", "except bufr_guard.Failed:", "tests/python_module.py"),
+    ("scripts/bufr_guard.py", "text or \"\")\n        stop()\n", "text or \"\")\n", "tests/parallel_dump.py"),
+    (
+        "scripts/bufr_guard.py",
+        "if number == signal.SIGPIPE or signal.getsignal(number) != signal.SIG_IGN:",
+        "if True:",
+        "tests/failures_of_scripts.py bufr-lacks",
+    ),
+    ("scripts/bufr_guard.py", "octet in b\"\\1\\3\\t\\n\\r\"", "octet in b\"\\t\\n\\r\"", "tests/bufr_auto.py"),
+    ("scripts/bufr_guard.py", "{shown(file or 'standard input')} has no", "{file or 'standard input'} has no", "tests/bufr_auto.py"),
+    (
+        "scripts/bufr_guard.py",
+        "os.environ.get(\"TMPDIR\") or \"/tmp\"",
+        "os.environ.get(\"TMPDIR\", \"/tmp\")",
+        "tests/failures_of_scripts.py bufr-lacks",
+    ),
+    ("scripts/bufr_guard.py", "if error.errno in (errno.EMFILE, errno.ENFILE):", "if False:", "tests/failures_of_scripts.py bufr-lacks"),
+    ("scripts/bufr_guard.py", "        write_all(2, os.fsencode(", "        Output(2).write(os.fsencode(", "tests/failures_of_scripts.py bufr-csv"),
+    ("scripts/bufr_guard.py", "\nBLOCK = 1 << 20", "\n BLOCK = 1 << 20", "tests/failures_of_scripts.py bufr-lacks"),
+    ("scripts/bufr_sets.py", "if len(cache) > CACHED:", "if False:", "tests/memory_of_scripts.py bufr-lacks"),
+    ("scripts/table.awk", "if (++name_count > 10000) {", "if (0) {", "tests/csv_by_awk.py"),
+    ("scripts/bufr-plot", "(bytes, type(None))) and not item.reference", "(bytes, type(None)))", "tests/pictures.py"),
+    ("scripts/bufr-extract", "            os.close(source)\n", "            pass\n", "tests/extract_messages.py"),
+    ("scripts/bufr-extract", "            bufr_guard.stop()  # or else", "            pass  # or else", "tests/failures_of_scripts.py bufr-extract"),
+    (
+        "scripts/bufr-extract",
+        "self.thread = threading.Thread(target=self.feed, daemon=True)",
+        "self.thread = threading.Thread(target=int)\n        threading.Thread(target=self.feed, daemon=True).start()",
+        "tests/failures_of_scripts.py bufr-extract",
+    ),
 ]
 
 
@@ -290,13 +327,14 @@ def copied(place: str) -> pathlib.Path:
 
 
 def told(top: pathlib.Path, test: str, program: str) -> tuple:
-    """Whether a test fails in a copy, and whether it skips something."""
+    """Whether a test fails in a copy, whether it skips something, and the last line that it prints."""
     script, *words = test.split()
     try:
         done = subprocess.run([top / script, program, *words], stdout=subprocess.PIPE, stderr=subprocess.STDOUT, timeout=900)
     except subprocess.TimeoutExpired:
-        return True, False
-    return done.returncode != 0, b"skipped" in done.stdout
+        return True, False, "no end in 900 s"
+    lines = done.stdout.decode(errors="replace").splitlines() or [""]
+    return done.returncode != 0, "skipped" in "".join(lines), lines[-1][:200]
 
 
 def told_of(top: pathlib.Path, mutation: tuple, program: str) -> tuple:
@@ -328,9 +366,9 @@ def main() -> None:
         wrongs += [f"{test} fails without a change" for test in tests if told(top, test, program)[0]]
         for mutation in asked:
             file, old, new, test = mutation
-            is_told, is_skipped = told_of(top, mutation, program)
+            is_told, is_skipped, last = told_of(top, mutation, program)
             if is_told:
-                print(f"mutations: told: {file}: {old!r}", flush=True)
+                print(f"mutations: told: {file}: {old!r}: {last}", flush=True)
             elif is_skipped:
                 print(f"mutations: skipped, as a part of {test} is: {file}: {old!r}", flush=True)
             else:

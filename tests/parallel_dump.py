@@ -13,6 +13,7 @@ import resource
 import subprocess
 import sys
 import tempfile
+import time
 
 import lib
 from lib import TABLES, TOP, want
@@ -139,6 +140,26 @@ def tells_what_fails(program: str, folder: pathlib.Path) -> None:
     )
 
 
+def leaves_no_process(program: str, folder: pathlib.Path) -> None:
+    """When a dump fails, those that still run end with the script."""
+    (folder / "lasting").write_text(
+        f'#!/bin/sh\n[ "$1" = ls ] && exec {program} ls\ncat > $$.part\n[ -s $$.part ] || exit 0\n'
+        "if grep -q FIRST $$.part; then until [ -e number ]; do sleep 0.02; done; exit 3; fi\n"
+        "echo $$ > begun; mv begun number; exec sleep 60\n"
+    )
+    (folder / "lasting").chmod(0o755)
+    (folder / "two.bufr").write_bytes(lib.message(b"FIRST" + bytes(70_000)) + lib.message(bytes(70_000)))
+    environment = {**os.environ, "BUFR": str(folder / "lasting")}
+    status, _, errors = run([*PARALLEL, "-P", "2", "dump", *TABLES, "two.bufr"], cwd=folder, env=environment, timeout=50)
+    told = b"bufr-parallel: bufr stopped with status 3; output is incomplete\n"
+    want((status, errors) == (2, told), f"a dump that fails ends with {status}: {errors}")
+    number = int((folder / "number").read_text())
+    end = time.monotonic() + 5
+    while os.path.exists(f"/proc/{number}") and time.monotonic() < end:
+        time.sleep(0.02)
+    want(not os.path.exists(f"/proc/{number}"), "a dump that still ran goes on")
+
+
 def runs_as_many_as_asked(program: str, folder: pathlib.Path) -> None:
     """Of three processes three run at once, and no more: each waits a second, and tells when it begins and ends."""
     (folder / "waiting").write_text(
@@ -192,6 +213,7 @@ def main() -> None:
     with tempfile.TemporaryDirectory() as place:
         same_as_one_run(program, pathlib.Path(place))
         tells_what_fails(program, pathlib.Path(place))
+        leaves_no_process(program, pathlib.Path(place))
         runs_as_many_as_asked(program, pathlib.Path(place))
         closes_what_it_opens(pathlib.Path(place))
         reads_each_octet_once(program, pathlib.Path(place))

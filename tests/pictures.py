@@ -61,6 +61,8 @@ def strange(python: str, folder: pathlib.Path) -> None:
     want(plain[1] == "", f"a map tells {plain[1]}")
     for longitude in ("370.25", "-349.75", "730.25"):
         want(draw(stations(3, longitude=longitude)) == plain, f"longitude {longitude} is not wrapped")
+    referred = stations(3).replace(b"\n005001 ", b"\nR 005001 -900\n005001 ")
+    want(draw(referred) == plain, "a reference value is taken for a latitude")
     want(draw(stations(3, longitude="180.0")) != draw(stations(3, longitude="-180.0")), "180 degrees are wrapped")
     for latitude, pole in (("91.5", "90.0"), ("-100.0", "-90.0")):
         told = (draw(stations(3, pole))[0], "bufr-plot: latitudes beyond a pole, drawn at the pole: 2\n")

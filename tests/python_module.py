@@ -355,9 +355,12 @@ class Tables(unittest.TestCase):
         with self.assertRaisesRegex(ValueError, "the header has no key 'place'; its keys are edition, master,"):
             bufr_text.rows([], [], ["place"])
         self.addCleanup(os.environ.pop, "BUFR_TABLES")
-        os.environ["BUFR_TABLES"] = "/nosuch"
-        with self.assertRaisesRegex(ValueError, "not 'AIR TEMPERATURE'$"):
-            bufr_text.rows([], ["AIR TEMPERATURE"])
+        with tempfile.TemporaryDirectory() as without_tables:
+            pathlib.Path(without_tables, "wmo-39").mkdir()
+            for place in ("/nosuch", without_tables):
+                os.environ["BUFR_TABLES"] = place
+                with self.assertRaisesRegex(ValueError, "not 'AIR TEMPERATURE'$"):
+                    bufr_text.rows([], ["AIR TEMPERATURE"])
 
     def test_levels_are_those_of_table_awk(self):
         texts = [(TOP / f"examples/{name}.txt").read_bytes() for name in ("sounding", "synop", "buoys")]
@@ -578,6 +581,12 @@ class Runs(unittest.TestCase):
             list(bufr_text.dump(TOP / "examples/synop.bufr", *TABLES))
             list(bufr_text.dump(self.stream, *TABLES, []))
 
+    def test_faults_are_not_printed_as_output_without_errors(self):
+        code = "import sys; sys.path.insert(0, sys.argv[1]); sys.stderr = None; import bufr_text\n"
+        code += "print(len(list(bufr_text.dump(*sys.argv[2:]))))"
+        done = run(sys.executable, "-c", code, TOP / "scripts", self.stream, *TABLES)
+        self.assertEqual((done.returncode, done.stdout, done.stderr), (0, b"9\n", b""))
+
     def test_notes_of_tables_are_warnings(self):
         text = (TOP / "examples/synop.txt").read_bytes().replace(b"masterversion 39", b"masterversion 45")
         later = bufr_text.encode(bufr_text.read(io.BytesIO(text)), *TABLES)
@@ -757,4 +766,4 @@ if __name__ == "__main__":
     os.environ["BUFR"] = lib.program()
     if not shutil.which("mypy"):
         print("python_module: its types are skipped, mypy is not installed")
-    unittest.main(argv=sys.argv[:1])
+    unittest.main(argv=sys.argv[:1], failfast=True)
