@@ -2,7 +2,7 @@
 """Makes rules of the definitions wrong, one at a time, and checks that an example, a vector, a test or a law fails.
 
     tests/bent_definitions.py [PROGRAM]                      try a sample of the entries
-    tests/bent_definitions.py --all                          try every entry, and fail if a comparison has none
+    tests/bent_definitions.py --all [PROGRAM]                try every entry, and fail if a comparison has none
     tests/bent_definitions.py --crate NAME | --only WORD     try the entries of a crate, or those that contain WORD
     tests/bent_definitions.py --list [--crate NAME]          try nothing, and list each comparison with its entries
 
@@ -442,6 +442,7 @@ def judge_alone(room: pathlib.Path, entry: Entry, known: dict) -> str:
 # ---------------------------------------------------------------- the run
 
 SAMPLE = 30  # entries of each crate
+RUNNER = TOP / "tests/vectors/run.py"
 CONTROLS = "controls", "bufr_tables"  # the list whose entries state their verdicts, and the crate that it changes
 
 
@@ -467,14 +468,15 @@ def chosen(asked: argparse.Namespace, entries: list) -> list:
     return entries if asked.all or asked.crate or asked.only else sampled(entries)
 
 
-def judge(entries: list, jobs: int) -> dict:
-    """The verdict on each entry."""
+def judge(entries: list, jobs: int, program: str | None) -> dict:
+    """The verdict on each entry. The program, if one is named, shows which vectors pass without a change."""
     verdicts, by_crate = {}, collections.defaultdict(list)
     for entry in entries:
         if entry.kind == "example":
             by_crate[entry.of].append(entry)
     with tempfile.TemporaryDirectory(prefix="bent-definitions-") as place, ThreadPoolExecutor(jobs) as pool:
-        room, known = pathlib.Path(place), {}
+        room, named = pathlib.Path(place), {(entry.kind, entry.of, entry.name) for entry in entries if entry.kind == "vector"}
+        known = {vector: "yes" for vector in named if program and run([RUNNER, "--only", vector[2], program], TOP)[0] == 0}
         checks = [pool.submit(judge_examples, room, crate, of) for crate, of in by_crate.items()]
         others = {entry: pool.submit(judge_alone, room, entry, known) for entry in entries if entry.kind != "example"}
         try:
@@ -495,7 +497,7 @@ def main() -> None:
     asker.add_argument("--only", metavar="WORD", help="try the entries whose text has WORD")
     asker.add_argument("--list", action="store_true", help="list what needs an entry, and try none")
     asker.add_argument("--jobs", type=int, default=2, choices=(1, 2), help="how many checks at a time")
-    asker.add_argument("program", nargs="?", help="is not used: definitions are checked, not the program")
+    asker.add_argument("program", nargs="?", help="answers the vectors without a change, which saves a trial build each")
     asked = asker.parse_args()
     if asked.crate and asked.crate not in crates():
         asker.error(f"crates.txt has no {asked.crate}")
@@ -520,7 +522,7 @@ def main() -> None:
     start = time.monotonic()
     signal.signal(signal.SIGTERM, lambda number, _: sys.exit(128 + number))
     try:
-        verdicts = judge(tried, asked.jobs)
+        verdicts = judge(tried, asked.jobs, asked.program and os.path.abspath(asked.program))
     except (Bad, OSError) as wrong:
         finish([*wrongs, f"no verdict: {wrong}"])
     except KeyboardInterrupt:
