@@ -153,10 +153,14 @@ adds (Filling subset) (Begins next) = true
 adds (Filling subset) Closes = true
 adds state line = false
 
+-- the most octets of a line, without its line feed
+abbrev pub max_line : ℕ
+max_line = 4096
+
 -- what a line says, which has at most 4,096 octets
 -- rule: reading-longest-line
 abbrev pub read_line : List ℕ → Line
-read_line line = if nat_lt 4096 (length line) then Wrong else line_of line
+read_line line = if nat_lt max_line (length line) then Wrong else line_of line
 
 -- where the reading is after a line
 abbrev pub parsing_after : Turn → Parsing
@@ -203,7 +207,7 @@ documents_of text = parse_lines 1 between (lines_of text)
 unfoldable pub parse_open_lines : (at : ℕ) → Parsing → List (List ℕ) → (rest : List ℕ)
     → List ParseResult
 parse_open_lines at p [] rest =
-    if nat_lt 4096 (length rest) then reported_at at (turn at p Wrong) else []
+    if nat_lt max_line (length rest) then reported_at at (turn at p Wrong) else []
 parse_open_lines at p (line ∷ more) rest =
     let here = turn at p (read_line line) in reported_at at here
     ++ parse_open_lines (at + 1) (parsing_after here) more rest
