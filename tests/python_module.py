@@ -535,7 +535,7 @@ class Runs(unittest.TestCase):
                     call([land], ["012101"], **given)
 
     def test_messages_left_out_by_their_year_are_warned_of(self):
-        with self.assertWarnsRegex(bufr_text.DumpWarning, f"^{self.stream}: left out 1 edition 3 .* time=2006,0006 takes"):
+        with self.assertWarnsRegex(bufr_text.DumpWarning, f"^{self.stream}: left out 1 edition 3 .* time=2006,0006 selects"):
             self.assertEqual(list(bufr_text.dump(self.stream, *TABLES, [], where=["time=2006"])), [])
         [one] = bufr_text.dump(self.stream, *TABLES, [], where=["time=2006,0006"])
         self.assertEqual((one.header["edition"], one.header["year"]), (3, 6))
