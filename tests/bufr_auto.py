@@ -523,7 +523,7 @@ class Trial:
                 self.holds(f"{what}: what is left", not list(temporary.iterdir()), list(temporary.iterdir()))
                 if program != self.program:
                     started = int((self.place / "number").read_text())
-                    has_gone = self.wait(lambda: not pathlib.Path(f"/proc/{started}").exists())
+                    has_gone = self.wait(lambda: not lib.runs(started))
                     self.holds(f"{what}: what still runs", has_gone)
         self.auto(stream=made(39, LISTS[1], b"\1\1\0"))
         self.holds("the end: what is left", not list(temporary.iterdir()), list(temporary.iterdir()))
