@@ -24,9 +24,12 @@ archive=$(echo "$work"/first/*.tar.gz)
 
 # A change that was not committed is not released.
 echo changed >> "$work/one/README.md"
+echo '# changed' >> "$work/one/scripts/bufr_text.py"
 "$work/one/release.sh" --unproved "$bufr" "$work/third" > "$work/told" 2> "$work/errors"
 grep -q 'uncommitted changes' "$work/errors" || fail "release.sh does not say that it leaves changes out"
-cmp "$archive" "$work/third/${archive##*/}" || fail "an uncommitted change is in the release"
+for file in "$work"/first/*; do
+    cmp "$file" "$work/third/${file##*/}" || fail "an uncommitted change is in the release"
+done
 
 # A damaged archive is not installed.
 mkdir "$work/damaged"
