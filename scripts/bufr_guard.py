@@ -34,14 +34,18 @@ import time
 TYPE_CHECKING = False
 if TYPE_CHECKING:
     import signal
+    from functools import partial
     from types import FrameType, TracebackType
-    from typing import Any, BinaryIO, Callable, Dict, Iterable, Iterator, List, NoReturn, Optional, Sequence, Type, Union
+    from typing import Any, BinaryIO, Callable, Dict, Iterator, List, NoReturn, Optional, Sequence, Type, Union
 else:
-    import _signal as signal  # Python's own module loads enumerations, which take longer than everything else here
+    # Python's own modules load enumerations and collections, which take longer than everything else here.
+    import _signal as signal
+    from _functools import partial
 
 BLOCK = 1 << 20
 NOWHERE = float("inf")
-RUNNING: set[int] = set()
+# The process of each program that was started and not waited for.
+RUNNING: list[list[int]] = []
 # How files without a message begin, and what they are.
 KINDS_OF_FILES = {
     b"\x1f\x8b": "gzip data (zcat)",
@@ -341,33 +345,23 @@ def is_program(path: str) -> bool:
 
 def start(words: Sequence[str], given: int = 0, output: int = 1, errors: int = 2) -> int:
     """Starts a program with these descriptors, and returns its process."""
-    ending = (signal.SIGINT, signal.SIGTERM, signal.SIGHUP, signal.SIGPIPE)
-    # Signals are delivered once the process is known.
-    before = signal.pthread_sigmask(signal.SIG_BLOCK, ending)
+    actions = [(os.POSIX_SPAWN_DUP2, source, target) for target, source in enumerate((given, output, errors))]
+    spawn = partial(os.posix_spawnp, file_actions=actions, setsigdef=[signal.SIGPIPE])
+    process: List[int] = []
+    RUNNING.append(process)
     try:
-        process = spawned(words, (given, output, errors), before)
-        RUNNING.add(process)
-    finally:
-        signal.pthread_sigmask(signal.SIG_SETMASK, before)
-    return process
-
-
-def spawned(words: Sequence[str], descriptors: Sequence[int], mask: Iterable[int]) -> int:
-    """A new process with these descriptors as 0, 1 and 2."""
-    actions = [(os.POSIX_SPAWN_DUP2, source, target) for target, source in enumerate(descriptors)]
-    try:
-        return os.posix_spawnp(
-            words[0], list(words), os.environ, file_actions=actions, setsigmask=mask, setsigdef=[signal.SIGPIPE]
-        )
+        # A single call of C starts the program and records it, so no signal handler runs between the two.
+        process.extend(map(spawn, [words[0]], [list(words)], [os.environ]))
     except OSError as error:
         advice = "; install bufr, or set BUFR to its path" if words[0] == program() else ""
         raise Failed(f"cannot run {words[0]}: {error.strerror}{advice}") from None
+    return process[0]
 
 
 def wait(process: int) -> int:
     """Waits for a program, and returns its status as a shell does."""
     os.waitid(os.P_PID, process, os.WEXITED | os.WNOWAIT)
-    RUNNING.discard(process)
+    RUNNING.remove([process])
     status = os.waitstatus_to_exitcode(os.waitpid(process, 0)[1])
     return status if status >= 0 else 128 - status
 
@@ -402,7 +396,7 @@ def checked(status: int, has_told: bool = True, what: str = "bufr") -> int:
 
 def stop() -> None:
     """Kills the programs that still run."""
-    for process in list(RUNNING):
+    for process in sum(RUNNING, []):
         try:
             os.kill(process, signal.SIGKILL)
         except OSError:
@@ -411,10 +405,10 @@ def stop() -> None:
 
 def leave(number: int, _frame: Optional[FrameType]) -> None:
     """Kills the programs that still run, and then ends this script by that signal."""
+    signal.signal(signal.SIGUSR1, signal.SIG_IGN)  # by which bufr-csv reports that its awk has ended
     stop()
     Progress.clear()
     signal.signal(number, signal.SIG_DFL)
-    signal.pthread_sigmask(signal.SIG_UNBLOCK, [number])  # otherwise it ends the script after the next start
     os.kill(os.getpid(), number)
 
 

@@ -186,6 +186,11 @@ class Trial:
         text = self.auto(stream=made(39, LISTS[0], b"\1\1")).stdout.replace(b"masterversion 39", b"masterversion 41")
         done = self.auto("--encode", stream=b"\n\n" + text)
         self.same("a note", (done.stdout[21:22], done.stderr, done.returncode), (b"\x29", note.replace(b"3", b"1", 1), 0))
+        # A line may have 4,096 bytes, and a document begins behind a comment of that length.
+        one = made(39, LISTS[1], b"\1\1\0")
+        for length, wanted in ((4096, (one, b"", 0)), (4097, (b"", b"line 1: 50 line\n", 1))):
+            done = self.in_pieces(b"#".ljust(length, b"x") + b"\n" + self.one_by_one(one)[0], "--encode")
+            self.same(f"a comment of {length} bytes", (done.stdout, done.stderr, done.returncode), wanted)
         text = b"# A comment before a document.\n" * 200_000 + b"\nmessage\nedition 4\nnonsense\n"
         done = self.auto("--encode", stream=text)
         self.same("many comments", (done.stdout, done.stderr, done.returncode), (b"", b"line 200004: 50 line\n", 1))
@@ -523,7 +528,7 @@ class Trial:
                 self.holds(f"{what}: what is left", not list(temporary.iterdir()), list(temporary.iterdir()))
                 if program != self.program:
                     started = int((self.place / "number").read_text())
-                    has_gone = self.wait(lambda: not pathlib.Path(f"/proc/{started}").exists())
+                    has_gone = self.wait(lambda: not lib.runs(started))
                     self.holds(f"{what}: what still runs", has_gone)
         self.auto(stream=made(39, LISTS[1], b"\1\1\0"))
         self.holds("the end: what is left", not list(temporary.iterdir()), list(temporary.iterdir()))

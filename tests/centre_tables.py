@@ -8,6 +8,7 @@ become a set too.
 """
 import os
 import pathlib
+import re
 import shutil
 import subprocess
 import sys
@@ -93,6 +94,22 @@ def of_definitions(place: pathlib.Path, script, holds) -> None:
         unknown = script("bufr-lacks", made(17, 5, 7, "063254", b"\3"))[2]
         holds("a set without a row", unknown, "bufr-lacks: wmo-17+7-5; it lacks some rows: ask centre 7 for its tables\n")
         shutil.rmtree(place / "tables/wmo-17+7-5")
+
+
+def in_packages(holds) -> None:
+    """Which sets Debian's packages of public tables have, if they are installed."""
+    sys.path.insert(0, str(TOP / "scripts"))
+    import bufr_sets
+
+    local = pathlib.Path(bufr_sets.ECCODES, "bufr/tables/0/local")
+    found = [re.fullmatch(r"(\d+)/(\d+)/0", str(path.relative_to(local))) for path in local.glob("*/*/0")]
+    if found:
+        holds("centres of ecCodes", {(int(one[2]), int(one[1])) for one in found if one}, bufr_sets.ECCODES_HAS)
+    names = [path.name for path in pathlib.Path(bufr_sets.WREPORT).glob("B*.txt")]
+    numbers = [re.fullmatch(r"B0{8}(\d{5})(\d{3})(\d{3})\.txt", name) for name in names]
+    if numbers:
+        sets = {(int(one[2]), int(one[1]), int(one[3])) for one in numbers if one}
+        holds("centres of wreport", {one for one in sets if one[1:] != (0, 0)}, bufr_sets.WREPORT_HAS)
 
 
 def versions_and_editions(script, holds) -> None:
@@ -219,6 +236,7 @@ def main() -> None:
             holds(f"{name} from octet 4 on", told, (1, output, errors))
         nearest_own_set(place / "tables", script, message_9, holds)
         versions_and_editions(script, holds)
+        in_packages(holds)
         limits(script, holds)
         # A byte order mark, which `bufr` skips too.
         for name in ("B.csv", "D.csv"):

@@ -450,6 +450,13 @@ def failures(folder: pathlib.Path) -> None:
     holds("bufr ls is killed", (done.returncode, done.stderr) == (2, told), done)
     done = run("-c", "001015", SYNOP, environment={"BUFR": "/nosuch/bufr"})
     holds("there is no bufr", done.returncode == 2 and b"cannot run /nosuch/bufr" in done.stderr, done)
+    for word in ("", " "):
+        done = run("-c", "001015", SYNOP, environment={"AWK": word})
+        holds(f"AWK={word!r}", (done.returncode, done.stdout.count(b"\n")) == (0, 4), done)
+    (folder / "empty/wmo-39").mkdir(parents=True)
+    done = run("-c", "AIR TEMPERATURE", SYNOP, environment={"BUFR_TABLES": str(folder / "empty")})
+    told = f"bufr-csv: {folder}/empty/wmo-39/B.csv: No such file or directory\n".encode()
+    holds("there is no table", (done.returncode, done.stderr) == (2, told), done)
     done = run("-c", "AIR TEMPERATURE", SYNOP, environment={"BUFR_TABLES": "/nosuch"})
     holds("there are no tables", done.returncode == 2 and b"/nosuch" in done.stderr, done)
     done = run("-c", "012101,012104", SYNOP, stderr=open("/dev/full", "wb"))

@@ -64,6 +64,7 @@ REFUSED = [
     (["--awk", ";\n# one\n\n  # other\n"], "--awk needs a condition that is not empty"),
     (["--awk"], "--awk needs a value"),
     (["--max-length", "11"], "--max-length '11': expected a whole number, at least 12"),
+    (["--max-length", "1" * 19], f"--max-length '{'1' * 19}': expected a whole number, at least 12"),
     (["--all"], "unknown option --all"),
     (["one", "two"], "expected one file; to read several, use cat one two | bufr-extract"),
     (["nosuch"], "cannot open nosuch"),
@@ -154,6 +155,13 @@ def refuses_what_it_cannot(path: pathlib.Path) -> None:
     done = run(["--help"])
     want(done.returncode == 0 and b"system()" in done.stdout, "--help does not say that a condition is a program")
     want(run([path, "category=9"]).returncode == 0, "no message to take is a fault")
+
+
+    path.with_name("time").write_bytes(made(1))
+    want(run(["time"], cwd=path.parent).stdout == made(1), "a file with the name of a key is not read")
+    path.with_name("time").unlink()
+    words = ["--max-length", "12", "--max-length", str(len(made(1))), path.name]
+    want(run(words, cwd=path.parent).stdout == made(1), "the last of two options does not count")
 
 
 def tells_years_of_the_century(folder: pathlib.Path) -> None:

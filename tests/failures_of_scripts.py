@@ -127,8 +127,8 @@ LATE = """
 import runpy, sys, time
 sys.path[0], sys.argv = "{}", sys.argv[1:]
 import bufr_guard
-spawned = bufr_guard.spawned
-bufr_guard.spawned = lambda *words: time.sleep(0.3) or spawned(*words)
+start = bufr_guard.start
+bufr_guard.start = lambda *words: time.sleep(0.3) or start(*words)
 runpy.run_path(sys.argv[0], run_name="__main__")
 """
 
@@ -257,20 +257,28 @@ def killed(trial: Trial) -> None:
     whole, trial.words[1] = trial.run([SYNOP]).stdout, str(trial.place / "bin" / trial.name)
     done = trial.run([SYNOP], environment={"BUFR": "", "BUFR_TABLES": str(TOP / "tables"), "PATH": path})
     holds(f"{trial.name} beside a folder", done.stdout == whole and done.returncode == 0, done)
+    # The one on the path comes before the one that the repository built, which is better than none.
+    built = trial.place / "crates/bufr/out/bufr"
+    built.parent.mkdir(parents=True)
+    built.write_text(f"#!/bin/sh\nexec {trial.place}/third/bufr \"$@\"\n")
+    built.chmod(0o755)
+    elsewhere = {"BUFR": "", "BUFR_TABLES": str(TOP / "tables"), "PATH": "/usr/bin:/bin"}
+    if not shutil.which("bufr", path="/usr/bin:/bin"):
+        done = trial.run([SYNOP], environment=elsewhere)
+        holds(f"{trial.name} in a repository", done.stdout == whole and done.returncode == 0, done)
+    built.write_text("#!/bin/sh\nexit 3\n")
+    done = trial.run([SYNOP], environment={**elsewhere, "PATH": path})
+    holds(f"{trial.name} beside a repository", done.stdout == whole and done.returncode == 0, done)
 
 
 def signals(trial: Trial) -> None:
     """A signal ends a script and what it runs. A reader that has gone is a failed write, or ends it quietly."""
-    # Python ignores SIGPIPE, and what it runs must not.
+    # Python ignores SIGPIPE, and what it runs must not. Nor are other signals put off there.
     ignored = trial.place / "ignored"
-    trial.run([SYNOP], environment=trial.program(f"grep SigIgn /proc/$$/status > {ignored}"))
-    is_ignored = int(ignored.read_text().split()[1], 16) >> (signal.SIGPIPE - 1) & 1
-    holds(f"{trial.name}: SIGPIPE in what it runs", not is_ignored, ignored.read_text())
-    # A signal that comes while signals are put off ends the script at once, before it starts a program.
-    code = "import signal; import bufr_guard; signal.pthread_sigmask(signal.SIG_BLOCK, [signal.SIGTERM]);"
-    words = [sys.executable, "-c", f"{code} bufr_guard.leave(signal.SIGTERM, None); print('goes on')"]
-    done = subprocess.run(words, cwd=TOP / "scripts", stdout=subprocess.PIPE)
-    holds("a signal that is put off", (done.returncode, done.stdout) == (-signal.SIGTERM, b""), done)
+    lines = 'while read -r line; do case $line in SigIgn* | SigBlk*) echo "$line" ;; esac; done < /proc/$$/status'
+    trial.run([SYNOP], environment=trial.program(f"{lines} > {ignored}.$$; mv {ignored}.$$ {ignored}"))
+    masks = [int(line.split()[1], 16) >> (signal.SIGPIPE - 1) & 1 for line in ignored.read_text().splitlines()]
+    holds(f"{trial.name}: SIGPIPE in what it runs", masks == [0, 0], ignored.read_text())
     number = trial.place / "number"
     slow = trial.program(f"echo $$ > {number}.1; mv {number}.1 {number}; exec sleep 60")
     for name in (signal.SIGINT, signal.SIGTERM, signal.SIGHUP):
@@ -283,8 +291,8 @@ def signals(trial: Trial) -> None:
         run.send_signal(name)
         _, told = run.communicate(timeout=60)
         holds(f"{trial.name} at {name.name}", is_begun and (run.returncode, told) == (-name, b""), (run.returncode, told))
-        started = pathlib.Path("/proc") / number.read_text().strip()
-        holds(f"{trial.name} at {name.name}: what still runs", wait_until(lambda: not started.exists()))
+        started = int(number.read_text())
+        holds(f"{trial.name} at {name.name}: what still runs", wait_until(lambda: not lib.runs(started)))
     number.unlink()
     waiting = trial.program(f"echo $$ > {number}; while [ -e {number} ]; do sleep 0.05; done")
     run = subprocess.Popen(
@@ -374,6 +382,15 @@ def options(trial: Trial) -> None:
     trial.words[2] = trial.words[2].replace("import bufr_guard", "import bufr_guard\nsys.version_info = 3, 8, 18")
     trial.fails("an old Python", trial.run(["--version"]), f"{trial.name}: Python 3.9 or later is needed")
     trial.words = kept
+    installed = trial.place / "installed/share"
+    shutil.copytree(TOP / "scripts", installed / "bufr")
+    (installed / "doc/bufr").mkdir(parents=True)
+    trial.words = [kept[0], str(installed / "bufr" / trial.name)]
+    for octets in (b"", b"nonsense\n", b"program: 0\n", b"\xff\n", b"program: 0\ncommit: 1\nproof: proved\n"):
+        (installed / "doc/bufr/BUILD").write_bytes(octets)
+        done = trial.run(["--version"])
+        holds(f"{trial.name} by a BUILD {octets}", done.stdout.endswith(b", unknown build\n") and not done.returncode, done)
+    trial.words = kept
     done = trial.run(["--nonsense"])
     holds(f"{trial.name} --nonsense", done.returncode == 2 and b"\n" == done.stderr[-1:], done)
     if trial.name == "bufr-dask":
@@ -411,26 +428,47 @@ def progress(trial: Trial) -> None:
             told += octets
     os.close(main)
     seconds, status = time.monotonic() - begin, run.wait()
-    lines = told.count(b" MB")
+    lines = told.count(b" of 12 MB")
     holds(f"{trial.name}: progress", status == 0 and 1 <= lines <= seconds + 1, (status, told, seconds))
     holds(f"{trial.name}: progress that stays", told.endswith(b"\r\x1b[K") and b"\n" not in told, told)
     if trial.name == "bufr-lacks":
         done = trial.run([trial.place / "long"], environment=slow)
         holds(f"{trial.name}: progress to a pipe", done.stderr == b"", done.stderr)
+    if trial.name == "bufr-extract":  # whose output comes from messages, as a terminal shows
+        main, terminal = pty.openpty()
+        subprocess.run([*words, "category=9"], stdout=terminal, stderr=terminal, env={**trial.environment, **slow})
+        os.close(terminal)
+        with contextlib.suppress(OSError):
+            told = os.read(main, 4096)
+            holds("progress beside an output on the same terminal", False, told)
+        os.close(main)
 
 
-def too_many_files() -> None:
-    """A temporary file for which there is no descriptor."""
-    code = "import bufr_guard, resource; resource.setrlimit(resource.RLIMIT_NOFILE, (3, 3)); "
-    words = [sys.executable, "-c", code + "bufr_guard.run(lambda _: bufr_guard.temporary(), '')"]
-    done = subprocess.run(words, cwd=TOP / "scripts", capture_output=True)
-    told = b"-c: too many open files; raise the limit (ulimit -n)\n"
-    holds("too many open files", (done.returncode, done.stderr) == (2, told), done)
+def guard() -> None:
+    """How a script ends that raises something, in its work or before it."""
+    few = "import resource; resource.setrlimit(resource.RLIMIT_NOFILE, (3, 3)); "
+    full = "import tempfile\ndef full(): raise OSError(28, 'No space left on device')\ntempfile.TemporaryFile = full; "
+    work = "bufr_guard.run(lambda _: {}, '')"
+    for code, status, told in (
+        (few + work.format("bufr_guard.temporary()"), 2, "too many open files; raise the limit (ulimit -n)"),
+        (full + work.format("bufr_guard.temporary()"), 2, "cannot make a temporary file: No space left on device; set TMPDIR to another folder"),
+        (work.format("1 // 0"), 2, "internal error: ZeroDivisionError: integer division or modulo by zero (<string>, line 1)"),
+        (work.format("open('/nosuch')"), 2, "/nosuch: No such file or directory"),
+        (work.format("0") + "; print('more')", 0, ""),
+        ("sys.excepthook = bufr_guard.hook; raise KeyboardInterrupt", -signal.SIGINT, ""),
+        ("sys.excepthook = bufr_guard.hook; raise MemoryError", 2, "out of memory"),
+        ("sys.excepthook = bufr_guard.hook; import nosuch", 2, "nosuch is not installed for this Python (Debian: apt-get install python3-nosuch)"),
+    ):
+        words, environment = [sys.executable, "-c", "import bufr_guard, sys; " + code], {**os.environ, "TMPDIR": "/nosuch"}
+        environment = os.environ if code.startswith(few) else environment
+        done = subprocess.run(words, cwd=TOP / "scripts", capture_output=True, env=environment)
+        wanted = (status, b"", f"-c: {told}\n".encode() if told else b"")
+        holds(f"{code}", (done.returncode, done.stdout, done.stderr) == wanted, done)
 
 
 def main() -> None:
     holds("a program for which no memory is enough", least_memory(["false"], 9) is None)
-    too_many_files()
+    guard()
     asked = sys.argv[2:] or [*SCRIPTS, *OTHERS]
     for name in asked:
         of_all = (descriptors, memory, room, shorter, killed, signals, tables, options, progress)

@@ -46,6 +46,14 @@ def seconds_of(words: list, **streams) -> float:
     return usage.ru_utime + usage.ru_stime
 
 
+def runs(process: int) -> bool:
+    """Whether a process runs. One that has ended is there until its parent has waited for it."""
+    try:
+        return pathlib.Path(f"/proc/{process}/stat").read_text().rpartition(") ")[2][:1] != "Z"
+    except OSError:
+        return False
+
+
 # Section 1 of each edition, with one octet for local use in edition 3.
 SECTION_1 = {
     3: bytes.fromhex("000012000062000000000E00180102030400"),

@@ -116,7 +116,7 @@ MUTATIONS = [
     ("scripts/bufr_auto.py", " and length <= self.longest:", ":", "tests/bufr_auto.py"),
     ("scripts/bufr_auto.py", "if not fault and begin not in refused:", "if not fault:", "tests/bufr_auto.py"),
     ("scripts/bufr_guard.py", "setsigdef=[signal.SIGPIPE]", "setsigdef=[]", "tests/failures_of_scripts.py bufr-extract"),
-    ("scripts/bufr_guard.py", "signal.pthread_sigmask(signal.SIG_UNBLOCK, [number])", "pass", "tests/failures_of_scripts.py bufr-lacks"),
+    ("scripts/bufr_guard.py", "    RUNNING.append(process)\n", "", "tests/failures_of_scripts.py bufr-csv"),
     ("scripts/bufr_guard.py", "os.path.isfile(path) and", "", "tests/failures_of_scripts.py bufr-lacks"),
     ("scripts/bufr_guard.py", "begin.lstrip()", "begin", "tests/bufr_auto.py"),
     ("scripts/bufr_options.py", "elif word in ANSWERS:", "elif word in ANSWERS and word == words[0]:", "tests/bufr_auto.py"),

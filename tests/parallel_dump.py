@@ -155,9 +155,9 @@ def leaves_no_process(program: str, folder: pathlib.Path) -> None:
     want((status, errors) == (2, told), f"a dump that fails ends with {status}: {errors}")
     number = int((folder / "number").read_text())
     end = time.monotonic() + 5
-    while os.path.exists(f"/proc/{number}") and time.monotonic() < end:
+    while lib.runs(number) and time.monotonic() < end:
         time.sleep(0.02)
-    want(not os.path.exists(f"/proc/{number}"), "a dump that still ran goes on")
+    want(not lib.runs(number), "a dump that still ran goes on")
 
 
 def runs_as_many_as_asked(program: str, folder: pathlib.Path) -> None:

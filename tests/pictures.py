@@ -72,6 +72,15 @@ def strange(python: str, folder: pathlib.Path) -> None:
         ticks = re.findall(r">(\u2212?\d+)</text>", drawn)
         edges = [float(tick.replace("\u2212", "-")) for tick in ticks]
         want(ticks and (min(edges), max(edges)) == (-150, 150), f"the map of the world has {ticks}")
+    # Two levels at 0 degrees Celsius: the axis of temperatures is the same on both sides of 0.
+    head = stations(1).partition(b"subset 1\n")[0]
+    level = b"007004 %d00\n012101 273.15\n"
+    (folder / "text").write_bytes(head + b"subset 1\n" + level % 1000 + level % 500 + b"end\n")
+    done = run(python, ["sounding", folder / "picture.svg", folder / "text"], cwd=folder, env=environment)
+    want(done.returncode == 0, f"two levels end with {done.returncode}: {done.stderr}")
+    ticks = re.findall(r">(\u2212?0\.\d+)</text>", (folder / "picture.svg").read_text(encoding="utf-8"))
+    values = sorted(float(tick.replace("\u2212", "-")) for tick in ticks)
+    want(len(values) > 2 and values == [-value for value in reversed(values)], f"0 degrees Celsius have {ticks}")
     want("281.5" in draw(stations(100), "--value", "012101")[0], "100 values have no labels")
     drawn, told = draw(stations(101), "--value", "012101")
     want("281.5" not in drawn, "101 values have labels")
@@ -157,7 +166,7 @@ def draws(python: str, program: str, folder: pathlib.Path) -> None:
         (["map"], "synop", ["3 places"]),
         (["map", "--value", "012101"], "buoys", ["8 places", "281.85", "287.35"]),
         (["map", "--value", "001015"], "synop", ["SODANKYLA", "HEATHROW", "SAENTIS"]),
-        (["sounding"], "sounding", ["temperature", "dew point", "2023-03-14 23:31"]),
+        (["sounding"], "sounding", ["temperature", "dew point", "2023-03-14 23:31", ">850</text>", ">30</text>"]),
         (["sounding", "--message", "1", "--subset", "1"], "sounding", ["pressure"]),
     ]:
         # an SVG whose letters are text can be looked into

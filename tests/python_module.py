@@ -361,6 +361,16 @@ class Tables(unittest.TestCase):
                 os.environ["BUFR_TABLES"] = place
                 with self.assertRaisesRegex(ValueError, "not 'AIR TEMPERATURE'$"):
                     bufr_text.rows([], ["AIR TEMPERATURE"])
+            # Rows that are too short count as none, and so does a table with another header.
+            table = pathlib.Path(without_tables, "wmo-39/B.csv")
+            for text, told in (
+                ("fxy,name,unit\nshort\n012101,AIR TEMPERATURE,K\n", "; in Table B it is in the names of 012101"),
+                ("fxy,unit\n012101,K\n", ""),
+                ("", ""),
+            ):
+                table.write_text(text)
+                with self.assertRaisesRegex(ValueError, f"not 'AIR TEMPERATURE'{told}$"):
+                    bufr_text.rows([], ["AIR TEMPERATURE"])
 
     def test_levels_are_those_of_table_awk(self):
         texts = [(TOP / f"examples/{name}.txt").read_bytes() for name in ("sounding", "synop", "buoys")]
