@@ -4,41 +4,47 @@
 #     ./release.sh [DIST]                         proves everything from scratch first, which takes hours
 #     ./release.sh --unproved PROGRAM [DIST]      packs this program; its BUILD says that it is unproved
 #
-# The files go to DIST, by default the folder dist. A commit gives the same bytes on every run, in every folder.
-# Uncommitted changes are left out.
+# The files go to DIST, by default the folder dist. If a step fails, DIST stays as it was. A commit gives the same bytes
+# on every run, in every folder, for every user. Uncommitted changes are left out.
 set -eu -o pipefail
 export LC_ALL=C
-umask 022
 
 die() {
     echo "$0: $1" >&2
-    exit 1
+    exit "${2:-1}"
 }
+usage() { die 'usage: release.sh [--unproved PROGRAM] [DIST]' 2; }
+sum_of() { sha256sum < "$1" | cut -c 1-64; }
 
 program='' proof=proved
 if [ "${1-}" = --unproved ]; then
-    [ $# -gt 1 ] || die "usage: $0 [--unproved PROGRAM] [DIST]"
+    [ $# -gt 1 ] || usage
     program=$(realpath -e "$2") proof=unproved
     shift 2
 fi
-case ${1-} in -*) die "usage: $0 [--unproved PROGRAM] [DIST]" ;; esac
+case $#${1-} in 0 | 1[!-]*) ;; *) usage ;; esac
 dist=$(realpath -m "${1:-$(dirname "$0")/dist}")
 cd "$(dirname "$0")"
-commit=$(git rev-parse HEAD)
+commit=$(git rev-parse HEAD) || die 'a release is made in a clone of the repository'
 [ -z "$(git status --porcelain)" ] || echo "$0: uncommitted changes are not part of the release" >&2
 
-work=$(mktemp -d)
-trap 'rm -rf "$work"' EXIT
-git clone -q . "$work/clone"
+# Everything is made in a folder inside DIST, so that the last step only renames files.
+mkdir -p "$dist"
+work=$(mktemp -d "$dist/.unfinished.XXXXXX") is_made=''
+trap 'rm -rf "$work"; [ -n "$is_made" ] || echo "$0: no release was made" >&2' EXIT
+git clone -q --no-checkout . "$work/clone"
 cd "$work/clone"
+# The user's settings could change line ends and modes.
+export GIT_CONFIG_GLOBAL=/dev/null GIT_CONFIG_SYSTEM=/dev/null
 git checkout -q --detach "$commit"
 
-sum_of() { sha256sum < "$1" | cut -c 1-64; }
-
+logic=$(sed -n 's/.*`logic \([0-9a-f]\{16\}\)`.*/\1/p' README.md | head -n 1)
 gate='not run' sources=unknown
 if [ $proof = proved ]; then
     program=crates/bufr/out/bufr
-    rt ci --anew 2>&1 | tee "$work/gate" || die 'the gate failed, so there is no release'
+    toolchain=$(rt version) || die 'the toolchain (rt) is not on the PATH'
+    [ "${toolchain##* }" = "$logic" ] || die "this is $toolchain, and README.md names logic $logic"
+    setpriv --pdeathsig TERM rt ci --anew 2>&1 | tee "$work/gate" || die 'the gate failed'
     gate=$(tail -n 1 "$work/gate")
     of_gate=$(sum_of $program)
     # Building it again leaves the stamp: the sum of all sources, and the sum of the program.
@@ -48,9 +54,12 @@ if [ $proof = proved ]; then
     [ "${stamp:64}" = "$of_gate" ] || die 'the stamp belongs to another program'
     sources=${stamp:0:64}
 fi
-logic=$(readelf -p .comment "$program" | sed -n 's/.*rattle logic=\([0-9a-f]\{16\}\).*/\1/p')
-version=$("$program" --version)
+mark=$(grep -aom 1 'rattle logic=[0-9a-f]\{16\}' "$program" | cut -d = -f 2) || mark=none
+[ $proof = unproved ] || [ "$mark" = "$logic" ] || die "the program has the mark of logic $mark"
+version=$("$program" --version) || die "$program does not run"
 version=${version#bufr }
+wheel=$(python3 -c 'import build_wheel, sys; print(build_wheel.build_wheel(sys.argv[1]))' "$work")
+case $wheel in bufr_text-"$version"-*) ;; *) die "the program has version $version, but the wheel is $wheel" ;; esac
 
 # The archive: what install.sh installs, and itself.
 name=bufr-$version-linux-x86_64
@@ -63,17 +72,16 @@ version: $version
 commit: $commit
 tree: clean
 proof: $proof
-logic: ${logic:-none}
+logic: $mark
 program: $(sum_of "$program")
 sources: $sources
 gate: $gate
 END
 (cd "$work/$name" && find . -type f ! -name SHA256SUMS | sort | xargs sha256sum > SHA256SUMS)
-mkdir -p "$dist"
-tar -c -C "$work" --sort=name --format=ustar --owner=0 --group=0 --numeric-owner --mode=u+w,go-w \
+tar -c -C "$work" --sort=name --format=ustar --owner=0 --group=0 --numeric-owner --mode=u=rwX,go=rX \
     --mtime="@$(git log -1 --format=%ct)" "$name" | gzip -n -9 > "$work/$name.tar.gz"
-wheel=$(python3 -c 'import build_wheel, sys; print(build_wheel.build_wheel(sys.argv[1]))' "$work")
 cd "$work"
 sha256sum "$name.tar.gz" "$wheel" > SHA256SUMS
-mv "$name.tar.gz" "$wheel" SHA256SUMS "$dist"
+mv -f "$name.tar.gz" "$wheel" SHA256SUMS "$dist"
+is_made=yes
 echo "$dist/$name.tar.gz ($proof, commit $commit)"

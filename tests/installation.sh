@@ -58,6 +58,13 @@ done
     fail "install.sh uninstalls what is not installed: $(< "$work/errors")"
 ! "$top/install.sh" --program "$bufr" --unproved /dev/null/prefix > "$work/output" 2>&1 || fail "install.sh installs below a file"
 
+# An installation that is interrupted leaves no temporary files.
+printf '#!/bin/sh\nexec sleep 60\n' > "$work/slow"
+chmod +x "$work/slow"
+! TMPDIR=$work/temporary timeout 1 "$top/install.sh" --program "$work/slow" --unproved "$work/interrupted" > "$work/output" 2>&1 ||
+    fail "install.sh was not interrupted"
+[ -z "$(ls -A "$work/temporary")" ] || fail "an interrupted install.sh leaves temporary files"
+
 # An installation that ends in the middle, as one on a full disk, can be removed.
 mkdir -p "$work/full/share/man/man1/bufr.1"
 ! "$top/install.sh" --program "$bufr" --unproved "$work/full" > "$work/output" 2>&1 || fail "install.sh misses a file"

@@ -15,18 +15,84 @@ export GIT_COMMITTER_DATE=2020-02-02T02:02:02Z
 clone "$work/one"
 clone "$work/another/folder"
 "$work/one/release.sh" --unproved "$bufr" "$work/first" > "$work/told"
-(umask 077 && cd / && TZ=Asia/Tokyo "$work/another/folder/release.sh" --unproved "$bufr" "$work/second") > "$work/told"
+# The second time by another user, if this one may become one, with other settings, and in memory if there is room: there
+# a folder lists its files in another order.
+second=$(mktemp -d -p /dev/shm 2> "$work/errors" || mktemp -d)
+trap 'rm -r "$work" "$second"' EXIT
+mkdir "$work/home" "$work/program"
+printf '[core]\nautocrlf = true\n[tar]\numask = 077\n' > "$work/home/.gitconfig"
+cp "$bufr" "$work/program/bufr"
+as=()
+if [ "$(id -u)" -eq 0 ] && [ -x /usr/bin/python3 ]; then
+    chmod 755 "$work"
+    chown -R nobody "$work"/{another,home} "$second"
+    as=(setpriv --reuid nobody --regid nogroup --clear-groups)
+fi
+(umask 077 && cd / && "${as[@]}" env TZ=Asia/Tokyo LC_ALL="$(locale -a | grep -iE '_.*utf-?8' | head -n 1)" HOME="$work/home" \
+    PATH="/usr/bin:/bin:$PATH" "$work/another/folder/release.sh" --unproved "$work/program/bufr" "$second") > "$work/told"
 for file in "$work"/first/*; do
-    cmp "$file" "$work/second/${file##*/}" || fail "two clones of one commit give different releases"
+    cmp "$file" "$second/${file##*/}" || fail "two clones of one commit give different releases"
 done
 (cd "$work/first" && sha256sum --quiet -c SHA256SUMS) || fail "the sums are not those of the files"
 archive=$(echo "$work"/first/*.tar.gz)
 
+# refuses STATUS TEXT WORD..: these words fail with this status, say why, and leave the first release as it was.
+refuses() {
+    local wanted=$1 text=$2
+    shift 2
+    find "$work/first" -type f -exec sha256sum {} + | sort > "$work/before"
+    status=0
+    "$@" > "$work/told" 2>&1 || status=$?
+    [ $status -eq "$wanted" ] && grep -q -- "$text" "$work/told" || fail "release.sh: status $status, $(< "$work/told")"
+    find "$work/first" -type f -exec sha256sum {} + | sort | cmp - "$work/before" && [ "$(ls -A "$work/first" | wc -l)" -eq 3 ] ||
+        fail "release.sh leaves $(ls -A "$work/first") after: $(< "$work/told")"
+}
+make=$work/one/release.sh
+for words in --unproved --wrong 'one two'; do
+    # shellcheck disable=SC2086
+    refuses 2 usage "$make" $words
+done
+printf '#!/bin/sh\necho bufr 0.0.9\n' > "$work/older"
+chmod +x "$work/older"
+refuses 1 'the program has version 0.0.9, but the wheel is' "$make" --unproved "$work/older" "$work/first"
+refuses 1 'does not run' "$make" --unproved /bin/false "$work/first"
+mkdir "$work/alone" "$work/fake"
+cp "$make" "$work/alone"
+refuses 1 'in a clone' "$work/alone/release.sh" --unproved "$bufr" "$work/first"
+# A toolchain with another logic, whose gate fails, or that takes so long that the run is interrupted.
+logic=$(sed -n 's/.*`logic \([0-9a-f]\{16\}\)`.*/\1/p' README.md | head -n 1)
+fake() {
+    printf '#!/bin/sh\n[ "$1" != version ] || exec echo kit logic %s\n%s\n' "$1" "$2" > "$work/fake/rt"
+    chmod +x "$work/fake/rt"
+}
+PATH=$work/fake:$PATH
+refuses 1 'not on the PATH' env PATH=/usr/bin:/bin "$make" "$work/first"
+fake 0123456789abcdef 'exit 0'
+refuses 1 "README.md names logic $logic" "$make" "$work/first"
+fake "$logic" 'echo low: not proved; exit 1'
+refuses 1 'the gate failed' "$make" "$work/first"
+grep -q 'low: not proved' "$work/told" || fail "release.sh hides what the gate said: $(< "$work/told")"
+# This gate ends the script alone, as `kill` does.
+fake "$logic" "echo \$\$ > '$work/pid'; kill -TERM \$PPID; exec sleep 60"
+refuses $((128 + $(kill -l TERM))) 'no release was made' "$make" "$work/first"
+sleep 0.1
+! grep -qs '^State:.[^Z]' "/proc/$(< "$work/pid")/status" || fail "the gate goes on after the script"
+PATH=${PATH#*:}
+# A full disk: at the archive, which is the largest file, and at once.
+refuses $((128 + $(kill -l XFSZ))) 'no release was made' bash -c 'ulimit -f "$0" && exec "$@"' \
+    $(($(stat -c %s "$archive") / 1024)) "$make" --unproved "$bufr" "$work/first"
+if unshare -m true 2> "$work/errors"; then
+    mkdir "$work/small"
+    # shellcheck disable=SC2016
+    unshare -m bash -c 'mount -t tmpfs -o size=1m none "$1" && ! "$2" --unproved "$3" "$1" 2> "$4" && [ -z "$(ls -A "$1")" ]' - \
+        "$work/small" "$make" "$bufr" "$work/told" && grep -q 'No space left' "$work/told" || fail "on a full disk: $(< "$work/told")"
+fi
+
 # A change that was not committed is not released.
-echo changed >> "$work/one/README.md"
+echo '# changed' | tee -a "$work/one/README.md" >> "$work/one/scripts/bufr_text.py"
 "$work/one/release.sh" --unproved "$bufr" "$work/third" > "$work/told" 2> "$work/errors"
 grep -q 'uncommitted changes' "$work/errors" || fail "release.sh does not say that it leaves changes out"
-cmp "$archive" "$work/third/${archive##*/}" || fail "an uncommitted change is in the release"
+diff "$work/first" "$work/third" || fail "an uncommitted change is in the release"
 
 # A damaged archive is not installed.
 mkdir "$work/damaged"
@@ -59,7 +125,7 @@ for folder in /usr/lib/gcc /usr/lib/llvm*; do [ ! -d "$folder" ] || mount -t tmp
 for file in /usr/bin/{,*-}{cc,c++,gcc,g++,cpp,clang,tcc,as,ld,ld.bfd,ld.gold,ld.lld,rustc,cargo}{,-[0-9]*}; do
     [ ! -f "$file" ] || mount --bind /dev/null "$root$(realpath "$file")" 2> /dev/null || true
 done
-cp "$2" "$3/docs_commands.py" "$3/lib.py" "$root/tests"
+cp "${2%/*}"/* "$3/docs_commands.py" "$3/lib.py" "$root/tests"
 cp "$4" "$root/operator"
 cd "$root"
 pivot_root . old
@@ -89,7 +155,7 @@ bufr-auto bufr/share/doc/bufr/examples/synop.bufr | cmp - bufr/share/doc/bufr/ex
 mkdir own
 ln -s $prefix/share/doc/bufr/* own
 ln -s /tests own/tests
-/usr/bin/python3 own/tests/docs_commands.py $prefix/bin/bufr own/README.md || fail "the commands of README"
+/usr/bin/python3 own/tests/docs_commands.py $prefix/bin/bufr own/README.md own/docs/operations.md || fail "the commands of README and operations.md"
 rm -r own
 # Another set of tables is used by the messages of its centre, and is the operator's own.
 set=$prefix/share/bufr/tables
@@ -110,9 +176,49 @@ rm -r $prefix
 bufr-auto --version > told
 /tmp/bufr-*/install.sh --uninstall $prefix > told
 [ -z "$(find $prefix -mindepth 1)" ] || fail "--uninstall leaves $(find $prefix -mindepth 1)"
-echo clean > /home/done
-cat /home/done
+# The page for operators: each block of its commands, the unit's commands, and the steps of its Dockerfile.
+page=$(echo /tmp/bufr-*/docs/operations.md) examples=$(echo /tmp/bufr-*/examples)
+mkdir /home/page
+cd /home/page
+cp /tests/*.tar.gz /tests/SHA256SUMS .
+cp -r /tmp/bufr-*/tables/wmo-39 /home/wmo-csv
+cp $examples/buoys.bufr /home/day.bufr
+awk '/^```$/ { name = "" } name { print > name } /^```sh$/ { name = "block" ++blocks } /^```ini$/ { name = "unit" }
+    /^```dockerfile$/ { name = "steps" }' $page
+sed -i 's,install.sh /,install.sh --unproved /,' block* steps
+[ "$(ls block* | wc -w)" -eq 5 ] || fail "$page has other blocks"
+types() { PATH=/opt/bufr/bin:$PATH bash -eu "$1" > told 2>&1 || fail "$1 of $page: $(cat "$1" told)"; }
+types block1
+types block2
+mkdir -p /var/lib/feed
+(
+    cd /var/lib/feed
+    sed -n 's/^ExecStartPre=//p' /home/page/unit | bash
+    sed -n 's/^ExecStart=//p' /home/page/unit | bash &
+    cat $examples/synop.bufr > bufr.fifo
+    wait $!
+    cmp dump.txt $examples/synop.txt
+) || fail 'the commands of the unit'
+types block3
+grep -q 'elements new: 0' told && [ -s /home/day.before ] && cmp /home/day.before /home/day.after || fail "changes.py says $(cat told)"
+types block4
+tar -xzf *.tar.gz
+types block5
+find /opt ! -type d ! -path '/opt/bufr-0.1.0/share/bufr/tables/wmo-99/*' > left
+[ ! -s left ] && [ -s /opt/bufr-0.1.0/share/bufr/tables/wmo-99/B.csv ] || fail "--uninstall of $page leaves $(cat left)"
+sed -n 's/^RUN \(.*install.sh\)/\1/p' steps > install
+[ -s install ] || fail "$page has no Dockerfile that installs"
+cp $examples/synop.* /home
+types install
+cd /
+setpriv --reuid 65534 --regid 65534 --clear-groups env -i PATH=/usr/local/bin:/usr/bin:/bin bufr-auto < /home/synop.bufr |
+    cmp - /home/synop.txt || fail 'the program of the Dockerfile'
+echo clean
 END
+# The unit has only words that systemd knows; it says the others on standard error, with status 0.
+awk '/^```$/ { is_unit = 0 } is_unit; /^```ini$/ { is_unit = 1 }' docs/operations.md > "$work/bufr-feed.service"
+! command -v systemd-analyze > "$work/told" || systemd-analyze verify "$work/bufr-feed.service" > "$work/told" 2>&1 && [ ! -s "$work/told" ] ||
+    fail "the unit of operations.md: $(< "$work/told")"
 unshare -mnpf bash "$work/machine" "$work/root" "$archive" "$PWD/tests" "$work/operator" > "$work/told" 2> "$work/errors" ||
     fail "$(cat "$work/told" "$work/errors")"
 grep -qx clean "$work/told" || fail "the clean machine did not get to its end: $(cat "$work/told" "$work/errors")"

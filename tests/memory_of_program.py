@@ -1,0 +1,74 @@
+#!/usr/bin/env python3
+"""Each command works in the memory that docs/operations.md allows it, on the worst messages that fit into 16 MB.
+
+    tests/memory_of_program.py [PROGRAM]
+
+The limit is on the address space. A message of nothing but data is the worst for `ls`; one of compressed data in which
+each item has a bit and takes seven is the worst for `dump`, and its dump for `encode`, as is a document of long texts.
+"""
+import re
+import resource
+import subprocess
+import tempfile
+
+import lib
+from lib import TABLES, TOP, finish, program, words
+
+
+def row(command: str) -> str:
+    """The memory that the page allows a command."""
+    page = (TOP / "docs/operations.md").read_text(encoding="utf-8")
+    return re.search(rf"^\| `bufr {command}` \| ([^|]*) \|", page, re.M)[1]
+
+
+def number(pattern: str, text: str) -> int:
+    return int(re.search(pattern, text)[1])
+
+
+def compressed_flags(groups: int) -> bytes:
+    """Compressed data of eight times so many replications of 65,535 flags, in a message of one subset."""
+    flags = int("1000000" * 65_535, 2)
+    group = (65_535 << 6) << 7 * 65_535 | flags
+    whole = sum(group << n * (22 + 7 * 65_535) for n in range(8))
+    data = whole.to_bytes(22 + 7 * 65_535, "big") * groups
+    return lib.message(data, words("101000 031002 031031") * 8 * groups, flags=0xC0)
+
+
+def status(limit: int, given, *command) -> int:
+    """The status of the program within a limit in bytes."""
+    given.seek(0)
+    return subprocess.run(
+        [program(), *command],
+        stdin=given,
+        stdout=subprocess.DEVNULL,
+        stderr=subprocess.DEVNULL,
+        preexec_fn=lambda: resource.setrlimit(resource.RLIMIT_AS, (limit, limit)),
+    ).returncode
+
+
+def main() -> None:
+    ls = number(r"^(\d+) MB$", row("ls")) * 1_000_000
+    dump = number(r"^(\d+) GB$", row("dump")) * 1_000_000_000
+    for_lines, for_texts = number(r"^(\d+) MB for each million lines", row("encode")), number(r"(\d+) times", row("encode"))
+    texts = lib.message((65_000).to_bytes(2, "big") + b"A" * 255 * 65_000, words("101000 031002 205255"))
+    streams = {"data": lib.message(bytes(16_700_000)), "flags": compressed_flags(36), "texts": texts}
+    wrong = []
+    for name, message in streams.items():
+        with tempfile.TemporaryFile() as stream, tempfile.TemporaryFile() as text:
+            stream.write(message)
+            stream.flush()
+            for limit, command in ((ls, ["ls"]), (dump, ["dump", *TABLES])):
+                if status(limit, stream, *command):
+                    wrong.append(f"bufr {command[0]} needs more than the page says for {name}")
+            stream.seek(0)
+            subprocess.run([program(), "dump", *TABLES], stdin=stream, stdout=text, check=True)
+            text.seek(0)
+            lines = sum(1 for _ in text)
+            limit = 5_000_000 + for_lines * lines + for_texts * len(message) * (name == "texts")
+            if status(limit, text, "encode", *TABLES):
+                wrong.append(f"bufr encode needs more than the page says for the dump of {name}")
+    finish(wrong)
+
+
+if __name__ == "__main__":
+    main()
