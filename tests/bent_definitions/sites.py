@@ -13,7 +13,7 @@ ORDERED = {"nat_lt", "nat_le"}
 PREFIX = ORDERED | {"int_eq", "bytes_eq"}
 ENDS = set("( ) [ ] { } , ; && || = if then else in let → λ ∷ ++ ↦ | ← × ⊎ >>= : do ≡ ↔".split())
 NUMBER = re.compile(r"\d[\d_]*$|0x[\dA-Fa-f_]+$")
-BOUNDS = {"leasts", "mosts", "greatest_values"}  # lists of bounds, each of which a comparison looks up by its index
+BOUNDS = {"leasts", "mosts", "greatest", "greatest_values"}  # lists of bounds, each of which a comparison looks up by its index
 ARITHMETIC = set("∷ [ ] ( ) = ^ * + -".split())
 REFUSALS = set("Err None Wrong Refuses Stray unless only_if".split())
 ACCEPTED = set("Ok Some Continues true".split())

@@ -70,7 +70,7 @@ module _ {D C E : Type 0} (filler : Filler D C E) where
     step = write_first;
     refuses = refused_first;
     ends = none_over;
-    lost = Some filler.lost;
+    lost = filler.lost;
   }
 
   -- the pass that writes drafts

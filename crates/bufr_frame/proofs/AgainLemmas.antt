@@ -7,7 +7,7 @@ use Rattle.std.proofs.lemmas.Bool.{true≢false, cases_Bool}
 use Rattle.std.proofs.lemmas.List.{take-append-drop, get_or-take, get_or-drop}
 use Rattle.bufr_frame.specs.declared.fault.SectionFault.{SectionFault}
 use Rattle.bufr_frame.specs.declared.fault.SectionFault.TheVariants.{SectionShort, SectionPast}
-use Rattle.bufr_frame.specs.Prelude.{u24_at, u16_at, words, three_octets, two_octets, octets_of_words, is_edition, min_section_1, head_size, head_of, head_by_edition, flags_of, octet_at, head_3, head_4, octets_3, octets_4, values_of, greatest_values, Sections, sections_of, section_end, parts, edition_of, has_section2, is_long_edition_3, parts_if_end_matches, IsPlain, section2_begins, section3_begins, section4_begins, parts_in, message_size, message_octets, section0_octets, section1_octets, section2_octets, section2_size, section3_octets, section4_octets, head_octets, data_flags, even_size, with_even_length, max_extra_octets, max_octets, IsFitting, is_writable, Head}
+use Rattle.bufr_frame.specs.Prelude.{u24_at, u16_at, words, three_octets, two_octets, octets_of_words, is_edition, min_section_1, head_size, head_of, head_by_edition, flags_of, octet_at, head_in, octets_3, octets_4, values_of, greatest_values, greatest, head_by, Sections, sections_of, section_end, parts, edition_of, has_section2, is_long_edition_3, parts_if_end_matches, IsPlain, section2_begins, section3_begins, section4_begins, parts_in, message_size, message_octets, section0_octets, section1_octets, section2_octets, section2_size, section3_octets, section4_octets, head_octets, data_flags, even_size, with_even_length, max_extra_octets, max_octets, IsFitting, is_writable, Head}
 use Rattle.bufr_bits.specs.Prelude.{◌>>=◌}
 use Rattle.bufr_frame.proofs.LayoutLemmas.{length-octets_of_words, even-3, length-words}
 use Rattle.std.proofs.lemmas.List.Elements.{All-take, All-drop}
@@ -269,7 +269,7 @@ module _ (m : List ℕ) (small : All (λ octet. octet < 256) m) where
   written centre subcentre year flag = get_or m 11 0 ∷ centre ++ subcentre ++ get_or m 16 0 ∷ flag ∷ get_or m 18 0 ∷ get_or m 19 0 ∷ get_or m 20 0 ∷ get_or m 21 0 ∷ get_or m 22 0 ∷ year
       ++ get_or m 25 0 ∷ get_or m 26 0 ∷ get_or m 27 0 ∷ get_or m 28 0 ∷ get_or m 29 0 ∷ []
 
-  head-written : (b : Bool) → octets_4 (head_4 m) (if b then 128 else 0) ≡ written (two_octets (u16_at m 12)) (two_octets (u16_at m 14)) (two_octets (u16_at m 23)) (if b then 128 else 0)
+  head-written : (b : Bool) → octets_4 (head_in 4 m) (if b then 128 else 0) ≡ written (two_octets (u16_at m 12)) (two_octets (u16_at m 14)) (two_octets (u16_at m 23)) (if b then 128 else 0)
   unfolding written
   head-written b = refl
 
@@ -277,7 +277,7 @@ module _ (m : List ℕ) (small : All (λ octet. octet < 256) m) where
   unfolding written octets_from
   octets-written = refl
 
-  head-back-4 : (b : Bool) → 30 ≤ length m → nat_le 128 (get_or m 17 0) ≡ b → get_or m 17 0 % 128 ≡ 0 → octets_4 (head_4 m) (if b then 128 else 0) ≡ octets_from 19 11 m
+  head-back-4 : (b : Bool) → 30 ≤ length m → nat_le 128 (get_or m 17 0) ≡ b → get_or m 17 0 % 128 ≡ 0 → octets_4 (head_in 4 m) (if b then 128 else 0) ≡ octets_from 19 11 m
   head-back-4 b long is reserved =
       let c = word-back 12 (omega arith) in
       let s = word-back 14 (omega arith) in
@@ -295,7 +295,7 @@ module _ (m : List ℕ) (small : All (λ octet. octet < 256) m) where
   written-3 flag = get_or m 11 0 ∷ get_or m 12 0 ∷ get_or m 13 0 ∷ get_or m 14 0 ∷ flag ∷ get_or m 16 0 ∷ get_or m 17 0 ∷ get_or m 18 0 ∷ get_or m 19 0 ∷ get_or m 20 0
       ∷ get_or m 21 0 ∷ get_or m 22 0 ∷ get_or m 23 0 ∷ get_or m 24 0 ∷ []
 
-  head-written-3 : (b : Bool) → octets_3 (head_3 m) (if b then 128 else 0) ≡ written-3 (if b then 128 else 0)
+  head-written-3 : (b : Bool) → octets_3 (head_in 3 m) (if b then 128 else 0) ≡ written-3 (if b then 128 else 0)
   unfolding written-3
   head-written-3 b = refl
 
@@ -303,7 +303,7 @@ module _ (m : List ℕ) (small : All (λ octet. octet < 256) m) where
   unfolding written-3 octets_from
   octets-written-3 = refl
 
-  head-back-3 : (b : Bool) → 25 ≤ length m → nat_le 128 (get_or m 15 0) ≡ b → get_or m 15 0 % 128 ≡ 0 → octets_3 (head_3 m) (if b then 128 else 0) ≡ octets_from 14 11 m
+  head-back-3 : (b : Bool) → 25 ≤ length m → nat_le 128 (get_or m 15 0) ≡ b → get_or m 15 0 % 128 ≡ 0 → octets_3 (head_in 3 m) (if b then 128 else 0) ≡ octets_from 14 11 m
   head-back-3 b long is reserved =
       head-written-3 b ∙ ap written-3 (flag-back b (get_or m 15 0) is (small 15 0 (omega arith)) reserved) ∙ sym octets-written-3
 
@@ -313,7 +313,7 @@ module _ (m : List ℕ) (small : All (λ octet. octet < 256) m) where
   head-back b known long is reserved =
       let flags = if b then 128 else 0 in
       let F : ℕ → ℕ = λ n. octet_at m (if n == 3 then 8 else 10) in
-      let H : ℕ → Head = λ n. record (if n == 3 then head_3 m else head_4 m) { edition = edition_of m } in
+      let H : ℕ → Head = λ n. record (if n == 3 then head_in 3 m else head_in 4 m) { edition = edition_of m } in
       let P : ℕ → Type 0 = λ n. 8 + min_section_1 n ≤ length m → nat_le 128 (F n) ≡ b → F n % 128 ≡ 0
       → (if n == 3 then octets_3 (H n) flags else octets_4 (H n) flags) ≡ octets_from (head_size n) 11 m in
       edition-cases (edition_of m) known
@@ -523,8 +523,7 @@ fitting-writable h fits =
 pub by-third : (P : List ℕ → Type 0) (e : ℕ) → P (greatest_values 3) → P (greatest_values 4) → P (greatest_values e)
 by-third P e of_3 of_4 = by (e == 3)
   where
-    by : (third : Bool) → P (let wide = if third then 255 else 65535 in let late = if third then 0 else 255 in 255 ∷ wide ∷ wide ∷ 255 ∷ 255 ∷ 255 ∷ late ∷ 255 ∷ 255 ∷ wide ∷ 255 ∷ 255 ∷ 255 ∷ 255
-        ∷ late ∷ [])
+    by : (third : Bool) → P (values_of (head_by e (λ key in_4 in_3. greatest (if third then in_3 else in_4))))
     by true = of_3
     by false = of_4
 
@@ -549,27 +548,27 @@ module _ (m : List ℕ) (small : (i : ℕ) → slice_index m i < 256) where
   two : (i : ℕ) → u16_at m i ≤ 65535
   two i = omega (arith, small i, small (i + 1))
 
-  head-3-fits : AreAtMost (values_of (head_3 m)) (greatest_values 3)
+  head-3-fits : AreAtMost (values_of (head_in 3 m)) (greatest_values 3)
   head-3-fits = (byte 11, (byte 13, (byte 12, (byte 14, (byte 16, (byte 17, ((omega arith), (byte 18, (byte 19, (byte 20, (byte 21, (byte 22, (byte 23, (byte 24, ((omega arith), tt)))))))))))))))
 
-  head-4-fits : AreAtMost (values_of (head_4 m)) (greatest_values 4)
+  head-4-fits : AreAtMost (values_of (head_in 4 m)) (greatest_values 4)
   head-4-fits = (byte 11, (two 12, (two 14, (byte 16, (byte 18, (byte 19, (byte 20, (byte 21, (byte 22, (two 23, (byte 25, (byte 26, (byte 27, (byte 28, (byte 29, tt)))))))))))))))
 
   head-of-fits : is_edition (edition_of m) ≡ true → IsFitting (head_of m)
   unfolding head_by_edition
   head-of-fits known =
       edition-cases (edition_of m) known
-      (λ e. let h : head_of m ≡ head_3 m = ap (λ n. record (if n == 3 then head_3 m else head_4 m) { edition = edition_of m }) e in
+      (λ e. let h : head_of m ≡ head_in 3 m = ap (λ n. record (if n == 3 then head_in 3 m else head_in 4 m) { edition = edition_of m }) e in
       subst IsFitting (sym h) (record {
         edition = known;
-        fits = λ i. subst (λ n. slice_index (values_of (head_3 m)) i ≤ slice_index (greatest_values n) i) (sym e)
-            (at-most (values_of (head_3 m)) (greatest_values 3) head-3-fits i);
+        fits = λ i. subst (λ n. slice_index (values_of (head_in 3 m)) i ≤ slice_index (greatest_values n) i) (sym e)
+            (at-most (values_of (head_in 3 m)) (greatest_values 3) head-3-fits i);
       }))
-      (λ e. let h : head_of m ≡ head_4 m = ap (λ n. record (if n == 3 then head_3 m else head_4 m) { edition = edition_of m }) e in
+      (λ e. let h : head_of m ≡ head_in 4 m = ap (λ n. record (if n == 3 then head_in 3 m else head_in 4 m) { edition = edition_of m }) e in
       subst IsFitting (sym h) (record {
         edition = known;
-        fits = λ i. subst (λ n. slice_index (values_of (head_4 m)) i ≤ slice_index (greatest_values n) i) (sym e)
-            (at-most (values_of (head_4 m)) (greatest_values 4) head-4-fits i);
+        fits = λ i. subst (λ n. slice_index (values_of (head_in 4 m)) i ≤ slice_index (greatest_values n) i) (sym e)
+            (at-most (values_of (head_in 4 m)) (greatest_values 4) head-4-fits i);
       }))
 
 pub heads-fit : (m : List ℕ) (s : Sections) → ((i : ℕ) → slice_index m i < 256) → sections_of m ≡ Ok s → IsFitting s.head

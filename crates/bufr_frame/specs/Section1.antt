@@ -34,53 +34,56 @@ min_section_1 edition = 3 + head_size edition
 abbrev pub flags_of : List ℕ → ℕ
 flags_of m = octet_at m (if edition_of m == 3 then 8 else 10)
 
--- edition 3: the year is that of the century, unchanged; what this edition lacks is 0
--- rule: section-1-of-edition-3, year-of-the-century, edition-3-lacks, listing-of-edition-3
-abbrev pub head_3 : List ℕ → Head
-head_3 m = record {
-  edition = edition_of m;
-  master = octet_at m 4;
-  subcentre = octet_at m 5;
-  centre = octet_at m 6;
-  update = octet_at m 7;
-  category = octet_at m 9;
-  subcategory = octet_at m 10;
-  local_subcategory = 0;
-  master_version = octet_at m 11;
-  local_version = octet_at m 12;
-  year = octet_at m 13;
-  month = octet_at m 14;
-  day = octet_at m 15;
-  hour = octet_at m 16;
-  minute = octet_at m 17;
-  second = 0;
+-- the octets of section 1 that have a value: octet n, octets n and n + 1, or none
+pub data HeadOctets : Type 0 where
+  OneOctet : (n : ℕ) → HeadOctets
+  TwoOctets : (n : ℕ) → HeadOctets
+  NoOctets : HeadOctets
+
+-- a head, value by value: the key of each in a dump, and its octets in edition 4 and in edition 3;
+-- in edition 3 the year is that of the century, unchanged
+-- rule: section-1-of-edition-3, section-1-of-edition-4, year-of-the-century, edition-3-lacks
+-- rule: listing-of-edition-3, odd-values-kept
+abbrev pub head_by : (edition : ℕ) → (value : (key : ℕ) → (in_4 in_3 : HeadOctets) → ℕ) → Head
+head_by edition value = record {
+  edition = edition;
+  master = value 1 (OneOctet 4) (OneOctet 4);
+  centre = value 2 (TwoOctets 5) (OneOctet 6);
+  subcentre = value 3 (TwoOctets 7) (OneOctet 5);
+  update = value 4 (OneOctet 9) (OneOctet 7);
+  category = value 5 (OneOctet 11) (OneOctet 9);
+  subcategory = value 6 (OneOctet 12) (OneOctet 10);
+  local_subcategory = value 7 (OneOctet 13) NoOctets;
+  master_version = value 8 (OneOctet 14) (OneOctet 11);
+  local_version = value 9 (OneOctet 15) (OneOctet 12);
+  year = value 10 (TwoOctets 16) (OneOctet 13);
+  month = value 11 (OneOctet 18) (OneOctet 14);
+  day = value 12 (OneOctet 19) (OneOctet 15);
+  hour = value 13 (OneOctet 20) (OneOctet 16);
+  minute = value 14 (OneOctet 21) (OneOctet 17);
+  second = value 15 (OneOctet 22) NoOctets;
 }
 
--- edition 4
--- rule: section-1-of-edition-4, odd-values-kept
-abbrev pub head_4 : List ℕ → Head
-head_4 m = record {
-  edition = edition_of m;
-  master = octet_at m 4;
-  centre = two_at m 5;
-  subcentre = two_at m 7;
-  update = octet_at m 9;
-  category = octet_at m 11;
-  subcategory = octet_at m 12;
-  local_subcategory = octet_at m 13;
-  master_version = octet_at m 14;
-  local_version = octet_at m 15;
-  year = two_at m 16;
-  month = octet_at m 18;
-  day = octet_at m 19;
-  hour = octet_at m 20;
-  minute = octet_at m 21;
-  second = octet_at m 22;
-}
+-- the value that octets of a message have; a value that an edition lacks is 0
+abbrev pub value_at : List ℕ → HeadOctets → ℕ
+value_at m (OneOctet n) = octet_at m n
+value_at m (TwoOctets n) = two_at m n
+value_at m NoOctets = 0
+
+-- the greatest value that octets can have
+abbrev pub greatest : HeadOctets → ℕ
+greatest (OneOctet n) = 255
+greatest (TwoOctets n) = 65535
+greatest NoOctets = 0
+
+-- the head that section 1 of an edition has
+abbrev pub head_in : (edition : ℕ) → List ℕ → Head
+head_in edition m = head_by (edition_of m)
+    (λ key in_4 in_3. value_at m (if edition == 3 then in_3 else in_4))
 
 -- the values by edition
 unfoldable pub head_by_edition : List ℕ → Head
-head_by_edition m = if edition_of m == 3 then head_3 m else head_4 m
+head_by_edition m = if edition_of m == 3 then head_in 3 m else head_in 4 m
 
 -- the edition and the values of section 1
 abbrev pub head_of : List ℕ → Head
@@ -108,12 +111,8 @@ values_of h =
     ∷ h.local_subcategory ∷ h.master_version ∷ h.local_version ∷ h.year ∷ h.month ∷ h.day
     ∷ h.hour ∷ h.minute ∷ h.second ∷ []
 
--- the greatest of them; in edition 3 centre, sub-centre and year have one octet, and the local
--- sub-category and the second none
+-- the greatest of them
 -- rule: reading-header-ranges
 abbrev pub greatest_values : (edition : ℕ) → List ℕ
 greatest_values edition =
-    let wide = if edition == 3 then 255 else 65535 in
-    let late = if edition == 3 then 0 else 255 in
-    255 ∷ wide ∷ wide ∷ 255 ∷ 255 ∷ 255 ∷ late ∷ 255 ∷ 255 ∷ wide ∷ 255 ∷ 255 ∷ 255 ∷ 255
-    ∷ late ∷ []
+    values_of (head_by edition (λ key in_4 in_3. greatest (if edition == 3 then in_3 else in_4)))

@@ -7,6 +7,7 @@ use crate::fault::RunFault;
 use bufr_bits::{Failed, Source};
 use std::alloc::Global;
 use std::marker::Model;
+use std::mem::replace;
 
 /// The most reads of one input, 2^32; no further one is made.
 const MAX_READS: u64 = 1 << 32;
@@ -171,9 +172,13 @@ fn make_room(
     if octets.reserve_exact(room - octets.len()).is_err() {
         return Err(RunFault::Memory);
     }
-    'places: while octets.len() < room {
-        octets.push_reserved(0);
+    let alloc = *octets.allocator();
+    // In a local vector the loop compiles to one `memset`.
+    let mut grown = replace(octets, Vec::new(alloc));
+    'places: while grown.len() < room {
+        grown.push_reserved(0);
     }
+    *octets = grown;
     Ok(0)
 }
 

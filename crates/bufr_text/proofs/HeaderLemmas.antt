@@ -11,7 +11,7 @@ use Rattle.std.specs.Str.{bytes_eq}
 use Rattle.std.proofs.lemmas.Bool.Decides.{nat_tests}
 use Rattle.bufr_bits.proofs.DecimalLemmas.{and_first, and_second}
 use Rattle.bufr_tables.specs.Prelude.{fxy_of, is_fxy, f_in, x_in, y_in}
-use Rattle.bufr_frame.specs.Prelude.{IsFitting, is_edition, greatest_values, values_of}
+use Rattle.bufr_frame.specs.Prelude.{IsFitting, is_edition, greatest_values, values_of, greatest, head_by}
 use Rattle.bufr_frame.proofs.AgainLemmas.{at-most, by-third}
 use Rattle.std.proofs.lemmas.Iterator.Adapters.{position_from-zero}
 use Rattle.std.proofs.lemmas.Grind.{common_steps}
@@ -244,8 +244,7 @@ pub mosts-of-4 : (e : ℕ) → (e ≡ 3 → ⊥) → mosts e ≡ mosts 4
 unfolding mosts
 mosts-of-4 e other =
     let no : (e == 3) ≡ false = grind (arith, nat_tests, other) in
-    let P : Bool → Type 0 = λ third. (let wide = if third then 255 else 65535 in let late = if third then 0 else 255 in
-    4 ∷ (255 ∷ wide ∷ wide ∷ 255 ∷ 255 ∷ 255 ∷ late ∷ 255 ∷ 255 ∷ wide ∷ 255 ∷ 255 ∷ 255 ∷ 255 ∷ late ∷ []) ++ 1 ∷ 1 ∷ 1 ∷ 65535 ∷ []) ≡ mosts 4 in
+    let P : Bool → Type 0 = λ third. 4 ∷ values_of (head_by e (λ key in_4 in_3. greatest (if third then in_3 else in_4))) ++ 1 ∷ 1 ∷ 1 ∷ 65535 ∷ [] ≡ mosts 4 in
     subst P (sym no) refl
 
 pub header-widest : (d : Document) (i : ℕ) → IsHeaded d → slice_index d.header i ≤ slice_index (mosts 4) i

@@ -3,6 +3,7 @@
 -- Cited by public contracts.
 use Rattle.std.specs.Prelude.{ℕ, List, [], slice_index, ◌+◌, ◌==◌, nat_le, nat_lt, Bool, true, false, not, ◌&&◌, if◌then◌else◌, ◌∷◌, ◌++◌, length, ◌≡◌, ◌^◌, Option, Some, None}
 use Rattle.bufr_fill.specs.Prelude.{DraftEntry, draft, Holds, Ends}
+use Rattle.bufr_frame.specs.Prelude.{head_by}
 use Rattle.bufr_text.specs.Line.{Line, Passed, Opens, Header, Local1, Section2, Descriptors, Begins, Item, Closes, Wrong, leasts, mosts, line_of}
 use Rattle.bufr_frame.specs.declared.section1.Head.{Head}
 use Rattle.bufr_text.specs.declared.fault.TextLineFault.{TextLineFault}
@@ -152,10 +153,14 @@ adds (Filling subset) (Begins next) = true
 adds (Filling subset) Closes = true
 adds state line = false
 
+-- the most octets of a line, without its line feed
+abbrev pub max_line : ℕ
+max_line = 4096
+
 -- what a line says, which has at most 4,096 octets
 -- rule: reading-longest-line
 abbrev pub read_line : List ℕ → Line
-read_line line = if nat_lt 4096 (length line) then Wrong else line_of line
+read_line line = if nat_lt max_line (length line) then Wrong else line_of line
 
 -- where the reading is after a line
 abbrev pub parsing_after : Turn → Parsing
@@ -202,7 +207,7 @@ documents_of text = parse_lines 1 between (lines_of text)
 unfoldable pub parse_open_lines : (at : ℕ) → Parsing → List (List ℕ) → (rest : List ℕ)
     → List ParseResult
 parse_open_lines at p [] rest =
-    if nat_lt 4096 (length rest) then reported_at at (turn at p Wrong) else []
+    if nat_lt max_line (length rest) then reported_at at (turn at p Wrong) else []
 parse_open_lines at p (line ∷ more) rest =
     let here = turn at p (read_line line) in reported_at at here
     ++ parse_open_lines (at + 1) (parsing_after here) more rest
@@ -235,24 +240,7 @@ key_value d key = slice_index d.header key
 
 -- section 1, and the edition
 abbrev pub head_from_values : Document → Head
-head_from_values d = record {
-  edition = key_value d 0;
-  master = key_value d 1;
-  centre = key_value d 2;
-  subcentre = key_value d 3;
-  update = key_value d 4;
-  category = key_value d 5;
-  subcategory = key_value d 6;
-  local_subcategory = key_value d 7;
-  master_version = key_value d 8;
-  local_version = key_value d 9;
-  year = key_value d 10;
-  month = key_value d 11;
-  day = key_value d 12;
-  hour = key_value d 13;
-  minute = key_value d 14;
-  second = key_value d 15;
-}
+head_from_values d = head_by (key_value d 0) (λ key in_4 in_3. key_value d key)
 
 -- whether the data are compressed
 abbrev pub compressed_in : Document → Bool

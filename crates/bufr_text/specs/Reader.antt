@@ -8,7 +8,7 @@ use Rattle.bufr_text.specs.declared.fault.ReadFault.TheVariants.{Line, Run}
 use Rattle.std.specs.List.{list_all, AllByRecursion}
 use Rattle.bufr_text.specs.declared.fault.TextLineFault.{TextLineFault}
 use Rattle.bufr_text.specs.declared.fault.TextLineFault.TheVariants.{NotAllowed, SubsetCount, HeaderRange}
-use Rattle.bufr_text.specs.Documents.{Parsing, between, ParseResult, read_line, parse_lines, parse_open_lines, lines_of, split_of, Document, Complete, Refused, adds}
+use Rattle.bufr_text.specs.Documents.{max_line, Parsing, between, ParseResult, read_line, parse_lines, parse_open_lines, lines_of, split_of, Document, Complete, Refused, adds}
 use Rattle.bufr_text.specs.Dump.{text_of_lines}
 use Rattle.bufr_text.specs.Line.{Closes}
 use Rattle.std.specs.Io.KnownBytes.{Consumes, IsAtEnd}
@@ -138,7 +138,7 @@ pub record ReadsLines (left left' : Option (List ℕ)) (old new : ReaderModel)
     (results : List ParseResult) (bs : List ℕ) : Type 0 where
   pub read : Consumes left left' bs
   pub order : old.reads ≤ new.reads
-  pub few : length bs ≤ 4096 * (new.reads - old.reads)
+  pub few : length bs ≤ max_line * (new.reads - old.reads)
   pub goes : ContinuesParse (position_after old bs) (position_of new) results
   pub lines : (feed : List ℕ) × IsMissingFeed old.ended new.ended feed
       × TakesWholeLines old.at ((old.held ++ bs) ++ feed) new.at new.held
@@ -160,7 +160,7 @@ pub record ReadsOnlyIfNoLine (left : Option (List ℕ)) (old : ReaderModel) (rea
   pub before : List ℕ
   pub last : List ℕ
   pub octets : bs ≡ before ++ last
-  pub few : length last ≤ 4096
+  pub few : length last ≤ max_line
   pub none : parse_open (position_after old before) [] ≡ []
   -- where the reader stood before it
   pub between : Option (List ℕ)
@@ -168,7 +168,7 @@ pub record ReadsOnlyIfNoLine (left : Option (List ℕ)) (old : ReaderModel) (rea
   pub taken : ReadsLines left between old mid [] before
   pub going : mid.ended ≡ false
   pub clean : has_no_feed mid.held ≡ true
-  pub short : length mid.held ≤ 4096
+  pub short : length mid.held ≤ max_line
   pub made : reads ≡ mid.reads + 1
 
 -- while the end is not known, no whole line is held, and nothing more is reported of what is held
@@ -210,7 +210,7 @@ ReadsDocument left left' old new (Ok (Some document)) bs =
     ReadsLines left left' old new (parse_results (Ok (Some document))) bs × EndsAtEndLine old new bs
 ReadsDocument left left' old new (Err (Run Write)) bs = ⊥
 ReadsDocument left left' old new (Err (Run Memory)) bs =
-    Consumes left left' bs × (length bs ≤ 4096 * (new.reads - old.reads))
+    Consumes left left' bs × (length bs ≤ max_line * (new.reads - old.reads))
     × (old.ended ≡ true → 0 < length old.held)
     × ((new.reads ≡ 0) ⊎ ((mid : ReaderModel) × ReadsLines left left' old mid [] bs × AddsNext mid))
 ReadsDocument left left' old new result bs = ReadsLines left left' old new (parse_results result) bs
@@ -228,7 +228,7 @@ pub record ReturnsNextDocument (left left' : Option (List ℕ)) (old new : Reade
 pub record NeedsLine (old new : ReaderModel) : Type 0 where
   pub passes : (left : Option (List ℕ)) → ReadsLines left left old new [] []
   pub none : has_no_feed new.held ≡ true
-  pub short : length new.held ≤ 4096
+  pub short : length new.held ≤ max_line
   pub going : new.ended ≡ false
   pub sound : new.fault ≡ None
 

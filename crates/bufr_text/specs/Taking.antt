@@ -8,7 +8,7 @@ use Rattle.bufr_text.specs.declared.document.ParserState.{ParserState}
 use Rattle.bufr_text.specs.declared.document.ParserState.TheVariants.{Between, Heading, BeforeSubsets, Filling, Stopped}
 use Rattle.bufr_text.specs.declared.document.LineEffect.{LineEffect}
 use Rattle.bufr_text.specs.declared.document.LineEffect.TheVariants.{Continues, Completes, Refuses}
-use Rattle.bufr_text.specs.Documents.{are_in_range, IsHeaded, adds, read_line, Document, Parsing, Turn, parsing_after, reported_at, blank, ParseResult, Complete, Refused, edition_in, optional_in}
+use Rattle.bufr_text.specs.Documents.{max_line, are_in_range, IsHeaded, adds, read_line, Document, Parsing, Turn, parsing_after, reported_at, blank, ParseResult, Complete, Refused, edition_in, optional_in}
 use Rattle.bufr_text.specs.Dump.{IsOctet, IsDescriptorWord}
 use Rattle.bufr_text.specs.Spelling.{IsProper}
 use Rattle.bufr_text.specs.declared.document.ParsedLine.{ParsedLine}
@@ -149,15 +149,15 @@ ends_by_feed (c ∷ d ∷ more) = ends_by_feed (d ∷ more)
 pub record IsProgress (progress : Progress) (held reads : ℕ) : Type 0 where
   pub holds : IsParsing progress.at (parsing_of progress)
   pub some : 0 < progress.at
-  pub near : progress.at + held ≤ 4096 * reads + 1
+  pub near : progress.at + held ≤ max_line * reads + 1
 
 -- how a reader keeps its input: it holds few octets, its last line is ended at the end, and its
 -- buffer is made at the first read
 abbrev pub IsReader : Option ReadFault → Progress → InputModel → Type 0
-IsReader fault progress input = (length input.held ≤ 8192) × (input.reads ≤ max_reads)
+IsReader fault progress input = (length input.held ≤ 2 * max_line) × (input.reads ≤ max_reads)
     × (input.ended ≡ true → ends_by_feed input.held ≡ true)
     × (fault ≡ None → IsProgress progress (length input.held) input.reads)
-    × (0 < input.reads → 8192 ≤ input.room)
+    × (0 < input.reads → 2 * max_line ≤ input.room)
 
 -- Lines were taken and report something.
 pub record ParsesHeldLines (old new : ReaderModel) (results : List ParseResult) : Type 0 where
@@ -197,7 +197,7 @@ pub record ReadsMoreText (left left' : Option (List ℕ)) (old new : ReaderModel
     (result : Result (Unit {0}) RunFault) (bs : List ℕ) : Type 0 where
   pub fills : FillsInput left left' (text_input old old.held) (text_input new (old.held ++ bs))
       (old.reads ≡ 0) result bs
-  pub few : length bs ≤ 4096
+  pub few : length bs ≤ max_line
   pub feed : List ℕ
   pub missing : (feed ≡ []) ⊎ ((new.ended ≡ true) × (feed ≡ 10 ∷ []) × (0 < length old.held))
   pub fed : new.ended ≡ true → feed ≡ [] → old.held ≡ []
@@ -216,8 +216,8 @@ stopped s (Line line fault) =
 abbrev pub FillsBuffer : (left left' : Option (List ℕ)) → ReaderModel → ReaderModel
     → Result (Unit {0}) ReadFault → List ℕ → Type 0
 FillsBuffer left left' old new (Ok u) bs = ReadsMoreText left left' old new (Ok u) bs
-    × (length old.held ≤ 4096)
+    × (length old.held ≤ max_line)
 FillsBuffer left left' old new (Err (Run fault)) bs =
     (s : ReaderModel) × ReadsMoreText left left' old s (Err fault) bs
-    × (new ≡ stopped s (Run fault)) × (length old.held ≤ 4096)
+    × (new ≡ stopped s (Run fault)) × (length old.held ≤ max_line)
 FillsBuffer left left' old new (Err (Line line fault)) bs = ⊥

@@ -1,11 +1,11 @@
 //! The lines that all subsets of compressed data have alike: they are made once for a message.
-ghost use Rattle.std.specs.Prelude.{◌≡◌, ◌≤◌, ◌<◌, ◌*◌, List, [], Ok, Some, true, false, length, IfOk};
+ghost use Rattle.std.specs.Prelude.{◌≡◌, ◌≤◌, ◌<◌, ◌*◌, List, [], Ok, true, length, IfOk};
 ghost use Rattle.bufr_tables.specs.Prelude.{Row, places};
 ghost use Rattle.bufr_text.specs.Prelude.{PushesCall, item_lines, PushesAlike, AreStretches, AreGathered};
 ghost use Rattle.bufr_walk.specs.Prelude.{Shows, Item, Content, item_calls, without_turns, range_calls, packed_calls, calls_of, turns_shown};
 
-use crate::line_writer::LineWriter;
-use bufr_bits::{Failed, Sink};
+use crate::line_writer::{LineWriter, NoSink};
+use bufr_bits::Sink;
 use bufr_frame::RunFault;
 use bufr_walk::{PackedItems, Reading, ShowFault, SpecCache, Steps, Visitor};
 use std::alloc::Global;
@@ -18,35 +18,6 @@ pub(crate) const TEXT: usize = 16_384;
 
 /// The most stretches of a message but for the last.
 const MAX_STRETCHES: usize = 1_024;
-
-/// A sink that takes nothing: what is pushed stays in the block before it.
-#[derive(Drop)]
-pub(crate) struct NoSink {
-    empty_writes: u64,
-}
-
-impl Sink for NoSink {
-    ghost taken = { λ _. Some [] };
-
-    ghost failures = { λ _. 0 };
-
-    ghost empty_writes = { λ s. s.empty_writes };
-
-    ghost failed_flushes = { λ _. 0 };
-
-    ghost all_flushed = { λ _. true };
-
-    fn write(&mut self, buf: &[u8]) -> Result<usize, Failed> {
-        if !buf.is_empty() {
-            self.empty_writes = self.empty_writes.saturating_add(1);
-        }
-        Ok(0)
-    }
-
-    fn flush(&mut self) -> Result<(), Failed> {
-        Ok(())
-    }
-}
 
 /// A part of each subset: lines that all have alike, up to an end in their text, and after them the
 /// items from one index to before another.

@@ -1,6 +1,6 @@
 //! The documents of an input.
 ghost use Rattle.std.specs.Prelude.{◌≡◌, ◌≢◌, ◌≤◌, ◌<◌, ◌-◌, ◌*◌, ℕ, List, None, Some, Err, true, false, length, IfSome, IfOk};
-ghost use Rattle.bufr_text.specs.Prelude.{IsProper, has_no_feed, ReaderModel, new_reader, unfed, ReturnsNextDocument, failures_by, TakesHeldLines, GivesHeldDocument, FillsBuffer, ReadsMoreText, stopped, text_input};
+ghost use Rattle.bufr_text.specs.Prelude.{max_line, IsProper, has_no_feed, ReaderModel, new_reader, unfed, ReturnsNextDocument, failures_by, TakesHeldLines, GivesHeldDocument, FillsBuffer, ReadsMoreText, stopped, text_input};
 ghost use Rattle.bufr_bits.specs.Prelude.{counted};
 ghost use Rattle.bufr_frame.specs.Prelude.{read_failures_after, AddsReads, AsksAtMost, asked_by};
 
@@ -90,7 +90,7 @@ impl DumpReader {
     /// How many octets were read and not yet taken as lines: at most 8,192.
     pub fn held(&self) -> usize
         ensures value { result ≡ length (unfed self.now) }
-        ensures bound { result ≤ 8192 }
+        ensures bound { result ≤ 2 * max_line }
     {
         let held = self.input.held().len();
         // After the end what is held ends by the line feed that the text lacks.
@@ -106,7 +106,7 @@ impl DumpReader {
         requires { self.old.fault ≡ None }
         ensures new { self.new ≡ stopped self.old fault }
         ensures value { result ≡ fault }
-        ensures bound { length self.new.held ≤ 8192 }
+        ensures bound { length self.new.held ≤ 2 * max_line }
     {
         if let ReadFault::Line(_, _) = fault {
             self.progress.state = ParserState::Stopped;
@@ -120,7 +120,7 @@ impl DumpReader {
         requires sound { self.old.fault ≡ None }
         ensures went { TakesHeldLines self.old self.new result }
         ensures proper { IfOk result (λ found. IfSome found (λ document. IsProper document)) }
-        ensures bound { length self.new.held ≤ 8192 }
+        ensures bound { length self.new.held ≤ 2 * max_line }
         ensures ended { self.new.ended ≡ self.old.ended }
         ensures reads { self.new.reads ≡ self.old.reads }
     {
@@ -154,7 +154,7 @@ impl DumpReader {
     fn fill<R: Source>(&mut self, r: &mut R) -> Result<(), RunFault>
         requires sound { self.old.fault ≡ None }
         requires going { self.old.ended ≡ false }
-        requires short { length self.old.held ≤ 4096 }
+        requires short { length self.old.held ≤ max_line }
         ensures read { (bs : List ℕ)
             × ReadsMoreText (R.left r.old) (R.left r.new) self.old self.new result bs }
         ensures failed { R.failures r.new ≡ read_failures_after (R.failures r.old) result }
@@ -162,7 +162,7 @@ impl DumpReader {
         ensures counts { AddsReads (R.reads r.old) (R.reads r.new) self.old.reads self.new.reads }
         // A read asks for all that fits, up to the longest line.
         ensures asked { R.asked r.new ≡ counted (R.asked r.old)
-            (asked_by 4096 (text_input self.old self.old.held)
+            (asked_by max_line (text_input self.old self.old.held)
             (text_input self.new self.new.held)) }
     {
         self.input.fill(r, MAX_LINE, 2 * MAX_LINE)?;
@@ -185,7 +185,7 @@ impl DumpReader {
             → result ≢ Some (Err (ReadFault.Run RunFault.Read)) }
         ensures short { self.old.fault ≡ None
             → result ≢ Some (Err (ReadFault.Run RunFault.InputTooLong)) }
-        ensures held { length self.new.held ≤ 8192 }
+        ensures held { length self.new.held ≤ 2 * max_line }
         ensures again { IfSome self.old.fault (λ fault. result ≡ Some (Err fault)) }
         ensures same_self { IfSome self.old.fault (λ _. self.new ≡ self.old) }
     {
@@ -221,7 +221,7 @@ impl DumpReader {
     /// fault it returns the same one, and reads nothing.
     pub fn read_more<R: Source>(&mut self, r: &mut R) -> Result<(), ReadFault>
         requires going { self.old.ended ≡ false }
-        requires short { length self.old.held ≤ 4096 }
+        requires short { length self.old.held ≤ max_line }
         ensures read { self.old.fault ≡ None → (bs : List ℕ)
             × FillsBuffer (R.left r.old) (R.left r.new) self.old self.new result bs }
         ensures failed { self.old.fault ≡ None
@@ -231,9 +231,9 @@ impl DumpReader {
         ensures counts { AddsReads (R.reads r.old) (R.reads r.new) self.old.reads self.new.reads }
         // A read asks for all that fits, up to the longest line.
         ensures asked { R.asked r.new ≡ counted (R.asked r.old)
-            (asked_by 4096 (text_input self.old self.old.held)
+            (asked_by max_line (text_input self.old self.old.held)
             (text_input self.new self.new.held)) }
-        ensures held { length self.new.held ≤ 8192 }
+        ensures held { length self.new.held ≤ 2 * max_line }
         ensures again { IfSome self.old.fault (λ fault. result ≡ Err fault) }
         ensures same { IfSome self.old.fault (λ _. r.new ≡ r.old) }
         ensures same_self { IfSome self.old.fault (λ _. self.new ≡ self.old) }
@@ -269,8 +269,8 @@ impl DumpReader {
             → R.failures r.new ≡ failures_by (R.failures r.old) result }
         ensures counts { AddsReads (R.reads r.old) (R.reads r.new) self.old.reads self.new.reads }
         ensures asked { AsksAtMost (R.asked r.old) (R.asked r.new)
-            (4096 * (self.new.reads - self.old.reads)) }
-        ensures held { length self.new.held ≤ 8192 }
+            (max_line * (self.new.reads - self.old.reads)) }
+        ensures held { length self.new.held ≤ 2 * max_line }
         ensures again { IfSome self.old.fault (λ fault. result ≡ Err fault) }
         ensures same { IfSome self.old.fault (λ _. r.new ≡ r.old) }
         ensures same_self { IfSome self.old.fault (λ _. self.new ≡ self.old) }

@@ -1,7 +1,7 @@
 //! What a line says: its first word, numbers, items, texts in quotes and octets.
 ghost use Rattle.std.specs.Prelude.{◌≡◌, ℕ, ◌<◌, ◌≤◌, ◌==◌, IfSome, List, length, take, drop, option_map, if◌then◌else◌, min, ◌+◌, ◌-◌, slice_index, Some, ◌*◌};
 ghost use Rattle.std.specs.Str.{bytes_eq};
-ghost use Rattle.bufr_text.specs.Prelude.{read_line, prefix_while, suffix_while, without_space, hex_read, number_read, without_prefix, is_number_octet, is_hashed, is_passed_after, is_unescaped, upper_value, quoting_of, either_value, Line, made, with_one_to, worded, line_of, value_read, item_line, number_value, Item, Unquotes, Unhexes, meaning, Wrong};
+ghost use Rattle.bufr_text.specs.Prelude.{max_line, read_line, prefix_while, suffix_while, without_space, hex_read, number_read, without_prefix, is_number_octet, is_hashed, is_passed_after, is_unescaped, upper_value, quoting_of, either_value, Line, made, with_one_to, worded, line_of, value_read, item_line, number_value, Item, Unquotes, Unhexes, meaning, Wrong};
 ghost use Rattle.bufr_bits.specs.Prelude.{short_text};
 ghost use Rattle.bufr_fill.specs.Prelude.{number_token, reference_token, missing_form, form_in};
 
@@ -38,7 +38,7 @@ fn worded<'a>(
     octets: &'a mut [u8; MAX_LINE],
     words: &'a mut [u16; MOST_WORDS],
 ) -> Option<ParsedLine<'a>>
-    requires { length rest.now ≤ 4096 }
+    requires { length rest.now ≤ max_line }
     ensures { made meaning result ≡ worded word.now rest.now }
 {
     if is(word, b"message") {
@@ -79,7 +79,7 @@ fn line_said<'a>(
     octets: &'a mut [u8; MAX_LINE],
     words: &'a mut [u16; MOST_WORDS],
 ) -> Option<ParsedLine<'a>>
-    requires { length line.now ≤ 4096 }
+    requires { length line.now ≤ max_line }
     ensures { made meaning result ≡ line_of line.now }
 {
     let first = octet_at(line, 0);

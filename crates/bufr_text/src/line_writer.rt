@@ -1,13 +1,12 @@
 //! A writer of lines: octets put into a block of memory, and handed on to a sink.
-ghost use Rattle.std.specs.Prelude.{◌≡◌, ◌≤◌, ◌++◌, [], Ok, length, take, decimal, replicate, ◌<◌, Some, drop, codes};
+ghost use Rattle.std.specs.Prelude.{◌≡◌, ◌≤◌, ◌++◌, [], Ok, length, take, decimal, replicate, ◌<◌, Some, drop, codes, true};
 ghost use Rattle.bufr_bits.specs.Prelude.{decimal_text_of};
 ghost use Rattle.bufr_tables.specs.Prelude.{row_of_entry, row_comment, row_line_start};
 ghost use Rattle.bufr_text.specs.Prelude.{Pushes, Writes, CountsWrites, zero_padded, Puts, escaped, hex_digit, hex_text, is_unescaped, quoted};
 
-use crate::alike::NoSink;
 use crate::line::{is_unescaped, suffix};
 use crate::numbers::{fill_missing_line, fill_named, fill_number_line, put};
-use bufr_bits::Sink;
+use bufr_bits::{Failed, Sink};
 use bufr_frame::RunFault;
 use bufr_tables::Entry;
 use itoa::Buffer;
@@ -385,6 +384,35 @@ impl<'b, 'w, W: Sink> LineWriter<'b, 'w, W> {
         ensures sink { result.ghost_name ≡ self.entry.sink }
     {
         self.w
+    }
+}
+
+/// A sink that takes nothing: what is pushed stays in the block before it.
+#[derive(Drop)]
+pub(crate) struct NoSink {
+    pub(crate) empty_writes: u64,
+}
+
+impl Sink for NoSink {
+    ghost taken = { λ _. Some [] };
+
+    ghost failures = { λ _. 0 };
+
+    ghost empty_writes = { λ s. s.empty_writes };
+
+    ghost failed_flushes = { λ _. 0 };
+
+    ghost all_flushed = { λ _. true };
+
+    fn write(&mut self, buf: &[u8]) -> Result<usize, Failed> {
+        if !buf.is_empty() {
+            self.empty_writes = self.empty_writes.saturating_add(1);
+        }
+        Ok(0)
+    }
+
+    fn flush(&mut self) -> Result<(), Failed> {
+        Ok(())
     }
 }
 

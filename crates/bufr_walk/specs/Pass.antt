@@ -27,7 +27,7 @@ pub record Passing (S C E : Type 0) : Type 0 where
   pub step : FieldSpec → S → Result (Step S C) E
   pub refuses : TurnRefusal → S → E
   pub ends : S → Option E
-  pub lost : Option E
+  pub lost : E
 
 -- a pass: its items, how many turns it took, the state after them, and what stopped it, if anything
 pub record Pass (S C E : Type 0) : Type 0 where
@@ -63,7 +63,7 @@ module _ {S C E : Type 0} (how : Passing S C E) where
   pass_next turn at_end s rest = last_turn turn s (how.ends s)
   pass_next turn (refused why) s rest = last_turn turn s (Some (how.refuses why s))
   -- never, since each factor returns its count
-  pass_next turn astray s rest = last_turn turn s how.lost
+  pass_next turn astray s rest = last_turn turn s (Some how.lost)
 
   -- what comes next stops the pass, or ends it
   abbrev pub EndsPass : Next → S → Option E → Type 0
@@ -76,7 +76,7 @@ module _ {S C E : Type 0} (how : Passing S C E) where
   -- A pass: each item by what comes next after those before it. No pass over data reaches `most`,
   -- which is more than they have bits.
   abbrev pub pass : (most : ℕ) → Course → S → Pass S C E
-  pass zero course s = last_turn (course []).turns s None
+  pass zero course s = last_turn (course []).turns s (Some how.lost)
   pass (suc more) course s = pass_next (course []).turns (course []).next s
       (λ f. pass more (λ answers. course (f.returned ∷ answers)) f.state)
 
@@ -111,7 +111,7 @@ reading form many = record {
       else read_field form spec p.items (form.field spec p.left);
   refuses = λ why p. stop_by why;
   ends = λ p. None;
-  lost = None;
+  lost = stops.Field (wrong.TooManyValues 0);
 }
 
 -- one pass over bits, from the beginning of the template; each item takes a bit at least
