@@ -158,11 +158,12 @@ def memory(trial: Trial) -> None:
 
 def least_memory(words: list, most: int):
     """The least megabytes, at most so many, in which a program ends with 0, or None."""
-    for megabytes in range(8, most + 1):
+
+    def suffices(megabytes: int) -> bool:
         limit = functools.partial(limit_memory, megabytes)
-        if subprocess.run(words, stderr=subprocess.DEVNULL, preexec_fn=limit).returncode == 0:
-            return megabytes
-    return None
+        return subprocess.run(words, stderr=subprocess.DEVNULL, preexec_fn=limit).returncode == 0
+
+    return next(filter(suffices, range(8, most)), most) if suffices(most) else None
 
 
 def limit_memory(megabytes: int) -> None:
@@ -467,7 +468,7 @@ def guard() -> None:
 
 
 def main() -> None:
-    holds("a program for which no memory is enough", least_memory(["false"], 9) is None)
+    holds("a program for which no memory is enough", least_memory(["false"], 200) is None)
     guard()
     asked = sys.argv[2:] or [*SCRIPTS, *OTHERS]
     for name in asked:

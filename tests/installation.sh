@@ -4,7 +4,8 @@ set -eu
 . "$(dirname "$0")/lib.sh"
 # The caller's files are nobody else's, and `cd` looks elsewhere first.
 top=$PWD prefix=$work/here/prefix
-mkdir -p "$work/here" "$work/other/prefix"
+mkdir -p "$work/here" "$work/other"/{prefix,source}
+ln -s "$top" "$work/here/source"
 # A set of tables, links and bytecode that the versions without a MANIFEST installed, and a set of the user's own.
 older=$prefix/share/bufr/tables doc=$prefix/share/doc/bufr
 mkdir -p "$older"/{wmo-38,wmo-39,own} "$doc/tables" "$prefix/share/bufr/__pycache__"
@@ -15,7 +16,7 @@ for set in wmo-38 wmo-39; do ln -s "../../../bufr/tables/$set" "$doc/tables"; do
 (
     cd "$work/here"
     umask 077
-    CDPATH=$work/other "$top/install.sh" --program "$bufr" --unproved prefix
+    CDPATH=$work/other source/install.sh --program "$bufr" --unproved prefix
 ) > "$work/told" 2> "$work/errors" || fail "install.sh fails: $(< "$work/errors")"
 [ ! -s "$work/errors" ] || fail "install.sh prints $(< "$work/errors")"
 [ ! -e "$older/wmo-38" ] && [ ! -e "$prefix/share/bufr/__pycache__" ] || fail "install.sh leaves files of an older version"
