@@ -453,8 +453,8 @@ def failures(folder: pathlib.Path) -> None:
     for word in ("", " "):
         done = run("-c", "001015", SYNOP, environment={"AWK": word})
         holds(f"AWK={word!r}", (done.returncode, done.stdout.count(b"\n")) == (0, 4), done)
-    (folder / "empty/wmo-39").mkdir(parents=True)
-    done = run("-c", "AIR TEMPERATURE", SYNOP, environment={"BUFR_TABLES": str(folder / "empty")})
+    (folder / "no-tables/wmo-39").mkdir(parents=True)
+    done = run("-c", "AIR TEMPERATURE", SYNOP, environment={"BUFR_TABLES": str(folder / "no-tables")})
     told = f"bufr-csv: {folder}/empty/wmo-39/B.csv: No such file or directory\n".encode()
     holds("there is no table", (done.returncode, done.stderr) == (2, told), done)
     done = run("-c", "AIR TEMPERATURE", SYNOP, environment={"BUFR_TABLES": "/nosuch"})

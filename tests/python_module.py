@@ -364,7 +364,7 @@ class Tables(unittest.TestCase):
             # Rows that are too short count as none, and so does a table with another header.
             table = pathlib.Path(without_tables, "wmo-39/B.csv")
             for text, told in (
-                ("fxy,name,unit\nshort\n012101,AIR TEMPERATURE,K\n", "; in Table B it is in the names of 012101"),
+                ("fxy,name,unit\nshort\n012101,AIR TEMPERATURE,K\n", "; it is in the names of 012101"),
                 ("fxy,unit\n012101,K\n", ""),
                 ("", ""),
             ):
