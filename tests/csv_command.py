@@ -455,7 +455,7 @@ def failures(folder: pathlib.Path) -> None:
         holds(f"AWK={word!r}", (done.returncode, done.stdout.count(b"\n")) == (0, 4), done)
     (folder / "no-tables/wmo-39").mkdir(parents=True)
     done = run("-c", "AIR TEMPERATURE", SYNOP, environment={"BUFR_TABLES": str(folder / "no-tables")})
-    told = f"bufr-csv: {folder}/empty/wmo-39/B.csv: No such file or directory\n".encode()
+    told = f"bufr-csv: {folder}/no-tables/wmo-39/B.csv: No such file or directory\n".encode()
     holds("there is no table", (done.returncode, done.stderr) == (2, told), done)
     done = run("-c", "AIR TEMPERATURE", SYNOP, environment={"BUFR_TABLES": "/nosuch"})
     holds("there are no tables", done.returncode == 2 and b"/nosuch" in done.stderr, done)
