@@ -127,7 +127,7 @@ MUTATIONS = [
     ("install.sh", "ln -sf", "ln -s", "tests/installation.sh"),
     ("install.sh", "install -D -m \"$mode\"", "cp", "tests/installation.sh"),
     ("install.sh", "comm -23", "comm -12", "tests/installation.sh"),
-    ("install.sh", "die \"$prefix/$place is a folder", "echo \"$prefix/$place is a folder", "tests/installation.sh"),
+    ("install.sh", "die \"$prefix/$place is a directory", "echo \"$prefix/$place is a directory", "tests/installation.sh"),
     ("install.sh", "| LC_ALL=C sort > \"$work/old\"", "> \"$work/old\"", "tests/installation.sh"),
     ("install.sh", "[ -n \"${DESTDIR-}\" ] || hints", "hints", "tests/installation.sh"),
     ("install.sh", "&& is_marked \"$program\"; then", "; then", "tests/proved_installation.sh"),
