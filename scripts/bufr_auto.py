@@ -25,7 +25,7 @@ if TYPE_CHECKING:
     # A message, a document or a stray: its place (an offset or a line), its bytes, and the fault of a stray.
     Piece = Tuple[int, Octets, bytes]
     Bytes = bufr_sets.Bytes
-    # The tables of a message, by its header: its centre, master table, version and local version.
+    # The numbers in a header that determine the tables: centre, master table, version and local version.
     Tables = Tuple[int, int, int, int]
 
 # A part has at most about this many bytes, and this many pieces, so buffers do not grow with the stream.
@@ -355,7 +355,7 @@ class Run:
 
     @staticmethod
     def asked_by(piece: Bytes) -> Tables:
-        """The tables of a piece, by its header."""
+        """The numbers in the header of a piece that determine its tables."""
         raise NotImplementedError
 
     @staticmethod

@@ -64,7 +64,7 @@ class Conditions:
         return f" edition=3 .* time=(?:{'|'.join(self.of_century)})[ T:/-]" if self.of_century else "(?!)"
 
     def are_met(self, line: bytes) -> bool:
-        """Whether a line meets all conditions. Counts the messages that are left out."""
+        """Whether a line meets all conditions. Counts edition 3 messages that it leaves out."""
         line = line.rstrip(b"\n")
         if any(bool(pattern.search(line)) == negated for negated, pattern in self.compiled):
             return False

@@ -503,9 +503,9 @@ def read_at(descriptor: int, offset: int, length: int) -> bytes:
         try:
             pieces.append(os.pread(descriptor, end - offset, offset))
         except OSError as error:
-            raise Failed(f"read failed: {error.strerror}") from None
+            raise Failed(f"cannot read the input: {error.strerror}") from None
         if not pieces[-1]:
-            raise Failed("the file became shorter while it was read")
+            raise Failed("the input became shorter while it was read")
         offset += len(pieces[-1])
     return pieces[0] if len(pieces) == 1 else b"".join(pieces)
 

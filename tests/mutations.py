@@ -82,7 +82,7 @@ MUTATIONS = [
     ),
     (
         "scripts/bufr_guard.py",
-        "raise Failed(\"the file became shorter while it was read\")",
+        "raise Failed(\"the input became shorter while it was read\")",
         "break",
         "tests/failures_of_scripts.py bufr-parallel",
     ),
