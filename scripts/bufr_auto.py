@@ -560,7 +560,7 @@ def reasons(asked: Tables, tables: bufr_sets.TableSet) -> List[Reason]:
     if version > tables.version:
         found.append(Reason(f"version {version} is later than {tables.name}", bool, lambda: bufr_sets.NEWER))
     if version <= 6 < tables.version:
-        text = f"version {version} defines some of its descriptors differently from {tables.name}"
+        text = f"some descriptors differ between version {version} and {tables.name}"
         found.append(Reason(text, CHANGED_SINCE_6.__contains__))
     if local != 0 and tables.own is None:
         own = bufr_sets.own_name(tables, centre, local)

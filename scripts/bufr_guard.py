@@ -271,7 +271,7 @@ def write_all(descriptor: int, octets: Union[bytes, bytearray, memoryview]) -> N
 
 
 def say(lines: bytes) -> None:
-    """Writes lines to standard error. They are printed at the next `flush` or earlier."""
+    """Writes lines to standard error. The next `flush` prints them, if they were not printed before."""
     if lines:
         Progress.clear()
         output(2).write(lines)
@@ -417,7 +417,7 @@ def leave(number: int, _frame: Optional[FrameType]) -> None:
 
 
 def opened(file: Optional[str]) -> int:
-    """A descriptor that can be read at any offset: that of a file, of standard input, or of a copy if necessary."""
+    """A file descriptor that can be read at any offset. If necessary, it is that of a temporary copy."""
     descriptor = to_read(file)
     return descriptor if is_regular(descriptor) else copied(descriptor, named(file))
 

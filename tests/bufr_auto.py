@@ -428,7 +428,7 @@ class Trial:
         told = [line for line in done.stderr.decode().splitlines() if line.startswith("bufr-auto: ")]
         at = [found.start() for found in re.finditer(b"BUFR", stream)]
         wanted = [
-            f"3 messages, the first at offset {at[2]}: version 6 defines some of its descriptors differently from wmo-13",
+            f"3 messages, the first at offset {at[2]}: some descriptors differ between version 6 and wmo-13",
             f"2 messages, the first at offset {at[8]}: local table 102 of centre 98: there is no wmo-13+98-102; to make it",
             f"1 message, at offset {at[10]}: version 40 is later than wmo-39{NEWER}",
         ]
