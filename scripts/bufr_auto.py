@@ -166,7 +166,7 @@ def stray_line(offset: int, fault: bytes, prefix: bytes = b"") -> bytes:
 class Masker:
     """Hides the messages that declare more than `longest` bytes from a program that reads the stream.
 
-    It replaces their first four bytes by zeros, so that offsets do not change, and reports each.
+    It replaces their first four bytes with zeros, so that offsets do not change, and reports each.
     """
 
     def __init__(self, longest: int) -> None:
@@ -405,7 +405,7 @@ class Run:
         self.place = bufr_guard.NOWHERE
 
     def fault(self, place: int, size: int) -> bytes:
-        """The fault line of the next piece, or an empty one."""
+        """The fault line of the next piece, or an empty text if there is none."""
         begin, self.passed = self.passed, self.passed + size
         if self.place >= self.passed:
             return b""

@@ -535,7 +535,7 @@ class Faults:
         self.next = next(self.lines, (NOWHERE, b""))
 
     def tell_before(self, offset: float) -> None:
-        """Prints those before an offset."""
+        """Prints the fault lines before an offset."""
         while self.next[0] < offset:
             say(self.next[1])
             self.next = next(self.lines, (NOWHERE, b""))

@@ -107,7 +107,7 @@ def is_condition(word: str) -> bool:
 
 
 def parts(word: str) -> tuple[str, Optional[str]]:
-    """The name of an option, and the value that is joined to it."""
+    """The name of an option and the value that is joined to it, if there is one."""
     if word.startswith("--"):
         name, equals, value = word.partition("=")
         return name, value if equals else None

@@ -94,7 +94,7 @@ cache: List[TableSet] = []
 
 
 class TableSets:
-    """All sets of a directory: `wmo-13`, or with a centre's own rows `wmo-13+98-102` (centre 98, local version 102)."""
+    """All table sets in a directory: `wmo-13`, or with a centre's rows `wmo-13+98-102` (centre 98, local version 102)."""
 
     def __init__(self) -> None:
         self.folder = folder_of_sets()
@@ -131,7 +131,7 @@ def is_number(word: str) -> bool:
 
 
 def folder_of_sets() -> str:
-    """BUFR_TABLES, or the directory that was installed with this module, the script or Python, or the repository's."""
+    """The directory of the table sets: BUFR_TABLES, or the one of this installation, of Python or of the repository."""
     named = os.environ.get("BUFR_TABLES")
     if named:
         places = [named]

@@ -126,7 +126,7 @@ class RunError(RuntimeError):
 
 
 class DumpWarning(UserWarning):
-    """A file has no message, messages were refused or left out, or levels cannot be told apart."""
+    """Warns that a file has no message, messages were refused or left out, or levels cannot be told apart."""
 
 
 class Fault(NamedTuple):
