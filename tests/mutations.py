@@ -265,7 +265,7 @@ MUTATIONS = [
     ("scripts/bufr-csv", "    except OSError:\n        return True\n", "    except ValueError:\n        return True\n", "tests/csv_command.py"),
     ("scripts/bufr-csv", "bufr_guard.say(notes)", "pass", "tests/csv_command.py"),
     ("scripts/bufr-csv", "not all(map(is_regular, files))", "False", "tests/csv_command.py"),
-    ("scripts/bufr-csv", "raise bufr_options.misused(f\"{option} '{','.join(asked.all(option))}': there is an empty column\")", "pass", "tests/csv_command.py"),
+    ("scripts/bufr-csv", "raise bufr_options.misused(f\"{option} '{','.join(asked.all(option))}' has an empty column\")", "pass", "tests/csv_command.py"),
     ("completions/bufr-scripts.bash", "--where) options='' words=$keys ;;", "--where) return ;;", "tests/completions.sh"),
     ("man/bufr-csv.1", ".It Fl -keep Ar COLUMNS", ".It Fl -kept Ar COLUMNS", "tests/docs_names.py"),
     ("scripts/bufr-plot", "longitude if abs(longitude) <= 180 else", "longitude if True else", "tests/pictures.py"),
@@ -308,7 +308,7 @@ MUTATIONS = [
     ("scripts/table.awk", "if (++name_count > 10000) {", "if (0) {", "tests/csv_by_awk.py"),
     ("scripts/bufr-plot", "(bytes, type(None))) and not item.reference", "(bytes, type(None)))", "tests/pictures.py"),
     ("scripts/bufr-extract", "            os.close(source)\n", "            pass\n", "tests/extract_messages.py"),
-    ("scripts/bufr-extract", "            bufr_guard.stop()  # or else", "            pass  # or else", "tests/failures_of_scripts.py bufr-extract"),
+    ("scripts/bufr-extract", "            bufr_guard.stop()  # otherwise", "            pass  # otherwise", "tests/failures_of_scripts.py bufr-extract"),
     (
         "scripts/bufr-extract",
         "self.thread = threading.Thread(target=self.feed, daemon=True)",
