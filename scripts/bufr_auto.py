@@ -534,7 +534,7 @@ class Notes:
 
     def __init__(self) -> None:
         self.reasons: Dict[str, Reason] = {}
-        self.others = Reason("no set matches these exactly, for other reasons", bool)
+        self.others = Reason(f"no set matches exactly, for reasons beyond the first {KINDS_OF_NOTES:,}", bool)
 
     def known(self, reason: Reason) -> Reason:
         """The known reason with this text. If there are too many reasons, it is the one for all others."""

@@ -68,7 +68,7 @@ REFUSED = [
     (["--all"], "unknown option --all"),
     (["one", "two"], "expected one file; to read several, use cat one two | bufr-extract"),
     (["nosuch"], "cannot open nosuch"),
-    (["/"], "read failed: Is a directory"),
+    (["/"], "cannot read the input: Is a directory"),
 ]
 # Conditions of awk that do more than select lines.
 NO_CONDITIONS = [
