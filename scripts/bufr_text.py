@@ -76,7 +76,7 @@ _CAUSES = [
     (re.compile(pattern, re.DOTALL), cause)
     for pattern, cause in [
         (rb"\xef\xbb\xbf.*", "a byte order mark"),
-        (rb"\x01.*|BUFR.*", "BUFR instead of a dump; use bufr-auto to dump it"),
+        (rb"(?:\x01|[A-Z]{4}\d\d [A-Z]{4} |BUFR).*", "BUFR instead of a dump; use bufr-auto to dump it"),
         (rb".*\r", "a carriage return at the end"),
         (rb">.*", "the > of a quoted mail"),
         (rb"[^\"#]*\t.*", "a tab instead of a space"),

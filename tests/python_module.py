@@ -61,6 +61,8 @@ def with_line(number: int, lines: bytes) -> bytes:
 MISTAKES = [
     (1, b"\xef\xbb\xbfmessage\n", "a byte order mark"),
     (1, (TOP / "examples/synop.bufr").read_bytes().partition(b"\n")[0] + b"\n", "BUFR instead of a dump; use bufr-auto to dump it"),
+    (1, b"IUAA01 EGRR 120700\r\r\n", "BUFR instead of a dump; use bufr-auto to dump it"),
+    (1, b"\x01\r\r\n", "BUFR instead of a dump; use bufr-auto to dump it"),
     (24, b"001001 10\r\n", "a carriage return at the end"),
     (24, b"> 001001 10\n", "the > of a quoted mail"),
     (24, b"001001\t10\n", "a tab instead of a space"),
