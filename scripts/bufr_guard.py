@@ -440,7 +440,7 @@ def is_regular(descriptor: int) -> bool:
 
 
 def temporary() -> int:
-    """A descriptor of a new file without a name, below TMPDIR."""
+    """A descriptor of a new file without a name, in TMPDIR."""
     try:
         return os.open(folder_of_temporary(), os.O_TMPFILE | os.O_RDWR, 0o600)
     except OSError as error:
