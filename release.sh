@@ -1,11 +1,11 @@
 #!/usr/bin/env bash
-# Makes a release of the current commit: an archive that installs without the toolchain, the wheel, and their sums.
+# Makes a release of the current commit: an archive that installs without the toolchain, the wheel, and their checksums.
 #
 #     ./release.sh [DIST]                         proves everything from scratch first, which takes hours
-#     ./release.sh --unproved PROGRAM [DIST]      packs this program; its BUILD says that it is unproved
+#     ./release.sh --unproved PROGRAM [DIST]      packs this program; its BUILD file says that it is unproved
 #
-# The files go to DIST, by default the folder dist. If a step fails, DIST stays as it was. A commit gives the same bytes
-# on every run, in every folder, for every user. Uncommitted changes are left out.
+# The files go to the directory DIST, by default dist. If a step fails, DIST is unchanged. The same commit and program
+# give the same bytes on every run, in every directory, for every user. Uncommitted changes are left out.
 set -eu -o pipefail
 export LC_ALL=C
 
@@ -25,16 +25,16 @@ fi
 case $#${1-} in 0 | 1[!-]*) ;; *) usage ;; esac
 dist=$(realpath -m "${1:-$(dirname "$0")/dist}")
 cd "$(dirname "$0")"
-commit=$(git rev-parse HEAD) || die 'a release is made in a clone of the repository'
-[ -z "$(git status --porcelain)" ] || echo "$0: uncommitted changes are not part of the release" >&2
+commit=$(git rev-parse HEAD) || die 'this directory is not a clone of the repository, from which a release is made'
+[ -z "$(git status --porcelain)" ] || echo "$0: there are uncommitted changes, which the release leaves out" >&2
 
-# Everything is made in a folder inside DIST, so that the last step only renames files.
+# Everything is made in a directory inside DIST, so that the last step only renames files.
 mkdir -p "$dist"
 work=$(mktemp -d "$dist/.unfinished.XXXXXX") is_made=''
 trap 'rm -rf "$work"; [ -n "$is_made" ] || echo "$0: no release was made" >&2' EXIT
 git clone -q --no-checkout . "$work/clone"
 cd "$work/clone"
-# The user's settings could change line ends and modes.
+# The user's settings could change line endings and modes.
 export GIT_CONFIG_GLOBAL=/dev/null GIT_CONFIG_SYSTEM=/dev/null
 git checkout -q --detach "$commit"
 
@@ -42,26 +42,26 @@ logic=$(sed -n 's/.*`logic \([0-9a-f]\{16\}\)`.*/\1/p' README.md | head -n 1)
 gate='not run' sources=unknown
 if [ $proof = proved ]; then
     program=crates/bufr/out/bufr
-    toolchain=$(rt version) || die 'the toolchain (rt) is not on the PATH'
-    [ "${toolchain##* }" = "$logic" ] || die "this is $toolchain, and README.md names logic $logic"
-    setpriv --pdeathsig TERM rt ci --anew 2>&1 | tee "$work/gate" || die 'the gate failed'
+    toolchain=$(rt version) || die 'the toolchain (rt) is not on PATH; use --unproved PROGRAM to release a program without a proof'
+    [ "${toolchain##* }" = "$logic" ] || die "the toolchain is $toolchain, but README.md names logic $logic"
+    setpriv --pdeathsig TERM rt ci --anew 2>&1 | tee "$work/gate" || die 'the proofs or the tests failed (rt ci); the output above says which'
     gate=$(tail -n 1 "$work/gate")
     of_gate=$(sum_of $program)
-    # Building it again leaves the stamp: the sum of all sources, and the sum of the program.
+    # A second build writes the stamp: the checksum of all sources, followed by that of the program.
     (cd crates/bufr && rt run -- --version)
-    [ "$(sum_of $program)" = "$of_gate" ] || die 'a second build gave another program'
+    [ "$(sum_of $program)" = "$of_gate" ] || die 'a second build made a different program'
     stamp=$(< $program.stamp)
-    [ "${stamp:64}" = "$of_gate" ] || die 'the stamp belongs to another program'
+    [ "${stamp:64}" = "$of_gate" ] || die 'the stamp is that of a different program'
     sources=${stamp:0:64}
 fi
 mark=$(grep -aom 1 'rattle logic=[0-9a-f]\{16\}' "$program" | cut -d = -f 2) || mark=none
-[ $proof = unproved ] || [ "$mark" = "$logic" ] || die "the program has the mark of logic $mark"
-version=$("$program" --version) || die "$program does not run"
+[ $proof = unproved ] || [ "$mark" = "$logic" ] || die "the program was built with logic $mark, but README.md names logic $logic"
+version=$("$program" --version) || die "$program does not run on this machine"
 version=${version#bufr }
 wheel=$(python3 -c 'import build_wheel, sys; print(build_wheel.build_wheel(sys.argv[1]))' "$work")
 case $wheel in bufr_text-"$version"-*) ;; *) die "the program has version $version, but the wheel is $wheel" ;; esac
 
-# The archive: what install.sh installs, and itself.
+# The archive has install.sh and everything that it installs.
 name=bufr-$version-linux-x86_64
 mkdir "$work/$name"
 git archive HEAD scripts tables docs man completions examples NOTICE README.md CHANGELOG.md CONTRIBUTING.md install.sh |

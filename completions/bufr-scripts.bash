@@ -1,4 +1,4 @@
-# Completion of the scripts beside bufr for bash: options, tables, words of a listing and files.
+# Completes the command lines of the scripts in bash: options, tables, listing fields and files.
 
 _bufr_scripts() {
     local word=${COMP_WORDS[COMP_CWORD]} before=${COMP_WORDS[COMP_CWORD - 1]} options='' words=''

@@ -1,9 +1,9 @@
-"""The work of bufr-auto: it finds the messages of a stream, or the documents of a text, and chooses a table set for each.
+"""The work of bufr-auto: finds the messages of a stream, or the documents of a dump, and chooses a table set for each.
 
     status = bufr_auto.dump(["a.bufr", None], output=pipe)  # None is standard input
 
-It finds them itself, so that it need not wait for a listing, and leaves everything else to `bufr`: it runs that once
-for each set of a part of the stream. Parts are written in order, each of them before the next read that may block.
+It finds the messages itself, so that it need not wait for a listing. `bufr` does everything else: for each part of the
+stream, it runs once for each table set. Parts are written in order, and each before the next read that may block.
 """
 from __future__ import annotations
 
@@ -22,22 +22,22 @@ if TYPE_CHECKING:
     from bufr_conditions import Conditions
 
     Octets = Union[bytes, memoryview]
-    # A message or a document: its place (an offset or a line), its octets, and a fault if it is none.
+    # A message, a document or a stray: its place (an offset or a line), its bytes, and the fault of a stray.
     Piece = Tuple[int, Octets, bytes]
     Bytes = bufr_sets.Bytes
-    # What a message asks for: its centre, master table, version and local version.
+    # The numbers in a header that determine the tables: centre, master table, version and local version.
     Tables = Tuple[int, int, int, int]
 
-# A part has at most about this many bytes, and this many pieces, so what is buffered does not grow with the stream.
+# A part has at most about this many bytes, and this many pieces, so buffers do not grow with the stream.
 PART, PIECES = 1 << 22, 1 << 14
 BLOCK = 1 << 18
-# A line has at most this many bytes, and the beginning of a document with its header and its descriptors.
+# The maximum length of a line, and of the beginning of a document that has its header and its descriptors.
 LINE, HEADER = 4096, 1 << 20
 END = b"\nend\n"
-# Notes of this many kinds are told apart, and descriptor lists of this length and number are remembered.
+# How many kinds of notes are counted separately, and how many descriptors and lists are cached.
 KINDS_OF_NOTES = 1000
 REMEMBERED = 1 << 8
-# The descriptors of versions up to 6 that version 13 defines differently.
+# The descriptors that version 13 defines differently from versions up to 6.
 CHANGED_SINCE_6 = set(
     """
     001003 001022 002028 002160 004024 008006 008065 008066 012073 015003 015004 021017 022004 022062 025030 029002
@@ -47,7 +47,7 @@ CHANGED_SINCE_6 = set(
 
 
 class Unread(Exception):
-    """The reason why a file could not be read, or not to its end."""
+    """The reason why a file could not be read to its end."""
 
 
 class Feed:
@@ -95,7 +95,7 @@ class Feed:
 
 
 def widen(pipe: int) -> None:
-    """Gives a pipe a buffer of a megabyte, so that its two ends wait for each other less often."""
+    """Enlarges the buffer of a pipe to a megabyte, so that its two ends wait for each other less often."""
     import fcntl
 
     try:
@@ -105,19 +105,19 @@ def widen(pipe: int) -> None:
 
 
 class Finder:
-    """Finds the messages of a stream, block by block. It buffers the message that has begun, and a block.
+    """Finds the messages of a stream, block by block. It buffers the current message and a block.
 
     A message that declares more than `longest` bytes is skipped: the search continues after its first four bytes.
     """
 
     def __init__(self, longest: Optional[int] = None) -> None:
         self.longest = 1 << 24 if longest is None else longest
-        # What is buffered ends at `end`, and the search continues at `at`. Offset `passed` of the stream is held[0].
-        # The buffer never shrinks: giving its memory back and taking it again would fragment the heap.
+        # The buffered bytes end at `end`, and the search continues at `at`. held[0] is at offset `passed` of the stream.
+        # The buffer never shrinks: freeing and allocating it again would fragment the heap.
         self.held, self.at, self.end, self.passed, self.has_ended = bytearray(), 0, 0, 0, False
 
     def put(self, octets: bytes) -> None:
-        """Takes the next block, which is empty at the end of the stream."""
+        """Adds the next block, which is empty at the end of the stream."""
         if self.at > BLOCK:
             with memoryview(self.held) as held:
                 held[: self.end - self.at] = held[self.at : self.end]
@@ -127,7 +127,10 @@ class Finder:
         self.has_ended = not octets
 
     def find(self) -> Optional[Tuple[int, int, bytes]]:
-        """Where the next message, or a stray `BUFR` with its fault, begins and ends. None if more bytes are needed."""
+        """Where the next message or stray begins and ends, and its fault. None if more bytes are needed.
+
+        A stray is a `BUFR` that begins no message.
+        """
         at = self.held.find(b"BUFR", self.at, self.end)
         if at < 0:
             self.at = max(self.at, self.end - 3)
@@ -150,12 +153,12 @@ class Finder:
 
 
 def is_stray(fault: bytes) -> bool:
-    """Whether there is a fault, and it is that of a stray `BUFR`, not a note on a skipped message."""
+    """Whether a fault is that of a stray, not a report of a skipped message."""
     return fault[:1].isdigit()
 
 
 def stray_line(offset: int, fault: bytes, prefix: bytes = b"") -> bytes:
-    """The line about a stray `BUFR`, or the note on a message that was skipped."""
+    """The line that reports a stray or a skipped message."""
     line = b"%soffset %d: %s\n" % (prefix, offset, fault)
     return line if is_stray(fault) else os.fsencode(bufr_guard.name()) + b": " + line
 
@@ -163,14 +166,14 @@ def stray_line(offset: int, fault: bytes, prefix: bytes = b"") -> bytes:
 class Masker:
     """Hides the messages that declare more than `longest` bytes from a program that reads the stream.
 
-    Of each the first four bytes become zeros, so that all offsets stay. A note says so.
+    It replaces their first four bytes with zeros, so that offsets do not change, and reports each.
     """
 
     def __init__(self, longest: int) -> None:
         self.finder, self.count = Finder(longest), 0
 
     def take(self, octets: bytes) -> Iterator[bytes]:
-        """Takes the next block, which is empty at the end, and yields the bytes that the program may now read."""
+        """Adds the next block, which is empty at the end, and yields the bytes that the program may now read."""
         finder = self.finder
         finder.put(octets)
         first = finder.at
@@ -186,10 +189,10 @@ class Masker:
 
 
 class Source:
-    """The pieces of a file, in order. Each is valid until the next one is asked for.
+    """The pieces of a file, in order. Each is valid until the next one is requested.
 
-    None comes before a read that may block. If the last piece `is_long`, it is only a beginning, and `rest` gives the
-    whole of it, block by block, and then its size in `lines`.
+    The iterator yields None before a read that may block. If the last piece `is_long`, it is only a beginning. `rest`
+    then yields the whole piece, block by block, and sets `lines` to its size.
     """
 
     is_long = False
@@ -226,13 +229,13 @@ class Messages(Source):
 
 
 class Documents(Source):
-    """The documents of a text, at their first lines. Each includes what precedes it; what follows the last is another."""
+    """The documents of a dump, at their first lines. Each includes the lines before it; lines after the last are another."""
 
     def __init__(self, feed: Feed, _longest: Optional[int]) -> None:
         self.feed, self.held, self.has_ended = feed, bytearray(b"\n"), False
 
     def __iter__(self) -> Iterator[Optional[Piece]]:
-        # The line feed before a document is the one that ends the document before it.
+        # The line feed before a document ends the previous document.
         held, number, at = self.held, 1, 0
         while True:
             found = held.find(END, at)
@@ -268,7 +271,7 @@ class Documents(Source):
         held, self.lines, found = self.held, 0, -1
         while found < 0:
             found = held.find(END)
-            # As long as there is no end, as much is retained as may begin one, and the byte before it.
+            # Until the end is found, the buffer retains the bytes that may begin it, and the byte before them.
             kept = 0 if found >= 0 or self.has_ended else len(END) - 1
             end = found + len(END) if found >= 0 else max(1, len(held) - kept)
             text = bytes(held[1:end])
@@ -283,7 +286,7 @@ class Documents(Source):
 
 
 def begin_of(text: bytearray) -> int:
-    """Where the first line begins that is neither empty nor a comment, after a line feed."""
+    """Where the first line that is neither empty nor a comment begins, after a line feed."""
     at, end = 1, text.find(b"\n", 1)
     while end == at or (at < end <= at + LINE and text.startswith(b"#", at)):
         at, end = end + 1, text.find(b"\n", end + 1)
@@ -291,7 +294,7 @@ def begin_of(text: bytearray) -> int:
 
 
 def may_begin(text: bytearray) -> bool:
-    """Whether a document may begin like this. If not, as in an archive of messages, no more is read."""
+    """Whether a document may begin like this. If not, as for an archive of messages, nothing more is read."""
     at = begin_of(text)
     end = text.find(b"\n", at)
     return len(text) - at <= LINE if end < 0 else text[at:end] == b"message"
@@ -324,7 +327,7 @@ class Store:
 
 
 class Reason:
-    """Why a set may not match a message exactly, for which descriptors, and how to get the missing set."""
+    """Why a set may not match a message exactly, which descriptors this concerns, and how to get the missing set."""
 
     def __init__(self, text: str, concerns: Callable[[str], bool], advice: Callable[[], str] = str) -> None:
         self.text, self.concerns, self.advice = text, concerns, advice
@@ -332,7 +335,7 @@ class Reason:
 
 
 class Run:
-    """One run of `bufr`, over the pieces of a part that belong to one set."""
+    """One run of `bufr` on the pieces of a part that belong to one set."""
 
     COMMAND: str
     PLACE: bytes
@@ -352,25 +355,25 @@ class Run:
 
     @staticmethod
     def asked_by(piece: Bytes) -> Tables:
-        """What a piece asks for."""
+        """The numbers in the header of a piece that determine its tables."""
         raise NotImplementedError
 
     @staticmethod
     def words_of(piece: Bytes) -> bytes:
-        """The descriptor list of a piece, as it is written there."""
+        """The descriptor list of a piece, in the form that the piece has."""
         raise NotImplementedError
 
     @staticmethod
     def descriptors(words: bytes) -> Tuple[str, ...]:
-        """The descriptors of such a list."""
+        """The descriptors of such a list, as six digits each."""
         raise NotImplementedError
 
     def copy_piece(self) -> bool:
-        """Copies the output for the next piece, and returns whether it is whole."""
+        """Copies the output for the next piece, and returns whether it is complete."""
         raise NotImplementedError
 
     def start(self, output: Optional[int]) -> None:
-        """Starts it. Its output goes to a descriptor, or into a file from which it is copied piece by piece."""
+        """Starts the run. Its output goes to a descriptor, or to a file from which it is copied piece by piece."""
         self.start_on(self.pieces.descriptor(), output)
 
     def start_on(self, given: int, output: Optional[int]) -> None:
@@ -381,10 +384,10 @@ class Run:
         self.output = open(copied, "rb", 0) if output is None else None
 
     def finish(self) -> None:
-        """Waits for its end."""
+        """Waits for the run to end."""
         self.status = bufr_guard.wait(self.process)
-        self.others: List[bytes] = []  # lines that are no faults of pieces
-        self.passed = 0  # what precedes the next piece, in bytes or lines
+        self.others: List[bytes] = []  # lines that are not faults of pieces
+        self.passed = 0  # the size of all pieces before the next one, in bytes or lines
         self.errors.seek(0)
         self.take_fault()
         if self.output is not None:
@@ -392,7 +395,7 @@ class Run:
             self.read, self.at = b"", 0
 
     def take_fault(self) -> None:
-        """Takes the next fault: its place, and what follows that."""
+        """Reads the next fault line: its place, and the text after that."""
         for line in self.errors:
             word, _, self.told = line.partition(b": ")
             if word.startswith(self.PLACE) and word[len(self.PLACE) :].isdigit():
@@ -402,7 +405,7 @@ class Run:
         self.place = bufr_guard.NOWHERE
 
     def fault(self, place: int, size: int) -> bytes:
-        """The fault line of the next piece, or nothing."""
+        """The fault line of the next piece, or an empty text if there is none."""
         begin, self.passed = self.passed, self.passed + size
         if self.place >= self.passed:
             return b""
@@ -411,7 +414,7 @@ class Run:
         return line
 
     def copy(self, target: bufr_guard.Output) -> bool:
-        """Copies its output for the next piece to the target, and returns whether that is whole."""
+        """Copies the output for the next piece to the target, and returns whether it is complete."""
         self.target = target
         return self.output is None or self.copy_piece()
 
@@ -423,7 +426,7 @@ class Run:
         return bool(octets)
 
     def give(self, end: int) -> None:
-        """Copies what was read up to here."""
+        """Copies the buffered output up to `end`."""
         self.target.write(memoryview(self.read)[self.at : end])
         self.at = end
 
@@ -464,7 +467,7 @@ class Encode(Run):
 
     @staticmethod
     def size_of(octets: Octets) -> int:
-        """The lines of a document; if it has no end, also the line at which that is reported."""
+        """The number of lines. For a document without an end, it includes the line at which that is reported."""
         text = bytes(octets)
         return text.count(b"\n") + 2 * (not text.endswith(END))
 
@@ -493,7 +496,7 @@ class Encode(Run):
     def copy_piece(self) -> bool:
         while len(self.read) < self.at + 7:
             if not self.take():
-                # After the last document there may be nothing but comments.
+                # Only comments may follow the last document.
                 return self.status == 0 and self.at == len(self.read)
         left = int.from_bytes(self.read[self.at + 4 : self.at + 7], "big")
         while left > len(self.read) - self.at:
@@ -506,7 +509,7 @@ class Encode(Run):
 
 
 class Part:
-    """Consecutive pieces: a run for each set; and of each piece its place, its size, and its run or its fault.
+    """Consecutive pieces, and a run for each set. Each piece has its place, its size, and its run or its fault.
 
     If there are conditions, the pieces first go to `candidates`, without a run.
     """
@@ -527,14 +530,14 @@ class Part:
 
 
 class Notes:
-    """How many pieces no set matches exactly, for each reason, and where the first one is."""
+    """For each reason why no set matches exactly, the number of pieces, and the place of the first one."""
 
     def __init__(self) -> None:
         self.reasons: Dict[str, Reason] = {}
-        self.others = Reason("no set matches these exactly, for other reasons", bool)
+        self.others = Reason(f"no set matches exactly, for reasons beyond the first {KINDS_OF_NOTES:,}", bool)
 
     def known(self, reason: Reason) -> Reason:
-        """The known reason with this text, or the one for all others if there are too many."""
+        """The known reason with this text. If there are too many reasons, it is the one for all others."""
         if reason.text not in self.reasons and len(self.reasons) >= KINDS_OF_NOTES:
             return self.others
         return self.reasons.setdefault(reason.text, reason)
@@ -549,7 +552,7 @@ class Notes:
 
 
 def reasons(asked: Tables, tables: bufr_sets.TableSet) -> List[Reason]:
-    """Why a set may not match exactly what a message asks for."""
+    """The reasons why a set may not match a message exactly."""
     centre, master, version, local = asked
     found = []
     if master != 0:
@@ -557,7 +560,7 @@ def reasons(asked: Tables, tables: bufr_sets.TableSet) -> List[Reason]:
     if version > tables.version:
         found.append(Reason(f"version {version} is later than {tables.name}", bool, lambda: bufr_sets.NEWER))
     if version <= 6 < tables.version:
-        text = f"version {version} defines some of its descriptors differently from {tables.name}"
+        text = f"some descriptors differ between version {version} and {tables.name}"
         found.append(Reason(text, CHANGED_SINCE_6.__contains__))
     if local != 0 and tables.own is None:
         own = bufr_sets.own_name(tables, centre, local)
@@ -567,7 +570,7 @@ def reasons(asked: Tables, tables: bufr_sets.TableSet) -> List[Reason]:
 
 
 class Work:
-    """Dumps or encodes all files: the status so far, and what is reported at the end."""
+    """Dumps or encodes all files. It has the status so far, and the lines to print at the end."""
 
     def __init__(self, kind: Type[Run], files: Sequence[Optional[str]], output: int = 1) -> None:
         self.kind, self.files, self.sets, self.target = kind, files, bufr_sets.TableSets(), bufr_guard.output(output)
@@ -592,7 +595,7 @@ class Work:
         return self.status
 
     def report_last(self) -> None:
-        """Reports the notes, and why files and programs failed."""
+        """Prints the notes, and the reasons why files and programs failed."""
         note = self.conditions.note() if self.conditions else ""
         told = [f"{bufr_guard.name()}: {note}\n".encode()] if note else []
         bufr_guard.say(b"".join([*self.notes.lines(self.kind.PIECE), *told, *self.last]))
@@ -603,7 +606,7 @@ class Work:
         self.status = 2
 
     def serve(self, file: Optional[str]) -> None:
-        """Does the work for a file. A part with several runs starts while the part before it is written."""
+        """Does the work for a file. The runs of a part, if there are several, start before the previous part is written."""
         try:
             feed = Feed(file)
         except Unread as unread:
@@ -627,13 +630,13 @@ class Work:
         feed.close()
 
     def parts(self, feed: Feed) -> Iterator[Optional[Part]]:
-        """The parts of a file. None comes when the part before must be written: a read may block, or all was read.
+        """The parts of a file. It yields None when all parts must be written: before a read that may block, and at the end.
 
-        It is short: without memory for a number over 256, Python 3.11 does not get out of a `try` that ends after that
-        many instructions.
+        This function is short because Python 3.11 cannot leave a `try` that ends after more than 256 instructions if it
+        cannot allocate a number over 256.
         """
         source = self.kind.SOURCE(feed, self.longest)
-        pieces = iter(source)  # freed after the part: without memory Python would report that it cannot close it
+        pieces = iter(source)  # freed after the part; otherwise Python may report that it cannot close it
         self.part = Part()
         try:
             yield from self.full_parts(feed, source, pieces)
@@ -677,7 +680,7 @@ class Work:
             part.pieces.append((place, self.kind.size_of(octets), run, notes, b""))
 
     def feed(self, part: Part, source: Source, feed: Feed, piece: Piece) -> None:
-        """Feeds a long piece to a run of its own as it arrives."""
+        """Passes a long piece to a run of its own as it arrives."""
         place, begin, _ = piece
         run, notes = self.assigned(part, lambda at, length: bytes(begin[at : at + length]))
         os.close(run.pieces.descriptor())
@@ -689,7 +692,7 @@ class Work:
                 bufr_guard.write_all(pipe, octets)
                 self.progress.at(self.done + feed.taken)
         except BrokenPipeError:
-            pass  # it has refused the piece, and says so
+            pass  # it has refused the piece and reported that
         except Unread as unread:
             self.fail(unread)
         finally:
@@ -697,7 +700,7 @@ class Work:
         part.pieces.append((place, source.lines, run, notes, b""))
 
     def selected(self, part: Part) -> Part:
-        """The part with the candidates that meet the conditions, or have no line in a listing."""
+        """The part with only those candidates that meet the conditions or have no line in a listing."""
         if part.candidates is None:
             return part
         candidates, chosen, begin = part.candidates.descriptor(), Part(), 0
@@ -732,7 +735,7 @@ class Work:
         return frozenset(found)
 
     def assigned(self, part: Part, piece: Bytes) -> Tuple[Run, List[Reason]]:
-        """The run for a piece, and why its set may not match it exactly."""
+        """The run for a piece, and the reasons why its set may not match it exactly."""
         asked = self.kind.asked_by(piece)
         if asked not in self.known:
             if len(self.known) == KINDS_OF_NOTES:
@@ -773,13 +776,16 @@ class Work:
                 self.status = max(self.status, 1)
                 continue
             fault = one.fault(place, size)
-            if fault.partition(b": ")[2][:1] != b"1":  # otherwise it is no message
+            if fault.partition(b": ")[2][:1] != b"1":  # otherwise it is not a message
                 for reason in notes:
                     reason.count += 1
                     reason.first = reason.first or f"{within}at {one.PLACE.decode()}{place}"
             if fault:
                 bufr_guard.say(prefix + fault)
                 self.is_over = one.COMMAND == "encode"
+                if fault == b"line 1: 50 line\n" and b"BUFR" in feed.begin:
+                    told = f"{bufr_guard.name()}: {feed.name} is BUFR, not a dump; leave out --encode to dump it\n"
+                    self.last.append(os.fsencode(told))
             else:
                 if self.has_places:
                     name = os.fsencode("-" if feed.file is None else feed.name)
@@ -799,7 +805,7 @@ class Work:
         self.last += run.others
         status = bufr_guard.checked(run.status, bool(run.others))
         if not is_whole and status < 2:
-            raise bufr_guard.Failed("bufr wrote less than it should; output is incomplete")
+            raise bufr_guard.Failed("bufr stopped before the end of its output; output is incomplete")
         self.is_over = self.is_over or status == 2
         self.status = max(self.status, status)
 
@@ -813,9 +819,9 @@ def dump(
 ) -> int:
     """Writes the dump of these files to a descriptor, and returns the status. None is standard input.
 
-    Faults, notes and progress go to standard error, as those of bufr-auto. A message that declares more than `longest`
-    bytes is skipped, and so is one whose line of `bufr ls` does not meet the conditions. With `has_places` a comment
-    precedes each document: `# offset=595 length=422 file=NAME`.
+    Fault lines, notes and progress go to standard error, as in bufr-auto. Messages that declare more than `longest`
+    bytes, and those whose line in the output of `bufr ls` does not meet the conditions, are skipped. With `has_places`,
+    a comment precedes each document: `# offset=595 length=422 file=NAME`.
     """
     work = Work(Dump, files, output)
     work.longest, work.conditions, work.has_places = longest, conditions, has_places

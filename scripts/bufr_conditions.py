@@ -1,4 +1,4 @@
-"""Conditions KEY=VALUE and KEY!=VALUE on the lines of `bufr ls`, as bufr-extract, bufr-csv and bufr_text take them.
+"""Conditions KEY=VALUE and KEY!=VALUE on the lines of `bufr ls`, for bufr-extract, bufr-csv and bufr_text.
 
     conditions = bufr_conditions.Conditions(["category=0", "time=2024-01-02"])
     for line in listing:        # a line as bytes
@@ -6,8 +6,9 @@
             ..
     note = conditions.note()    # "", or how many edition 3 messages were left out, and why
 
-KEY is a word of the line. VALUE is what follows it, or its first parts: category=0 takes 0/2/0, and time=2024-01-02 each
-hour of that day. Commas separate several values. All conditions must hold. Raises `ValueError` for any other word.
+KEY is the name of a field. VALUE is its value, or the leading parts of it: category=0 matches 0/2/0, and time=2024-01-02
+matches each hour of that day. Commas separate several values. All conditions must hold. Raises `ValueError` if a word is
+not a condition.
 """
 from __future__ import annotations
 
@@ -20,15 +21,15 @@ KEYS = (
 
 
 class Conditions:
-    """Conditions on a line. `patterns` has each, as grep -E and `re` read it, and whether it must not match.
+    """Conditions on a line. `patterns` has a pattern for grep -E and `re` for each, and whether it must not match.
 
-    Edition 3 has years of the century in the place of years: time=2024 does not take 0024. These messages are left out
-    and counted.
+    Edition 3 messages have the year of the century instead of the year, so time=2024 does not match 0024. These messages
+    are left out and counted.
     """
 
     def __init__(self, words: Iterable[str]) -> None:
         self.patterns: List[Tuple[bool, str]] = []
-        # The first condition on `time`, and what edition 3 has in the place of all their years.
+        # The first condition on `time`, and the years of the century for the years in all of them.
         self.asked = ""
         self.of_century: List[str] = []
         self.left_out = 0
@@ -45,25 +46,25 @@ class Conditions:
         if key not in KEYS:
             raise ValueError(f"unknown key {key} in '{word}'; the keys are {' '.join(KEYS)}")
         if not re.fullmatch(r"[0-9T:/-]+(,[0-9T:/-]+)*", text):
-            raise ValueError(f"the value in '{word}' cannot match a listing: use digits, T, colons, slashes and hyphens")
+            raise ValueError(f"the value in '{word}' cannot match: use only digits, T, colons, slashes and hyphens")
         values = text.split(",")
         pattern = f"(^| ){key}=({'|'.join(values)})([ T:/-]|$)"
         if key == "time" and not negated:
             years = [value for value in values if re.match("[1-9][0-9]{3}", value)]
             of_century = [f"00{year[2:]}" for year in years if f"00{year[2:4]}" not in {value[:4] for value in values}]
             if of_century:
-                # These match, and are then counted and left out.
+                # The pattern matches these lines too, so that they can be counted before they are left out.
                 self.asked = self.asked or word
                 self.of_century += of_century
                 pattern += f"| edition=3 .* time=({'|'.join(of_century)})[ T:/-]"
         self.patterns.append((bool(negated), pattern))
 
     def pattern_of_left_out(self) -> str:
-        """A pattern, without groups, of the lines that match and are left out."""
+        """A pattern, without groups, for the lines that match but are left out."""
         return f" edition=3 .* time=(?:{'|'.join(self.of_century)})[ T:/-]" if self.of_century else "(?!)"
 
     def are_met(self, line: bytes) -> bool:
-        """Whether a line meets all conditions. Counts the messages that are left out."""
+        """Whether a line meets all conditions. Counts edition 3 messages that it leaves out."""
         line = line.rstrip(b"\n")
         if any(bool(pattern.search(line)) == negated for negated, pattern in self.compiled):
             return False
@@ -72,7 +73,7 @@ class Conditions:
         return not is_left_out
 
     def note(self) -> str:
-        """A note on the messages that were left out, or nothing."""
+        """A note on the messages that were left out, or an empty text."""
         if not self.left_out:
             return ""
         messages = "1 edition 3 message" if self.left_out == 1 else f"{self.left_out} edition 3 messages"

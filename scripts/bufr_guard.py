@@ -1,7 +1,7 @@
-"""What the scripts share: how they start, stop and fail, the programs that they run, and what they report.
+"""Shared code of the scripts: starting, stopping and failing, running programs, and reporting.
 
-A script passes `run` its work: a function from the words of the command line to the exit status. It raises `Failed` if
-it cannot continue.
+A script passes `run` its work, a function that takes the words of the command line and returns the exit status. The
+function raises `Failed` if it cannot continue.
 
     def work(words):
         source = bufr_guard.opened(words[0] if words else None)
@@ -12,15 +12,15 @@ it cannot continue.
     sys.excepthook = bufr_guard.hook  # before the script imports anything else
     bufr_guard.run(work, __doc__)
 
-- `run` calls the work, flushes the output and exits with the status. If the work raises `Question` it prints the help
-  or the version. Any other exception is reported in one line on standard error, with status 2.
-- `start` and `wait` run a program, which a signal ends together with the script. `checked` fails for one that crashed.
-- `opened`, `temporary`, `put_aside` and `copied` return descriptors, and report a full folder of temporary files.
+- `run` calls the function, flushes the output and exits with the status. For the exception `Question`, it prints the
+  help or the version. It reports any other exception in one line on standard error, with status 2.
+- `start` and `wait` run a program. A signal that ends the script also ends the program. `checked` fails if it crashed.
+- `opened`, `temporary`, `put_aside` and `copied` return descriptors, and fail if there is no room for temporary files.
   `output` is a descriptor, standard output by default, that is written in large blocks.
-- `say` writes lines to standard error, `Progress` a line that disappears again. `bare` is a note on a file without a
-  message.
+- `say` writes lines to standard error, and `Progress` a line that disappears again. `bare` is the note on a file that
+  has no message.
 
-It imports next to nothing, since each script loads it.
+Every script loads this module, so it imports as little as possible.
 """
 from __future__ import annotations
 
@@ -44,9 +44,9 @@ else:
 
 BLOCK = 1 << 20
 NOWHERE = float("inf")
-# The process of each program that was started and not waited for.
+# The processes that were started and not yet waited for.
 RUNNING: list[list[int]] = []
-# How files without a message begin, and what they are.
+# The first bytes of files without a message, and their types.
 KINDS_OF_FILES = {
     b"\x1f\x8b": "gzip data (zcat)",
     b"BZh": "bzip2 data (bzcat)",
@@ -64,7 +64,7 @@ KINDS_OF_FILES = {
 
 
 class Failed(Exception):
-    """Why the script stops with status 2."""
+    """The reason why the script stops with status 2."""
 
 
 class Question(Exception):
@@ -72,20 +72,20 @@ class Question(Exception):
 
 
 def run(work: Callable[[List[str]], int], text: Optional[str], ends_by_pipe: bool = False) -> NoReturn:
-    """Does the work of a script on the words of its command line, and exits. The text is its help.
+    """Runs the work of a script on the words of its command line, and exits. The text is its help.
 
-    A signal ends the script and the programs that it runs. With `ends_by_pipe` it also ends quietly if the reader of
-    its output has gone; otherwise that is a failed write.
+    A signal ends the script and the programs that it runs. If the reader of its output stops, the script reports a
+    failed write, or with `ends_by_pipe` ends silently.
     """
     status = 2
     try:
         take_descriptors()
-        sys.unraisablehook = lambda _: None  # otherwise Python reports at its end what it could not flush
+        sys.unraisablehook = lambda _: None  # otherwise Python reports at the end that it could not flush
         signals = [signal.SIGINT, signal.SIGTERM, signal.SIGHUP, *[signal.SIGPIPE] * ends_by_pipe]
         for number in signals:
             if number == signal.SIGPIPE or signal.getsignal(number) != signal.SIG_IGN:
                 signal.signal(number, leave)
-        signal.signal(signal.SIGCHLD, signal.SIG_DFL)  # if it is ignored, no program's status is known
+        signal.signal(signal.SIGCHLD, signal.SIG_DFL)  # if it were ignored, the status of programs would be lost
         status = guarded(work, text or "")
         stop()
     finally:
@@ -93,13 +93,13 @@ def run(work: Callable[[List[str]], int], text: Optional[str], ends_by_pipe: boo
 
 
 def take_descriptors() -> None:
-    """Opens a closed descriptor 0, 1 or 2, so that no file gets its number. Reading or writing it still fails."""
+    """Opens descriptor 0, 1 or 2 if it is closed, so that no file gets its number. Reading or writing it still fails."""
     for number, mode in ((0, os.O_WRONLY), (1, os.O_RDONLY), (2, os.O_RDONLY)):
         try:
             os.fstat(number)
         except OSError:
             os.open(os.devnull, mode)
-    # Python has None for these, and would print on standard output what belongs on standard error.
+    # Python sets these to None, and would then print errors on standard output.
     if sys.stdin is None:
         sys.stdin = open(0, closefd=False)
     if sys.stdout is None:
@@ -109,10 +109,10 @@ def take_descriptors() -> None:
 
 
 def guarded(work: Callable[[List[str]], int], text: str) -> int:
-    """The status of the work, or 2 after a line that reports an exception."""
+    """The status of the work, or 2 after reporting an exception."""
     try:
         if sys.version_info < (3, 9):
-            raise Failed("Python 3.9 or later is needed")
+            raise Failed(f"{sys.executable} is too old; Python 3.9 or later is needed")
         try:
             status = work(sys.argv[1:])
         except Question as question:
@@ -124,20 +124,20 @@ def guarded(work: Callable[[List[str]], int], text: str) -> int:
         told = "out of memory"
     except BaseException as error:
         told = reason(error)
-    # Here the memory of the exception's frames is free again.
+    # By now, the memory of the exception's frames has been freed.
     end_badly(told)
     return 2
 
 
 def end_badly(told: str) -> None:
-    """Flushes the output and then reports why the script stops, as far as either is possible."""
+    """Flushes the output, and then reports why the script stops. Either may fail silently."""
     Progress.clear()
     for file in written():
         try:
             file.flush()
         except Exception:
             pass
-    # Not through `output`, whose buffer may not fit into the memory that is left.
+    # Not through `output`, whose buffer may not fit into the remaining memory.
     try:
         write_all(2, os.fsencode(shown(f"{name()}: {told}") + "\n"))
     except OSError:
@@ -145,7 +145,7 @@ def end_badly(told: str) -> None:
 
 
 def hook(_kind: Type[BaseException], error: BaseException, _place: Optional[TracebackType]) -> None:
-    """Python's hook for an exception outside of `run`, for example while a script imports."""
+    """Python's hook for an exception outside `run`, for example during an import."""
     try:
         if isinstance(error, KeyboardInterrupt):
             leave(signal.SIGINT, None)
@@ -155,7 +155,7 @@ def hook(_kind: Type[BaseException], error: BaseException, _place: Optional[Trac
 
 
 def answer(question: str, text: str) -> int:
-    """Prints the help or the version, and returns the status. Both are UTF-8, whatever Python would print."""
+    """Prints the help or the version as UTF-8, whatever the locale, and returns the status."""
     if question == "--help":
         output().write(text.strip().encode() + b"\n")
         return 0
@@ -168,9 +168,9 @@ def answer(question: str, text: str) -> int:
 
 
 def build() -> str:
-    """What is known of the program that runs: its commit, and whether it is proved.
+    """The commit of the program, and whether it is proved.
 
-    install.sh recorded both, with the program's SHA-256, in a file beside the pages.
+    install.sh records both, with the program's SHA-256, in a file beside the pages.
     """
     import hashlib
     import shutil
@@ -183,16 +183,17 @@ def build() -> str:
         if digest == known["program"]:
             return f"commit {known['commit'][:12]}, {known['proof']}"
     except (OSError, ValueError, KeyError):
-        pass  # not installed by install.sh
+        pass  # install.sh did not install it
     return "unknown build"
 
 
 def reason(error: BaseException) -> str:
-    """The message for an exception. For one that no script raises on purpose, it includes the place in the code."""
+    """The message for an exception. For an internal error, it includes the place in the code."""
     if isinstance(error, Failed):
         return str(error)
     if isinstance(error, ModuleNotFoundError):
-        return f"{error.name} is not installed for this Python (Debian: apt-get install python3-{error.name})"
+        debian = f"for Debian's /usr/bin/python3: apt-get install python3-{error.name}"
+        return f"{error.name} is not installed for {sys.executable} ({debian})"
     if isinstance(error, OSError) and error.strerror:
         is_named = isinstance(error.filename, (str, bytes))
         if is_named:
@@ -212,7 +213,7 @@ def name() -> str:
 
 
 def shown(text: str) -> str:
-    r"""A text with \xHH for each byte that a screen does not show."""
+    r"""A text with \xHH for each byte that is not printable."""
     if text.isprintable():
         return text
     hidden = (sign if sign.isprintable() else "".join(f"\\x{octet:02X}" for octet in os.fsencode(sign)) for sign in text)
@@ -223,7 +224,7 @@ def shown(text: str) -> str:
 
 
 class Output:
-    """A descriptor that is written in large blocks."""
+    """Buffers output to a descriptor in large blocks."""
 
     def __init__(self, descriptor: int) -> None:
         self.descriptor = descriptor
@@ -250,7 +251,7 @@ def output(descriptor: int = 1) -> Output:
 
 
 def written() -> List[Any]:
-    """The files that may buffer output, the errors last."""
+    """The files that may buffer output, standard error last."""
     ours = [file for descriptor, file in OUTPUTS.items() if descriptor != 2]
     return [*ours, *filter(None, (sys.stdout, output(2), sys.stderr))]
 
@@ -270,14 +271,14 @@ def write_all(descriptor: int, octets: Union[bytes, bytearray, memoryview]) -> N
 
 
 def say(lines: bytes) -> None:
-    """Writes lines to standard error. The next `flush` prints them, if not earlier."""
+    """Writes lines to standard error. The next `flush` prints them, if they were not printed before."""
     if lines:
         Progress.clear()
         output(2).write(lines)
 
 
 def bare(file: Optional[str], begin: bytes, piece: str = "message") -> bytes:
-    """The note that a file, or standard input, has no message, with a guess at its type from its first bytes."""
+    """The note that a file or standard input has no message, with a guess at its type from its first bytes."""
     head = begin.lstrip()
     if head[:1] == b"<":
         head = head.lower()
@@ -289,9 +290,9 @@ def bare(file: Optional[str], begin: bytes, piece: str = "message") -> bytes:
 
 
 class Progress:
-    """A line on standard error, at most once a second, if that is a terminal; the next output replaces it.
+    """A line on standard error, updated at most once a second, if that is a terminal. The next output replaces it.
 
-    If standard output is a terminal too, the texts there show the progress; `has_texts` says whether there are any.
+    If standard output is a terminal too, text there already shows the progress. `has_texts` says whether there is any.
     """
 
     is_shown: bool = False
@@ -301,12 +302,12 @@ class Progress:
         self.is_on = os.isatty(2) and not (has_texts and os.isatty(1))
 
     def at(self, octets: int) -> None:
-        """The given number of bytes is done."""
+        """Shows that the given number of bytes is done."""
         if self.is_on and time.monotonic() >= self.next:
             self.next = time.monotonic() + 1
             total = f" of {self.total / 1e6:.0f}" if self.total else ""
             Progress.is_shown = True
-            # A fault line of a program that writes there too is longer, and covers it.
+            # If a program writes a fault line there, it covers this shorter line.
             self.put(f"\r\x1b[K{octets / 1e6:.0f}{total} MB\r".encode())
 
     @staticmethod
@@ -320,14 +321,14 @@ class Progress:
         try:
             os.write(2, octets)
         except OSError:
-            pass  # the work goes on without its terminal
+            pass  # the script continues without a terminal
 
 
 # The programs that a script runs.
 
 
 def program() -> str:
-    """BUFR, or the `bufr` beside the script, or the one on the path, or the one that the repository built."""
+    """The path of `bufr`: BUFR, or the one beside the script, the first on PATH, or the one built in the repository."""
     named = os.environ.get("BUFR")
     if named:
         return named
@@ -350,7 +351,7 @@ def start(words: Sequence[str], given: int = 0, output: int = 1, errors: int = 2
     process: List[int] = []
     RUNNING.append(process)
     try:
-        # A single call of C starts the program and records it, so no signal handler runs between the two.
+        # A single C call starts the program and records it, so no signal handler runs between the two.
         process.extend(map(spawn, [words[0]], [list(words)], [os.environ]))
     except OSError as error:
         advice = "; install bufr, or set BUFR to its path" if words[0] == program() else ""
@@ -367,9 +368,9 @@ def wait(process: int) -> int:
 
 
 def lines_from(pipe: int, progress: Progress, place: Callable[[], int]) -> Iterator[bytes]:
-    """Blocks of whole lines, as a program writes them to a pipe, and at the end what it left of a last one.
+    """Blocks of whole lines from a pipe, and at the end the incomplete last line, if there is one.
 
-    Meanwhile `place()` is shown as progress.
+    Meanwhile, `place()` is shown as progress.
     """
     rest, block = b"", b" "
     while block:
@@ -386,7 +387,7 @@ def lines_from(pipe: int, progress: Progress, place: Callable[[], int]) -> Itera
 
 
 def checked(status: int, has_told: bool = True, what: str = "bufr") -> int:
-    """The status of a program: 0, 1, or 2 if it has reported why. Fails for any other."""
+    """The status of a program: 0, 1, or 2 if it has reported the reason. Fails for any other."""
     if status > 128:
         raise Failed(f"{what} was killed (signal {status - 128}); output is incomplete")
     if status not in (0, 1, 2) or (status == 2 and not has_told):
@@ -405,7 +406,7 @@ def stop() -> None:
 
 def leave(number: int, _frame: Optional[FrameType]) -> None:
     """Kills the programs that still run, and then ends this script by that signal."""
-    signal.signal(signal.SIGUSR1, signal.SIG_IGN)  # by which bufr-csv reports that its awk has ended
+    signal.signal(signal.SIGUSR1, signal.SIG_IGN)  # bufr-csv uses it to report that awk has stopped
     stop()
     Progress.clear()
     signal.signal(number, signal.SIG_DFL)
@@ -416,7 +417,7 @@ def leave(number: int, _frame: Optional[FrameType]) -> None:
 
 
 def opened(file: Optional[str]) -> int:
-    """A descriptor of a file, or of standard input, that can be read at any offset. If necessary, it is that of a copy."""
+    """A file descriptor that can be read at any offset. If necessary, it is that of a temporary copy."""
     descriptor = to_read(file)
     return descriptor if is_regular(descriptor) else copied(descriptor, named(file))
 
@@ -445,14 +446,14 @@ def temporary() -> int:
     except OSError as error:
         if error.errno in (errno.EMFILE, errno.ENFILE):
             raise Failed("too many open files; raise the limit (ulimit -n)") from None
-    # The folder cannot be written, or its file system has no unnamed files.
+    # The directory cannot be written, or its file system has no unnamed files.
     import tempfile
 
     try:
         with tempfile.TemporaryFile() as file:
             return os.dup(file.fileno())
     except OSError as error:
-        raise Failed(f"cannot make a temporary file: {error.strerror}; set TMPDIR to another folder") from None
+        raise Failed(f"cannot make a temporary file: {error.strerror}; set TMPDIR to another directory") from None
 
 
 def folder_of_temporary() -> str:
@@ -468,11 +469,11 @@ def keep(descriptor: int, octets: Union[bytes, bytearray, memoryview]) -> None:
 
 
 def no_room() -> Failed:
-    return Failed(f"no room in {folder_of_temporary()}; set TMPDIR to another folder")
+    return Failed(f"no room in {folder_of_temporary()}; set TMPDIR to another directory")
 
 
 def put_aside(octets: bytes) -> int:
-    """A temporary file with these bytes, at its start."""
+    """A temporary file with these bytes, positioned at its start."""
     descriptor = temporary()
     keep(descriptor, octets)
     os.lseek(descriptor, 0, os.SEEK_SET)
@@ -480,7 +481,7 @@ def put_aside(octets: bytes) -> int:
 
 
 def copied(source: int, name: str) -> int:
-    """A temporary file with everything that a descriptor gives, at its start."""
+    """A temporary file with everything that can be read from a descriptor, positioned at its start."""
     descriptor, octets, progress, size = temporary(), b" ", Progress(has_texts=False), 0
     while octets:
         try:
@@ -496,15 +497,15 @@ def copied(source: int, name: str) -> int:
 
 
 def read_at(descriptor: int, offset: int, length: int) -> bytes:
-    """The bytes at an offset of a file, which a listing has found there."""
+    """Bytes of a message that a listing has found in a file."""
     pieces, end = [], offset + length
     while offset < end:
         try:
             pieces.append(os.pread(descriptor, end - offset, offset))
         except OSError as error:
-            raise Failed(f"read failed: {error.strerror}") from None
+            raise Failed(f"cannot read the input: {error.strerror}") from None
         if not pieces[-1]:
-            raise Failed("the file became shorter while it was read")
+            raise Failed("the input became shorter while it was read")
         offset += len(pieces[-1])
     return pieces[0] if len(pieces) == 1 else b"".join(pieces)
 
@@ -512,21 +513,21 @@ def read_at(descriptor: int, offset: int, length: int) -> bytes:
 def fault_lines(errors: int) -> Iterator[tuple[float, bytes]]:
     """The lines that a run of `bufr` wrote to a file, one by one, each with its offset.
 
-    Those that are no fault of a message come last: their offset is `NOWHERE`.
+    Lines that are not faults of messages come last, with the offset `NOWHERE`.
     """
     with open(os.dup(errors), "rb") as lines:
         lines.seek(0)
         for line in lines:
             if not line.endswith(b"\n"):
-                return  # there was no room for the remaining ones
+                return  # the disk was full before the end of the line
             offset = line[7 : line.find(b":")]
             yield (int(offset) if line.startswith(b"offset ") and offset.isdigit() else NOWHERE), line
 
 
 class Faults:
-    """The fault lines of a listing, one by one, so that they can be reported between its messages.
+    """The fault lines of a listing, so that they can be printed between its messages.
 
-    Other lines, such as a last one, are reported at the end; `has_told` says whether there was one.
+    Other lines are printed at the end. `has_told` says whether there were any.
     """
 
     def __init__(self, errors: int) -> None:
@@ -534,7 +535,7 @@ class Faults:
         self.next = next(self.lines, (NOWHERE, b""))
 
     def tell_before(self, offset: float) -> None:
-        """Reports those before an offset."""
+        """Prints the fault lines before an offset."""
         while self.next[0] < offset:
             say(self.next[1])
             self.next = next(self.lines, (NOWHERE, b""))

@@ -1,4 +1,4 @@
-"""The command line of a script: its options and its operands. All scripts read it with this parser.
+"""Parses the command line of a script into options and operands.
 
     def work(words):
         asked = bufr_options.Asked(words, flags=["--json"], values={"-c": str, "--max-length": bufr_options.from_12})
@@ -9,10 +9,10 @@
     bufr_guard.run(work, __doc__)
 
 `-c VALUE` and `-cVALUE` are the same, and so are `--name VALUE` and `--name=VALUE`. Options may follow operands. After
-`--` each word is an operand. A function in `values` turns a word into a value; its ValueError states what was expected.
+`--`, every word is an operand. A function in `values` converts a word to a value; its ValueError states what was expected.
 
-An invalid command line raises `bufr_guard.Failed`: one line that points to --help, and status 2. `run`
-answers --help and --version, which are recognised here.
+An invalid command line raises `bufr_guard.Failed`, with a message that points to --help. For --help and --version, the
+parser raises `bufr_guard.Question`, which `run` answers.
 """
 from __future__ import annotations
 
@@ -80,11 +80,11 @@ class Asked:
         return self.given.get(name, [])
 
     def last(self, name: str, default: Any = None) -> Any:
-        """The value of an option; the last one, if it is given several times."""
+        """The value of an option, or the last one if it is given several times."""
         return [default, *self.all(name)][-1]
 
     def files(self, skipped: int = 0) -> list[Optional[str]]:
-        """The operands as files, without the first `skipped` ones: None for standard input, which is the default."""
+        """The operands as files, without the first `skipped` ones. None is standard input, which is the default."""
         return [None if file == "-" else file for file in self.operands[skipped:]] or [None]
 
     def conditions(self) -> Optional[Conditions]:
@@ -107,7 +107,7 @@ def is_condition(word: str) -> bool:
 
 
 def parts(word: str) -> tuple[str, Optional[str]]:
-    """The name of an option, and the value that is joined to it."""
+    """The name of an option and the value that is joined to it, if there is one."""
     if word.startswith("--"):
         name, equals, value = word.partition("=")
         return name, value if equals else None
@@ -120,7 +120,7 @@ def misused(why: str) -> bufr_guard.Failed:
 
 
 def number_from(least: int) -> Callable[[str], int]:
-    """A function for `values`: a whole number of at least this size."""
+    """A function for `values` that accepts a whole number of at least this size."""
 
     def number(word: str) -> int:
         if not (word.isascii() and word.isdigit() and len(word) < 19) or int(word) < least:
@@ -130,5 +130,5 @@ def number_from(least: int) -> Callable[[str], int]:
     return number
 
 
-# The values of --max-length: a message has at least twelve bytes.
+# For --max-length: a message has at least twelve bytes.
 from_12 = number_from(12)

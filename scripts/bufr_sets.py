@@ -1,4 +1,4 @@
-"""Table sets: the set that a message asks for, and the entries that its descriptors use."""
+"""Table sets: which set a message needs, and which rows its descriptors use."""
 from __future__ import annotations
 
 import os
@@ -20,7 +20,7 @@ CACHED = 8
 
 
 class TableSet:
-    """A folder with the tables of a WMO version, perhaps with the rows of a centre (its number and local version)."""
+    """A directory with the tables of a WMO version, perhaps with local rows of a centre (its number and local version)."""
 
     def __init__(self, folder: str, version: int, own: Optional[Tuple[int, int]]) -> None:
         self.folder, self.name, self.version, self.own = folder, os.path.basename(folder), version, own
@@ -31,7 +31,7 @@ class TableSet:
         return os.path.join(self.folder, name)
 
     def rows(self, name: str, *columns: str) -> Iterator[List[str]]:
-        """These columns of a table. Invalid rows are left to `bufr` to report."""
+        """These columns of a table. Invalid rows are skipped here; `bufr` reports them."""
         import csv
 
         csv.field_size_limit(1 << 30)
@@ -66,7 +66,7 @@ class TableSet:
         return self.sequences
 
     def cached(self) -> None:
-        """Counts the set as cached, and drops the tables of another one if there are too many."""
+        """Records that the set is cached, and drops the tables of another set if there are too many."""
         if self not in cache:
             cache.append(self)
         if len(cache) > CACHED:
@@ -74,9 +74,9 @@ class TableSet:
             first.elements = first.sequences = None
 
     def used(self, descriptors: Tuple[str, ...]) -> Iterator[str]:
-        """The elements and sequences of a descriptor list, and of its sequences. An element after 2 06 Y needs no row.
+        """The elements and sequences in a descriptor list and in its sequences. An element after 2 06 Y needs no row.
 
-        The tables are read only if the list has a sequence and its own descriptors have been used.
+        The tables are read only if the list has a sequence, and after its own descriptors.
         """
         found = set()
         sequences = [""]
@@ -94,7 +94,7 @@ cache: List[TableSet] = []
 
 
 class TableSets:
-    """All sets of a folder: `wmo-13`, or with a centre's own rows `wmo-13+98-102` (centre 98, local version 102)."""
+    """All table sets in a directory: `wmo-13`, or with a centre's rows `wmo-13+98-102` (centre 98, local version 102)."""
 
     def __init__(self) -> None:
         self.folder = folder_of_sets()
@@ -114,9 +114,10 @@ class TableSets:
         return self.sets[None][max(self.sets[None])]
 
     def asked(self, centre: int, version: int, local: int) -> TableSet:
-        """The set for a centre, a version and a local version: of that version, else the next later one, else the latest.
+        """The set for a centre, a version and a local version.
 
-        A centre's own set takes precedence, unless it is of another version that would read WMO's rows differently.
+        It is the set of the version, the next later one, or the latest. A centre's own set takes precedence, unless
+        its version would read WMO's rows differently.
         """
         of_wmo = self.sets[None]
         nearest = min((number for number in of_wmo if number >= version), default=max(of_wmo))
@@ -130,7 +131,7 @@ def is_number(word: str) -> bool:
 
 
 def folder_of_sets() -> str:
-    """BUFR_TABLES, or the folder that is installed with this module, the script or Python, or the repository's."""
+    """The directory of the table sets: BUFR_TABLES, or the one of this installation, of Python or of the repository."""
     named = os.environ.get("BUFR_TABLES")
     if named:
         places = [named]
@@ -141,8 +142,8 @@ def folder_of_sets() -> str:
         if os.path.isdir(place):
             return os.path.abspath(place)
     if named:
-        raise bufr_guard.Failed(f"BUFR_TABLES is {named}, which is not a folder")
-    raise bufr_guard.Failed(f"there is no folder {places[0]}; set BUFR_TABLES to the folder of the table sets")
+        raise bufr_guard.Failed(f"BUFR_TABLES is {named}, which is not a directory")
+    raise bufr_guard.Failed(f"there is no directory {places[0]}; set BUFR_TABLES to the directory of the table sets")
 
 
 def words_of(message: Bytes) -> bytes:
@@ -156,16 +157,16 @@ def words_of(message: Bytes) -> bytes:
 
 
 def descriptors(words: bytes) -> Tuple[str, ...]:
-    """The descriptors of such a list, six digits each."""
+    """The descriptors of such a list, as six digits each."""
     pairs = (words[at] << 8 | words[at + 1] for at in range(0, len(words) - 1, 2))
     return tuple(f"{word >> 14}{word >> 8 & 63:02}{word & 255:03}" for word in pairs)
 
 
-# The table sets that can be made of public tables.
+# The table sets that can be made from public tables.
 
 WREPORT = "/usr/share/wreport"
 ECCODES = "/usr/share/eccodes/definitions"
-# What these packages of Debian have: versions, centres and local versions; centres and local versions.
+# The tables in these Debian packages: (version, centre, local version), and (centre, local version).
 WREPORT_HAS = {(14, 85, 0), (14, 85, 1), (13, 98, 1), (13, 98, 102), (16, 98, 1), (19, 254, 1)}
 ECCODES_HAS = {(39, 1), *((78, local) for local in range(1, 9)), (98, 1), (98, 2), (98, 3), (98, 4), (98, 101), (254, 1)}
 
@@ -173,7 +174,7 @@ NEWER = "get newer tables from WMO (wmo-im/BUFR4 on GitHub), and convert them wi
 
 
 def is_local(fxy: str) -> bool:
-    """Whether a descriptor is for local use, so that a centre defines it."""
+    """Whether a descriptor is for local use, which means that a centre defines it."""
     return int(fxy[1:3]) >= 48 or int(fxy[3:]) >= 192
 
 

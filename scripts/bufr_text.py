@@ -8,12 +8,13 @@
             air = bufr_text.find(subset, "012101")
             print(message.offset, air.value, air.unit)
 
-`rows` and `levels` make tuples for a table. `dump` gives messages, `listing` their places and headers, and `encode`
-turns messages into BUFR. These run the program. `read` and `write` convert between a text and messages without it.
+`rows` and `levels` yield tuples for a table. `dump` yields messages, `listing` yields their places and headers, and
+`encode` turns messages into BUFR. These functions run `bufr`. `read` and `write` convert between dumps and messages
+without it.
 
-Messages are read one at a time. However long a file is, the dump of its longest message bounds the memory: 48 MB
-including Python, 1 KB for each item of that message, and twice its text. The faults in your list and the result of
-`encode` come on top.
+Messages are read one at a time, so the memory depends on the longest message of a file, not on the length of the file:
+48 MB including Python, 1 KB for each item of that message, and twice the length of its dump. The faults in your list and
+the result of `encode` need memory in addition.
 """
 from __future__ import annotations
 
@@ -46,7 +47,7 @@ Value = Union[Decimal, bytes, None]
 Cell = Union[int, float, str, None]
 _Path = Union[str, "os.PathLike[str]"]
 
-#: The keys of a message's header, in the order of their lines. `optional` and `subsets` follow from the message.
+#: The keys of a message's header, in the order of their lines. `optional` and `subsets` are derived from the message.
 HEADER = (
     "edition master centre subcentre update category subcategory localsubcategory masterversion localversion "
     "year month day hour minute second observed compressed"
@@ -70,39 +71,39 @@ _NOTE = re.compile(rb"bufr-auto: (\d+) messages?,(?: the first)? at offset (\d+)
 _UNPRINTED = re.compile(rb'["\\]|[^ -~]')
 
 
-# What an invalid line may look like, and its likely cause. The first that matches is reported.
+# Patterns of invalid lines, and their likely causes. The first pattern that matches is reported.
 _CAUSES = [
     (re.compile(pattern, re.DOTALL), cause)
     for pattern, cause in [
-        (rb"\xef\xbb\xbf.*", "a byte order mark before it"),
-        (rb"BUFR.*", "a BUFR message, not the text of one"),
-        (rb".*\r", "a carriage return at its end"),
-        (rb">.*", "the > of a quoted mail before it"),
-        (rb"[^\"#]*\t.*", "a tab in place of a space"),
-        (rb" .*", "a space before it"),
-        (rb"message", "no end before it"),
-        (rb"(?:R )?\d{1,5} .*", "a descriptor without its six digits"),
-        (rb"[^\"#]*\S  +[^ #].*", "two spaces in place of one"),
+        (rb"\xef\xbb\xbf.*", "a byte order mark"),
+        (rb"(?:\x01|[A-Z]{4}\d\d [A-Z]{4} |BUFR).*", "BUFR instead of a dump; use bufr-auto to dump it"),
+        (rb".*\r", "a carriage return at the end"),
+        (rb">.*", "the > of a quoted mail"),
+        (rb"[^\"#]*\t.*", "a tab instead of a space"),
+        (rb" .*", "a space at the beginning"),
+        (rb"message", "message; the document before it has no end"),
+        (rb"(?:R )?\d{1,5} .*", "a descriptor of fewer than six digits"),
+        (rb"[^\"#]*\S  +[^ #].*", "two spaces instead of one"),
         (rb"[^\"#]*[^\"# ]#.*|[^\"]*\".*\"#.*", "no space before #"),
-        (rb"[^\"#]* \+.*", "a plus before a number"),
+        (rb"[^\"#]* \+.*", "a plus sign before a number"),
         (rb"[^\"#]* -?[\d.]+[Ee].*", "an exponent in a number"),
-        (rb"[^\"#]* -?\d*,.*", "a comma in place of the point"),
-        (rb"[^\"#]* -?(?:[Nn][Aa][Nn]|[Ii]nf)\b.*", "no number: a missing value is written MISSING"),
-        (rb"[^\"#]* (?!MISSING)(?i:missing)\b.*", "MISSING in small letters"),
-        (rb"[^\"#]* -?(?:\d+\.|\.\d+)(?: .*)?", "no digit beside the point"),
-        (rb"\d{6} ?", "no value: a missing value is written MISSING"),
-        (rb".* ", "a space at its end"),
-        (rb"[a-z][^#]*#.*", "a comment, which only items may have"),
-        (rb"\d{6} \"[^\"]*\\x(?![0-9A-F]{2}).*", "\\x without two digits in upper case"),
-        (rb"\d{6} \"[^\"]*[^ -~].*", "a byte in a text that must be written \\xHH"),
-        (rb"\d{6} \".*", "a \" or \\ in a text without \\ before it, or no \" at its end"),
+        (rb"[^\"#]* -?\d*,.*", "a decimal comma"),
+        (rb"[^\"#]* -?(?:[Nn][Aa][Nn]|[Ii]nf)\b.*", "a value that is not a number; write MISSING for a missing value"),
+        (rb"[^\"#]* (?!MISSING)(?i:missing)\b.*", "MISSING in lower case"),
+        (rb"[^\"#]* -?(?:\d+\.|\.\d+)(?: .*)?", "a decimal point without a digit on each side"),
+        (rb"\d{6} ?", "no value; write MISSING for a missing value"),
+        (rb".* ", "a space at the end"),
+        (rb"[a-z][^#]*#.*", "a comment; only items may have one"),
+        (rb"\d{6} \"[^\"]*\\x(?![0-9A-F]{2}).*", "\\x without two upper-case hexadecimal digits"),
+        (rb"\d{6} \"[^\"]*[^ -~].*", "a byte in a text that must be written as \\xHH"),
+        (rb"\d{6} \".*", "a \" or \\ in a text without \\ before it, or no \" at the end"),
         (rb"\d{6} [^-.\d\"].*", "a text without quotes"),
     ]
 ]
 
 
 class TextError(ValueError):
-    """An invalid line: `line` is its number, from 1. The message says what was expected, and the likely cause."""
+    """An invalid line. `line` is its number, from 1. The message says what was expected, and the likely cause."""
 
     def __init__(self, line: int, expected: str, cause: str = "") -> None:
         super().__init__(line, expected, cause)
@@ -125,11 +126,11 @@ class RunError(RuntimeError):
 
 
 class DumpWarning(UserWarning):
-    """A warning: a file has no message, messages were refused or left out, or levels cannot be told apart."""
+    """Warns that a file has no message, messages were refused or left out, or levels cannot be told apart."""
 
 
 class Fault(NamedTuple):
-    """A fault line: an offset in the file, the number of the fault, and the text after it."""
+    """A fault line: the offset in the file, the number of the fault, and its text."""
 
     offset: int
     number: int
@@ -140,9 +141,9 @@ class Fault(NamedTuple):
 
 
 class Listed(NamedTuple):
-    """A message as `bufr ls` lists it: its offset in the file, its length, and its header, by the names of `HEADER`.
+    """One line of `bufr ls`: the offset of a message in the file, its length, and its header with the keys of `HEADER`.
 
-    `descriptors` is how many descriptors section 3 has.
+    `descriptors` is the number of descriptors in section 3.
     """
 
     offset: int
@@ -172,10 +173,10 @@ class Listed(NamedTuple):
 
 @dataclass
 class Item:
-    """One item of a subset: its descriptor as six digits, its value, and the name and unit of its entry in Table B.
+    """One item of a subset: its descriptor as six digits, its value, and its name and unit from Table B.
 
-    Name and unit are `None` if the item was read without an entry. `reference` marks a reference value in the data (a
-    line that begins with `R`).
+    Name and unit are `None` if `bufr` read the item without a row of Table B. `reference` marks a reference value that
+    the data define (a line that begins with `R`).
     """
 
     fxy: str
@@ -189,9 +190,9 @@ class Item:
 class Message:
     """One message: the numbers of its header by the keys of `HEADER`, its descriptors, and its subsets.
 
-    `local1` has the bytes for local use in section 1. `section2` has those of section 2, or is `None` without that
-    section. Each subset is a list of items. `offset` and `length` place the message in the file that `dump` read. They
-    are `None` if `read` made the message.
+    `local1` is the local-use bytes of section 1. `section2` is the bytes of section 2, or `None` if there is no such
+    section. Each subset is a list of items. `offset` and `length` are those of the message in the file that `dump` read,
+    or `None` if `read` made the message.
     """
 
     header: Dict[str, int]
@@ -204,7 +205,7 @@ class Message:
 
 
 class _Lines:
-    """The lines of a text, without empty lines and comments, and the last one taken with its number."""
+    """The lines of a dump without empty lines and comments. It has the current line and its number."""
 
     def __init__(self, stream: Iterable[bytes]) -> None:
         self.rest = iter(stream)
@@ -224,16 +225,16 @@ class _Lines:
         return None
 
     def inside(self, expected: str) -> bytes:
-        """The next line, which must be there because the message is not complete."""
+        """The next line. Fails at the end of the input, because the message is not complete."""
         line = self.take()
         if line is None:
             raise self.refused(expected)
         return line
 
     def refused(self, expected: str) -> TextError:
-        """The error at the line that was taken last."""
+        """The error for the current line."""
         if self.line is None:
-            return TextError(self.number, expected, "the end of the text")
+            return TextError(self.number, expected, "the end of the input")
         cause = next((cause for pattern, cause in _CAUSES if pattern.fullmatch(self.line)), "")
         return TextError(self.number, expected, cause)
 
@@ -246,10 +247,10 @@ class _Lines:
 
 
 def read(stream: Iterable[bytes]) -> Iterator[Message]:
-    """The messages of a dump's text. `stream` gives its lines as bytes, as a file opened in mode "rb" does.
+    """The messages of a dump. `stream` yields its lines as bytes, like a file opened in mode "rb".
 
-    Raises `TextError` at the first invalid line. `bufr encode` checks more: the range of header values, and whether
-    descriptors make a template that the items fit. A number such as `1.` is a `TextError` here and fault 52 there.
+    Raises `TextError` at the first invalid line. `bufr encode` also checks the range of header values, and whether the
+    items fit the descriptors. A number such as `1.` is a `TextError` here, and fault 52 in `bufr encode`.
     """
     lines = _Lines(stream)
     line = lines.take()
@@ -313,10 +314,10 @@ def _read_item(lines: _Lines, line: bytes) -> Item:
 
 
 def write(messages: Iterable[Message], stream: IO[bytes]) -> None:
-    """Writes the text of messages. A dump that `read` read is written unchanged.
+    """Writes messages as a dump. `read` followed by `write` leaves a dump unchanged.
 
-    Subsets are counted again, so you may remove and add some. Raises `TypeError` for a value of another type (a `float`
-    has no exact decimal), and `ValueError` for a `Decimal` that is not a number.
+    Subsets are numbered again, so you may add and remove subsets. Raises `TypeError` for a value that is not a `Decimal`,
+    bytes or `None` (a `float` has no exact decimal), and `ValueError` for a `Decimal` that is not a number.
     """
     for message in messages:
         stream.write(b"".join(line + b"\n" for line in _lines_of(message)))
@@ -351,7 +352,7 @@ def _value_text(value: Value) -> bytes:
     if isinstance(value, bytes):
         return b'"' + _UNPRINTED.sub(_escaped, value) + b'"'
     if not isinstance(value, Decimal):
-        raise TypeError(f"a value is a Decimal, bytes or None, not {value!r}")
+        raise TypeError(f"a value must be a Decimal, bytes or None, not {value!r}")
     if not value.is_finite():
         raise ValueError(f"{value} is not a number")
     return format(value, "f").encode()
@@ -363,9 +364,9 @@ def _escaped(found: re.Match[bytes]) -> bytes:
 
 
 def find(subset: List[Item], fxy: str, count: int = 1) -> Optional[Item]:
-    """The first item of a subset with this descriptor, or the second and so on by `count`, or `None`.
+    """The item of a subset that is number `count`, from 1, of those with this descriptor, or `None`.
 
-    References are skipped.
+    Reference values that the data define are not counted.
     """
     for item in subset:
         if item.fxy == fxy and not item.reference:
@@ -384,14 +385,14 @@ def rows(
 ) -> Iterator[Tuple[Cell, ...]]:
     """A tuple for each subset, as a row for `csv.writer` or a DataFrame: values of the header, then of the columns.
 
-    `messages` is the name of a file, or the messages of `dump` or `read`. With a name, `faults` and `where` are those
-    of `dump`. A column is the number of an element, `"012101"`, or `"012101:2"` for its second item in the subset.
-    `header` may have keys of `HEADER`, `"optional"`, `"subsets"`, `"offset"` and `"length"`, and the counts `"message"`
-    and `"subset"`, from 1.
+    `messages` is the name of a file, or the messages from `dump` or `read`. For a file, `faults` and `where` are those
+    of `dump`. A column is a descriptor such as `"012101"`, or `"012101:2"` for its second item in the subset. `header`
+    may have keys of `HEADER`, `"optional"`, `"subsets"`, `"offset"` and `"length"`, and the numbers `"message"` and
+    `"subset"`, counted from 1.
 
-    A number is an `int` if its scale has no digits after the point, and otherwise the nearest `float`. A text has the
-    escapes of a dump, without trailing spaces. A missing value is `None`, and so is one that the subset does not have.
-    Raises `ValueError` for another column: if it is part of a name in Table B, the error has the numbers.
+    A number is an `int` if its scale allows no digits after the point, and otherwise the nearest `float`. A text has the
+    escapes of a dump, but no trailing spaces. A value is `None` if it is missing or the subset has no such item. Raises
+    `ValueError` for a word that is not a column. If names in Table B contain the word, the error lists their descriptors.
     """
     _check([*columns], _COLUMN, header)
     asked = [(word[:6], int(word[7:] or 1)) for word in columns]
@@ -411,10 +412,12 @@ def levels(
 ) -> Iterator[Tuple[Cell, ...]]:
     """A tuple for each level of a sounding: values of the header, of `keep`, then of the columns.
 
-    A level is a pass of a delayed replication. It has a tuple if it has the first column and, if several are given,
-    another one. The columns are those of the pass, and `keep` has columns of the whole subset, in each of its tuples.
-    The first item counts. The rest is as for `rows`. A subset is skipped if the descriptor that begins a pass comes
-    twice in one. A `DumpWarning` at the end says how many were skipped.
+    A level is one pass of a delayed replication. It has a tuple if it has an item for the first column and, if there are
+    several columns, for at least one other. Each column selects the first item with that descriptor in the pass, and
+    each descriptor of `keep` the first one in the whole subset. Everything else is as for `rows`.
+
+    A subset is skipped if a pass has the descriptor that begins it twice, because its passes cannot be told apart. A
+    `DumpWarning` at the end says how many subsets were skipped.
     """
     _check([*columns, *keep], re.compile(_FXY.decode()), header)
     messages = _messages(messages, faults, where)
@@ -424,15 +427,18 @@ def levels(
 def _check(columns: List[str], form: re.Pattern[str], header: Sequence[str]) -> None:
     for word in columns:
         if not form.fullmatch(word):
-            raise ValueError(f"a column is a number such as 012101, not '{word}'{_named(word)}")
+            raise ValueError(f"a column is a descriptor such as 012101, not '{word}'{_named(word)}")
     keys = (*HEADER, "optional", "subsets", "offset", "length", "message", "subset")
     for word in header:
         if word not in keys:
-            raise ValueError(f"the header has no key '{word}'; its keys are {', '.join(keys)}")
+            raise ValueError(f"the header has no key '{word}'; the keys are {', '.join(keys)}")
 
 
 def _named(word: str) -> str:
-    """The elements of the latest tables whose names contain a word, exact names first, as part of an error."""
+    """The part of an error message that lists the elements whose names contain the word, exact matches first.
+
+    It uses the latest tables.
+    """
     import bufr_guard
     import bufr_sets
 
@@ -443,7 +449,7 @@ def _named(word: str) -> str:
     asked = word.upper()
     names_of = [(fxy, name.upper()) for fxy, (name, _) in names.items() if asked in name.upper()]
     found = sorted((asked not in name.split("/"), fxy) for fxy, name in names_of)
-    return f"; it is in the names of {', '.join(fxy for _, fxy in found)}" if word and found else ""
+    return f", which is in the names of {', '.join(fxy for _, fxy in found)}" if word and found else ""
 
 
 def _messages(
@@ -452,7 +458,7 @@ def _messages(
     if isinstance(messages, (str, os.PathLike)):
         return dump(messages, faults=faults, where=where)
     if faults is not None or where:
-        raise TypeError("faults and where work with the name of a file; otherwise give them to dump")
+        raise TypeError("faults and where need the name of a file; with messages, pass them to dump")
     return messages
 
 
@@ -498,8 +504,8 @@ def _levels(
 def _passes(subset: List[Item]) -> List[List[Item]]:
     """The items of each pass of each delayed replication. Raises `ValueError` if passes cannot be told apart.
 
-    `left` passes of a group have not begun. Each begins with the item `opener`. `one` is the current pass. It has had
-    `items` items and `inner` factors so far, and the pass before it had `pass_items` and `pass_inner`.
+    `left` passes of the replication have not begun. Each begins with the descriptor `opener`. `one` is the current pass.
+    It has had `items` items and `inner` factors so far, and the previous pass had `pass_items` and `pass_inner`.
     """
     passes: List[List[Item]] = []
     one: Optional[List[Item]] = None
@@ -533,7 +539,7 @@ def _passes(subset: List[Item]) -> List[List[Item]]:
 
 
 def listing(file: _Path, faults: Optional[List[Fault]] = None) -> Iterator[Listed]:
-    """The messages of a file as `bufr ls` lists them. `faults` and the errors are those of `dump`."""
+    """One object for each line of `bufr ls`. `faults` and the exceptions are those of `dump`."""
     told = _Told(file, faults)
     with _opened(file) as stream, tempfile.TemporaryFile() as errors:
         for place in _listed(stream, errors, told):
@@ -543,7 +549,7 @@ def listing(file: _Path, faults: Optional[List[Fault]] = None) -> Iterator[Liste
 
 
 def parts(places: Iterable[Listed], octets: int = 1 << 19) -> Iterator[List[Listed]]:
-    """The places in lists. The messages of a list, except the last, have at least the given number of bytes."""
+    """Splits the places into lists. In each list but the last, the messages have at least `octets` bytes."""
     part: List[Listed] = []
     held = 0
     for place in places:
@@ -564,22 +570,22 @@ def dump(
     places: Optional[Iterable[Listed]] = None,
     where: Sequence[str] = (),
 ) -> Iterator[Message]:
-    """The messages of a file, by `bufr dump` with these two tables, or by `bufr-auto` without tables.
+    """The messages of a file. It runs `bufr dump` with these two tables, or `bufr-auto` if you pass no tables.
 
-    `where` has conditions `KEY=VALUE` or `KEY!=VALUE`, as bufr-extract takes them: `["category=0", "centre!=98"]`. Only
-    messages that meet all of them are dumped. Instead, `places` may have some of the messages that `listing` gave.
+    `where` is a list of conditions `KEY=VALUE` or `KEY!=VALUE`, as for bufr-extract: `["category=0", "centre!=98"]`. Only
+    messages that meet all of them are dumped. Instead of `where`, you can pass some results of `listing` as `places`.
 
-    Faults are appended to the list `faults`, in order: those before a message are there when you get it. Without a list
-    they are printed on `sys.stderr`, and a `DumpWarning` at the end counts them. The notes of `bufr-auto` are such
-    warnings too, and so is a file without a message.
+    Faults are appended to the list `faults`, in order: when you get a message, the list has all faults before it.
+    Without a list, they are printed on `sys.stderr`, and a `DumpWarning` at the end counts them. There is also a
+    `DumpWarning` for each note of `bufr-auto`, and for a file without a message.
 
-    The file is listed first, and then its messages are read at their places. A pipe is copied to a temporary file.
-    Raises `ValueError` for an invalid condition, `RunError` if a program ends with a status over 1, and `OSError` if a
-    file cannot be read. The environment variable `BUFR` can name another program.
+    `dump` first lists the file, and then reads its messages. It copies a pipe to a temporary file. Raises `ValueError`
+    for an invalid condition, `RunError` if a program ends with a status over 1, and `OSError` if a file cannot be read.
+    The environment variable `BUFR` can name another program.
     """
     words = _words("dump", table_b, table_d)
     if where and places is not None:
-        raise TypeError("where selects from the whole file: give either where or places")
+        raise TypeError("where selects from the whole file; pass either where or places")
     told = _Told(file, faults)
     if where:
         import bufr_conditions
@@ -590,7 +596,7 @@ def dump(
 
 def _dumped(words: List[str], told: _Told, places: Optional[Iterable[Listed]]) -> Iterator[Message]:
     with _opened(told.file) as stream, tempfile.TemporaryFile() as errors:
-        # which messages of a part were refused is known when its run has ended
+        # the refused messages of a part are known only after its run
         for part in parts(_listed(stream, errors, told) if places is None else places):
             with tempfile.TemporaryFile() as octets, tempfile.TemporaryFile() as text:
                 for place in part:
@@ -606,14 +612,14 @@ def _dumped(words: List[str], told: _Told, places: Optional[Iterable[Listed]]) -
                         continue
                     message = next(messages, None)
                     if message is None:
-                        raise RunError(2, f"{words[0]} wrote no text for the message at offset {place.offset}")
+                        raise RunError(2, f"{words[0]} wrote nothing for the message at offset {place.offset}")
                     message.offset, message.length = place.offset, place.length
                     yield message
         told.end(stream)
 
 
 class _Told:
-    """What is reported about a file: its faults in order, including those between messages, and then notes."""
+    """Reports on a file: its faults in order, including strays between messages, and then notes."""
 
     def __init__(self, file: _Path, faults: Optional[List[Fault]]) -> None:
         self.file, self.faults, self.count, self.is_bare = file, faults, 0, False
@@ -638,7 +644,7 @@ class _Told:
             self.stray = next(self.strays, None)
 
     def of_part(self, errors: bytes, part: List[Listed]) -> Dict[int, Fault]:
-        """The faults in a part, by offset. Its notes are counted and reported at the end."""
+        """The faults in a part, by offset. Notes are counted, and reported at the end."""
         begins = itertools.accumulate((place.length for place in part), initial=0)
         offsets = {begin: place.offset for begin, place in zip(begins, part)}
         refused = {}
@@ -694,7 +700,7 @@ def _looks(stream: IO[bytes]) -> str:
 
 
 def _listed(stream: IO[bytes], errors: IO[bytes], told: _Told) -> Iterator[Listed]:
-    """The messages of a stream that meet the conditions. Its strays stay in a file until they are reported."""
+    """The messages of a stream that meet the conditions. Strays remain in a file until they are reported."""
     with tempfile.TemporaryFile() as lines:
         words = [_bufr(), "ls"]
         status = subprocess.run(words, stdin=stream, stdout=lines, stderr=errors).returncode
@@ -709,7 +715,7 @@ def _listed(stream: IO[bytes], errors: IO[bytes], told: _Told) -> Iterator[Liste
         for line in lines:
             found = _LISTED.fullmatch(line)
             if not found:
-                raise RunError(2, f"{words[0]} ls is not of this version: install bufr and bufr_text from one release")
+                raise RunError(2, f"{words[0]} and bufr_text have different versions; install both from one release")
             if told.conditions is None or told.conditions.are_met(line):
                 yield Listed._make(map(int, found.groups()))
 
@@ -720,10 +726,10 @@ def encode(
     table_d: Optional[_Path] = None,
     form: Optional[str] = None,
 ) -> bytes:
-    """The messages as BUFR, by `bufr encode` with these two tables, or by `bufr-auto --encode` without tables.
+    """The messages as BUFR. It runs `bufr encode` with these two tables, or `bufr-auto --encode` if you pass no tables.
 
-    The form is "plain" or "compressed", or without one that of each message. Raises `RunError` with the fault line if a
-    message is refused, and returns nothing.
+    The form is "plain" or "compressed". Without it, each message has the form that its header says. Raises `RunError`
+    with the fault line if a message is refused.
     """
     if form is not None:
         compressed = ["plain", "compressed"].index(form)
@@ -745,7 +751,7 @@ def _words(command: str, table_b: Optional[_Path], table_d: Optional[_Path]) -> 
     if table_b is None and table_d is None:
         return [_program("bufr-auto"), *["--encode"] * (command == "encode")]
     if table_b is None or table_d is None:
-        raise TypeError("give both Table B and Table D, or neither")
+        raise TypeError("pass both Table B and Table D, or neither")
     # an absolute path cannot look like an option
     return [_bufr(), command, "-B", os.path.abspath(table_b), "-D", os.path.abspath(table_d)]
 
@@ -759,10 +765,10 @@ def _run(words: List[str], source: IO[bytes], target: IO[bytes]) -> subprocess.C
 
 
 def _failure(status: int, words: List[str], errors: Iterable[bytes]) -> RunError:
-    """The error with the output of the program, or with its status if there is none, and whether a disk is full."""
+    """The error for a failed program: its output, or its status if there is none, and whether a disk is full."""
     told = b"".join(line for line in errors if not _FAULT.match(line)).decode(errors="replace").strip()
     told = told or f"{words[0]} " + (f"was killed (signal {-status})" if status < 0 else f"stopped with status {status}")
-    folder = tempfile.gettempdir()  # which takes all output
+    folder = tempfile.gettempdir()  # where all output goes
     return RunError(status, f"{told}: {folder} is full" if shutil.disk_usage(folder).free < 1 << 16 else told)
 
 
@@ -771,7 +777,7 @@ def _bufr() -> str:
 
 
 def _program(name: str) -> str:
-    """The program beside this file, in the folder `bin` of the same installation or of Python, or on the path."""
+    """The program beside this file, in the directory `bin` of the same installation or of Python, or on PATH."""
     here = pathlib.Path(__file__).resolve().parent
     for path in (here / name, here.parent.parent / "bin" / name, pathlib.Path(sys.prefix) / "bin" / name):
         if os.access(path, os.X_OK):

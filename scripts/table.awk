@@ -1,49 +1,53 @@
-# A dump as CSV: a row for each item, or for each subset, or for each level of a sounding.
+# Makes CSV of a dump: a row for each item, for each subset, or for each level of a sounding.
 #
 #     bufr dump -B B.csv -D D.csv FILE | awk -f scripts/table.awk
 #     bufr dump -B B.csv -D D.csv FILE | awk -v columns=centre,year,001001,012101 -f scripts/table.awk
 #     bufr dump -B B.csv -D D.csv FILE |
 #       awk -v levels=1 -v keep=year,001001,001002 -v columns=007004,012101,012103 -f scripts/table.awk
 #
-# Without columns each item has a row: message, subset, item, descriptor, value, name, unit, all counted from 1. An item
-# that was read without an entry of Table B has no name and no unit. A reference value that the data define has the name
-# REFERENCE. The columns of `keep`, here keys of the header, come after the subset.
+# Without columns, each item has a row: message, subset, item, descriptor, value, name, unit. Messages, subsets and items
+# are counted from 1. An item that `bufr` read without a row of Table B has no name and no unit. A reference value that
+# the data define has the name REFERENCE. The columns of `keep`, which must be header keys, come after the subset.
 #
-# With columns each subset has a row. A column is a descriptor or a key of the header, which is the first word of a
-# header line. A descriptor selects its first item in the subset, and 012101:2 selects the second. If a subset has no
-# such item, the field is empty.
+# With columns, each subset has a row. A column is a descriptor or a header key (the first word of a header line). A
+# descriptor selects its first item in the subset, and 012101:2 selects the second. If a subset has no such item, the
+# field is empty.
 #
-# With levels=1 each level has a row. A level is one pass of a group that is repeated by a factor in the data (031000 to
-# 031002). It has a row if it has the first of the columns and, if there are several, another one. The columns of `keep`
-# describe the whole subset and come first. The first pass begins after the factor, and the next one where the descriptor
-# that began the first comes again, so a pass of two equal halves counts as two. A group inside a pass belongs to that
-# pass. A subset is skipped if it has no such level, or if the descriptor that begins a pass also comes inside one.
+# With levels=1, each level has a row. A level is one pass of a delayed replication, a group that is repeated as often as
+# a factor in the data says (031000 to 031002). It has a row if it has an item for the first column and, if there are
+# several columns, for at least one other. The columns of `keep` describe the whole subset and come first.
 #
-# Text is quoted, without its trailing spaces and with the escapes of the dump (\", \\, \xHH). A missing value is an
-# empty field. With json=1 each row is a JSON object: a missing value is null, and \xHH becomes the character with that
-# number.
+# A dump does not mark where a pass begins. The first pass begins after the factor, and the next one at the descriptor
+# that began the first, so a pass of two equal halves counts as two. A group inside a pass belongs to that pass. A subset
+# is skipped if it has no level, or if the descriptor that begins a pass also comes inside one.
 #
-# A dump does not contain offsets. The columns `offset` and `length` come from a listing, whose messages with a fault
-# line are left out:
+# Text is quoted. It has no trailing spaces, and it has the escapes of the dump (\", \\, \xHH). A missing value is an
+# empty field. With json=1, each row is a JSON object. A missing value is then null, and \xHH becomes the character with
+# that number.
+#
+# A dump does not contain offsets. The columns `offset` and `length` come from a listing. The fault lines of the dump name
+# the messages of the listing that the dump does not have:
 #
 #     bufr ls FILE > listing
 #     bufr dump -B B.csv -D D.csv FILE 2> faults |
 #       awk -v columns=offset,012101 -v listing=listing -v faults=faults -f scripts/table.awk
 #
-# Notes at the end name the columns that no row of a message has, and count the subsets that were skipped. The status is 1
-# if a subset was skipped because its levels cannot be told apart. It is 2 if a column is neither a descriptor nor a key,
-# if the text ends inside a message, or if the listing and the fault lines do not match the text. Any awk will do.
+# Notes on standard error name the columns for which no row has an item, and count the subsets that were skipped. The
+# status is 1 if a subset was skipped because its levels cannot be told apart. It is 2 if a column is neither a descriptor
+# nor a header key, if the dump ends inside a message, or if the listing and the fault lines do not match the dump. Any awk
+# can run this script.
 #
-# bufr-csv also sets: name, which begins the messages; placed=1 if a comment before each message has its offset, length
-# and file, which are then columns too; feed=0 if rows need not be flushed at the end of each message; and in the
-# environment BUFR_CSV_LABELS, the names of the columns, one on each line.
+# bufr-csv sets three more variables. `name` is the beginning of each note. With placed=1, a comment before each message
+# has its offset, length and file, which can then be columns. With feed=0, rows are not flushed at the end of each message.
+# The environment variable BUFR_CSV_LABELS has the headings of the columns, one per line.
 
 function fail(text) {
     print name ": " text | "cat >&2"
     exit failed = 2
 }
 
-# A text in quotes. The text of an item has escapes: JSON has the same \" and \\, and \u00HH for \xHH. A plain one has none.
+# A text in quotes. The text of an item has escapes: JSON has the same \" and \\, and \u00HH for \xHH. A plain text has
+# none.
 function quoted(text, is_plain,   parts, count, part) {
     if (!json)
         gsub(/"/, "\"\"", text)
@@ -73,12 +77,12 @@ function field(   parts, part, value) {
     return quoted(value)
 }
 
-# A field that may be empty, with what separates it from the one before it.
+# A field that may be empty, after its separator.
 function cell(begin, value) {
     return begin (json && value == "" ? "null" : value)
 }
 
-# Takes the place of the next message from the comment before it.
+# Reads the offset, length and file of the next message from the comment before it.
 function take_place(   words) {
     split($0, words, /[= ]/)
     header["offset"] = words[3]
@@ -107,14 +111,14 @@ function next_listed(   line, words, is_read) {
     return 1
 }
 
-# Whether a word is a descriptor of six digits. In a column of the whole subset a count from 1 may follow, after a colon.
+# Whether a word is a descriptor of six digits. In a column of the whole subset, a colon and a count from 1 may follow.
 function is_descriptor(word, of_subset) {
     if (of_subset)
         sub(/:[1-9][0-9]*$/, "", word)
     return word ~ /^[0-3][0-9][0-9][0-9][0-9][0-9]$/ && substr(word, 2, 2) < 64 && substr(word, 4, 3) < 256
 }
 
-# Splits a list of columns and returns their number. `keys` are the words that are allowed besides descriptors.
+# Splits a list of columns and returns their number. `keys` are the words that are allowed in addition to descriptors.
 function split_columns(words, list, keys,   count, column, word) {
     count = split(words, list, /[ ,]+/)
     for (column = 1; column <= count; column++) {
@@ -122,11 +126,11 @@ function split_columns(words, list, keys,   count, column, word) {
         if (word != "" && index(keys, " " word " "))
             is_key[word] = wanted[word] = 1
         else if (by_item)
-            fail("without columns, keep must have keys of the header, not: " word)
+            fail("without columns, keep must have only header keys, not: " word)
         else if (is_descriptor(word, keys != ""))
             wanted[substr(word, 1, 6)] = 1
         else
-            fail("expected a descriptor of six digits" (keys == "" ? "" : " or a key of the header") ", found: " word)
+            fail("expected a descriptor of six digits" (keys == "" ? "" : " or a header key") ", found: " word)
         if (!(++total in label))
             label[total] = json ? "\"" word "\"" : word
         before[total] = json ? "," label[total] ":" : ","
@@ -135,7 +139,7 @@ function split_columns(words, list, keys,   count, column, word) {
     return count
 }
 
-# The end of an item's row: the name and the unit in a comment. The unit is after the last ` [`.
+# The end of an item's row: the name and unit from a comment. The unit is after the last ` [`.
 function name_and_unit(comment,   parts, part, count, title, unit) {
     sub(/^ *# ?/, "", comment)
     count = split(comment, parts, / \[/)
@@ -166,7 +170,7 @@ function write_item(   is_reference, comment) {
     print subset_begin items fxy_begin $1 cell(value_begin, field()) (is_reference ? reference : names[comment])
 }
 
-# Ends the open pass. If it has a row, the row is held until the subset ends.
+# Ends the open pass. If it has a row, the row is buffered until the subset ends.
 function end_pass(   column, line, others, value) {
     if (!open)
         return
@@ -203,7 +207,7 @@ function end_subset(   row, column, line) {
     row_count = subset = left = twice = 0
 }
 
-# The begin of a row: message, subset, and the columns of the whole subset.
+# The beginning of a row: message, subset, and the columns of the whole subset.
 function begin_row(   line, column) {
     line = message_begin message subset_middle subset
     for (column = 1; column <= kept_count; column++) {
@@ -223,8 +227,9 @@ function skip_subset(fxy) {
     split("", values)
 }
 
-# One item in or before the passes of a group. `left` of them have yet to begin, each with the item `opener`. The open
-# pass has had `items` items and `inner` factors so far, and the pass before it had `pass_items` and `pass_inner`.
+# One item in or before the passes of a replication. `left` passes have not begun; each begins with the descriptor
+# `opener`. The open pass has had `items` items and `inner` factors so far, and the previous pass had `pass_items` and
+# `pass_inner`.
 function item(fxy) {
     if (left && (opener == "" || fxy == opener)) {
         if (opened > 1 && !inner && !pass_inner && items != pass_items) {
@@ -268,7 +273,7 @@ BEGIN {
         name = "table.awk"
     by_item = columns == ""
     if (levels && by_item)
-        fail("name the columns of the levels: -v columns=007004,012101")
+        fail("levels=1 needs columns, for example -v columns=007004,012101")
     if (keep != "" && !levels && !by_item)
         fail("keep works with levels=1 or without columns")
     keys = " offset length edition master centre subcentre update category subcategory localsubcategory masterversion" \
@@ -310,7 +315,7 @@ BEGIN {
         print "message,subset" heading (by_item ? ",item,descriptor,value,name,unit" : "")
 }
 
-# Most items are not wanted. Outside passes they do nothing, and inside passes they are counted.
+# Most items are not in a column. Outside passes they are skipped, and inside passes they are counted.
 !($1 in wanted) {
     if (by_item) {
         if (subset && /^[0-3R]/)
@@ -338,7 +343,7 @@ $1 == "message" {
     message++
     is_open = 1
     if (is_joined && !next_listed())
-        fail("the text has more messages than the listing: make both from the same file")
+        fail("the dump has more messages than the listing; make both from the same file")
     next
 }
 $1 == "end" {
@@ -372,9 +377,9 @@ END {
     if (failed)
         exit failed
     if (is_open)
-        fail("the text ends inside a message; the dump is incomplete")
+        fail("the dump ends inside a message, so it is incomplete")
     if (is_joined && next_listed())
-        fail("the listing has more messages than the text and the fault lines: make them from the same file")
+        fail("the listing has more messages than the dump and the fault lines; make all three from the same file")
     if (!message)
         exit
     for (column = 1; column <= kept_count; column++)
@@ -384,7 +389,7 @@ END {
         if (!(level[column] in had))
             print name ": no row has " level[column] | "cat >&2"
     if (bare)
-        print name ": skipped subsets without such a level: " bare ", the first is message " first_bare | "cat >&2"
+        print name ": skipped subsets without a level: " bare ", the first is message " first_bare | "cat >&2"
     if (unclear) {
         line = name ": skipped subsets whose levels cannot be told apart: " unclear
         print line ", the first is message " first_unclear | "cat >&2"

@@ -1,11 +1,11 @@
 #!/usr/bin/env python3
-"""Lists what changed from one table set to another.
+"""Lists the changes from one table set to another.
 
     tables/changes.py OLD NEW
 
-OLD and NEW are folders with B.csv and D.csv. An element has changed if its scale, reference or width is different, or if
-its unit makes it another kind of value (number, code or text), because these determine how data are read. New names are
-not listed: they only change the comments of a dump.
+OLD and NEW are directories with B.csv and D.csv. An element has changed if its scale, reference or width is different, or
+if its unit makes it another kind of value (number, code or text), because these determine how data are read. Changed names
+are not listed, because they only affect the comments of a dump.
 """
 import os
 import sys
@@ -43,7 +43,7 @@ def rows(folder: str, name: str, *columns: str):
 
 
 def read(folder: str):
-    """What determines how each element is read, and the members of each sequence."""
+    """The properties that determine how each element is read, and the members of each sequence."""
     elements = {
         fxy: (*numbers, kind(unit))
         for fxy, unit, *numbers in rows(folder, "B.csv", "fxy", "unit", "scale", "reference", "width")

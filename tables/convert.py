@@ -3,26 +3,25 @@
 
     tables/convert.py OUT SOURCE..
 
-Each SOURCE is a folder. Its files determine its format:
+Each SOURCE is a directory. Its files determine its format:
 
-    B.csv, D.csv                      a set as in this folder
+    B.csv, D.csv                      a table set, as in this directory
     BUFRCREX_TableB_en*.csv,          the CSV files that WMO publishes
     BUFR_TableD_en*.csv
     element.table, sequence.def       ecCodes definition files, including those of local tables
     B*.txt, D*.txt                    the fixed-column files of wreport
 
-wreport has many tables in one folder. To choose one, give its B*.txt file as SOURCE; the D*.txt file with the same name
-is read too.
+wreport has many tables in one directory. To choose one, give its B*.txt file as SOURCE; convert.py then also reads the
+D*.txt file with the same name.
 
-Rows of a later SOURCE replace those of an earlier one, so name the master table first and local tables after it. The
-tables are written to OUT/B.csv and OUT/D.csv, sorted by descriptor.
+Rows of a later SOURCE replace those of an earlier one, so give the master tables first and local tables after them. The
+new tables are OUT/B.csv and OUT/D.csv, sorted by descriptor.
 
-Elements and sequences that `bufr` would refuse are left out, and standard error has a line with the reason for each. If
-one member of a sequence is invalid, the whole sequence is left out. Rows of an earlier SOURCE for the same descriptor
-remain.
+convert.py leaves out elements and sequences that `bufr` would refuse, and prints the reason for each on standard error.
+It leaves out a whole sequence if one of its members is invalid. Rows of an earlier SOURCE for the same descriptor remain.
 
-The exit status is 0 if nothing was left out, and 1 if something was. It is 2 if nothing was written because a SOURCE has
-no tables, a file has another layout, or the output failed.
+The exit status is 0 if nothing was left out, and 1 if something was. It is 2 if convert.py wrote nothing, because a SOURCE
+has no tables, a file has an unknown layout, or the output failed.
 """
 import os
 import sys
@@ -40,21 +39,21 @@ import re  # noqa: E402
 import bufr_options  # noqa: E402
 from bufr_guard import Failed  # noqa: E402
 
-# The columns of WMO's files that are read. Other columns may come between them.
+# The columns of WMO's files that are used. There may be other columns between them.
 WMO_B = "FXY ElementName_en BUFR_Unit BUFR_Scale BUFR_ReferenceValue BUFR_DataWidth_Bits".split()
 WMO_D = "FXY1 FXY2".split()
 OURS_B = "fxy name unit scale reference width".split()
 OURS_D = "fxy member".split()
-# Where the columns of wreport's B*.txt begin, in characters: the six of OURS_B, and what follows them.
+# The positions in wreport's B*.txt where the six columns of OURS_B begin, and where the last one ends.
 WREPORT_B = [1, 8, 73, 97, 101, 114, 118]
-# How wreport's files shorten the beginning of a unit.
+# Units that wreport's files abbreviate at the beginning.
 WREPORT_UNITS = {
     "CCITTIA5": "CCITT IA5",
     "COMMONCODETABLE": "COMMON CODE TABLE ",
     "CODETABLE": "CODE TABLE ",
     "FLAGTABLE": "FLAG TABLE ",
 }
-# Bytes that are not UTF-8 are copied unchanged, since `bufr` accepts them too.
+# Bytes that are not UTF-8 are copied unchanged, because `bufr` accepts them too.
 AS_IT_IS = {"encoding": "utf-8", "errors": "surrogateescape"}
 # The widths of the factors of delayed replications.
 FACTORS = {"031000": 1, "031001": 8, "031002": 16}
@@ -77,7 +76,7 @@ def of_csv(folder: pathlib.Path, pattern: str, columns: list):
             try:
                 for row in filter(None, rows):
                     if len(row) != len(header):
-                        raise Failed(f"{path}, line {rows.line_num}: the number of fields differs from the header")
+                        raise Failed(f"{path}, line {rows.line_num}: {len(row)} fields, but the header has {len(header)}")
                     yield [one_line(row[place]) for place in places]
             except csv.Error as error:
                 raise Failed(f"{path}, line {rows.line_num}: {error}") from None
@@ -131,9 +130,9 @@ def of_wreport_b(path: pathlib.Path):
 
 
 def of_wreport_d(path: pathlib.Path):
-    """The sequences of wreport's D*.txt, where each is followed by the number of its members.
+    """The sequences of wreport's D*.txt. The number of members follows each sequence there.
 
-    If a sequence is there twice, the first one is used.
+    If a sequence occurs twice, the first one is used.
     """
     runs = []
     for number, line in lines_of(path):
@@ -152,13 +151,13 @@ def of_wreport_d(path: pathlib.Path):
 
 
 def of_wreport(path: pathlib.Path):
-    """The rows and the sequences of a B*.txt and a D*.txt of wreport with the same name. One of them may be missing."""
+    """The rows and the sequences of wreport's B*.txt and D*.txt with the same name. One of the files may be missing."""
     table_b, table_d = (path.with_name(letter + path.name[1:]) for letter in "BD")
     return of_wreport_b(table_b) if table_b.exists() else [], of_wreport_d(table_d) if table_d.exists() else []
 
 
 def source(folder: pathlib.Path):
-    """The rows of a source for Table B, and its sequences for Table D."""
+    """The rows for Table B, and the sequences for Table D, of a source."""
     if (folder / "B.csv").exists() or (folder / "D.csv").exists():
         return of_csv(folder, "B.csv", OURS_B), sequences_of(of_csv(folder, "D.csv", OURS_D))
     elements, sequences = folder / "element.table", folder / "sequence.def"
@@ -172,7 +171,7 @@ def source(folder: pathlib.Path):
         return of_csv(folder, "BUFRCREX_TableB_en*.csv", WMO_B), sequences_of(table_d)
     texts = [folder] if folder.match("[BD]*.txt") else sorted(folder.glob("[BD]*.txt"))
     if len({text.name[1:] for text in texts}) > 1:
-        raise Failed(f"{folder} has several wreport tables: name one of its B*.txt files")
+        raise Failed(f"{folder} has several wreport tables; give one of its B*.txt files as SOURCE")
     if texts and texts[0].exists():
         return of_wreport(texts[0])
     raise Failed(f"{folder} has no tables in a known format; see convert.py --help")
@@ -188,26 +187,26 @@ def is_whole(text: str, least: int, most: int) -> bool:
 
 
 def whole(text: str) -> int:
-    """The number in a text, which may have any number of leading zeros."""
+    """The number in a text. It may have any number of leading zeros."""
     return int(re.sub("^(-?)0+(?=[0-9])", r"\1", text))
 
 
 def no_descriptor(fxy: str, first: str) -> str:
-    """Why a text is not a descriptor with this first digit."""
+    """The reason why a text is not a descriptor with this first digit, or an empty text."""
     if not re.fullmatch(f"[{first}][0-9]{{5}}", fxy):
         return f"expected six digits, the first one {first}"
     return "X over 63" if int(fxy[1:3]) > 63 else "Y over 255" if int(fxy[3:]) > 255 else ""
 
 
 def no_text(what: str, text: str) -> str:
-    """Why `bufr` would refuse a name or a unit."""
+    """The reason why `bufr` would refuse a name or a unit, or an empty text."""
     if len(octets(text)) > 512:
         return f"the {what} is longer than 512 bytes"
     return f"a control character in the {what}" if re.search(r"[\0-\x1f\x7f]", text) else ""
 
 
 def no_numbers(is_text: bool, scale: str, reference: str, width: str) -> str:
-    """Why `bufr` would refuse the numbers of an element."""
+    """The reason why `bufr` would refuse the numbers of an element, or an empty text."""
     if not width:
         return "no width"
     if not is_whole(scale, -127, 127):
@@ -215,22 +214,22 @@ def no_numbers(is_text: bool, scale: str, reference: str, width: str) -> str:
     if not is_whole(reference, -(2**63), 2**63 - 1):
         return "the reference must be a signed 64-bit number"
     if is_text and not (is_whole(width, 8, 2040) and whole(width) % 8 == 0):
-        return "the width of a text must be whole bytes, from 8 to 2040 bits"
+        return "the width of a text must be a multiple of 8 from 8 to 2040 bits"
     return "" if is_text or is_whole(width, 1, 63) else "the width must be from 1 to 63 bits"
 
 
 def no_element(row: list) -> str:
-    """Why `bufr` would refuse the row of an element, or nothing if it accepts it."""
+    """The reason why `bufr` would refuse the row of an element, or an empty text."""
     fxy, name, unit, *numbers = row
     is_text = octets(unit).upper() == b"CCITT IA5"
     reason = no_descriptor(fxy, "0") or no_text("name", name) or no_text("unit", unit) or no_numbers(is_text, *numbers)
     if not reason and fxy in FACTORS and (is_text or list(map(whole, numbers)) != [0, 0, FACTORS[fxy]]):
-        return f"a replication factor is a number with scale 0, reference 0 and width {FACTORS[fxy]}"
+        return f"a replication factor must be a number with scale 0, reference 0 and width {FACTORS[fxy]}"
     return reason
 
 
 def no_sequence(sequence: list) -> str:
-    """Why `bufr` would refuse the rows of a sequence, or nothing if it accepts them."""
+    """The reason why `bufr` would refuse the rows of a sequence, or an empty text."""
     fxy, *members = sequence
     if no_descriptor(fxy, "3") or not members:
         return no_descriptor(fxy, "3") or "no members"
@@ -245,7 +244,7 @@ def shown(words: list) -> str:
 
 
 def taken(folder: pathlib.Path, entries, refused) -> tuple:
-    """The entries of a source that `bufr` accepts, by descriptor, and how many it refuses. Each of those is reported."""
+    """The entries that `bufr` accepts, by descriptor, and the number of those that it refuses. Reports each of those."""
     found, left_out = {}, 0
     for entry in entries:
         found.setdefault(entry[0], []).append(entry)
@@ -261,7 +260,7 @@ def taken(folder: pathlib.Path, entries, refused) -> tuple:
 
 
 def write(path: pathlib.Path, aside: pathlib.Path, header: list, rows) -> None:
-    """Writes a table under a temporary name. `path` is its name in an error."""
+    """Writes a table to the temporary file `aside`. Error messages name `path`."""
     try:
         with open(aside, "w", newline="", **AS_IT_IS) as file:
             table = csv.writer(file, lineterminator="\n")
@@ -284,7 +283,7 @@ def work(words: list) -> int:
             left_out += count
     members = ([fxy, member] for fxy in sorted(sequences) for member in sequences[fxy][1:])
     out.mkdir(parents=True, exist_ok=True)
-    # Both are written to temporary names first, so that a failure leaves an earlier set unchanged.
+    # Both tables are written under temporary names first, so that a failure leaves an earlier set unchanged.
     tables = {out / name: out / f".{name}.{os.getpid()}" for name in ("B.csv", "D.csv")}
     try:
         for (path, aside), header, rows in zip(

@@ -194,8 +194,11 @@ class Trial:
         text = b"# A comment before a document.\n" * 200_000 + b"\nmessage\nedition 4\nnonsense\n"
         done = self.auto("--encode", stream=text)
         self.same("many comments", (done.stdout, done.stderr, done.returncode), (b"", b"line 200004: 50 line\n", 1))
-        # What is no text is refused before its end.
-        self.feed("no text", ["--encode"], [(b"BUFR" + bytes(100) + b"\n", b"", b"line 1: 50 line\n")], (b"", b""), 1)
+        # BUFR is refused before its end, and a note names the option to leave out.
+        note = b"bufr-auto: standard input is BUFR, not a dump; leave out --encode to dump it\n"
+        for begin in (b"BUFR", b"\1\r\r\n001\r\r\nIUSK01 ENMI 010000\r\r\nBUFR"):
+            steps = [(begin + bytes(100) + b"\n", b"", b"line 1: 50 line\n" + note)]
+            self.feed("no text", ["--encode"], steps, (b"", b""), 1)
 
     def encoded_one_by_one(self, text: bytes):
         """The messages, the fault line and the status of documents that are encoded one by one."""
@@ -425,7 +428,7 @@ class Trial:
         told = [line for line in done.stderr.decode().splitlines() if line.startswith("bufr-auto: ")]
         at = [found.start() for found in re.finditer(b"BUFR", stream)]
         wanted = [
-            f"3 messages, the first at offset {at[2]}: version 6 defines some of its descriptors differently from wmo-13",
+            f"3 messages, the first at offset {at[2]}: some descriptors differ between version 6 and wmo-13",
             f"2 messages, the first at offset {at[8]}: local table 102 of centre 98: there is no wmo-13+98-102; to make it",
             f"1 message, at offset {at[10]}: version 40 is later than wmo-39{NEWER}",
         ]
@@ -434,7 +437,7 @@ class Trial:
         self.holds("no notes", self.auto(stream=exact).stderr == b"", self.auto(stream=exact).stderr)
         stream = b"".join(made(13, "001212", b"\1", centre, 1) for centre in range(1, 1300))
         told = [line for line in self.auto(stream=stream).stderr.decode().splitlines() if line.startswith("bufr-auto: ")]
-        rest = "bufr-auto: 299 messages, the first at offset 48000: no set matches these exactly, for other reasons"
+        rest = "bufr-auto: 299 messages, the first at offset 48000: no set matches exactly, for reasons beyond the first 1,000"
         self.holds("kinds of notes", (len(told), told[-1]) == (1001, rest), (len(told), told[-1]))
         refused = made(41, "012101", b"\1\1").replace(b"\0\0\x16", b"\0\0\x15", 1)
         done = self.auto(stream=refused)
@@ -488,8 +491,8 @@ class Trial:
         empty = self.place / "empty"
         empty.mkdir()
         for told, words, environment in (
-            ("BUFR_TABLES is /nosuch, which is not a folder", [file], {"BUFR_TABLES": "/nosuch"}),
-            (f"BUFR_TABLES is {file}, which is not a folder", [file], {"BUFR_TABLES": file}),
+            ("BUFR_TABLES is /nosuch, which is not a directory", [file], {"BUFR_TABLES": "/nosuch"}),
+            (f"BUFR_TABLES is {file}, which is not a directory", [file], {"BUFR_TABLES": file}),
             (f"{empty} has no table set such as wmo-39", [file], {"BUFR_TABLES": str(empty)}),
             ("cannot open nosuch: No such file or directory", ["nosuch"], {}),
             ("cannot open '': No such file or directory", [""], {}),
@@ -557,7 +560,7 @@ class Trial:
         # What a child gives is not whole, and it says nothing of that.
         other.write_text(f'#!/bin/sh\n"{self.program}" "$@" | head -c 3000\n')
         done = self.auto(stream=made(13, LISTS[1], b"\1\1\0") * 9 + made(39, LISTS[1], b"\1\1\0"), BUFR=str(other))
-        told = b"bufr-auto: bufr wrote less than it should; output is incomplete\n"
+        told = b"bufr-auto: bufr stopped before the end of its output; output is incomplete\n"
         self.holds("a text that is cut", (done.returncode, done.stderr) == (2, told), done)
         ignoring = "import os, signal, sys; signal.signal(signal.SIGCHLD, signal.SIG_IGN); os.execv(sys.argv[1], sys.argv[1:])"
         words = [sys.executable, "-c", ignoring, *AUTO, str(TOP / "examples/synop.bufr")]

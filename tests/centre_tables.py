@@ -92,7 +92,7 @@ def of_definitions(place: pathlib.Path, script, holds) -> None:
         holds(f"a dump after the command of {name}", (status, "063255 3 " in output, errors), (0, True, ""))
         holds("what is missing then", script("bufr-lacks", message), (0, "", ""))
         unknown = script("bufr-lacks", made(17, 5, 7, "063254", b"\3"))[2]
-        holds("a set without a row", unknown, "bufr-lacks: wmo-17+7-5; it lacks some rows: ask centre 7 for its tables\n")
+        holds("a set without a row", unknown, "bufr-lacks: wmo-17+7-5 lacks some rows; ask centre 7 for its tables\n")
         shutil.rmtree(place / "tables/wmo-17+7-5")
 
 
@@ -136,7 +136,7 @@ def limits(script, holds) -> None:
     kinds = b"".join(made(13, 1, centre, "063255", b"") for centre in range(1, 1004)) * 2
     status, output, errors = script("bufr-lacks", kinds)
     holds("the kinds that are listed", (status, output.count("\n"), output.count("2 messages")), (1, 1000, 1000))
-    first = "bufr-lacks: left out 6 messages of other kinds that lack rows: only 1000 kinds are listed"
+    first = "bufr-lacks: left out 6 messages of other kinds; at most 1000 kinds are listed"
     holds("the notes on kinds", (errors.splitlines()[0], errors.count("\n")), (first, 1001))
     # Two kinds whose missing set is the same.
     _, output, errors = script("bufr-lacks", made(12, 1, 7, "063255", b"") + made(13, 1, 7, "063255", b""))
@@ -144,7 +144,7 @@ def limits(script, holds) -> None:
     many = " ".join(f"0{x}{y:03}" for x in range(48, 64) for y in range(256))
     status, output, errors = script("bufr-lacks", b"".join(made(13, 1, centre, many, b"") for centre in range(1, 15)))
     rows = sum(len(line.partition("lacks")[2].split()) for line in output.splitlines())
-    told = errors.startswith("bufr-lacks: left out some rows: only 50000 are listed\n")
+    told = errors.startswith("bufr-lacks: left out some rows; at most 50000 are listed\n")
     holds("the rows that are listed", (status, rows, told), (1, 50_000, True))
 
 

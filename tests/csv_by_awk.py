@@ -103,7 +103,7 @@ def tries_wide(awk: list, text: bytes) -> None:
         status, output, _ = run(awk, text, **words)
         want((status, output) == (2, ""), f"{awk}: it takes {words}")
     status, _, errors = run(awk, text[:-4], columns="001001")
-    want((status, errors) == (2, "table.awk: the text ends inside a message; the dump is incomplete\n"), f"{awk}: a cut text gives {errors}")
+    want((status, errors) == (2, "table.awk: the dump ends inside a message, so it is incomplete\n"), f"{awk}: a cut text gives {errors}")
 
 
 class Stream:
@@ -146,8 +146,8 @@ def tries_offsets(awk: list, stream: Stream) -> None:
         for given, told in [
             ({}, "columns offset and length need"),
             ({"listing": stream.listing}, "columns offset and length need"),
-            ({"listing": stream.listing, "faults": stream.empty}, "the listing has more messages than the text"),
-            ({"listing": stream.empty, "faults": stream.faults}, "the text has more messages than the listing"),
+            ({"listing": stream.listing, "faults": stream.empty}, "the listing has more messages than the dump"),
+            ({"listing": stream.empty, "faults": stream.faults}, "the dump has more messages than the listing"),
             ({"listing": stream.faults, "faults": stream.faults}, "is not the output of bufr ls"),
             ({"listing": "nosuch", "faults": stream.faults}, "cannot read nosuch"),
             ({"listing": stream.listing, "faults": "nosuch"}, "cannot read nosuch"),
@@ -214,7 +214,7 @@ def tries_levels(awk: list, sounding: bytes, synop: bytes) -> None:
     wanted = "message,subset,year,001015,020012,020011\n"
     wanted += "".join(f"1,{row}\n" for row in ['2,2023,"HEATHROW",7,2', '2,2023,"HEATHROW",8,5', '2,2023,"HEATHROW",5,8'])
     wanted += '1,3,2023,"SAENTIS",3,1\n1,3,2023,"SAENTIS",6,8\n'
-    told = "table.awk: skipped subsets without such a level: 1, the first is message 1 subset 1\n"
+    told = "table.awk: skipped subsets without a level: 1, the first is message 1 subset 1\n"
     want((status, output, errors) == (0, wanted, told), f"{awk}: the clouds are {output}: {errors}")
     # an item behind a group of two passes or more belongs to none of them
     rows = "message,subset,012101,007004,012101,011001\n1,1,1.0,100,5.0,1\n1,1,1.0,200,,\n1,1,1.0,300,7.0,\n"
@@ -223,7 +223,7 @@ def tries_levels(awk: list, sounding: bytes, synop: bytes) -> None:
     want(nested == (0, rows, ""), f"{awk}: nested groups give {nested}")
     behind = run(awk, NESTED, levels="1", columns="007004,012103")
     told = "table.awk: no row has 007004\ntable.awk: no row has 012103\n"
-    told += "table.awk: skipped subsets without such a level: 1, the first is message 1 subset 1\n"
+    told += "table.awk: skipped subsets without a level: 1, the first is message 1 subset 1\n"
     wanted = (0, "message,subset,007004,012103\n", told)
     want(behind == wanted, f"{awk}: an item behind all passes is in a row: {behind}")
     behind = run(awk, BEHIND, levels="1", columns="007004,012101,012103")
@@ -233,7 +233,7 @@ def tries_levels(awk: list, sounding: bytes, synop: bytes) -> None:
     both = BEHIND[:-4] + b"".join((ENCLOSED % 3).splitlines(True)[2:])
     between = both + NESTED + ENCLOSED % 2 + ODD + NESTED
     status, output, errors = run(awk, between, levels="1", columns="007004,012101")
-    told = "table.awk: skipped subsets without such a level: 1, the first is message 4 subset 1\n"
+    told = "table.awk: skipped subsets without a level: 1, the first is message 4 subset 1\n"
     told += "table.awk: skipped subsets whose levels cannot be told apart: 2, the first is message 1 subset 1: 008002\n"
     want((status, errors) == (1, told), f"{awk}: passes that cannot be told apart give {status}, {errors}")
     rows = [line.split(",")[0] for line in output.splitlines()[1:]]
@@ -246,7 +246,7 @@ def tries_levels(awk: list, sounding: bytes, synop: bytes) -> None:
     wanted = (0, [["1", "1", "74", "28.5", 'A \\"B\\\\']] * 3, "")
     want((status, rows, errors) == wanted, f"{awk}: of odd texts the levels are {rows}: {errors}")
     status, _, errors = run(awk, NESTED[:-4], levels="1", columns="007004")
-    want((status, errors) == (2, "table.awk: the text ends inside a message; the dump is incomplete\n"), f"{awk}: a cut text gives {errors}")
+    want((status, errors) == (2, "table.awk: the dump ends inside a message, so it is incomplete\n"), f"{awk}: a cut text gives {errors}")
     for word in WORDS:
         for names in ({"columns": word}, {"keep": word, "columns": "007004"}):
             status, output, errors = run(awk, sounding, levels="1", **names)

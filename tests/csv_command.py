@@ -335,7 +335,7 @@ def notes(_folder: pathlib.Path) -> None:
     done = run("-c", "012101,012104", SYNOP)
     holds("an empty column", (done.returncode, done.stderr) == (0, b"bufr-csv: no row has 012104\n"), done)
     done = run("--levels", "-c", "020013,020011", SYNOP)
-    told = b"bufr-csv: skipped subsets without such a level: 1, the first is message 1 subset 1\n"
+    told = b"bufr-csv: skipped subsets without a level: 1, the first is message 1 subset 1\n"
     holds("a subset without levels", (done.returncode, done.stderr) == (0, told), done)
     bits = lib.Bits()
     bits.put(2, 8)
@@ -352,7 +352,7 @@ def notes(_folder: pathlib.Path) -> None:
 
 def refusals(_folder: pathlib.Path) -> None:
     """Command lines that are not understood: status 2, nothing written, and one line that says what to do."""
-    keys = b"file, offset, length, or a key of the header (edition master"
+    keys = b"file, offset, length, or a header key (edition master"
     for words, told in [
         (["-x"], b"unknown option -x"),
         (["--column", "001001"], b"unknown option --column"),
@@ -375,11 +375,13 @@ def refusals(_folder: pathlib.Path) -> None:
         (["-c", "012101:"], b"a count from 1"),
         (["-c", "012101:x"], b"a count from 1"),
         (["-c", "message"], keys),
+        (["-c", "time"], b"use year,month,day,hour,minute"),
+        (["-c", "001001,tables"], b"use master,masterversion,localversion"),
         (["-c", "year", "--where=", "category=0"], b"'' is not a condition"),
         (["--levels"], b"--levels needs -c"),
         (["--levels", "-c", "year"], b"use --keep"),
         (["--levels", "-c", "012101:2"], b"use --keep"),
-        (["--keep", "012101"], b"without -c, only keys"),
+        (["--keep", "012101"], b"without -c, use only header keys"),
         (["--keep", "year", "-c", "012101"], b"--keep works with --levels"),
         (["--names"], b"--names needs -c"),
         (["--json", "-c", "012101,012101"], b"012101 is given twice"),

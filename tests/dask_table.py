@@ -127,7 +127,7 @@ def tries(trial: Trial) -> None:
     for words, told in [
         (["2", COLUMNS, "small.bufr", "nosuch"], b"nosuch"),
         (["2", "offset,place", "small.bufr"], b"the header has no key 'place'"),
-        (["2", "012", "small.bufr"], b"a column is a number such as 012101, not '012'"),
+        (["2", "012", "small.bufr"], b"a column is a descriptor such as 012101, not '012'"),
         (["2", COLUMNS], b"expected CLUSTER, COLUMNS and at least one FILE; see bufr-dask --help"),
         (["tcp://127.0.0.1:9", COLUMNS, "small.bufr"], b"127.0.0.1:9"),
     ]:

@@ -54,21 +54,21 @@ CONDITIONS = [
 # words that are refused with status 2, and part of the message
 REFUSED = [
     (["categori=0"], "unknown key categori in 'categori=0'"),
-    (["category=land"], "the value in 'category=land' cannot match a listing"),
-    (["category="], "cannot match a listing"),
-    (["category", SYNOP], "category has no value: write category=VALUE"),
-    ([SYNOP, "time"], "time has no value: write time=VALUE"),
+    (["category=land"], "the value in 'category=land' cannot match: use only digits"),
+    (["category="], "the value in 'category=' cannot match"),
+    (["category", SYNOP], "category has no value; write category=VALUE"),
+    ([SYNOP, "time"], "time has no value; write time=VALUE"),
     (["--awk", "1)"], "awk does not accept the condition 1)"),
-    (["--awk", ""], "--awk needs a condition that is not empty"),
-    (["--awk", " # length"], "--awk needs a condition that is not empty"),
-    (["--awk", ";\n# one\n\n  # other\n"], "--awk needs a condition that is not empty"),
+    (["--awk", ""], "the condition of --awk is empty"),
+    (["--awk", " # length"], "the condition of --awk is empty"),
+    (["--awk", ";\n# one\n\n  # other\n"], "the condition of --awk is empty"),
     (["--awk"], "--awk needs a value"),
     (["--max-length", "11"], "--max-length '11': expected a whole number, at least 12"),
     (["--max-length", "1" * 19], f"--max-length '{'1' * 19}': expected a whole number, at least 12"),
     (["--all"], "unknown option --all"),
     (["one", "two"], "expected one file; to read several, use cat one two | bufr-extract"),
     (["nosuch"], "cannot open nosuch"),
-    (["/"], "read failed: Is a directory"),
+    (["/"], "cannot read the input: Is a directory"),
 ]
 # Conditions of awk that do more than select lines.
 NO_CONDITIONS = [
@@ -131,7 +131,7 @@ def refuses_what_it_cannot(path: pathlib.Path) -> None:
             ("a pipe", run(["--awk", condition], input=path.read_bytes(), timeout=60)),
         ):
             lines = done.stderr.decode().splitlines()
-            told = "a line of the listing is longer than 1 MB" if "while" in condition else "--awk printed or changed a line"
+            told = "a line of the listing is longer than 1 MB" if "while" in condition else "--awk may only select lines, but printed or changed one"
             is_refused = done.returncode == 2 and done.stdout in (b"", made(1)) and len(lines) == 1 and told in lines[0]
             want(is_refused, f"--awk '{condition}' over {name}: {done}")
     done = run(["--awk", 'NR == 2 { print last } { last = $0; next }', path])

@@ -187,7 +187,7 @@ def room(trial: Trial) -> None:
     if trial.name in ("bufr-extract", "bufr-parallel", "bufr-lacks"):
         for folder in (str(trial.place), ""):
             done = trial.run(input=octets, limits={resource.RLIMIT_FSIZE: 4096}, environment={"TMPDIR": folder})
-            told = f"{trial.name}: no room in {folder or '/tmp'}; set TMPDIR to another folder\n"
+            told = f"{trial.name}: no room in {folder or '/tmp'}; set TMPDIR to another directory\n"
             holds(f"{trial.name}: no room in {folder!r}", done.stderr.decode() == told, done)
     if trial.name == "bufr-extract":
         # `bufr ls` gets a part of the stream, and starts late or at once: the cut is no fault of the stream.
@@ -195,7 +195,7 @@ def room(trial: Trial) -> None:
         for begin in (trial.words[:1], [*trial.words[:1], "-c", LATE.format(TOP / "scripts")]):
             trial.words[:1] = begin
             done = trial.run(input=octets, limits={resource.RLIMIT_FSIZE: 100_000})
-            trial.fails("room for a part", done, f"no room in {trial.place}; set TMPDIR to another folder")
+            trial.fails("room for a part", done, f"no room in {trial.place}; set TMPDIR to another directory")
             holds("bufr-extract, room for a part: fault lines", b"offset" not in done.stderr, done.stderr)
 
 
@@ -381,7 +381,7 @@ def options(trial: Trial) -> None:
     trial.words = [kept[0], "-c", REFUSED.format(TOP / "scripts"), kept[1]]
     trial.fails("want of memory for the version", trial.run(["--version"]), f"{trial.name}: out of memory")
     trial.words[2] = trial.words[2].replace("import bufr_guard", "import bufr_guard\nsys.version_info = 3, 8, 18")
-    trial.fails("an old Python", trial.run(["--version"]), f"{trial.name}: Python 3.9 or later is needed")
+    trial.fails("an old Python", trial.run(["--version"]), f"{trial.name}: {sys.executable} is too old; Python 3.9 or later is needed")
     trial.words = kept
     installed = trial.place / "installed/share"
     shutil.copytree(TOP / "scripts", installed / "bufr")
@@ -397,7 +397,7 @@ def options(trial: Trial) -> None:
     if trial.name == "bufr-dask":
         (trial.place / "distributed.py").write_text("raise ModuleNotFoundError(name=__name__)\n")
         done = trial.run([SYNOP], environment={"PYTHONPATH": str(trial.place)})
-        trial.fails("a package that is not there", done, "bufr-dask: distributed is not installed for this Python")
+        trial.fails("a package that is not there", done, "bufr-dask: distributed is not installed for ")
     if trial.name in OTHERS:
         return
     done = trial.run([SYNOP, "--help"])
@@ -452,13 +452,13 @@ def guard() -> None:
     work = "bufr_guard.run(lambda _: {}, '')"
     for code, status, told in (
         (few + work.format("bufr_guard.temporary()"), 2, "too many open files; raise the limit (ulimit -n)"),
-        (full + work.format("bufr_guard.temporary()"), 2, "cannot make a temporary file: No space left on device; set TMPDIR to another folder"),
+        (full + work.format("bufr_guard.temporary()"), 2, "cannot make a temporary file: No space left on device; set TMPDIR to another directory"),
         (work.format("1 // 0"), 2, "internal error: ZeroDivisionError: integer division or modulo by zero (<string>, line 1)"),
         (work.format("open('/nosuch')"), 2, "/nosuch: No such file or directory"),
         (work.format("0") + "; print('more')", 0, ""),
         ("sys.excepthook = bufr_guard.hook; raise KeyboardInterrupt", -signal.SIGINT, ""),
         ("sys.excepthook = bufr_guard.hook; raise MemoryError", 2, "out of memory"),
-        ("sys.excepthook = bufr_guard.hook; import nosuch", 2, "nosuch is not installed for this Python (Debian: apt-get install python3-nosuch)"),
+        ("sys.excepthook = bufr_guard.hook; import nosuch", 2, f"nosuch is not installed for {sys.executable} (for Debian's /usr/bin/python3: apt-get install python3-nosuch)"),
     ):
         words, environment = [sys.executable, "-c", "import bufr_guard, sys; " + code], {**os.environ, "TMPDIR": "/nosuch"}
         environment = os.environ if code.startswith(few) else environment

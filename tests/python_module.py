@@ -59,37 +59,39 @@ def with_line(number: int, lines: bytes) -> bytes:
 
 # How lines are refused by mistake, and what is told of it. Line 24 of the document is an item, line 22 descriptors.
 MISTAKES = [
-    (1, b"\xef\xbb\xbfmessage\n", "a byte order mark before it"),
-    (1, (TOP / "examples/synop.bufr").read_bytes().partition(b"\n")[0] + b"\n", "a BUFR message, not the text of one"),
-    (24, b"001001 10\r\n", "a carriage return at its end"),
-    (24, b"> 001001 10\n", "the > of a quoted mail before it"),
-    (24, b"001001\t10\n", "a tab in place of a space"),
-    (24, b" 001001 10\n", "a space before it"),
-    (25, b"message\n", "no end before it"),
-    (24, b"1001 10\n", "a descriptor without its six digits"),
-    (2, b"edition  4\n", "two spaces in place of one"),
-    (22, b"descriptors  001001\n", "two spaces in place of one"),
-    (24, b"001001  10  # NAME [UNIT]\n", "two spaces in place of one"),
+    (1, b"\xef\xbb\xbfmessage\n", "a byte order mark"),
+    (1, (TOP / "examples/synop.bufr").read_bytes().partition(b"\n")[0] + b"\n", "BUFR instead of a dump; use bufr-auto to dump it"),
+    (1, b"IUAA01 EGRR 120700\r\r\n", "BUFR instead of a dump; use bufr-auto to dump it"),
+    (1, b"\x01\r\r\n", "BUFR instead of a dump; use bufr-auto to dump it"),
+    (24, b"001001 10\r\n", "a carriage return at the end"),
+    (24, b"> 001001 10\n", "the > of a quoted mail"),
+    (24, b"001001\t10\n", "a tab instead of a space"),
+    (24, b" 001001 10\n", "a space at the beginning"),
+    (25, b"message\n", "message; the document before it has no end"),
+    (24, b"1001 10\n", "a descriptor of fewer than six digits"),
+    (2, b"edition  4\n", "two spaces instead of one"),
+    (22, b"descriptors  001001\n", "two spaces instead of one"),
+    (24, b"001001  10  # NAME [UNIT]\n", "two spaces instead of one"),
     (24, b"001001 10# NAME\n", "no space before #"),
     (24, b'001015 "A"# NAME\n', "no space before #"),
-    (24, b"012101 +282.55  # NAME [K]\n", "a plus before a number"),
+    (24, b"012101 +282.55  # NAME [K]\n", "a plus sign before a number"),
     (24, b"012101 2.8e2\n", "an exponent in a number"),
     (24, b"012101 -1E-05\n", "an exponent in a number"),
-    (24, b"012101 282,55  # NAME [K]\n", "a comma in place of the point"),
-    (24, b"012101 NaN\n", "no number: a missing value is written MISSING"),
-    (24, b"012101 -inf\n", "no number: a missing value is written MISSING"),
-    (24, b"012101 missing  # NAME [K]\n", "MISSING in small letters"),
-    (24, b"012101 missing  # A +B 2.8E2 NaN, A#B\n", "MISSING in small letters"),
-    (24, b"012101 282.  # NAME [K]\n", "no digit beside the point"),
-    (24, b"012101 .5\n", "no digit beside the point"),
-    (24, b"012101\n", "no value: a missing value is written MISSING"),
-    (24, b"012101 282.55 \n", "a space at its end"),
-    (2, b"edition 4 # NOTE\n", "a comment, which only items may have"),
-    (24, b'001015 "\\xc4"\n', "\\x without two digits in upper case"),
-    (24, b'001015 "\\xC"\n', "\\x without two digits in upper case"),
-    (24, b'001015 "B\xc3\x96BLINGEN"\n', "a byte in a text that must be written \\xHH"),
-    (24, b'001015 "a"b"\n', 'a " or \\ in a text without \\ before it, or no " at its end'),
-    (24, b'001015 "a\n', 'a " or \\ in a text without \\ before it, or no " at its end'),
+    (24, b"012101 282,55  # NAME [K]\n", "a decimal comma"),
+    (24, b"012101 NaN\n", "a value that is not a number; write MISSING for a missing value"),
+    (24, b"012101 -inf\n", "a value that is not a number; write MISSING for a missing value"),
+    (24, b"012101 missing  # NAME [K]\n", "MISSING in lower case"),
+    (24, b"012101 missing  # A +B 2.8E2 NaN, A#B\n", "MISSING in lower case"),
+    (24, b"012101 282.  # NAME [K]\n", "a decimal point without a digit on each side"),
+    (24, b"012101 .5\n", "a decimal point without a digit on each side"),
+    (24, b"012101\n", "no value; write MISSING for a missing value"),
+    (24, b"012101 282.55 \n", "a space at the end"),
+    (2, b"edition 4 # NOTE\n", "a comment; only items may have one"),
+    (24, b'001015 "\\xc4"\n', "\\x without two upper-case hexadecimal digits"),
+    (24, b'001015 "\\xC"\n', "\\x without two upper-case hexadecimal digits"),
+    (24, b'001015 "B\xc3\x96BLINGEN"\n', "a byte in a text that must be written as \\xHH"),
+    (24, b'001015 "a"b"\n', 'a " or \\ in a text without \\ before it, or no " at the end'),
+    (24, b'001015 "a\n', 'a " or \\ in a text without \\ before it, or no " at the end'),
     (24, b"001015 HEATHROW\n", "a text without quotes"),
 ]
 # What `read` and `encode` take or refuse alike.
@@ -342,7 +344,7 @@ class Tables(unittest.TestCase):
             bufr_text.levels([], ["012101"], keep=["012101:2"])
 
     def test_a_column_by_name_is_answered_with_numbers(self):
-        said = "a column is a number such as 012101, not 'AIR TEMPERATURE'; it is in the names of "
+        said = "a column is a descriptor such as 012101, not 'AIR TEMPERATURE', which is in the names of "
         for call in (bufr_text.rows, bufr_text.levels):
             for word in ("AIR TEMPERATURE", "air temperature"):
                 with self.assertRaises(ValueError) as error:
@@ -351,8 +353,8 @@ class Tables(unittest.TestCase):
         for word in ("airTemperature", "1015", "", "012101:0"):
             with self.assertRaises(ValueError) as error:
                 bufr_text.rows([], [word])
-            self.assertEqual(str(error.exception), f"a column is a number such as 012101, not '{word}'")
-        with self.assertRaisesRegex(ValueError, "the header has no key 'place'; its keys are edition, master,"):
+            self.assertEqual(str(error.exception), f"a column is a descriptor such as 012101, not '{word}'")
+        with self.assertRaisesRegex(ValueError, "the header has no key 'place'; the keys are edition, master,"):
             bufr_text.rows([], [], ["place"])
         self.addCleanup(os.environ.pop, "BUFR_TABLES")
         with tempfile.TemporaryDirectory() as without_tables:
@@ -364,7 +366,7 @@ class Tables(unittest.TestCase):
             # Rows that are too short count as none, and so does a table with another header.
             table = pathlib.Path(without_tables, "wmo-39/B.csv")
             for text, told in (
-                ("fxy,name,unit\nshort\n012101,AIR TEMPERATURE,K\n", "; it is in the names of 012101"),
+                ("fxy,name,unit\nshort\n012101,AIR TEMPERATURE,K\n", ", which is in the names of 012101"),
                 ("fxy,unit\n012101,K\n", ""),
                 ("", ""),
             ):
@@ -541,7 +543,7 @@ class Runs(unittest.TestCase):
         self.assertEqual(levels, list(bufr_text.levels(bufr_text.dump(self.stream, faults=[]), ["007004"], ["offset"])))
         for call in (bufr_text.rows, bufr_text.levels):
             for given in ({"faults": []}, {"where": ["category=0"]}):
-                with self.assertRaisesRegex(TypeError, "give them to dump"):
+                with self.assertRaisesRegex(TypeError, "pass them to dump"):
                     call([land], ["012101"], **given)
 
     def test_messages_left_out_by_their_year_are_warned_of(self):
@@ -654,9 +656,9 @@ class Runs(unittest.TestCase):
             ("exit 7", "stopped with status 7", 7),
             ("exit 1", "stopped with status 1", 1),
             ('[ "$1" = ls ] && exec "$REAL" "$@"; exit 1', "stopped with status 1", 1),
-            ("echo nonsense", "is not of this version", 2),
-            ('[ "$1" = ls ] && exec "$REAL" "$@" | sed "s/ .*/ /"', "is not of this version", 2),
-            ('[ "$1" = dump ] || exec "$REAL" "$@"', "wrote no text for the message at offset 0", 2),
+            ("echo nonsense", "and bufr_text have different versions", 2),
+            ('[ "$1" = ls ] && exec "$REAL" "$@" | sed "s/ .*/ /"', "and bufr_text have different versions", 2),
+            ('[ "$1" = dump ] || exec "$REAL" "$@"', "wrote nothing for the message at offset 0", 2),
             ('[ "$1" = ls ] && exec "$REAL" "$@"; kill -9 $$', "was killed .signal 9.", -9),
             ('[ "$1" = ls ] && "$REAL" "$@" | sed s/length=694/length=9999999/', "at offset 0 is no longer complete", 2),
         ]:

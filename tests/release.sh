@@ -66,11 +66,11 @@ fake() {
     chmod +x "$work/fake/rt"
 }
 PATH=$work/fake:$PATH
-refuses 1 'not on the PATH' env PATH=/usr/bin:/bin "$make" "$work/first"
+refuses 1 'not on PATH' env PATH=/usr/bin:/bin "$make" "$work/first"
 fake 0123456789abcdef 'exit 0'
 refuses 1 "README.md names logic $logic" "$make" "$work/first"
 fake "$logic" 'echo low: not proved; exit 1'
-refuses 1 'the gate failed' "$make" "$work/first"
+refuses 1 'the proofs or the tests failed' "$make" "$work/first"
 grep -q 'low: not proved' "$work/told" || fail "release.sh hides what the gate said: $(< "$work/told")"
 # This gate ends the script alone, as `kill` does.
 fake "$logic" "echo \$\$ > '$work/pid'; kill -TERM \$PPID; exec sleep 60"

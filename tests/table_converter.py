@@ -17,9 +17,9 @@ from lib import TOP, finish, program
 
 AS_IT_IS = {"encoding": "utf-8", "errors": "surrogateescape"}
 HEADERS = {"B": "fxy,name,unit,scale,reference,width", "D": "fxy,member"}
-WIDE, WHOLE = "the width must be from 1 to 63 bits", "the width of a text must be whole bytes, from 8 to 2040 bits"
+WIDE, WHOLE = "the width must be from 1 to 63 bits", "the width of a text must be a multiple of 8 from 8 to 2040 bits"
 SCALE, REFERENCE = "the scale must be a whole number from -127 to 127", "the reference must be a signed 64-bit number"
-FACTOR = "a replication factor is a number with scale 0, reference 0 and width 8"
+FACTOR = "a replication factor must be a number with scale 0, reference 0 and width 8"
 
 # fxy,name,unit,scale,reference,width | the reason
 ELEMENTS = f"""
@@ -141,7 +141,7 @@ SOURCES = [
         "B.csv",
         f"{HEADERS['B']}\n012101,A, B,K,2,0,16\n",
         2,
-        "source/B.csv, line 2: the number of fields differs from the header\n",
+        "source/B.csv, line 2: 7 fields, but the header has 6\n",
         None,
     ),
     ("D.csv", "fxy\n307060\n", 2, "source/D.csv has no column member\n", None),

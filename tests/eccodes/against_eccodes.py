@@ -64,10 +64,10 @@ reads a sum of all ones as a number | 2 | C0 | 001001 | 126:7 2:6 0:2 1:2
 adds increments to an R0 of all ones | 2 | C0 | 001001 | 127:7 2:6 0:2 1:2
 refuses equal increments of a factor | 2 | C0 | 101000 031001 001001 | 1:8 1:6 0:1 0:1 5:7 0:6
 gives no answer if there are no subsets | 0 | 80 | 012101 | 0:8
-stops early after a third delayed group that is empty | 1 | 80 | 105000 031001 103000 031001 101000 031001 001001 | 2:8 1:8 0:8 0:8
-drops changes that a repetition left in effect | 1 | 80 | 103000 031001 012101 201130 012101 | 2:8 2:16 3:18 4:18 5:18
-applies operators in a group that is empty | 1 | 80 | 102000 031001 201130 012101 012101 012101 | 0:8 1:16 2:16
-refuses a delayed group of 100 elements | 1 | 80 | 102000 031001 101100 001001 001001 | 0:8 1:7
+stops early after an empty delayed replication inside two others | 1 | 80 | 105000 031001 103000 031001 101000 031001 001001 | 2:8 1:8 0:8 0:8
+drops changes by operators at the end of each pass | 1 | 80 | 103000 031001 012101 201130 012101 | 2:8 2:16 3:18 4:18 5:18
+applies operators in an empty group | 1 | 80 | 102000 031001 201130 012101 012101 012101 | 0:8 1:16 2:16
+refuses a delayed replication of 100 elements | 1 | 80 | 102000 031001 101100 001001 001001 | 0:8 1:7
 reads sums of compressed data in 32 bits | 2 | C0 | 201144 012101 | 3000000000:32 2:6 0:2 1:2
 reads references in 32 bits | 1 | 80 | 207003 005001 | 1:35
 truncates some numbers of more than 57 bits | 1 | 80 | 001001 201170 012101 | 1:7 288230376151711743:58
