@@ -58,7 +58,7 @@ refuses 1 'the program has version 0.0.9, but the wheel is' "$make" --unproved "
 refuses 1 'does not run' "$make" --unproved /bin/false "$work/first"
 mkdir "$work/alone" "$work/fake"
 cp "$make" "$work/alone"
-refuses 1 'in a clone' "$work/alone/release.sh" --unproved "$bufr" "$work/first"
+refuses 1 'not a clone of the repository' "$work/alone/release.sh" --unproved "$bufr" "$work/first"
 # A toolchain with another logic, whose gate fails, or that takes so long that the run is interrupted.
 logic=$(sed -n 's/.*`logic \([0-9a-f]\{16\}\)`.*/\1/p' README.md | head -n 1)
 fake() {
