@@ -1,9 +1,9 @@
 #!/usr/bin/env python3
-"""Draws first_minute.svg, the picture of README: what the program prints for a damaged archive, and a dump.
+"""Draws first_minute.svg, the picture in the README: the listing and the faults of a damaged archive, and a dump.
 
     docs/pictures/first_minute.py PROGRAM
 
-The commands run as they are shown, on the files of examples/. The picture goes to standard output.
+Runs the commands that the picture shows, in examples/, and writes the picture to standard output.
 """
 import html
 import os
@@ -14,9 +14,10 @@ import tempfile
 
 TOP = pathlib.Path(__file__).resolve().parent.parent.parent
 COMMANDS = (
-    ("# An archive with headings, junk and broken messages", None),
+    ("# An archive with headings, junk and broken messages.", None),
+    ("# Orange is standard error, which is written after the listing.", None),
     ("bufr ls bulletins.bufr | cut -d ' ' -f 1-5", "offset "),
-    ("# The air temperature of each station in a report", None),
+    ("# The air temperature of each station in a report.", None),
     ("bufr-auto synop.bufr | grep -E '^(001015|012101) '", None),
 )
 COLOURS = {"command": "#f0f0f0", "output": "#b8c4ce", "fault": "#ff9580", "remark": "#7a8a99"}
@@ -24,14 +25,14 @@ WIDTH, LINE, LEFT, TOP_MARGIN = 760, 22, 20, 34
 
 
 def printed(command: str, folder: str, path: str) -> list:
-    """The lines of output and errors that a command prints."""
+    """Returns the lines that a command prints: first its output, then its errors."""
     environment = {**os.environ, "PATH": path, "LC_ALL": "C.UTF-8"}
     run = subprocess.run(["bash", "-c", command], cwd=folder, env=environment, capture_output=True, text=True, check=False)
     return (run.stdout + run.stderr).splitlines()
 
 
 def lines(program: pathlib.Path):
-    """Each line of the picture, and its kind."""
+    """Yields the kind and the text of each line of the picture."""
     with tempfile.TemporaryDirectory() as folder:
         (pathlib.Path(folder) / "bufr").symlink_to(program)
         path = f"{folder}:{TOP / 'scripts'}:{os.environ['PATH']}"
