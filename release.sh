@@ -1,7 +1,7 @@
 #!/usr/bin/env bash
 # Makes a release of the current commit: an archive that installs without the toolchain, the wheel, and their sums.
 #
-#     ./release.sh [DIST]                         proves everything from scratch first, which takes hours
+#     ./release.sh [DIST]                         proves everything from scratch first: one to two hours
 #     ./release.sh --unproved PROGRAM [DIST]      packs this program; its BUILD says that it is unproved
 #
 # The files go to DIST, by default the folder dist. If a step fails, DIST stays as it was. A commit gives the same bytes
