@@ -1,7 +1,7 @@
 #!/usr/bin/env bash
 # Makes a release of the current commit: an archive that installs without the toolchain, the wheel, and their checksums.
 #
-#     ./release.sh [DIST]                         proves everything from scratch first, which takes hours
+#     ./release.sh [DIST]                         proves everything from scratch first, which takes one to two hours
 #     ./release.sh --unproved PROGRAM [DIST]      packs this program; its BUILD file says that it is unproved
 #
 # The files go to the directory DIST, by default dist. If a step fails, DIST is unchanged. The same commit and program
@@ -31,7 +31,8 @@ commit=$(git rev-parse HEAD) || die 'this directory is not a clone of the reposi
 # Everything is made in a directory inside DIST, so that the last step only renames files.
 mkdir -p "$dist"
 work=$(mktemp -d "$dist/.unfinished.XXXXXX") is_made=''
-trap 'rm -rf "$work"; [ -n "$is_made" ] || echo "$0: no release was made" >&2' EXIT
+# A step that ends late, after a signal, may still make a file while its folder is removed; the second time it cannot.
+trap 'rm -rf "$work" 2> /dev/null || rm -rf "$work"; [ -n "$is_made" ] || echo "$0: no release was made" >&2' EXIT
 git clone -q --no-checkout . "$work/clone"
 cd "$work/clone"
 # The user's settings could change line endings and modes.
@@ -39,11 +40,11 @@ export GIT_CONFIG_GLOBAL=/dev/null GIT_CONFIG_SYSTEM=/dev/null
 git checkout -q --detach "$commit"
 
 logic=$(sed -n 's/.*`logic \([0-9a-f]\{16\}\)`.*/\1/p' README.md | head -n 1)
-gate='not run' sources=unknown
+gate='not run' sources=unknown kit=unknown
 if [ $proof = proved ]; then
     program=crates/bufr/out/bufr
-    toolchain=$(rt version) || die 'the toolchain (rt) is not on PATH; use --unproved PROGRAM to release a program without a proof'
-    [ "${toolchain##* }" = "$logic" ] || die "the toolchain is $toolchain, but README.md names logic $logic"
+    kit=$(rt version) || die 'the toolchain (rt) is not on PATH; use --unproved PROGRAM to release a program without a proof'
+    [ "${kit##* }" = "$logic" ] || die "the toolchain is $kit, but README.md names logic $logic"
     setpriv --pdeathsig TERM rt ci --anew 2>&1 | tee "$work/gate" || die 'the proofs or the tests failed (rt ci); the output above says which'
     gate=$(tail -n 1 "$work/gate")
     of_gate=$(sum_of $program)
@@ -72,6 +73,7 @@ version: $version
 commit: $commit
 tree: clean
 proof: $proof
+kit: $kit
 logic: $mark
 program: $(sum_of "$program")
 sources: $sources

@@ -1,13 +1,15 @@
 #!/usr/bin/env python3
 """Prints what one has to believe of `run`: its contract, and each definition that the contract reaches, in reading order.
 
-    docs/believed.py [CALL..]        CALL is a public function or a law of a crate, `run` by default
+    docs/believed.py [NAME..]        NAME is a function or a law of a crate, `run` by default: `run`, `held`, or, if several
+                                     have that name, `Finder::held`, `finder::held` or `bufr_frame::held`
 
-The contracts come first. The definitions follow under headings: first what the format is, then how a run uses its devices,
-and last what the kit's csv and clap promise. Most definitions come after those that they use. Imports, tags and derives are
-left out. A law that justifies a file is printed after it, and what the law alone needs comes at the end. Names of std, and
-of other crates of the kit, are not followed. The counts go to standard error. A file that has no heading is reported, and
-the status is 1.
+A few lines on the notation and the contracts come first. The definitions follow under headings: first what the format is,
+then how a run uses its devices, and last what the kit's csv and clap promise. Most definitions come after those that they
+use. Imports, tags and derives are left out. A law that justifies a file is printed after it, and what the law alone needs
+comes at the end. The types and traits of a signature are printed with their ghost items. Not followed are the names of std,
+and those that the checker itself makes from a contract (specs.contracts). Any other name that is imported and not found is
+reported, and the status is 1. The counts go to standard error.
 """
 import functools
 import pathlib
@@ -20,11 +22,11 @@ HEADINGS = {
     "Bits and decimals": "bits: Bits decimal Decimal",
     "Messages in a stream": "frame: fault Octets finder Scan",
     "The sections of a message": "frame: section1 Section1 Sections Numbers",
-    "Tables B and D": "tables: Fxy fault Records table_b TableB TableD FaultNumber",
+    "Tables B and D": "tables: fxy Fxy fault Records table_b TableB TableD FaultNumber",
     "A list of descriptors, expanded": "tables: Tree Expansion",
     "Fields and operators": "walk: spec Content Rules",
     "The data of a message, read": "walk: fault walker Course Reading Pass",
-    "The lines of a text": "fill: Draft; text: Line",
+    "The lines of a text": "fill: Draft; text: line Line",
     "The text of a listing and of a dump": "fill: RoundTrip; text: Dump",
     "A message built of a text": "text: document Documents Reader; fill: fault Encoding; frame: Layout; text: encode fault Encoding",
     "Fault lines, and the pieces that a run writes": "text: Writing; cli: outcome FaultLine Pieces",
@@ -37,46 +39,41 @@ HEADINGS = {
         "clap: error/kind builder/action builder/possible_value builder/range builder/value_parser parser/matches"
         " Lexer Values ValueTests Takes Kinds Facts Matches Walk Simple Faults",
     "What the laws need beside these": "walk: KnownRows",
+    "Other definitions": "",
 }
+PRIMER = """\
+== The notation
+
+`f : A → B` gives the type of f. Equations follow, and the first that fits applies. `f x y` applies f to x and y. Each
+definition has a value for all arguments. `abbrev`, `unfoldable` and `rec` say when the checker unfolds it, no more.
+A `record` has named parts, and a `data` type has the forms listed below it. A `Bool` is computed; a `Type 0` is a type, or
+a statement: `×` is "and" or a pair, `⊎` "or", `→` "implies" or a function, `≡` "equals", `(x : A) →` "for each x", and
+`(x : A) ×` "for some x". `λ x. e` is a function, `x ∷ xs` a list by its first member, and `++` joins lists. In `do`, a line
+`x ← e` stops at the first fault or `None`, as `>>=` does. `x.now`, `x.old` and `x.new` are in docs/proof.md. Names that
+stand nowhere below, such as `take` and `codes`, are std's (rattle/std and rattle/core in the kit, and rattle/ANTT.md).
+"""
 # The laws that a reader leans on, by the file that they justify.
 LAWS = {
     "walk/specs/Rules.antt": ["elements_have_their_rows"],
     "walk/specs/Pass.antt": ["data_are_read_item_by_item"],
 }
-KIT = ("csv", "clap")
 HEAD = re.compile(r"^ {0,2}(?:abbrev |unfoldable |rec )*(?:pub )?(?:record |data )?([^\s:(){}]+) *(?:\([^:]*|\{[^:]*)?:(?: |$)")
-USE = re.compile(r"^use Rattle\.(bufr_\w+|csv|clap)\.specs\.([\w.]+?)(?:\.\{([^}]*)\}| as ([\w-]+))$")
-PASSED = re.compile(r"^(?:unfoldable )?pub use Rattle\.(bufr_\w+|csv|clap)\.specs\.([\w.]+)\.\{([^}]*)\}$")
-GHOST = re.compile(r"ghost use Rattle\.(bufr_\w+|csv|clap)\.specs\.([\w.]+?)(?:\.\{([^}]*)\}| as ([\w-]+));")
+USE = re.compile(r"^\s*(?:unfoldable |ghost |pub )*use Rattle\.(?!std\.)(\w+)\.specs\.(?!contracts\.)([\w.]+?)(?:\.\{([^}]*)\}| as ([\w-]+));?$")
+RUST_USE = re.compile(r"^use (crate|super|\w+)::(?:\w+::)*(?:\{([^}]*)\}|(\w+));", re.M)
+VISIBLE = r"(?:pub(?:\(\w+\))? )?"
 BESIDE = re.compile(r"\s*(?:(?:--|//) rule: |#\[(?:derive|error)|ghost use )")
 TOKEN = re.compile(r"[^\s()\[\]{};,:]+")
 
 
-class Scope(dict):
-    """Names and what they are of; an alias is a name only before a point and what it has."""
-
-    def __init__(self):
-        super().__init__()
-        self.aliases = set()
-
-    def add(self, other):
-        self.update(other)
-        self.aliases |= other.aliases
-
-
 class Item:
-    """A definition or a declared type: its file, its name, its lines, and what it may name."""
+    """A definition, a declared type or a call: its file, its name, its lines, and what it may name."""
 
     def __init__(self, path, line, name, lines, scope):
         self.path, self.line, self.name, self.lines, self.scope = path, line, name, lines, scope
 
-    def uses(self):
-        """The items that its text names, in the order of the text, comments left out."""
-        text = "\n".join(one for one in self.lines if not re.match(r"\s*(?:--|//)", one))
-        for token in TOKEN.findall(text):
-            first, _, rest = token.partition(".")
-            if first in self.scope and first != self.name and (first not in self.scope.aliases or rest[:1].isupper()):
-                yield self.scope[first]
+    def code(self):
+        """Its text without comments and attributes."""
+        return "\n".join(one for one in self.lines if not re.match(r"\s*(?:--|//|#\[)", one))
 
 
 @functools.cache
@@ -85,22 +82,25 @@ def kit():
     try:
         page = subprocess.run(["rt", "doc"], stdout=subprocess.PIPE, text=True, check=True).stdout.strip()
     except (OSError, subprocess.CalledProcessError) as fault:
-        sys.exit(f"{sys.argv[0]}: cannot print what csv and clap promise without the kit: {fault}")
+        sys.exit(f"{sys.argv[0]}: cannot print what the kit's crates promise without the kit: {fault}")
     return pathlib.Path(page).parent / "rattle"
 
 
+@functools.cache
 def sources(crate):
     """The folder of a crate of this repository or of the kit."""
-    return kit() / crate if crate in KIT else TOP / "crates" / crate
+    own = TOP / "crates" / crate
+    return own if own.is_dir() else kit() / crate
 
 
+@functools.cache
 def read(path):
     return path.read_text(encoding="utf-8").split("\n")
 
 
 def comment_before(lines, at):
-    """Where the comment above a line begins, and the precedence of an operator."""
-    while at and re.match(r"\s*(?:--(?! ----)|//|infix)", lines[at - 1]):
+    """Where the comment and attributes above a line begin, and the precedence of an operator."""
+    while at and re.match(r"\s*(?:--(?! ----)|//(?!!)|#\[|infix)", lines[at - 1]):
         at -= 1
     return at
 
@@ -111,115 +111,204 @@ def own_lines(lines):
     return [one for one in text.split("\n") if one.strip()]
 
 
+def block(lines, at):
+    """The line of a file of src/ after the item that begins at a line."""
+    indent = re.match(" *", lines[at])[0]
+    return next(n for n in range(at, len(lines)) if re.match(indent + r"(?:\}|\S.*(?:;|\{\})$)", lines[n])) + 1
+
+
+def imported(lines):
+    """What lines `use` bring into scope: where each name is to be found, and the modules that have another name here."""
+    scope = {}
+    for crate, module, names, alias in (use.groups() for use in map(USE.match, lines) if use):
+        scope.update({name: (crate, module, name) for name in (re.split(r",\s*", names) if names else [])})
+        if alias:
+            scope[alias] = crate, module, None
+    return scope
+
+
+def ghost_scope(lines, own):
+    """What the clauses of a file of src/ may name, and those of an item in it."""
+    return imported([line for line in lines if line.startswith("ghost use")] + [line for line in own if "ghost use" in line])
+
+
 class House:
-    """The files that were read so far, by path."""
+    """The definitions that were read so far, by file, and types by file and name."""
 
     def __init__(self):
-        self.files = {}
+        self.files, self.lost = {}, set()
 
     def specs(self, path):
-        """The definitions of a file of specs/, by name."""
+        """What a file of specs/ defines, by name; the forms of a `data` type are names of it."""
         if path in self.files:
             return self.files[path]
         items = self.files[path] = {}
-        lines, scope, heads = read(path), Scope(), []
+        lines, scope, heads = read(path), {}, []
         in_module = False
         for at, line in enumerate(lines):
             if line[:1].strip():
                 in_module = line.startswith("module ")
             found = HEAD.match(line)
-            if found and (in_module or line[0] != " ") and not line.startswith(("use ", "--", "module ")) and "=" not in line.split(":")[0]:
+            before = re.sub(r"◌\S+◌", "", line.split(":")[0])
+            if found and (in_module or line[0] != " ") and not re.match("use |--|module ", line) and "=" not in before:
                 heads.append((comment_before(lines, at), at, found[1]))
         for (begin, at, name), after in zip(heads, [head[0] for head in heads[1:]] + [len(lines)]):
             if name in items:
                 items[name].lines += lines[begin:after]
                 continue
             items[name] = Item(path, at + 1, name, own_lines(lines[begin:after]), scope)
-        scope.add(self.imported([USE.match(line) for line in lines]))
-        scope.update(items)
+            if re.match(r" *(?:pub )?data ", lines[at]):
+                for form in re.findall(r"(?m)^ +(\S+) : ", "\n".join(lines[at + 1 : after])):
+                    items.setdefault(form, items[name])
+        scope.update(imported(lines), **items)
         return items
 
-    def imported(self, uses):
-        """What lines `use` bring into scope."""
-        scope = Scope()
-        for use in uses:
-            if not use:
-                continue
-            crate, module, names, alias = use.groups()
-            for name in re.split(r",\s*", names) if names else [module.rpartition(".")[2]]:
-                found = self.find(crate, module, name)
-                if found:
-                    scope[alias or name] = found
-            if alias:
-                scope.aliases.add(alias)
-        return scope
-
+    @functools.cache
     def find(self, crate, module, name):
-        """The definition or type of a module of specs, if it has one of this name."""
-        declared = re.match(r"declared\.([\w.]+?)(?:\.TheVariants)?$", module)
+        """The definition or type that has this name in a module of specs."""
+        declared = re.match(r"declared\.([\w.]+?)(?:\.The\w+)?$", module)
         if declared:
             return self.declared(crate, declared[1].split("."))
         path = sources(crate) / "specs" / (module.replace(".", "/") + ".antt")
         if not path.is_file():
             return None
-        passed = (PASSED.match(line) for line in read(path))
-        place = next((it for it in passed if it and name in re.split(r",\s*", it[3])), None)
-        return self.find(place[1], place[2], name) if place else self.specs(path).get(name)
+        passed = imported(line for line in read(path) if re.match("(?:unfoldable )?pub use ", line))
+        return self.find(*passed[name]) if name in passed else self.specs(path).get(name)
 
     def declared(self, crate, parts):
-        """A struct, enum or trait of src/, with the value by which clauses speak of it."""
+        """A struct, enum or trait of src/, with the ghost items of its impls, by which clauses speak of it."""
         path = sources(crate) / "src" / ("/".join(parts[:-1]) + ".rt")
-        key = (path, parts[-1])
+        key = path, parts[-1]
         if key in self.files or not path.is_file():
             return self.files.get(key)
         lines = read(path)
-        at = next((n for n, one in enumerate(lines) if re.match(rf"pub(?:\(crate\))? (?:struct|enum|trait) {parts[-1]}\b", one)), None)
+        at = next((n for n, one in enumerate(lines) if re.match(rf"{VISIBLE}(?:struct|enum|trait) {parts[-1]}\b", one)), None)
         if at is None:
             return None
-        begin = at
-        while begin and re.match(r"(?://|#\[)", lines[begin - 1]):
-            begin -= 1
-        end = next(n for n in range(at, len(lines)) if re.search(r"^\}|;$", lines[n])) + 1
-        scope = Scope()
-        item = self.files[key] = Item(path, at + 1, parts[-1], lines[begin:end], scope)
-        model = next((n for n, one in enumerate(lines) if re.match(rf"impl.* Model for {parts[-1]}\b", one)), None)
-        if model is not None:
-            item.lines = item.lines + lines[model : lines.index("}", model) + 1]
-        scope.add(self.imported(GHOST.match(one.strip()) for one in item.lines))
-        return item
+        text = lines[comment_before(lines, at) : block(lines, at)]
+        for n, one in enumerate(lines):
+            ghosts = []
+            if re.match(rf"impl\b(?!.*\bFrom<).*\b{parts[-1]}(?:<.*>)? \{{$", one):
+                starts = [m for m in range(n, block(lines, n)) if re.match(r"    ghost (?!use )", lines[m])]
+                ghosts = [line for m in starts for line in lines[m : ghost_end(lines, m)]]
+            if ghosts:
+                text += [one, *(line for line in lines[n : block(lines, n)] if line.startswith("    ghost use ")), *ghosts, "}"]
+        self.files[key] = Item(path, at + 1, parts[-1], text, ghost_scope(lines, text))
+        return self.files[key]
+
+    @functools.cache
+    def rust(self, path, name):
+        """The struct, enum or trait that a file of src/ calls so."""
+        folder = next(folder for folder in path.parents if folder.name == "src")
+        found = self.declared(folder.parent.name, [*path.relative_to(folder).with_suffix("").parts, name])
+        if found:
+            return found
+        for use in RUST_USE.finditer("\n".join(read(path))):
+            first, names, one = use.groups()
+            if name not in re.split(r"[,\s]+", names or one) or first in ("std", "core"):
+                continue
+            is_inside = first in ("crate", "super") or (folder / f"{first}.rt").is_file()
+            inside = folder if is_inside else sources(first) / "src"
+            for file in sorted(inside.rglob("*.rt")):
+                found = self.declared(inside.parent.name, [*file.relative_to(inside).with_suffix("").parts, name])
+                if found:
+                    return found
+        return None
+
+    @functools.cache
+    def uses(self, item):
+        """The items that an item names."""
+        text, items = item.code(), []
+        for token in TOKEN.findall(text):
+            first, _, rest = token.partition(".")
+            place = item.scope.get(first) or item.scope.get(f"◌{'>>=' if first == 'do' else first}◌")
+            if isinstance(place, Item):
+                items.append(place)
+            elif place:
+                crate, module, name = place
+                if name or rest:
+                    found = self.find(crate, module, name or rest.partition(".")[0])
+                    if found:
+                        items.append(found)
+                    elif name or rest[0].isupper():
+                        self.lost.add(f"{item.path}: no {token} in {crate}.specs.{module}")
+        if item.path.suffix == ".rt":
+            items += filter(None, (self.rust(item.path, name) for name in re.findall(r"\b[A-Z]\w*", text)))
+        return items
 
 
-def contract(call, house):
-    """The clauses of a function or law, as an item."""
-    for path in sorted((TOP / "crates").glob("*/src/*.rt")):
-        lines = read(path)
-        at = next((n for n, one in enumerate(lines) if re.match(rf"pub fn {call}\b", one)), None)
-        if at is None:
-            continue
-        end = next(n for n in range(at, len(lines)) if lines[n].startswith("{"))
-        scope = house.imported(GHOST.match(one) for one in lines if one.startswith("ghost use"))
-        return Item(path, at + 1, call, lines[comment_before(lines, at) : end], scope)
-    sys.exit(f"{sys.argv[0]}: no crate has a public function {call}")
+def ghost_end(lines, at):
+    """The line after a ghost item of an impl."""
+    return next(n for n in range(at, len(lines)) if lines[n].endswith(";") and (n == at or lines[n].endswith("};"))) + 1
 
 
-def reach(item, seen):
-    """Items in the order in which a reader meets them."""
+def signature(lines, at):
+    """The lines of a function from its name to its last clause."""
+    indent, is_clause = re.match(" *", lines[at])[0], False
+    for n in range(at, len(lines)):
+        is_clause |= bool(re.match(r"\s*(?:ensures|requires)\b", lines[n]))
+        if re.match(indent + r"\{", lines[n]):
+            return lines[at:n]
+        if lines[n].endswith("{") and not is_clause:
+            return [*lines[at:n], lines[n][:-2]]
+        if lines[n].endswith(";") and "\n".join(lines[at : n + 1]).count("{") == "\n".join(lines[at : n + 1]).count("}"):
+            return lines[at : n + 1]
+    raise ValueError(lines[at])
+
+
+@functools.cache
+def functions():
+    """The functions that have clauses or are a trait's, each with the words that may stand before `::`."""
+    found = []
+    for path in sorted((TOP / "crates").glob("*/src/**/*.rt")):
+        lines, around = read(path), 0
+        for at, line in enumerate(lines):
+            if line[:1].strip():
+                around = at
+            name = re.match(rf"(?: {{4}})?{VISIBLE}(?:const )?fn (\w+)", line)
+            if not name:
+                continue
+            inside, clauses = [lines[around]] if around != at else [], signature(lines, at)
+            if " for " in "".join(inside) or re.search(r"(?m)^ *(?:ensures|requires)\b", "\n".join(clauses)):
+                text = inside + lines[comment_before(lines, at) : at] + clauses
+                owners = re.sub(r"<.*?>|.* for ", "", "".join(inside)).split()
+                call = Item(path, at + 1, name[1], text, ghost_scope(lines, lines[around:at]))
+                found.append((call, [path.stem, path.parent.parent.name, *owners]))
+    return found
+
+
+def contract(name):
+    """The clauses of a function or law, as an item. Without `::` before its name a free function comes first."""
+    before, _, last = name.rpartition("::")
+    found = [call for call, owners in functions() if call.name == last and (not before or before in owners)]
+    free = [call for call in found if not before and re.match(VISIBLE + "(?:const )?fn ", call.code())]
+    found = free or found
+    if not found:
+        sys.exit(f"{sys.argv[0]}: no crate has a function {name} with a contract")
+    if len(found) > 1:
+        places = "\n".join(f"  {call.path.relative_to(TOP)}:{call.line}: {call.code().splitlines()[0]}" for call in found)
+        sys.exit(f"{sys.argv[0]}: several functions have the name {name}; put the type, the file or the crate before it:\n{places}")
+    return found[0]
+
+
+def reach(item, seen, house):
+    """Adds an item, and those that it reaches, to a list."""
     if item in seen:
         return
     seen.append(item)
-    for used in item.uses():
-        reach(used, seen)
+    for used in house.uses(item):
+        reach(used, seen, house)
 
 
 def headed():
     """The number of each file's heading and of the file below it."""
     order = {}
     for number, files in enumerate(HEADINGS.values()):
-        for part in files.split("; "):
+        for part in filter(None, files.split("; ")):
             crate, names = part.split(": ")
             for name in names.split():
                 folder, ending = ("specs", "antt") if name.rpartition("/")[2][0].isupper() else ("src", "rt")
-                order[sources(crate if crate in KIT else f"bufr_{crate}") / f"{folder}/{name}.{ending}"] = number, len(order)
+                order[sources(crate if crate in ("csv", "clap") else f"bufr_{crate}") / f"{folder}/{name}.{ending}"] = number, len(order)
     return order
 
 
@@ -228,11 +317,11 @@ def text(item):
     return "\n".join(line for line in item.lines if not BESIDE.match(line))
 
 
-def reached(calls):
+def reached(calls, house):
     """The definitions that calls reach, without the calls."""
     seen = []
     for call in calls:
-        reach(call, seen)
+        reach(call, seen, house)
     return [item for item in seen if item not in calls]
 
 
@@ -242,24 +331,27 @@ def size(items):
 
 
 def main():
-    house, order = House(), headed()
+    if not (TOP / "crates").is_dir():
+        sys.exit(f"{sys.argv[0]}: a release has no sources; run this in a clone, at the commit that BUILD names")
     sys.setrecursionlimit(10_000)
-    calls = [contract(call, house) for call in sys.argv[1:] or ["run"]]
-    definitions = reached(calls)
+    house, order, titles = House(), headed(), list(HEADINGS)
+    calls = [contract(call) for call in sys.argv[1:] or ["run"]]
+    definitions = reached(calls, house)
     paths = {item.path for item in definitions}
-    laws = {TOP / "crates" / f"bufr_{file}": [contract(law, house) for law in names] for file, names in LAWS.items()}
-    laws = {path: [law for law in ones if law not in calls] for path, ones in laws.items() if path in paths}
+    laws = {TOP / "crates" / f"bufr_{file}": [contract(law) for law in names] for file, names in LAWS.items()}
+    laws = {path: [law for law in ones if law.name not in [call.name for call in calls]] for path, ones in laws.items() if path in paths}
     justifying = sum(laws.values(), [])
-    beside = [item for item in reached(justifying) if item not in definitions + calls]
-    lost = sorted({str(item.path) for item in definitions + beside if item.path not in order})
-    if lost:
-        sys.exit("\n".join(f"{sys.argv[0]}: HEADINGS has no place for {path}" for path in lost))
+    beside = [item for item in reached(justifying, house) if item not in definitions + calls]
+    if house.lost:
+        sys.exit("\n".join(f"{sys.argv[0]}: {one}" for one in sorted(house.lost)))
+    print(PRIMER)
     for call in calls:
         print(f"== The contract of {call.name}\n\n{text(call)}\n")
-    titles = list(HEADINGS)
-    place = {item: order[item.path][0] for item in definitions} | {item: len(titles) - 1 for item in beside}
+    other = len(titles) - 1
+    place = {item: order.get(item.path, (other, 0))[0] for item in definitions} | {item: other - 1 for item in beside}
+    key = {item: (place[item], order.get(item.path, (other, 0)), str(item.path), item.line) for item in place}
     number, path, count = -1, None, 0
-    for item in [*sorted(place, key=lambda item: (place[item], order[item.path], item.line)), None]:
+    for item in [*sorted(place, key=key.get), None]:
         if path and (item is None or item.path != path):
             for law in laws.pop(path, []):
                 print(f"\n-- a law that justifies these definitions, proved\n{text(law)}")
@@ -275,7 +367,7 @@ def main():
         print(f"\n{text(item)}")
     own = calls + [item for item in definitions if TOP in item.path.parents]
     print(f"{size(own)}, {len({item.path for item in own})} files", file=sys.stderr)
-    print(f"of csv and clap: {size([item for item in definitions if item not in own])}", file=sys.stderr)
+    print(f"of the kit's crates: {size([item for item in definitions if item not in own])}", file=sys.stderr)
     print(f"of laws that justify them: {size(justifying + beside)}", file=sys.stderr)
 
 

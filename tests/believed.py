@@ -1,11 +1,16 @@
 #!/usr/bin/env python3
-"""Runs docs/believed.py: each of its headings has definitions, and those that docs/proof.md cites are among them.
+"""Runs docs/believed.py: each of its headings has definitions, those that docs/proof.md cites are among them, and nothing
+that a contract names is left out but names of std.
 
     tests/believed.py
 """
+import pathlib
 import re
 import runpy
+import shutil
 import subprocess
+import sys
+import tempfile
 
 from lib import TOP, finish
 
@@ -19,12 +24,70 @@ CALLS = {
 }
 
 
+# What the contract of a call names, by the ways in which a name can get there: an import that is passed on, a type that is
+# not public, traits and their ghost items, a type of a field, an operator, an impl's own import, and a crate without headings.
+NAMED = {
+    "run": ["enum QuotedToken", "enum NoJob", "pub trait Inputs", "ghost standard_octets:", "pub trait Source", "pub trait Sink",
+            "abbrev pub failures_after", "pub enum OpenFault", "pub struct Failed"],
+    "Message::parse": ["pub struct Message", "impl<'a> Model for Message", "unfoldable pub sections_of", "abbrev pub ◌>>=◌"],
+    "Finder::held": ["impl Model for InputBuffer", "abbrev pub held", "pub record FinderModel"],
+    "Template::build": ["abbrev pub ◌>>=◌ : {E A B : Type 0} → Result A E"],
+    "DumpReader::read_more": ["pub record Document "],
+    "Buffered::write": ["impl<S: Sink> Sink for Buffered<S>", "ghost taken = "],
+    "hand_on": ["fn hand_on<W: Sink, E: Sink>(w: &mut W, e: &mut E) -> Result<(), RunFault>"],
+    "run_words": ["pub data RunsArguments"],
+    "bufr_frame::write_message": ["pub fn write_message("],
+    "steps_compose": ["pub fn steps_compose()", "ReadsAndPasses"],
+    "Source::read": ["ghost left: "],
+}
+# Names that mean no call, or several.
+WRONG = {"nothing_of_this_name": "no crate has a function", "held": "crates/bufr_frame/src/finder.rt"}
+
+
+def run(program: pathlib.Path, calls: str) -> "subprocess.CompletedProcess[str]":
+    return subprocess.run([program, *calls.split()], stdout=subprocess.PIPE, stderr=subprocess.PIPE, encoding="utf-8")
+
+
 def printed(calls: str) -> str:
     """What docs/believed.py prints of calls; a fault of its own ends the test."""
-    done = subprocess.run([TOP / "docs/believed.py", *calls.split()], stdout=subprocess.PIPE, stderr=subprocess.PIPE)
+    done = run(TOP / "docs/believed.py", calls)
     if done.returncode:
-        finish([done.stderr.decode()])
-    return done.stdout.decode()
+        finish([done.stderr])
+    return done.stdout
+
+
+def of_copies() -> "list[str]":
+    """What is wrong in a release, which has no crates, and with a definition that was put behind another file."""
+    wrongs = []
+    with tempfile.TemporaryDirectory() as folder:
+        copy = pathlib.Path(folder)
+        (copy / "docs").mkdir()
+        program = pathlib.Path(shutil.copy(TOP / "docs/believed.py", copy / "docs"))
+        done = run(program, "")
+        if done.returncode != 1 or done.stderr.count("\n") != 1 or "a release has no sources" not in done.stderr:
+            wrongs.append(f"without crates it says {done.stderr}")
+        shutil.copytree(TOP / "crates", copy / "crates", ignore=shutil.ignore_patterns("out", "proofs", "must-fail"))
+        specs = copy / "crates/bufr_frame/specs"
+        (specs / "Behind.antt").write_text("-- hidden\nabbrev pub hidden : ℕ → ℕ\nhidden n = n\n", encoding="utf-8")
+        (specs / "Front.antt").write_text("pub use Rattle.bufr_frame.specs.Behind.{hidden}\n", encoding="utf-8")
+        sections = specs / "Sections.antt"
+        text = sections.read_text(encoding="utf-8")
+        for name, status in ("hidden", 0), ("absent", 1):
+            new = text.replace("\nuse ", f"\nuse Rattle.bufr_frame.specs.Front.{{{name}}}\nuse ", 1)
+            sections.write_text(new.replace("\nsections_of m = ", f"\nsections_of m = {name} ", 1), encoding="utf-8")
+            done = run(program, "parse")
+            if done.returncode != status or not re.search(rf"abbrev pub {name} |no {name} in ", done.stdout + done.stderr):
+                wrongs.append(f"{name} behind another file: status {done.returncode}, {done.stderr}")
+    return wrongs
+
+
+def of_every_function() -> "list[str]":
+    """What is wrong with any function that has a contract: it names something that is not found."""
+    module = runpy.run_path(str(TOP / "docs/believed.py"))
+    house = module["House"]()
+    for call, _ in module["functions"]():
+        module["reached"]([call], house)
+    return sorted(house.lost)
 
 
 def main() -> None:
@@ -37,14 +100,24 @@ def main() -> None:
     headings = set(runpy.run_path(str(TOP / "docs/believed.py"))["HEADINGS"])
     for heading in headings - set(re.findall(r"^== \d+\. (.*)$", "\n".join(texts.values()), re.M)):
         wrongs.append(f"{heading} has no definition")
-    if headings != {*re.findall(r"^== \d+\. (.*)$", texts["3"], re.M), "Round trips"}:
+    if headings != {*re.findall(r"^== \d+\. (.*)$", texts["3"], re.M), "Round trips", "Other definitions"}:
         wrongs.append("the contract of run has other headings")
+    if not texts["3"].startswith("== The notation\n"):
+        wrongs.append("the notation is not explained first")
     for law in ("data_are_read_item_by_item", "elements_have_their_rows"):
         if not re.search(rf"^pub fn {law}\b", texts["3"], re.M):
             wrongs.append(f"the law {law} is not printed beside what it justifies")
     if re.search(r"^ *(?:--|//) rule:|^\s*(?:pub |ghost )*use ", texts["3"], re.M):
         wrongs.append("a tag or an import is printed")
-    finish(wrongs)
+    for calls, names in NAMED.items():
+        text = printed(calls)
+        wrongs += [f"{name} of {calls} is not printed" for name in names if name not in text]
+    for name, message in WRONG.items():
+        done = run(TOP / "docs/believed.py", name)
+        if done.returncode != 1 or message not in done.stderr:
+            wrongs.append(f"{name}: status {done.returncode}, {done.stderr}")
+    sys.setrecursionlimit(10_000)
+    finish(wrongs + of_copies() + of_every_function())
 
 
 if __name__ == "__main__":

@@ -5,7 +5,7 @@
 
 A fenced block `sh` or one that begins with `$ ` has commands. They run in one shell with a home of its own, at the top of
 a clone of the files as they are, and each has to end with status 0; what stands below a command that begins with `$ ` is
-what it prints. Commands that prove take half an hour and more, so they are named and not run: `.ci/run` is what runs this
+what it prints. Commands that prove take up to two hours, so they are named and not run: `.ci/run` is what runs this
 test, and install.sh is given PROGRAM in the place of the one that it would prove or that a proved release contains.
 """
 import os

@@ -94,12 +94,26 @@ echo '# changed' | tee -a "$work/one/README.md" >> "$work/one/scripts/bufr_text.
 grep -q 'uncommitted changes' "$work/errors" || fail "release.sh does not say that it leaves changes out"
 diff "$work/first" "$work/third" || fail "an uncommitted change is in the release"
 
-# A damaged archive is not installed.
+# A release whose files are not those that it lists is not installed: a file is changed, is added, has no line or is missing.
 mkdir "$work/damaged"
+refuses_damaged() { # refuses_damaged TEXT COMMAND: in a release after this command, install.sh fails and says TEXT
+    tar -xzf "$archive" -C "$work/damaged" --strip-components 1
+    (cd "$work/damaged" && eval "$2")
+    ! "$work/damaged/install.sh" --unproved "$work/prefix" > "$work/told" 2>&1 && grep -qF -- "$1" "$work/told" &&
+        [ ! -e "$work/prefix" ] || fail "after $2 a release was installed: $(< "$work/told")"
+    rm -r "${work:?}/damaged/"*
+}
+refuses_damaged './tables/wmo-39/B.csv: FAILED' 'echo x >> tables/wmo-39/B.csv'
+refuses_damaged './scripts/bufr-zzz;' 'cp scripts/bufr-csv scripts/bufr-zzz'
+refuses_damaged './tables/wmo-99;' 'ln -s wmo-39 tables/wmo-99'
+refuses_damaged './tables/wmo-99;' 'mkdir tables/wmo-99'
+refuses_damaged './man/bufr.1;' 'echo x >> man/bufr.1; sed -i /man.bufr.1/d SHA256SUMS'
+refuses_damaged './docs/guide.md: ' 'rm docs/guide.md'
+# What Python caches beside the scripts is none of them.
 tar -xzf "$archive" -C "$work/damaged" --strip-components 1
-echo x >> "$work/damaged/tables/wmo-39/B.csv"
-! "$work/damaged/install.sh" --unproved "$work/prefix" > "$work/told" 2>&1 && grep -q damaged "$work/told" && [ ! -e "$work/prefix" ] ||
-    fail "a damaged release was installed: $(< "$work/told")"
+BUFR=$bufr "$work/damaged/scripts/bufr-auto" --version > "$work/told"
+[ -d "$work/damaged/scripts/__pycache__" ] || mkdir "$work/damaged/scripts/__pycache__"
+"$work/damaged/install.sh" --unproved "$work/prefix" > "$work/told" || fail "what Python cached: $(< "$work/told")"
 
 # The clean machine.
 unshare -mnpf true 2> "$work/errors" || { echo "$0: unshare is not allowed here, so no clean machine was tried" && exit; }
@@ -144,9 +158,9 @@ done
 tar -xzf "$1"
 cd bufr-*
 prefix=/home/bufr
-! ./install.sh $prefix 2> told || fail 'an unproved release was installed without a word'
-grep -q unproved told || fail "install.sh says: $(cat told)"
-./install.sh --unproved $prefix > told || fail "install.sh: $(cat told)"
+! ./install.sh $prefix 2> ../told || fail 'an unproved release was installed without a word'
+grep -q unproved ../told || fail "install.sh says: $(cat ../told)"
+./install.sh --unproved $prefix > ../told || fail "install.sh: $(cat ../told)"
 cmp bin/bufr $prefix/bin/bufr
 PATH=$prefix/bin:$PATH
 cd /home
