@@ -596,8 +596,8 @@ class Work:
 
     def report_last(self) -> None:
         """Prints the notes, and the reasons why files and programs failed."""
-        note = self.conditions.note() if self.conditions else ""
-        told = [f"{bufr_guard.name()}: {note}\n".encode()] if note else []
+        notes = [*self.sets.notes, *filter(None, [self.conditions and self.conditions.note()])]
+        told = [os.fsencode(f"{bufr_guard.name()}: {bufr_guard.shown(note)}\n") for note in notes]
         bufr_guard.say(b"".join([*self.notes.lines(self.kind.PIECE), *told, *self.last]))
 
     def fail(self, unread: Unread) -> None:
@@ -803,6 +803,10 @@ class Work:
     def end(self, run: Run, is_whole: bool) -> None:
         """Adds the status of a run to that of the work."""
         self.last += run.others
+        for line in run.others:
+            if line.startswith((b"table B: ", b"table D: ")):
+                file = bufr_guard.shown(run.tables.file(f"{chr(line[6])}.csv"))
+                self.last.append(os.fsencode(f"{bufr_guard.name()}: cannot use {file}: ") + line[9:])
         status = bufr_guard.checked(run.status, bool(run.others))
         if not is_whole and status < 2:
             raise bufr_guard.Failed("bufr stopped before the end of its output; output is incomplete")

@@ -94,20 +94,28 @@ cache: List[TableSet] = []
 
 
 class TableSets:
-    """All table sets in a directory: `wmo-13`, or with a centre's rows `wmo-13+98-102` (centre 98, local version 102)."""
+    """All table sets in a directory: `wmo-13`, or with a centre's rows `wmo-13+98-102` (centre 98, local version 102).
+
+    A set that lacks a table counts as not installed; `notes` has a line for each of these.
+    """
 
     def __init__(self) -> None:
         self.folder = folder_of_sets()
         self.sets: Dict[Optional[Tuple[int, int]], Dict[int, TableSet]] = {}
-        for name in os.listdir(self.folder):
+        self.notes: List[str] = []
+        for name in sorted(os.listdir(self.folder)):
             version, plus, own = name[4:].partition("+")
             numbers = [version, *(own.split("-") if plus else [])]
             if name.startswith("wmo-") and len(numbers) in (1, 3) and all(map(is_number, numbers)):
                 key = (int(numbers[1]), int(numbers[2])) if plus else None
                 tables = TableSet(os.path.join(self.folder, name), int(version), key)
-                self.sets.setdefault(key, {})[tables.version] = tables
+                missing = next((table for table in ("B.csv", "D.csv") if not os.path.exists(tables.file(table))), "")
+                if missing:
+                    self.notes.append(f"ignored {tables.folder}, which has no {missing}; complete it or remove it")
+                else:
+                    self.sets.setdefault(key, {})[tables.version] = tables
         if None not in self.sets:
-            raise bufr_guard.Failed(f"{self.folder} has no table set such as wmo-39")
+            raise bufr_guard.Failed("; ".join([f"{self.folder} has no table set such as wmo-39", *self.notes]))
 
     def latest(self) -> TableSet:
         """WMO's latest set."""

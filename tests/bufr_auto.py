@@ -141,8 +141,22 @@ class Trial:
         for given in (stream, stream[len(before) :]):
             done = self.auto(stream=given, BUFR_TABLES=str(tables))
             begun = (texts, faults) if given == stream else (b"", b"")
-            wanted = (begun[0], begun[1] + b"table B: 45 csv\n", 2)
+            told = f"table B: 45 csv\nbufr-auto: cannot use {tables}/wmo-17/B.csv: 45 csv\n"
+            wanted = (begun[0], begun[1] + told.encode(), 2)
             self.holds("a table at fault", (done.stdout, done.stderr, done.returncode) == wanted, (done, wanted))
+        # A folder that lacks a table counts as not installed, and stops nothing.
+        (tables / "wmo-40").mkdir()
+        (tables / "wmo-17/D.csv").unlink()
+        done = self.auto(stream=stream, BUFR_TABLES=str(tables))
+        notes = b"".join(
+            b"bufr-auto: ignored %s/%s, which has no %s.csv; complete it or remove it\n" % (bytes(tables), *missing)
+            for missing in ((b"wmo-17", b"D"), (b"wmo-40", b"B"))
+        )
+        whole = (done.stdout.count(b"message\n"), done.stderr == faults + notes, done.returncode)
+        self.holds("an incomplete set", whole == (stream.count(b"BUFR") - 1, True, 1), done)
+        (self.place / "none/wmo-40").mkdir(parents=True)
+        done = self.auto(stream=stream, BUFR_TABLES=str(self.place / "none"))
+        self.holds("no complete set", done.returncode == 2 and b"wmo-40, which has no B.csv" in done.stderr, done)
         with open("/dev/full", "w") as full:
             done = subprocess.run(AUTO, input=before, stdout=full, stderr=subprocess.PIPE, env=self.environment)
         told = done.stderr.endswith(b"bufr-auto: write failed: No space left on device\n")

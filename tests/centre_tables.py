@@ -238,11 +238,21 @@ def main() -> None:
         versions_and_editions(script, holds)
         in_packages(holds)
         limits(script, holds)
+        # An incomplete set counts as not installed, and an invalid one is named.
+        synop = (TOP / "examples/synop.bufr").read_bytes()
+        (tables / "wmo-40").mkdir()
+        told = f"bufr-lacks: ignored {tables}/wmo-40, which has no B.csv; complete it or remove it\n"
+        holds("an incomplete set", script("bufr-lacks", synop), (0, "", told))
+        shutil.copytree(TOP / "tables/wmo-39", tables / "wmo-40", dirs_exist_ok=True)
+        (tables / "wmo-40/D.csv").write_text("no table\n")
+        told = f"table D: 40 header\nbufr-lacks: the table set {tables}/wmo-40 is invalid\n"
+        holds("an invalid set", script("bufr-lacks", made(40, 0, 98, "001191", b"\1")), (2, "", told))
+        shutil.rmtree(tables / "wmo-40")
         # A byte order mark, which `bufr` skips too.
         for name in ("B.csv", "D.csv"):
             table = place / "tables/wmo-39" / name
             table.write_bytes(b"\xef\xbb\xbf" + table.read_bytes())
-        holds("a byte order mark", script("bufr-lacks", (TOP / "examples/synop.bufr").read_bytes()), (0, "", ""))
+        holds("a byte order mark", script("bufr-lacks", synop), (0, "", ""))
         status, output, _ = script("bufr-auto", b"".join(others))
         holds("those of others", (status, output), (1, ""))
 

@@ -48,7 +48,9 @@ diff -r -x MANIFEST "$prefix" "$work/stage/usr" || fail "DESTDIR gives other fil
 mkdir "$work/temporary"
 TMPDIR=$work/temporary DESTDIR=$work/stage "$top/install.sh" --uninstall /usr
 [ -z "$(ls -A "$work/temporary")" ] || fail "install.sh leaves temporary files"
-[ -z "$(find "$work/stage/usr" -mindepth 1)" ] || fail "--uninstall with DESTDIR leaves $(find "$work/stage/usr" -mindepth 1)"
+[ ! -e "$work/stage/usr" ] || fail "--uninstall with DESTDIR leaves $(find "$work/stage/usr")"
+(cd "$prefix" && sha256sum --quiet -c share/doc/bufr/SHA256SUMS) || fail "SHA256SUMS has other sums"
+grep -qx 'commit: unknown' "$doc/BUILD" || fail "BUILD ties a program of --program to a commit: $(< "$doc/BUILD")"
 
 # Wrong words.
 for words in '' '--wrong p' 'p q' '--program' '--uninstall'; do
@@ -59,6 +61,42 @@ done
 ! "$top/install.sh" --uninstall "$work/nothing" 2> "$work/errors" && grep -q MANIFEST "$work/errors" ||
     fail "install.sh uninstalls what is not installed: $(< "$work/errors")"
 ! "$top/install.sh" --program "$bufr" --unproved /dev/null/prefix > "$work/output" 2>&1 || fail "install.sh installs below a file"
+! "$top/install.sh" --program '' --unproved "$work/none" 2> "$work/errors" && grep -qF "no program ''" "$work/errors" ||
+    fail "install.sh accepts an empty FILE: $(< "$work/errors")"
+
+# What an installation did not put there is neither overwritten nor removed, whether it is a file, an edited one, or
+# behind a link in place of a folder.
+own=$work/own-files sets=$work/own-files/share/bufr/tables
+refuses() { # refuses PLACE: installs nothing, and names what is in the way
+    find "$own" "$work/mine" -exec stat -c '%n %s %Y' {} + | sort > "$work/before"
+    ! "$top/install.sh" --program "$bufr" --unproved "$own" > "$work/output" 2> "$work/errors" || fail "install.sh overwrites $1"
+    grep -qxF "  $own/$1" "$work/errors" && grep -q 'nothing was installed' "$work/errors" || fail "$1: $(< "$work/errors")"
+    find "$own" "$work/mine" -exec stat -c '%n %s %Y' {} + | sort | cmp - "$work/before" || fail "a refused installation changes files"
+}
+mkdir -p "$work/mine" "$sets/wmo-39" "$own/bin"
+echo mine > "$sets/wmo-39/B.csv"
+refuses share/bufr/tables/wmo-39/B.csv
+mv "$sets/wmo-39/B.csv" "$own/bin/bufr"
+refuses bin/bufr
+rm "$own/bin/bufr"
+mkdir "$own/bin/bufr"
+refuses bin/bufr/
+rmdir "$own/bin/bufr" "$sets/wmo-39"
+ln -s "$work/mine" "$sets/wmo-39"
+refuses share/bufr/tables/wmo-39/D.csv
+rm "$sets/wmo-39"
+"$top/install.sh" --program "$bufr" --unproved "$own" > "$work/output"
+mv "$sets"/wmo-37/* "$work/mine"
+rmdir "$sets/wmo-37"
+ln -s "$work/mine" "$sets/wmo-37"
+refuses share/bufr/tables/wmo-37/B.csv
+echo '# edited' >> "$own/bin/bufr-csv"
+refuses bin/bufr-csv
+"$top/install.sh" --uninstall "$own" > "$work/output"
+for place in bin/bufr-csv share/bufr/tables/wmo-37/B.csv; do
+    [ -s "$own/$place" ] && grep -qxF "  $own/$place" "$work/output" || fail "--uninstall removes $place, or is silent: $(< "$work/output")"
+done
+[ "$(find "$own" ! -type d | wc -l)" -eq 2 ] && [ -s "$work/mine/D.csv" ] || fail "after --uninstall: $(find "$own" "$work/mine")"
 
 # An installation that is interrupted leaves no temporary files.
 printf '#!/bin/sh\nexec sleep 60\n' > "$work/slow"
@@ -66,13 +104,24 @@ chmod +x "$work/slow"
 ! TMPDIR=$work/temporary timeout 1 "$top/install.sh" --program "$work/slow" --unproved "$work/interrupted" > "$work/output" 2>&1 ||
     fail "install.sh was not interrupted"
 [ -z "$(ls -A "$work/temporary")" ] || fail "an interrupted install.sh leaves temporary files"
+grep -q interrupted "$work/output" || fail "an interrupted install.sh says: $(< "$work/output")"
 
-# An installation that ends in the middle, as one on a full disk, can be removed.
-mkdir -p "$work/full/share/man/man1/bufr.1"
-! "$top/install.sh" --program "$bufr" --unproved "$work/full" > "$work/output" 2>&1 || fail "install.sh misses a file"
-[ -x "$work/full/bin/bufr" ] || fail "the trial did not end in the middle"
+# An installation that ends in the middle, as one on a full disk, says what to do: install again, or remove it.
+printf '#!/bin/sh\necho bufr 0.1.0\n' > "$work/tiny"
+chmod +x "$work/tiny"
+stops_in_the_middle() {
+    ! (ulimit -f 30 && "$top/install.sh" --program "$work/tiny" --unproved "$work/full") > "$work/output" 2>&1 || fail "no limit"
+    [ -x "$work/full/bin/bufr" ] && [ ! -e "$work/full/share/man" ] || fail "the trial did not end in the middle"
+    grep -q 'incomplete; install again' "$work/output" || fail "a part of an installation: $(< "$work/output")"
+}
+stops_in_the_middle
 "$top/install.sh" --uninstall "$work/full" > "$work/output" || fail "a part of an installation is not removed"
-[ -z "$(find "$work/full" ! -type d)" ] || fail "of a part of an installation remains $(find "$work/full" ! -type d)"
+[ ! -e "$work/full" ] || fail "of a part of an installation remains $(find "$work/full")"
+stops_in_the_middle
+"$top/install.sh" --program "$bufr" --unproved "$work/full" > "$work/output" || fail "a part of an installation is not repaired"
+cmp "$bufr" "$work/full/bin/bufr"
+! "$top/install.sh" --program /bin/true --unproved "$work/full" 2> "$work/errors" && grep -q 'not bufr' "$work/errors" ||
+    fail "install.sh installs /bin/true: $(< "$work/errors")"
 unset BUFR BUFR_TABLES
 PATH=$prefix/bin:/usr/bin:/bin:$(dirname "$(command -v python3)"):$PATH
 examples=$prefix/share/doc/bufr/examples

@@ -181,7 +181,7 @@ bufr-auto bufr/share/doc/bufr/examples/buoys.bufr > told || fail "bufr-auto with
 /tmp/bufr-*/install.sh --unproved $prefix > told
 [ -d $set/wmo-99 ] || fail 'an installation removed a set that it did not install'
 /tmp/bufr-*/install.sh --uninstall $prefix > told
-grep -q 'share/bufr/tables/ remains' told || fail "--uninstall does not say what remains: $(cat told)"
+grep -q 'share/bufr/tables/wmo-99/B.csv' told || fail "--uninstall does not say what remains: $(cat told)"
 find $prefix ! -type d ! -path "$set/wmo-99/*" ! -path "$set/wmo-39+78-0/*" > left
 [ ! -s left ] || fail "--uninstall leaves $(cat left)"
 rm -r $prefix
@@ -189,7 +189,7 @@ rm -r $prefix
 /tmp/bufr-*/install.sh --unproved $prefix > told
 bufr-auto --version > told
 /tmp/bufr-*/install.sh --uninstall $prefix > told
-[ -z "$(find $prefix -mindepth 1)" ] || fail "--uninstall leaves $(find $prefix -mindepth 1)"
+[ ! -e $prefix ] || fail "--uninstall leaves $(find $prefix)"
 # The page for operators: each block of its commands, the unit's commands, and the steps of its Dockerfile.
 page=$(echo /tmp/bufr-*/docs/operations.md) examples=$(echo /tmp/bufr-*/examples)
 mkdir /home/page
@@ -200,24 +200,43 @@ cp $examples/buoys.bufr /home/day.bufr
 awk '/^```$/ { name = "" } name { print > name } /^```sh$/ { name = "block" ++blocks } /^```ini$/ { name = "unit" }
     /^```dockerfile$/ { name = "steps" }' $page
 sed -i 's,install.sh /,install.sh --unproved /,' block* steps
-[ "$(ls block* | wc -w)" -eq 5 ] || fail "$page has other blocks"
+[ "$(ls block* | wc -w)" -eq 6 ] || fail "$page has other blocks"
 types() { PATH=/opt/bufr/bin:$PATH bash -eu "$1" > told 2>&1 || fail "$1 of $page: $(cat "$1" told)"; }
 types block1
 types block2
+# The hourly commands print each reason to look: refused and skipped messages, a failed run, and no dump.
+sed -n '/cat > check/,/^> END/s/^[$>] //p' $page | bash
+journalctl() { cat log; }
+export -f journalctl
+{
+    yes 'offset 1: 1 cut' | head -n 20
+    echo 'bufr-auto: offset 9: skipped a message that declares 900000 bytes'
+    echo 'bufr-feed failed: exit-code'
+} > log
 mkdir -p /var/lib/feed
+types block3
+printf '%s\n' '21 messages were refused or skipped' 'bufr-feed failed: exit-code' 'nothing was dumped for an hour' | cmp - told ||
+    fail "the hourly commands print $(cat told)"
+exec_of() { sed -n "s/^$1=//p" /home/page/unit | sed 's/%%/%/g'; }
 (
     cd /var/lib/feed
-    sed -n 's/^ExecStartPre=//p' /home/page/unit | bash
-    sed -n 's/^ExecStart=//p' /home/page/unit | bash &
+    exec_of ExecStartPre | bash
+    exec_of ExecStart | bash &
     cat $examples/synop.bufr > bufr.fifo
     wait $!
-    cmp dump.txt $examples/synop.txt
+    cmp dump.*.txt $examples/synop.txt
+    [ -z "$(exec_of ExecStopPost | SERVICE_RESULT=success bash)" ]
+    [ "$(exec_of ExecStopPost | SERVICE_RESULT=exit-code bash)" = 'bufr-feed failed: exit-code' ]
 ) || fail 'the commands of the unit'
+echo 'offset 1: 1 cut' > log
 types block3
-grep -q 'elements new: 0' told && [ -s /home/day.before ] && cmp /home/day.before /home/day.after || fail "changes.py says $(cat told)"
+[ ! -s told ] || fail "the hourly commands print $(cat told)"
 types block4
-tar -xzf *.tar.gz
+grep -q 'elements new: 0' told && [ -s /home/day.before ] && cmp /home/day.before /home/day.after || fail "changes.py says $(cat told)"
 types block5
+tar -xzf *.tar.gz
+types block6
+[ ! -L /opt/bufr ] || fail "$page leaves its link"
 find /opt ! -type d ! -path '/opt/bufr-0.1.0/share/bufr/tables/wmo-99/*' > left
 [ ! -s left ] && [ -s /opt/bufr-0.1.0/share/bufr/tables/wmo-99/B.csv ] || fail "--uninstall of $page leaves $(cat left)"
 sed -n 's/^RUN \(.*install.sh\)/\1/p' steps > install
