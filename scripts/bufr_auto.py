@@ -467,7 +467,7 @@ class Encode(Run):
 
     @staticmethod
     def size_of(octets: Octets) -> int:
-        """The number of lines. For a document without an end, it includes the line at which that is reported."""
+        """The number of lines. If the `end` line is missing, the count includes the line at which `bufr` reports this."""
         text = bytes(octets)
         return text.count(b"\n") + 2 * (not text.endswith(END))
 

@@ -396,7 +396,7 @@ def checked(status: int, has_told: bool = True, what: str = "bufr") -> int:
 
 
 def stop() -> None:
-    """Kills the programs that still run."""
+    """Kills the programs that are still running."""
     for process in sum(RUNNING, []):
         try:
             os.kill(process, signal.SIGKILL)
@@ -405,7 +405,7 @@ def stop() -> None:
 
 
 def leave(number: int, _frame: Optional[FrameType]) -> None:
-    """Kills the programs that still run, and then ends this script by that signal."""
+    """Kills the programs that are still running, and then ends this script by that signal."""
     signal.signal(signal.SIGUSR1, signal.SIG_IGN)  # bufr-csv uses it to report that awk has stopped
     stop()
     Progress.clear()

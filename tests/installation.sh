@@ -112,7 +112,7 @@ chmod +x "$work/tiny"
 stops_in_the_middle() {
     ! (ulimit -f 30 && "$top/install.sh" --program "$work/tiny" --unproved "$work/full") > "$work/output" 2>&1 || fail "no limit"
     [ -x "$work/full/bin/bufr" ] && [ ! -e "$work/full/share/man" ] || fail "the trial did not end in the middle"
-    grep -q 'incomplete; install again' "$work/output" || fail "a part of an installation: $(< "$work/output")"
+    grep -q 'did not finish; install again' "$work/output" || fail "a part of an installation: $(< "$work/output")"
 }
 stops_in_the_middle
 "$top/install.sh" --uninstall "$work/full" > "$work/output" || fail "a part of an installation is not removed"
