@@ -596,7 +596,8 @@ class Work:
 
     def report_last(self) -> None:
         """Prints the notes, and the reasons why files and programs failed."""
-        notes = [*self.sets.notes, *filter(None, [self.conditions and self.conditions.note()])]
+        left_out = self.conditions.note() if self.conditions else ""
+        notes = [*self.sets.notes, left_out] if left_out else self.sets.notes
         told = [os.fsencode(f"{bufr_guard.name()}: {bufr_guard.shown(note)}\n") for note in notes]
         bufr_guard.say(b"".join([*self.notes.lines(self.kind.PIECE), *told, *self.last]))
 
