@@ -365,6 +365,7 @@ class Tables(unittest.TestCase):
                     bufr_text.rows([], ["AIR TEMPERATURE"])
             # Rows that are too short count as none, and so does a table with another header.
             table = pathlib.Path(without_tables, "wmo-39/B.csv")
+            pathlib.Path(without_tables, "wmo-39/D.csv").touch()
             for text, told in (
                 ("fxy,name,unit\nshort\n012101,AIR TEMPERATURE,K\n", ", which is in the names of 012101"),
                 ("fxy,unit\n012101,K\n", ""),
