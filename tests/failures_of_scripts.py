@@ -237,6 +237,8 @@ def killed(trial: Trial) -> None:
             for moment in ("before", "behind"):
                 begin = "" if moment == "before" else f'{program()} "$@"; '
                 done = trial.run([SYNOP], environment=trial.program(f'if [ "$1" = {command} ]; then {begin}{how}; fi'))
+                if (trial.name, command, how) == ("bufr-lacks", "dump", "exit 2"):  # as for tables that `bufr` refuses
+                    told = f"cannot use the table set {TOP / 'tables/wmo-39'}"
                 if done.returncode == 0:  # it does without
                     holds(f"{trial.name} without {command}", done.stdout == trial.run([SYNOP]).stdout, done)
                 elif how != "exit 2" or done.stderr:
