@@ -1,0 +1,470 @@
+-- The events of a stream in memory, and their texts.
+use Rattle.std.proofs.Common.{rules, eqb, ◌≡◌, ◌≢◌, ◌⊎◌, inl, inr, ◌∙◌, ◌<◌, ◌≤◌, ◌+◌, ◌-◌, ℕ, Bool, true, false, List, [], ◌∷◌, ◌++◌, length, take, drop, map, flat_map, count_by, codes, decimal, refl, sym, ap, subst, arith, Option, Some, None, Result, Ok, Err, IfErr, IfOk, OnOk, ℤ, pos, append-nil, append_assoc, length-take, length-drop, length-append, nat_lt, not, if◌then◌else◌}
+use Rattle.std.specs.Int.{from_bool}
+use Rattle.std.proofs.lemmas.Bool.Decides.{nat_tests}
+use Rattle.std.proofs.lemmas.Slice.Eq.{bytes_eq-Decides}
+use Rattle.std.specs.List.{starts_with}
+use Rattle.std.proofs.lemmas.Fmt.{decimal_digit}
+use Rattle.std.proofs.lemmas.Grind.{common_steps}
+use Rattle.std.proofs.lemmas.List.{length-take-le, take-append-drop, take_rest}
+use Rattle.std.proofs.Math.Seq.{take-length, drop-length}
+use Rattle.std.proofs.Math.ListN.{drop_of_length-le}
+use Rattle.memchr.specs.Find.{FindsNeedle}
+use Rattle.bufr_frame.specs.Prelude.{Sections, StreamEvent, FrameAt, StrayAt, StartsWithBufr, cause_report, section_report, scan, scan_from, classify, stated_length, stream_event, candidate_len, has_word_at, sections_of}
+use Rattle.bufr_frame.specs.declared.fault.SectionFault.{SectionFault}
+use Rattle.bufr_frame.proofs.ScanLemmas.{holds-prefix, holds-there, stated-prefix, scan_from-here, scan_from-nil, scan_from-found, drop-twice}
+use Rattle.bufr_tables.specs.Prelude.{ReadsTableD, Record, Row, Sequence, Tree, table_d_of, table_report, template_report, tree_of, tables_of}
+use Rattle.bufr_tables.specs.declared.fault.TemplateFault.{TemplateFault}
+use Rattle.bufr_tables.specs.declared.fault.TableFault.{TableFault}
+use Rattle.bufr_tables.specs.declared.fault.TableFault.TheVariants as tables
+use Rattle.bufr_walk.specs.Prelude.{data_of, data_report, fault_of, next_item, reading_of}
+use Rattle.bufr_walk.specs.declared.fault.WalkFault.{WalkFault}
+use Rattle.bufr_frame.specs.declared.fault.RunFault.{RunFault}
+use Rattle.bufr_frame.specs.declared.fault.Cause.{Cause}
+use Rattle.bufr_text.specs.Prelude.{Writes, ls_line, dump_text_of, dump_items, joined}
+use Rattle.bufr_cli.specs.Prelude.{Piece, OnOutput, OnErrors, output_of, errors_of, is_accepted, is_refused, fault_line, ls_piece, ls_or_fault, dump_piece, message_piece, template_piece, data_piece, text_or_fault, Writers, WritesWhole, event_pieces}
+use Rattle.bufr_cli.specs.declared.outcome.Tally.{Tally}
+use Rattle.bufr_c.specs.Moving.{moved}
+use Rattle.bufr_frame.specs.declared.fault.Cause.TheVariants.{Cut, ShortLength, NoEnd}
+use Rattle.bufr_c.specs.Leaving.{HasNoRoom, HasPut, IsCycleStatus, IsMessage, IsRunStatus, IsStray, IsTableStatus, LacksRoom, Leaves, Passes, StopsBefore, WritesEvent, events_from}
+use Rattle.bufr_c.specs.Commands.{IsTextOf, piece_by}
+use Rattle.bufr_c.specs.declared.command.Command.{Command}
+use Rattle.bufr_c.specs.declared.command.Command.TheVariants as commands
+use Rattle.bufr_c.specs.declared.command.EventText.{EventText}
+use Rattle.bufr_c.specs.declared.texts.Texts.{Texts}
+
+-- ---- A line that reports another offset.
+
+at_least : (a b : ℕ) → b ≤ a → nat_lt a b ≡ false
+at_least a b h = grind (arith, nat_tests)
+
+below : (a b : ℕ) → a < b → nat_lt a b ≡ true
+below a b h = grind (arith, nat_tests)
+
+moved-long : (n : ℕ) (line : List ℕ) → 8 ≤ length line → moved n line ≡ (take 7 line ++ decimal n) ++ drop 8 line
+moved-long n line long = ap (λ b. if b then [] else (take 7 line ++ decimal n) ++ drop 8 line) (at_least (length line) 8 long)
+
+pub moved-none : (n : ℕ) (line : List ℕ) → length line < 8 → moved n line ≡ []
+moved-none n line few = ap (λ b. if b then [] else (take 7 line ++ decimal n) ++ drop 8 line) (below (length line) 8 few)
+
+-- the slices of the code
+pub moved-parts : (n : ℕ) (line : List ℕ) → 8 ≤ length line → (take 7 line ++ decimal n) ++ take (length line - 8) (drop 8 line) ≡ moved n line
+moved-parts n line long = ap (λ l. (take 7 line ++ decimal n) ++ l) (take_rest line 8) ∙ sym (moved-long n line long)
+
+-- a line that begins with seven octets and offset 0
+moved-word : (n a b c d e f g : ℕ) (rest : List ℕ) → moved n (a ∷ b ∷ c ∷ d ∷ e ∷ f ∷ g ∷ (decimal 0 ++ rest)) ≡ a ∷ b ∷ c ∷ d ∷ e ∷ f ∷ g ∷ (decimal n ++ rest)
+moved-word n a b c d e f g rest =
+    ap (λ zero'. moved n (a ∷ b ∷ c ∷ d ∷ e ∷ f ∷ g ∷ (zero' ++ rest))) (decimal_digit 0 (omega arith))
+    ∙ moved-long n (a ∷ b ∷ c ∷ d ∷ e ∷ f ∷ g ∷ 48 ∷ rest) (omega arith)
+
+pub moved-fault : (n : ℕ) (report : ℕ × List (List ℕ)) → moved n (fault_line 0 report) ≡ fault_line n report
+moved-fault n report = moved-word n 111 102 102 115 101 116 32 _
+
+moved-line : (n : ℕ) (s : Sections) → moved n (ls_line 0 s) ≡ ls_line n s
+moved-line n s = moved-word n 111 102 102 115 101 116 61 _
+
+-- The piece q is p with another offset in its lines.
+pub record IsMoved (n : ℕ) (p q : Piece) : Type 0 where
+  pub output : moved n (output_of p) ≡ output_of q
+  pub errors : moved n (errors_of p) ≡ errors_of q
+  pub accepted : is_accepted p ≡ is_accepted q
+
+listed-by : (n : ℕ) (r : Result Sections SectionFault) → IsMoved n (ls_or_fault 0 r) (ls_or_fault n r)
+listed-by n (Ok s) = record { output = moved-line n s; errors = refl; accepted = refl }
+listed-by n (Err fault) = record { output = refl; errors = moved-fault n (section_report fault); accepted = refl }
+
+pub listed : (n : ℕ) (octets : List ℕ) → IsMoved n (ls_piece (FrameAt 0 octets)) (ls_piece (FrameAt n octets))
+listed n octets = listed-by n (sections_of octets)
+
+-- The piece q is p with another offset in its fault line.
+pub record HasMovedFault (n : ℕ) (p q : Piece) : Type 0 where
+  pub output : output_of p ≡ output_of q
+  pub errors : moved n (errors_of p) ≡ errors_of q
+  pub accepted : is_accepted p ≡ is_accepted q
+
+fault-moved : (n : ℕ) (report : ℕ × List (List ℕ)) → HasMovedFault n (OnErrors (fault_line 0 report)) (OnErrors (fault_line n report))
+fault-moved n report = record { output = refl; errors = moved-fault n report; accepted = refl }
+
+data-moved : (n : ℕ) (fault : Option WalkFault) (text : List ℕ) → HasMovedFault n (text_or_fault 0 fault text) (text_or_fault n fault text)
+data-moved n None text = record { output = refl; errors = refl; accepted = refl }
+data-moved n (Some why) text = fault-moved n (data_report why)
+
+template-moved : (n : ℕ) (b : List Row) (s : Sections) (t : Result Tree TemplateFault) → HasMovedFault n (template_piece b 0 s t) (template_piece b n s t)
+template-moved n b s (Ok t) = data-moved n (fault_of (data_of s) (reading_of (next_item b t) (data_of s))) _
+template-moved n b s (Err why) = fault-moved n (template_report why)
+
+message-moved : (n : ℕ) (b : List Row) (d : List Sequence) (r : Result Sections SectionFault) → HasMovedFault n (message_piece b d 0 r) (message_piece b d n r)
+message-moved n b d (Ok s) = template-moved n b s (tree_of (tables_of b d) s.descriptors)
+message-moved n b d (Err fault) = fault-moved n (section_report fault)
+
+pub dumped : (n : ℕ) (b : List Row) (d : List Sequence) (octets : List ℕ) → HasMovedFault n (dump_piece b d (FrameAt 0 octets)) (dump_piece b d (FrameAt n octets))
+dumped n b d octets = message-moved n b d (sections_of octets)
+
+-- ---- A run over the octets of one message.
+
+-- What a run wrote that began with nothing.
+pub record WritesPiece (p : Piece) (tally : Tally) (output errors : List ℕ) : Type 0 where
+  pub output_is : output ≡ output_of p
+  pub errors_is : errors ≡ errors_of p
+  pub accepted : nat_lt 0 tally.accepted ≡ is_accepted p
+
+counts-piece : (p : Piece) → nat_lt 0 (count_by is_accepted (p ∷ [])) ≡ is_accepted p
+counts-piece (OnOutput text) = refl
+counts-piece (OnErrors text) = refl
+
+pub one-piece : (piece : StreamEvent → Piece) (octets : List ℕ) (before after : Writers) (tally : Tally) (output errors : List ℕ) → WritesWhole (event_pieces piece) before after tally octets
+    → scan octets ≡ FrameAt 0 octets ∷ [] → before.output.taken ≡ Some [] → before.errors.taken ≡ Some [] → after.output.taken ≡ Some output → after.errors.taken ≡ Some errors
+    → WritesPiece (piece (FrameAt 0 octets)) tally output errors
+one-piece piece octets before after tally output errors (writes, tallies) one b_output b_errors a_output a_errors =
+    let p = piece (FrameAt 0 octets) in
+    record {
+      output_is = rw (one, b_output, a_output) at writes.output ∙ append-nil (output_of p);
+      errors_is = rw (one, b_errors, a_errors) at writes.errors ∙ append-nil (errors_of p);
+      accepted = ap (nat_lt 0) (rw one at tallies.accepted) ∙ counts-piece p;
+    }
+
+-- ---- A message of a stream, on its own.
+
+-- ---- The text of an event.
+
+-- the line of a stray `BUFR`
+pub stray-text : {X : Type 0} (r : Result X RunFault) (text : EventText) (offset : ℕ) (cause : Cause) (line new : List ℕ) → line ≡ fault_line 0 (cause_report cause)
+    → Writes (Some []) (Some new) (moved offset line) r → text.output.octets.items ≡ [] → text.errors.octets.items ≡ new → text.accepted ≡ false
+    → OnOk r (IsTextOf text (OnErrors (fault_line offset (cause_report cause))))
+stray-text (Ok x) text offset cause line new is writes output errors accepted = record {
+  output = output;
+  errors = errors ∙ writes ∙ ap (moved offset) is ∙ moved-fault offset (cause_report cause);
+  accepted = accepted;
+}
+stray-text (Err fault) text offset cause line new is writes output errors accepted = tt
+
+pub stray-by : (command : Command) (offset : ℕ) (cause : Cause) → OnErrors (fault_line offset (cause_report cause)) ≡ piece_by command (StrayAt offset cause)
+stray-by commands.List offset cause = refl
+stray-by (commands.Dump b d) offset cause = refl
+
+-- the text of a message, by the piece that a run wrote for it alone
+pub message-text : {X : Type 0} (r : Result X RunFault) (text : EventText) (offset : ℕ) (p q : Piece) (tally : Tally) (output errors new : List ℕ) → WritesPiece p tally output errors
+    → text.output.octets.items ≡ output_of q → moved offset (errors_of p) ≡ errors_of q → is_accepted p ≡ is_accepted q
+    → Writes (Some []) (Some new) (moved offset errors) r → text.errors.octets.items ≡ new → text.accepted ≡ nat_lt 0 tally.accepted
+    → OnOk r (IsTextOf text q)
+message-text (Ok x) text offset p q tally output errors new wrote is moves same writes ends accepted = record {
+  output = is;
+  errors = ends ∙ writes ∙ ap (moved offset) wrote.errors_is ∙ moves;
+  accepted = accepted ∙ wrote.accepted ∙ same;
+}
+message-text (Err fault) text offset p q tally output errors new wrote is moves same writes ends accepted = tt
+
+-- ---- What begins at a `BUFR`.
+
+pub four-long : (m : List ℕ) → StartsWithBufr m → 4 ≤ length m
+four-long m here =
+    let same : take 4 m ≡ codes "BUFR" = (bytes_eq-Decides (take 4 m) (codes "BUFR")).0 here in
+    omega (arith, ap length same, length-take 4 m)
+
+pub cut-short : (m : List ℕ) → StartsWithBufr m → length m < 8 → IsStray m Cut
+cut-short m here few =
+    let a = below (length m) 8 few in
+    record { event = λ offset. rw (here, a) refl; moves = rw (here, a) refl; within = four-long m here }
+
+pub cut-long : (m : List ℕ) (n : ℕ) → StartsWithBufr m → 8 ≤ length m → n ≡ stated_length m → length m < n → IsStray m Cut
+cut-long m n here eight states few =
+    let a = at_least (length m) 8 eight in
+    let b = below (length m) (stated_length m) (omega (arith, states, few)) in
+    record { event = λ offset. rw (here, a, b) refl; moves = rw (here, a, b) refl; within = four-long m here }
+
+pub short-length : (m : List ℕ) (n : ℕ) → StartsWithBufr m → 8 ≤ length m → n ≡ stated_length m → n ≤ length m → n < 12 → IsStray m ShortLength
+short-length m n here eight states whole few =
+    let a = at_least (length m) 8 eight in
+    let b = at_least (length m) (stated_length m) (omega (arith, states, whole)) in
+    let c = below (stated_length m) 12 (omega (arith, states, few)) in
+    record { event = λ offset. rw (here, a, b, c) refl; moves = rw (here, a, b, c) refl; within = four-long m here }
+
+pub no-end : (m : List ℕ) (n : ℕ) → StartsWithBufr m → n ≡ stated_length m → n ≤ length m → 12 ≤ n → has_word_at (codes "7777") (n - 4) m ≡ false → IsStray m NoEnd
+no-end m n here states whole least ends =
+    let a = at_least (length m) 8 (omega (arith, least, whole)) in
+    let b = at_least (length m) (stated_length m) (omega (arith, states, whole)) in
+    let c = at_least (stated_length m) 12 (omega (arith, states, least)) in
+    let d : has_word_at (codes "7777") (stated_length m - 4) m ≡ false = ap (λ k. has_word_at (codes "7777") (k - 4) m) (sym states) ∙ ends in
+    record { event = λ offset. rw (here, a, b, c, d) refl; moves = rw (here, a, b, c, d) refl; within = four-long m here }
+
+-- the comparison of the code
+pub starts_with-word : (m : List ℕ) (k : ℕ) → starts_with eqb (drop k m) (codes "7777") ≡ has_word_at (codes "7777") k m
+starts_with-word m k = search rules
+
+-- the tests of a message, as they are made
+tests : (m : List ℕ) (n : ℕ) → IsMessage m n
+    → (has_word_at (codes "BUFR") 0 m ≡ true) × (nat_lt (length m) 8 ≡ false) × (nat_lt (length m) (stated_length m) ≡ false) × (nat_lt (stated_length m) 12 ≡ false)
+    × (has_word_at (codes "7777") (stated_length m - 4) m ≡ true)
+tests m n is = (
+  is.begins,
+  at_least (length m) 8 (omega (arith, is.least, is.within)),
+  at_least (length m) (stated_length m) (omega (arith, is.states, is.within)),
+  at_least (stated_length m) 12 (omega (arith, is.states, is.least)),
+  ap (λ k. has_word_at (codes "7777") (k - 4) m) (sym is.states) ∙ is.ends,
+)
+
+-- what begins where a message does
+pub message-here : (m : List ℕ) (n : ℕ) → IsMessage m n → (offset : ℕ) → stream_event offset m (classify m) ≡ FrameAt offset (take (stated_length m) m) ∷ []
+message-here m n is offset = let (a, b, c, d, e) = tests m n is in rw (a, b, c, d, e) refl
+
+pub message-moves : (m : List ℕ) (n : ℕ) → IsMessage m n → candidate_len m (classify m) ≡ stated_length m
+message-moves m n is = let (a, b, c, d, e) = tests m n is in rw (a, b, c, d, e) refl
+
+-- its octets alone are a message too
+alone : (f t : List ℕ) (n : ℕ) → length f ≡ n → IsMessage (f ++ t) n → IsMessage f n
+alone f t n long is =
+    let least = is.least in
+    record {
+      begins = sym (holds-prefix (codes "BUFR") 0 f t (omega (arith, long, least))) ∙ is.begins;
+      states = is.states ∙ stated-prefix f t (omega (arith, long, least));
+      least = least;
+      within = omega (arith, long);
+      ends = sym (holds-prefix (codes "7777") (n - 4) f t (omega (arith, long, least))) ∙ is.ends;
+    }
+
+-- octets that are one message
+one-message : (f : List ℕ) → IsMessage f (length f) → scan f ≡ FrameAt 0 f ∷ []
+one-message f is =
+    let size : stated_length f ≡ length f = sym is.states in
+    let moves = message-moves f (length f) is in
+    scan_from-here 0 f (omega (arith, is.least)) (omega (arith, moves, size, is.least))
+    ∙ ap (λ es. es ++ scan_from 0 (0 + candidate_len f (classify f)) (drop (candidate_len f (classify f)) f)) (message-here f (length f) is 0)
+    ∙ ap (λ k. FrameAt 0 (take (stated_length f) f) ∷ scan_from 0 (0 + k) (drop k f)) (moves ∙ size)
+    ∙ ap (λ k. FrameAt 0 (take k f) ∷ scan_from 0 (0 + length f) (drop (length f) f)) size
+    ∙ ap (λ l. FrameAt 0 l ∷ scan_from 0 (0 + length f) (drop (length f) f)) (take-length f)
+    ∙ ap (λ l. FrameAt 0 f ∷ scan_from 0 (0 + length f) l) (drop-length f)
+    ∙ ap (λ l. FrameAt 0 f ∷ l) (scan_from-nil 0 (0 + length f))
+
+pub message-alone : (m : List ℕ) (n : ℕ) → IsMessage m n → scan (take n m) ≡ FrameAt 0 (take n m) ∷ []
+message-alone m n is =
+    let f = take n m in
+    let long : length f ≡ n = length-take-le n m is.within in
+    let whole : IsMessage (f ++ drop n m) n = subst (λ l. IsMessage l n) (sym (take-append-drop n m)) is in
+    one-message f (subst (λ k. IsMessage f k) (sym long) (alone f (drop n m) n long whole))
+
+-- ---- The events of a stream from a place on.
+
+pub events-found : (octets : List ℕ) (at place moves : ℕ) (event : StreamEvent) → FindsNeedle (drop at octets) (codes "BUFR") 0 (Some place)
+    → stream_event (at + place) (drop (at + place) octets) (classify (drop (at + place) octets)) ≡ event ∷ []
+    → moves ≡ candidate_len (drop (at + place) octets) (classify (drop (at + place) octets)) → 4 ≤ moves → moves ≤ length (drop (at + place) octets)
+    → events_from at octets ≡ event ∷ events_from (at + place + moves) octets
+events-found octets at place moves event finds here is some within =
+    let m = drop (at + place) octets in
+    scan_from-found (drop at octets) (Some place) finds at
+    ∙ ap (scan_from 0 (at + place)) (drop-twice place at octets)
+    ∙ scan_from-here (at + place) m (omega (arith, some, within)) (omega (arith, some, is))
+    ∙ ap (λ k. stream_event (at + place) m (classify m) ++ scan_from 0 (at + place + k) (drop k m)) (sym is)
+    ∙ ap (λ es. es ++ scan_from 0 (at + place + moves) (drop moves m)) here
+    ∙ ap (λ l. event ∷ scan_from 0 (at + place + moves) l) (drop-twice moves (at + place) octets)
+
+pub events-none : (octets : List ℕ) (at : ℕ) → FindsNeedle (drop at octets) (codes "BUFR") 0 None → events_from at octets ≡ []
+events-none octets at finds = scan_from-found (drop at octets) None finds at
+
+-- the same, of the slice of the code
+pub events-absent : (octets rest word : List ℕ) (at : ℕ) → rest ≡ drop at octets → word ≡ codes "BUFR" → FindsNeedle rest word 0 None → events_from at octets ≡ []
+events-absent octets rest word at rest_is word_is finds = events-none octets at (rw (rest_is, word_is) at finds)
+
+pub events-end : (octets : List ℕ) (at : ℕ) → length octets ≤ at → events_from at octets ≡ []
+events-end octets at past = ap (scan_from 0 at) (drop_of_length-le octets past) ∙ scan_from-nil 0 at
+
+-- the same, of the slices of the code
+pub starts-there : (octets rest m word : List ℕ) (at place : ℕ) → rest ≡ drop at octets → m ≡ drop (at + place) octets → word ≡ codes "BUFR" → FindsNeedle rest word 0 (Some place) → StartsWithBufr m
+starts-there octets rest m word at place rest_is m_is word_is finds =
+    let here = rw (rest_is, word_is) at finds in
+    rw m_is (ap (has_word_at (codes "BUFR") 0) (sym (drop-twice place at octets)) ∙ holds-there (drop at octets) place here.1)
+
+pub event-next : (piece : StreamEvent → Piece) (octets rest m word : List ℕ) (at place moves : ℕ) (text : EventText) → rest ≡ drop at octets → m ≡ drop (at + place) octets → word ≡ codes "BUFR"
+    → FindsNeedle rest word 0 (Some place) → (w : WritesEvent piece (at + place) m moves text) → events_from at octets ≡ w.event ∷ events_from (at + place + moves) octets
+event-next piece octets rest m word at place moves text rest_is m_is word_is finds w =
+    let here = rw (rest_is, word_is) at finds in
+    let S : List ℕ → Type 0 = λ l. stream_event (at + place) l (classify l) ≡ w.event ∷ [] in
+    let M : List ℕ → Type 0 = λ l. moves ≡ candidate_len l (classify l) in
+    events-found octets at place moves w.event here (subst S m_is w.here) (subst M m_is w.moves) w.some (omega (arith, w.within, ap length m_is))
+
+-- The texts of the events up to `texts.at` were written.
+pub record SoFar (piece : StreamEvent → Piece) (octets : List ℕ) (from : ℕ) (output errors : List ℕ) (texts : Texts) : Type 0 where
+  pub passed : List StreamEvent
+  pub events : events_from from octets ≡ passed ++ events_from texts.at octets
+  pub leaves : Leaves output errors texts (map piece passed)
+  pub few : texts.accepted + texts.refused ≤ texts.at
+
+-- a text more
+flat-next : (f : Piece → List ℕ) (piece : StreamEvent → Piece) (passed : List StreamEvent) (event : StreamEvent)
+    → flat_map f (map piece (passed ++ event ∷ [])) ≡ flat_map f (map piece passed) ++ f (piece event)
+flat-next f piece passed event = grind (arith, common_steps)
+
+count-next : (f : Piece → Bool) (piece : StreamEvent → Piece) (passed : List StreamEvent) (event : StreamEvent)
+    → count_by f (map piece (passed ++ event ∷ [])) ≡ count_by f (map piece passed) + from_bool (f (piece event))
+count-next f piece [] event = grind (arith, common_steps)
+count-next f piece (first ∷ passed) event = grind (arith, common_steps, count-next f piece passed event)
+
+refused-else : (p : Piece) → is_refused p ≡ not (is_accepted p)
+refused-else (OnOutput text) = refl
+refused-else (OnErrors text) = refl
+
+one-counted : (b : Bool) → from_bool b + from_bool (not b) ≡ 1
+one-counted true = refl
+one-counted false = refl
+
+-- the statuses are apart
+same-numbers : (a b : ℕ) → pos a ≡ pos b → a ≡ b
+same-numbers a b is = cc
+
+apart-0-74 : pos 0 ≡ pos 74 → ⊥
+apart-0-74 is = omega (arith, same-numbers 0 74 is)
+
+apart-74-0 : pos 74 ≡ pos 0 → ⊥
+apart-74-0 is = omega (arith, same-numbers 74 0 is)
+
+apart-73-0 : pos 73 ≡ pos 0 → ⊥
+apart-73-0 is = omega (arith, same-numbers 73 0 is)
+
+apart-73-74 : pos 73 ≡ pos 74 → ⊥
+apart-73-74 is = omega (arith, same-numbers 73 74 is)
+
+module _ (piece : StreamEvent → Piece) (octets : List ℕ) (from : ℕ) (output errors : List ℕ) (texts : Texts) (so : SoFar piece octets from output errors texts) where
+  pub so-far-next : (event : StreamEvent) (output' errors' : List ℕ) (texts' : Texts) → events_from texts.at octets ≡ event ∷ events_from texts'.at octets → texts.at + 1 ≤ texts'.at
+      → take texts'.output_length output' ≡ take texts.output_length output ++ output_of (piece event) → take texts'.errors_length errors' ≡ take texts.errors_length errors ++ errors_of (piece event)
+      → texts'.output_length ≤ length output' → texts'.errors_length ≤ length errors'
+      → texts'.accepted ≡ texts.accepted + from_bool (is_accepted (piece event)) → texts'.refused ≡ texts.refused + from_bool (not (is_accepted (piece event)))
+      → SoFar piece octets from output' errors' texts'
+  so-far-next event output' errors' texts' next moves written blamed output_fits errors_fits accepted refused = record {
+    passed = so.passed ++ event ∷ [];
+    events = so.events ∙ ap (λ es. so.passed ++ es) next ∙ sym (append_assoc so.passed (event ∷ []) (events_from texts'.at octets));
+    leaves = record {
+      written = written ∙ ap (λ l. l ++ output_of (piece event)) so.leaves.written ∙ sym (flat-next output_of piece so.passed event);
+      blamed = blamed ∙ ap (λ l. l ++ errors_of (piece event)) so.leaves.blamed ∙ sym (flat-next errors_of piece so.passed event);
+      output_fits = output_fits;
+      errors_fits = errors_fits;
+      accepted = accepted ∙ ap (λ n. n + from_bool (is_accepted (piece event))) so.leaves.accepted ∙ sym (count-next is_accepted piece so.passed event);
+      refused = refused ∙ ap (λ n. n + from_bool (not (is_accepted (piece event)))) so.leaves.refused
+          ∙ ap (λ b. count_by is_refused (map piece so.passed) + from_bool b) (sym (refused-else (piece event)))
+          ∙ sym (count-next is_refused piece so.passed event);
+    };
+    few = omega (arith, so.few, moves, accepted, refused, one-counted (is_accepted (piece event)));
+  }
+
+  pub so-far-same : (texts' : Texts) → texts'.at ≡ texts.at → texts'.output_length ≡ texts.output_length → texts'.errors_length ≡ texts.errors_length → texts'.accepted ≡ texts.accepted
+      → texts'.refused ≡ texts.refused → SoFar piece octets from output errors texts'
+  so-far-same texts' at output_length errors_length accepted refused = record {
+    passed = so.passed;
+    events = so.events ∙ ap (λ n. so.passed ++ events_from n octets) (sym at);
+    leaves = record {
+      written = ap (λ n. take n output) output_length ∙ so.leaves.written;
+      blamed = ap (λ n. take n errors) errors_length ∙ so.leaves.blamed;
+      output_fits = omega (arith, so.leaves.output_fits, output_length);
+      errors_fits = omega (arith, so.leaves.errors_fits, errors_length);
+      accepted = accepted ∙ so.leaves.accepted;
+      refused = refused ∙ so.leaves.refused;
+    };
+    few = omega (arith, so.few, at, accepted, refused);
+  }
+
+  -- the text of the next event was put
+  pub so-far-put : (place moves : ℕ) (m : List ℕ) (text : EventText) (mid texts' : Texts) (output' errors' : List ℕ) → (w : WritesEvent piece (texts.at + place) m moves text)
+      → events_from texts.at octets ≡ w.event ∷ events_from (texts.at + place + moves) octets → HasPut text texts output errors mid output' errors'
+      → texts'.at ≡ texts.at + place + moves → texts'.output_length ≡ mid.output_length → texts'.errors_length ≡ mid.errors_length
+      → texts'.accepted ≡ mid.accepted + from_bool text.accepted → texts'.refused ≡ mid.refused + from_bool (not text.accepted)
+      → SoFar piece octets from output' errors' texts'
+  so-far-put place moves m text mid texts' output' errors' w next put at output_length errors_length accepted refused =
+      so-far-next w.event output' errors' texts' (next ∙ ap (λ n. w.event ∷ events_from n octets) (sym at)) (omega (arith, at, w.some))
+      (ap (λ n. take n output') output_length ∙ put.written ∙ ap (λ l. take texts.output_length output ++ l) w.is.output)
+      (ap (λ n. take n errors') errors_length ∙ put.blamed ∙ ap (λ l. take texts.errors_length errors ++ l) w.is.errors)
+      (omega (arith, output_length, put.output_fits)) (omega (arith, errors_length, put.errors_fits))
+      (accepted ∙ ap (λ n. n + from_bool text.accepted) put.accepted ∙ ap (λ b. texts.accepted + from_bool b) w.is.accepted)
+      (refused ∙ ap (λ n. n + from_bool (not text.accepted)) put.refused ∙ ap (λ b. texts.refused + from_bool (not b)) w.is.accepted)
+
+  -- no event is left
+  pub so-far-done : events_from texts.at octets ≡ [] → Passes piece octets from output errors texts (pos 0)
+  so-far-done none = record { passed = so.passed; events = so.events; leaves = so.leaves; done = λ _. none; stops = λ is. absurd (apart-0-74 is) }
+
+  pub so-far-stopped : Passes piece octets from output errors texts (pos 73)
+  so-far-stopped = record { passed = so.passed; events = so.events; leaves = so.leaves; done = λ is. absurd (apart-73-0 is); stops = λ is. absurd (apart-73-74 is) }
+
+  -- there is no room for the next event
+  pub so-far-full : (event : StreamEvent) (more : List StreamEvent) → events_from texts.at octets ≡ event ∷ more → LacksRoom output errors texts (piece event)
+      → Passes piece octets from output errors texts (pos 74)
+  so-far-full event more next lacks = record {
+    passed = so.passed;
+    events = so.events;
+    leaves = so.leaves;
+    done = λ is. absurd (apart-74-0 is);
+    stops = λ is. subst (λ es. StopsBefore piece output errors texts es) (sym next) lacks;
+  }
+
+-- the text of the next event has no room
+pub so-far-no-room : (piece : StreamEvent → Piece) (octets : List ℕ) (from : ℕ) (output errors : List ℕ) (texts texts' : Texts) (place moves : ℕ) (m : List ℕ) (text : EventText)
+    (output' errors' : List ℕ)
+    → SoFar piece octets from output errors texts → (w : WritesEvent piece (texts.at + place) m moves text) → events_from texts.at octets ≡ w.event ∷ events_from (texts.at + place + moves) octets
+    → HasNoRoom text texts output errors texts' output' errors' → Passes piece octets from output' errors' texts' (pos 74)
+so-far-no-room piece octets from output errors texts texts' place moves m text output' errors' so w next none =
+    let so' : SoFar piece octets from output errors texts' = so-far-same piece octets from output errors texts so texts' none.at none.output_length none.errors_length none.accepted none.refused in
+    let lacks : LacksRoom output errors texts' (piece w.event) = record {
+      output_needed = none.output_needed ∙ ap length w.is.output;
+      errors_needed = none.errors_needed ∙ ap length w.is.errors;
+      lacks = none.lacks;
+    } in
+    rw (none.same_output, none.same_errors) (so-far-full piece octets from output errors texts' so' w.event (events_from (texts.at + place + moves) octets) (ap (λ n. events_from n
+    octets) none.at ∙ next) lacks)
+
+-- nothing was written
+pub so-far-none : (piece : StreamEvent → Piece) (octets : List ℕ) (output errors : List ℕ) (texts : Texts) → texts.output_length ≡ 0 → texts.errors_length ≡ 0 → texts.accepted ≡ 0 → texts.refused ≡ 0
+    → SoFar piece octets texts.at output errors texts
+so-far-none piece octets output errors texts output_length errors_length accepted refused = record {
+  passed = [];
+  events = refl;
+  leaves = record {
+    written = ap (λ n. take n output) output_length;
+    blamed = ap (λ n. take n errors) errors_length;
+    output_fits = omega (arith, output_length);
+    errors_fits = omega (arith, errors_length);
+    accepted = accepted;
+    refused = refused;
+  };
+  few = omega (arith, accepted, refused);
+}
+
+-- after the last event the search is at the end
+pub so-far-ended : (piece : StreamEvent → Piece) (octets : List ℕ) (from : ℕ) (output errors : List ℕ) (texts texts' : Texts) → SoFar piece octets from output errors texts
+    → events_from texts.at octets ≡ []
+    → texts.at ≤ length octets → texts'.at ≡ length octets → texts'.output_length ≡ texts.output_length → texts'.errors_length ≡ texts.errors_length → texts'.accepted ≡ texts.accepted
+    → texts'.refused ≡ texts.refused → SoFar piece octets from output errors texts'
+so-far-ended piece octets from output errors texts texts' so none within at output_length errors_length accepted refused = record {
+  passed = so.passed;
+  events = so.events ∙ ap (λ es. so.passed ++ es) (none ∙ sym (events-end octets texts'.at (omega (arith, at))));
+  leaves = record {
+    written = ap (λ n. take n output) output_length ∙ so.leaves.written;
+    blamed = ap (λ n. take n errors) errors_length ∙ so.leaves.blamed;
+    output_fits = omega (arith, so.leaves.output_fits, output_length);
+    errors_fits = omega (arith, so.leaves.errors_fits, errors_length);
+    accepted = accepted ∙ so.leaves.accepted;
+    refused = refused ∙ so.leaves.refused;
+  };
+  few = omega (arith, so.few, at, within, accepted, refused);
+}
+
+-- ---- A call that reads no stream.
+
+pub nothing-passed : (piece : StreamEvent → Piece) (octets : List ℕ) (from : ℕ) (output errors : List ℕ) (texts : Texts) → texts.at ≡ from → texts.output_length ≡ 0
+    → texts.errors_length ≡ 0 → texts.accepted ≡ 0
+    → texts.refused ≡ 0 → Passes piece octets from output errors texts (pos 73)
+nothing-passed piece octets from output errors texts at output_length errors_length accepted refused =
+    subst (λ n. Passes piece octets n output errors texts (pos 73)) at
+    (so-far-stopped piece octets texts.at output errors texts (so-far-none piece octets output errors texts output_length errors_length accepted refused))
+
+-- a fact of two tables that may not be read
+pub unless-read : {A B : Type 0} (r : Result A TableFault) (s : Result B TableFault) (P : A → B → Type 0) → ((a : A) (b : B) → P a b) → IfOk r (λ a. IfOk s (λ b. P a b))
+unless-read (Ok a) (Ok b) P all = all a b
+unless-read (Ok a) (Err fault) P all = tt
+unless-read (Err fault) s P all = tt
+
+-- the status of a call whose Table D cannot be read
+pub table-d-status : (records : List Record) (fault : TableFault) (status : ℤ) → ReadsTableD records (Err fault) → fault ≢ tables.Memory → status ≡ pos (100 + (table_report fault).0)
+    → IfErr (table_d_of records) (λ why. IsTableStatus 100 why status) × IfOk (table_d_of records) (λ d. IsRunStatus status ⊎ IsCycleStatus d status)
+table-d-status records tables.Header status reads some is = rw (reads some) (inl is, tt)
+table-d-status records (tables.Row n) status reads some is = rw (reads some) (inl is, tt)
+table-d-status records (tables.Duplicate fxy) status reads some is = rw (reads some) (inl is, tt)
+table-d-status records (tables.Cycle fxy) status (table, reads, cycle) some is = rw reads (tt, inr (is, (fxy, cycle)))
+table-d-status records tables.TableSize status reads some is = rw (reads some) (inl is, tt)
+table-d-status records tables.Csv status reads some is = rw (reads some) (inl is, tt)
+table-d-status records tables.Memory status reads some is = absurd (some refl)

@@ -1,0 +1,12 @@
+use Rattle.std.proofs.Common.{◌-◌, length}
+use Rattle.bufr_c.specs.Commands.{piece_by}
+use Rattle.bufr_c.proofs.EventLemmas.{SoFar}
+use Rattle.bufr_c.proofs.events.write_events.Given as goal
+
+-- the texts of the events so far were written
+abbrev pub invariant-loop-texts : goal.invariant-loop-texts
+invariant-loop-texts l = SoFar (piece_by l.command) l.octets l.fn.texts.at l.output l.errors l.texts
+
+-- the octets that are left
+abbrev pub decreases-loop-texts : goal.decreases-loop-texts
+decreases-loop-texts l = length l.octets - l.texts.at

@@ -1,0 +1,129 @@
+-- What a call leaves in the caller's buffers. (a choice of this project)
+-- Cited by public contracts.
+use Rattle.std.specs.Prelude.{ℕ, ◌+◌, ◌<◌, ◌≤◌, ℤ, pos, ◌≡◌, ◌⊎◌, List, [], ◌∷◌, ◌++◌, ◌-◌, Bool, true, false, codes, length, take, drop, map, flat_map, count_by}
+use Rattle.bufr_frame.specs.Prelude.{StreamEvent, StrayAt, StartsWithBufr, scan_from, classify, stated_length, stream_event, candidate_len, has_word_at}
+use Rattle.bufr_frame.specs.declared.fault.Cause.{Cause}
+use Rattle.bufr_tables.specs.Prelude.{IsFirstCycle, Sequence, table_report}
+use Rattle.bufr_tables.specs.declared.fault.TableFault.{TableFault}
+use Rattle.bufr_cli.specs.Prelude.{Piece, output_of, errors_of, is_accepted, is_refused}
+use Rattle.bufr_c.specs.declared.events.Candidate.{Candidate}
+use Rattle.bufr_c.specs.declared.events.Candidate.TheVariants.{Stray, Frame}
+use Rattle.bufr_c.specs.declared.command.EventText.{EventText}
+use Rattle.bufr_c.specs.declared.texts.Texts.{Texts}
+use Rattle.bufr_c.specs.Commands.{IsTextOf}
+
+-- the events of a stream from a place on; offsets count from the start of the stream
+abbrev pub events_from : (at : ℕ) → List ℕ → List StreamEvent
+events_from at octets = scan_from 0 at (drop at octets)
+
+-- A message of n octets begins there.
+pub record IsMessage (m : List ℕ) (n : ℕ) : Type 0 where
+  pub begins : StartsWithBufr m
+  pub states : n ≡ stated_length m
+  pub least : 12 ≤ n
+  pub within : n ≤ length m
+  pub ends : has_word_at (codes "7777") (n - 4) m ≡ true
+
+-- A stray `BUFR` begins there, for this cause.
+pub record IsStray (m : List ℕ) (cause : Cause) : Type 0 where
+  pub event : (offset : ℕ) → stream_event offset m (classify m) ≡ StrayAt offset cause ∷ []
+  pub moves : candidate_len m (classify m) ≡ 4
+  pub within : 4 ≤ length m
+
+-- what begins there
+abbrev pub IsCandidate : List ℕ → Candidate → Type 0
+IsCandidate m (Stray cause) = IsStray m cause
+IsCandidate m (Frame n) = IsMessage m n
+
+-- The text of the event that begins there was made, and the search continues after it.
+pub record WritesEvent (piece : StreamEvent → Piece) (offset : ℕ) (m : List ℕ) (n : ℕ)
+    (text : EventText) : Type 0 where
+  pub event : StreamEvent
+  pub here : stream_event offset m (classify m) ≡ event ∷ []
+  pub moves : n ≡ candidate_len m (classify m)
+  pub some : 4 ≤ n
+  pub within : n ≤ length m
+  pub is : IsTextOf text (piece event)
+
+-- The text of an event was appended to the earlier ones.
+pub record HasPut (text : EventText) (old : Texts) (output errors : List ℕ) (new : Texts)
+    (output' errors' : List ℕ) : Type 0 where
+  pub written : take new.output_length output'
+      ≡ take old.output_length output ++ text.output.octets.items
+  pub blamed : take new.errors_length errors'
+      ≡ take old.errors_length errors ++ text.errors.octets.items
+  pub output_fits : new.output_length ≤ length output'
+  pub errors_fits : new.errors_length ≤ length errors'
+  pub at : new.at ≡ old.at
+  pub accepted : new.accepted ≡ old.accepted
+  pub refused : new.refused ≡ old.refused
+
+-- There is no room for the text of an event, and nothing was written.
+pub record HasNoRoom (text : EventText) (old : Texts) (output errors : List ℕ) (new : Texts)
+    (output' errors' : List ℕ) : Type 0 where
+  pub same_output : output' ≡ output
+  pub same_errors : errors' ≡ errors
+  pub output_length : new.output_length ≡ old.output_length
+  pub errors_length : new.errors_length ≡ old.errors_length
+  pub at : new.at ≡ old.at
+  pub accepted : new.accepted ≡ old.accepted
+  pub refused : new.refused ≡ old.refused
+  pub output_needed : new.output_needed ≡ length text.output.octets.items
+  pub errors_needed : new.errors_needed ≡ length text.errors.octets.items
+  pub lacks : (length output < new.output_length + new.output_needed)
+      ⊎ (length errors < new.errors_length + new.errors_needed)
+
+-- whether there was room for the text of an event
+abbrev pub PutsText : EventText → Texts → (output errors : List ℕ) → Texts
+    → (output' errors' : List ℕ) → Bool → Type 0
+PutsText text old output errors new output' errors' true =
+    HasPut text old output errors new output' errors'
+PutsText text old output errors new output' errors' false =
+    HasNoRoom text old output errors new output' errors'
+
+-- The buffers begin with the texts of these pieces; `texts` has their lengths and counts.
+pub record Leaves (output errors : List ℕ) (texts : Texts) (pieces : List Piece) : Type 0 where
+  pub written : take texts.output_length output ≡ flat_map output_of pieces
+  pub blamed : take texts.errors_length errors ≡ flat_map errors_of pieces
+  pub output_fits : texts.output_length ≤ length output
+  pub errors_fits : texts.errors_length ≤ length errors
+  pub accepted : texts.accepted ≡ count_by is_accepted pieces
+  pub refused : texts.refused ≡ count_by is_refused pieces
+
+-- There is no room for the text of this piece, which needs so many octets.
+pub record LacksRoom (output errors : List ℕ) (texts : Texts) (piece : Piece) : Type 0 where
+  pub output_needed : texts.output_needed ≡ length (output_of piece)
+  pub errors_needed : texts.errors_needed ≡ length (errors_of piece)
+  pub lacks : (length output < texts.output_length + texts.output_needed)
+      ⊎ (length errors < texts.errors_length + texts.errors_needed)
+
+-- there is no room for the first of these events
+abbrev pub StopsBefore : (StreamEvent → Piece) → (output errors : List ℕ) → Texts
+    → List StreamEvent → Type 0
+StopsBefore piece output errors texts [] = ⊥
+StopsBefore piece output errors texts (next ∷ more) =
+    LacksRoom output errors texts (piece next)
+
+-- A call wrote the texts of the events from `from` up to `texts.at`, where the next call continues.
+-- Status 0 says that no event is left, 74 that there is no room for the next one.
+pub record Passes (piece : StreamEvent → Piece) (octets : List ℕ) (from : ℕ)
+    (output errors : List ℕ) (texts : Texts) (status : ℤ) : Type 0 where
+  pub passed : List StreamEvent
+  pub events : events_from from octets ≡ passed ++ events_from texts.at octets
+  pub leaves : Leaves output errors texts (map piece passed)
+  pub done : status ≡ pos 0 → events_from texts.at octets ≡ []
+  pub stops : status ≡ pos 74
+      → StopsBefore piece output errors texts (events_from texts.at octets)
+
+-- the status of a call that read its tables
+abbrev pub IsRunStatus : ℤ → Type 0
+IsRunStatus status = (status ≡ pos 0) ⊎ ((status ≡ pos 73) ⊎ (status ≡ pos 74))
+
+-- the status of a call whose Table D has a sequence that contains itself
+abbrev pub IsCycleStatus : List Sequence → ℤ → Type 0
+IsCycleStatus table status = (status ≡ pos 143) × ((fxy : ℕ) × IsFirstCycle table fxy)
+
+-- the status of a call whose table is invalid: the number of the fault plus `more`, or 73
+abbrev pub IsTableStatus : (more : ℕ) → TableFault → ℤ → Type 0
+IsTableStatus more fault status =
+    (status ≡ pos (more + (table_report fault).0)) ⊎ (status ≡ pos 73)

@@ -1,0 +1,6 @@
+-- a line that reports another offset
+pub mod Moving
+-- what a command writes for an event, and the text of an event
+pub mod Commands
+-- what a call leaves in the caller's buffers
+pub mod Leaving

@@ -1,0 +1,7 @@
+-- A line that reports another offset. (a choice of this project)
+use Rattle.std.specs.Prelude.{ℕ, List, [], ◌++◌, length, take, drop, decimal, nat_lt, if◌then◌else◌}
+
+-- a line that reports offset 0 after seven octets, with another offset instead; an empty line stays
+abbrev pub moved : (offset : ℕ) → List ℕ → List ℕ
+moved offset line =
+    if nat_lt (length line) 8 then [] else (take 7 line ++ decimal offset) ++ drop 8 line

@@ -1,0 +1,134 @@
+//! The text of one event, as the command writes it.
+ghost use Rattle.std.specs.Prelude.{◌≡◌, ◌∷◌, [], false, OnOk};
+ghost use Rattle.bufr_frame.specs.Prelude.{scan, FrameAt, cause_report};
+ghost use Rattle.bufr_cli.specs.Prelude.{OnErrors, dump_piece, fault_line, ls_piece};
+ghost use Rattle.bufr_c.specs.Commands.{piece_by, IsTextOf};
+
+use crate::text_out::{TextOut, write_moved};
+use bufr_bits::Device;
+use bufr_cli::{run_dump, run_ls};
+use bufr_frame::{Cause, RunFault};
+use bufr_tables::{TableB, TableD};
+use std::alloc::Global;
+
+/// A command over a stream.
+#[derive(Clone, Copy)]
+pub(crate) enum Command<'t> {
+    /// `bufr ls`
+    List,
+    /// `bufr dump` by these tables.
+    Dump(&'t TableB, &'t TableD),
+}
+
+/// The text of one event, and memory for making it.
+#[derive(Drop)]
+pub(crate) struct EventText {
+    alloc: Global,
+    /// The text for the output.
+    pub(crate) output: TextOut,
+    /// The text for the errors.
+    pub(crate) errors: TextOut,
+    /// Whether the event is an accepted message.
+    pub(crate) accepted: bool,
+    /// Output and errors that report offset 0.
+    lines: TextOut,
+    faults: TextOut,
+}
+
+/// The line of a stray `BUFR` at offset 0.
+fn stray_line(cause: Cause) -> &'static [u8]
+    ensures { result.now ≡ fault_line 0 (cause_report cause) }
+{
+    match cause {
+        Cause::Cut => b"offset 0: 1 cut\n",
+        Cause::ShortLength => b"offset 0: 2 short length\n",
+        Cause::NoEnd => b"offset 0: 3 no end\n",
+    }
+}
+
+impl EventText {
+    pub(crate) fn new(alloc: Global) -> EventText {
+        EventText {
+            alloc,
+            output: TextOut::new(alloc),
+            errors: TextOut::new(alloc),
+            accepted: false,
+            lines: TextOut::new(alloc),
+            faults: TextOut::new(alloc),
+        }
+    }
+
+    /// Clears all text and retains its memory.
+    fn clear(&mut self)
+        ensures output { self.new.output.octets.items ≡ [] }
+        ensures errors { self.new.errors.octets.items ≡ [] }
+        ensures lines { self.new.lines.octets.items ≡ [] }
+        ensures faults { self.new.faults.octets.items ≡ [] }
+        ensures accepted { self.new.accepted ≡ false }
+    {
+        self.output.clear();
+        self.errors.clear();
+        self.lines.clear();
+        self.faults.clear();
+        self.accepted = false;
+    }
+
+    /// Makes the text of a stray `BUFR`.
+    pub(crate) fn set_stray(&mut self, offset: u64, cause: Cause) -> Result<(), RunFault>
+        ensures { OnOk result (IsTextOf self.new
+            (OnErrors (fault_line offset (cause_report cause)))) }
+    {
+        self.clear();
+        write_moved(stray_line(cause), offset, &mut self.errors)
+    }
+
+    /// Makes the text that `bufr ls` writes for a message. It lists the octets of the message
+    /// alone, and then corrects the offset.
+    fn set_listed(&mut self, offset: u64, octets: &[u8]) -> Result<(), RunFault>
+        requires { scan octets.now ≡ FrameAt 0 octets.now ∷ [] }
+        ensures { OnOk result (IsTextOf self.new (ls_piece (FrameAt offset octets.now))) }
+    {
+        self.clear();
+        let mut r = Device::new(octets);
+        let tally = run_ls(self.alloc, &mut r, &mut self.lines, &mut self.faults)?;
+        self.accepted = tally.accepted > 0;
+        write_moved(self.lines.octets.as_slice(), offset, &mut self.output)?;
+        write_moved(self.faults.octets.as_slice(), offset, &mut self.errors)
+    }
+
+    /// Makes the text that `bufr dump` writes for a message, in the same way.
+    fn set_dumped(
+        &mut self,
+        offset: u64,
+        octets: &[u8],
+        b: &TableB,
+        d: &TableD,
+    ) -> Result<(), RunFault>
+        requires { scan octets.now ≡ FrameAt 0 octets.now ∷ [] }
+        ensures { OnOk result (IsTextOf self.new
+            (dump_piece b.now d.now (FrameAt offset octets.now))) }
+    {
+        self.clear();
+        let mut r = Device::new(octets);
+        let tally = run_dump(self.alloc, &mut r, &mut self.output, &mut self.faults, b, d)?;
+        self.accepted = tally.accepted > 0;
+        write_moved(self.faults.octets.as_slice(), offset, &mut self.errors)
+    }
+
+    /// Makes the text that a command writes for a message.
+    pub(crate) fn set_message(
+        &mut self,
+        command: &Command<'_>,
+        offset: u64,
+        octets: &[u8],
+    ) -> Result<(), RunFault>
+        requires { scan octets.now ≡ FrameAt 0 octets.now ∷ [] }
+        ensures { OnOk result (IsTextOf self.new
+            (piece_by command.now (FrameAt offset octets.now))) }
+    {
+        match command {
+            Command::List => self.set_listed(offset, octets),
+            Command::Dump(b, d) => self.set_dumped(offset, octets, b, d),
+        }
+    }
+}

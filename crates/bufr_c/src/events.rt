@@ -1,0 +1,134 @@
+//! Finds the events of a stream in memory, and writes their texts into the caller's buffers.
+ghost use Rattle.std.specs.Prelude.{◌≡◌, ◌≤◌, ◌+◌, ◌++◌, length, take, drop, codes, OnOk, IfOk};
+ghost use Rattle.bufr_frame.specs.Prelude.{StartsWithBufr};
+ghost use Rattle.bufr_c.specs.Commands.{piece_by};
+ghost use Rattle.bufr_c.specs.Leaving.{IsCandidate, IsRunStatus, Passes, PutsText, WritesEvent};
+
+use crate::command::{Command, EventText};
+use crate::texts::{DONE, NO_ROOM, OUT_OF_MEMORY, Texts};
+use bufr_frame::{Cause, RunFault};
+use memchr::memmem;
+use std::alloc::Global;
+
+/// What begins at a `BUFR`.
+#[derive(Clone, Copy)]
+pub(crate) enum Candidate {
+    /// No message: the word is a stray one.
+    Stray(Cause),
+    /// A message of this length.
+    Frame(usize),
+}
+
+/// What begins where `m`, which begins with `BUFR`, begins: the first case that holds counts.
+fn classify(m: &[u8]) -> Candidate
+    requires { StartsWithBufr m.now }
+    ensures { IsCandidate m.now result }
+{
+    if m.len() < 8 {
+        return Candidate::Stray(Cause::Cut);
+    }
+    let len = 65_536 * (m[4] as usize) + 256 * (m[5] as usize) + m[6] as usize;
+    if m.len() < len {
+        return Candidate::Stray(Cause::Cut);
+    }
+    if len < 12 {
+        return Candidate::Stray(Cause::ShortLength);
+    }
+    if !m[len - 4..].starts_with(b"7777") {
+        return Candidate::Stray(Cause::NoEnd);
+    }
+    Candidate::Frame(len)
+}
+
+/// Makes the text of the event where `m`, which begins with `BUFR`, begins. Returns the number of
+/// octets after which the search continues.
+fn set_event(
+    command: &Command<'_>,
+    offset: u64,
+    m: &[u8],
+    text: &mut EventText,
+) -> Result<usize, RunFault>
+    requires { StartsWithBufr m.now }
+    ensures { IfOk result (λ moves. WritesEvent (piece_by command.now) offset m.now moves
+        text.new) }
+{
+    match classify(m) {
+        Candidate::Stray(cause) => {
+            text.set_stray(offset, cause)?;
+            Ok(4)
+        }
+        Candidate::Frame(len) => {
+            text.set_message(command, offset, &m[..len])?;
+            Ok(len)
+        }
+    }
+}
+
+/// Copies a text into `to`, from index `at` on. Returns the index after the text.
+fn put(text: &[u8], at: usize, to: &mut [u8]) -> usize
+    requires { at + length text.now ≤ length to.old }
+    ensures end { result ≡ at + length text.now }
+    ensures text { take result to.new ≡ take at to.old ++ text.now }
+    ensures room { length to.new ≡ length to.old }
+{
+    let end = at + text.len();
+    to[at..end].copy_from_slice(text);
+    end
+}
+
+/// Appends the text of an event to the earlier texts if there is room, and returns whether there
+/// is. If not, `texts` says how much room the event needs.
+fn write_text(text: &EventText, output: &mut [u8], errors: &mut [u8], texts: &mut Texts) -> bool
+    requires output { texts.old.output_length ≤ length output.old }
+    requires errors { texts.old.errors_length ≤ length errors.old }
+    ensures { PutsText text.now texts.old output.old errors.old texts.new output.new errors.new
+        result }
+{
+    let output_text = text.output.octets.as_slice();
+    let errors_text = text.errors.octets.as_slice();
+    if output_text.len() > output.len() - texts.output_length
+        || errors_text.len() > errors.len() - texts.errors_length
+    {
+        texts.output_needed = output_text.len();
+        texts.errors_needed = errors_text.len();
+        return false;
+    }
+    texts.output_length = put(output_text, texts.output_length, output);
+    texts.errors_length = put(errors_text, texts.errors_length, errors);
+    true
+}
+
+/// Writes the texts of the events from `texts.at` on, one event at a time, while there is room.
+pub(crate) fn write_events(
+    alloc: Global,
+    command: &Command<'_>,
+    octets: &[u8],
+    output: &mut [u8],
+    errors: &mut [u8],
+    texts: &mut Texts,
+) -> i32
+    ensures texts { Passes (piece_by command.now) octets.now texts.old.at output.new errors.new
+        texts.new result }
+    ensures status { IsRunStatus result }
+{
+    *texts = Texts::at(texts.at);
+    let word = memmem::Finder::new(b"BUFR");
+    let mut text = EventText::new(alloc);
+    while texts.at < octets.len() {
+        let Some(place) = word.find(&octets[texts.at..]) else {
+            texts.at = octets.len();
+            return DONE;
+        };
+        let begin = texts.at + place;
+        let Ok(moves) = set_event(command, begin as u64, &octets[begin..], &mut text) else {
+            return OUT_OF_MEMORY;
+        };
+        if !write_text(&text, output, errors, texts) {
+            return NO_ROOM;
+        }
+        texts.accepted += u64::from(text.accepted);
+        texts.refused += u64::from(!text.accepted);
+        texts.at = begin + moves;
+    }
+    DONE
+}
