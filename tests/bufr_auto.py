@@ -183,7 +183,7 @@ class Trial:
             for form, given in zip(("a pipe", "pieces"), done):
                 told = b"".join(line for line in given.stderr.splitlines(True) if not line.startswith(b"bufr-auto: "))
                 self.same(f"text {number}, {form}", (given.stdout, told, given.returncode), wanted)
-        for text in (b"", b"\n", b"message\n", b"end", b"# " + b"x" * 5000):
+        for text in (b"", b"\n", b"message\n", b"message\nedition 4", b"end", b"# " + b"x" * 5000):
             done = self.auto("--encode", stream=text)
             told = b"".join(line for line in done.stderr.splitlines(True) if not line.startswith(b"bufr-auto: "))
             self.same(f"{text[:9]}", (done.stdout, told, done.returncode), self.encoded_one_by_one(text))

@@ -187,6 +187,7 @@ def tells_years_of_the_century(folder: pathlib.Path) -> None:
         (["time=2014,0014-05"], [first, whole, of_14], ""),
         (["time=2015", "edition=4"], [whole_next], ""),
         (["time=2013"], [], ""),
+        (["time!=2014"], [first, second, next_year, of_14, whole_next], ""),
         (["time=0014", "edition=3"], [first, second], ""),
         (
             ["time=2014,0015", "time=2015,0014"],
