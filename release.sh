@@ -53,9 +53,10 @@ git checkout -q --detach "$commit"
 # prove WORD..: runs a command of the toolchain, and prints and logs what it says. A signal that ends this script ends the
 # command too: `wait` returns at once, and does not wait for the command as the shell would in the foreground.
 prove() {
-    setpriv --pdeathsig TERM "$@" > "$work/log" 2>&1 &
+    : > "$work/log"
+    setpriv --pdeathsig TERM "$@" >> "$work/log" 2>&1 &
     running=$!
-    tail -n +1 -f --pid=$running "$work/log" &
+    tail -s 0.1 -n +1 -f --pid=$running "$work/log" &
     wait $running && status=0 || status=$?
     running=''
     wait
@@ -68,12 +69,13 @@ if [ $proof = proved ]; then
     program=crates/bufr/out/bufr
     kit=$(rt version) || die 'the toolchain (rt) is not on PATH; use --unproved PROGRAM to release a program without a proof'
     [ "${kit##* }" = "$logic" ] || die "the toolchain is $kit, but README.md names logic $logic"
-    unset RT_BACKEND # `rt run` would obey it, but `rt ci` does not
+    unset RT_BACKEND # `rt ci` ignores it, but `rt run` does not
+    shopt -s nullglob
+    proved=(crates/*/src crates/*/must-fail/*.edit)
     prove rt ci --anew || die 'the proofs or the tests failed (rt ci); the output above says which'
     gate=$(tail -n 1 "$work/log")
-    # `rt ci` also passes if a must-fail edit is bad, and does not count it.
-    count=$(find crates -path 'crates/*/src' -prune -print -o -path 'crates/*/must-fail/*.edit' -print | wc -l)
-    [ "$gate" = "$count passed, 0 failed" ] || die "there are $count crates and must-fail edits, but rt ci says: $gate"
+    # `rt ci` also succeeds if a must-fail edit is bad, but does not count it.
+    [ "$gate" = "${#proved[@]} passed, 0 failed" ] || die "there are ${#proved[@]} crates and must-fail edits, but rt ci says: $gate"
     of_gate=$(sum_of $program)
     # A second build, from what `rt ci` does not leave, writes the stamp: the checksum of all sources, then that of the program.
     prove env -C crates/bufr rt run -- --version || die 'the second build failed (rt run); the output above says why'
