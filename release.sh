@@ -1,7 +1,8 @@
 #!/usr/bin/env bash
 # Makes a release of the current commit: an archive that installs without the toolchain, the wheel, and their checksums.
 #
-#     ./release.sh [DIST]                         proves everything from scratch first, which takes one to two hours
+#     ./release.sh [DIST]                         proves everything from scratch first, and the program a second time:
+#                                                 up to three hours
 #     ./release.sh --unproved PROGRAM [DIST]      packs this program; its BUILD file says that it is unproved
 #
 # The files go to the directory DIST, by default dist. If a step fails or is interrupted, the files there are unchanged.
