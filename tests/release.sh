@@ -36,6 +36,12 @@ done
 (cd "$work/first" && sha256sum --quiet -c SHA256SUMS) || fail "the sums are not those of the files"
 archive=$(echo "$work"/first/*.tar.gz)
 
+# The pages of a release lead to what is there: it has each file of the repository, and its own test follows the links.
+mkdir "$work/read"
+tar -xzf "$archive" -C "$work/read" --strip-components 1
+git -C "$work/one" ls-files | (cd "$work/read" && xargs ls -d) > "$work/told" || fail "files of the repository are not in the release"
+"$work/read/tests/docs_names.py" "$work/read/bin/bufr" > "$work/told" || fail "the pages of the release: $(< "$work/told")"
+
 # refuses STATUS TEXT WORD..: these words fail with this status, say why, and leave the first release as it was.
 refuses() {
     local wanted=$1 text=$2
@@ -168,11 +174,13 @@ refuses_damaged './tables/wmo-99;' 'ln -s wmo-39 tables/wmo-99'
 refuses_damaged './tables/wmo-99;' 'mkdir tables/wmo-99'
 refuses_damaged './man/bufr.1;' 'echo x >> man/bufr.1; sed -i /man.bufr.1/d SHA256SUMS'
 refuses_damaged './docs/guide.md: ' 'rm docs/guide.md'
-# What Python caches beside the scripts is none of them.
+# What Python caches beside the scripts is none of them, nor what the toolchain builds.
+mkdir -p "$work/damaged/crates/bufr/out"
+touch "$work/damaged/crates/bufr/out/bufr"
 tar -xzf "$archive" -C "$work/damaged" --strip-components 1
 BUFR=$bufr "$work/damaged/scripts/bufr-auto" --version > "$work/told"
 [ -d "$work/damaged/scripts/__pycache__" ] || mkdir "$work/damaged/scripts/__pycache__"
-"$work/damaged/install.sh" --unproved "$work/prefix" > "$work/told" || fail "what Python cached: $(< "$work/told")"
+"$work/damaged/install.sh" --unproved "$work/prefix" > "$work/told" || fail "what was cached or built: $(< "$work/told")"
 
 # The clean machine.
 unshare -mnpf true 2> "$work/errors" || { echo "$0: unshare is not allowed here, so no clean machine was tried" && exit; }
