@@ -287,6 +287,18 @@ def tells_a_feed() -> None:
         feed.stdin.write(message)
         feed.stdin.close()
         want(feed.wait() == 0 and not feed.stderr.read(), "a live feed's note on years comes again")
+    # This feed does not pause, and its minutes are short.
+    script = """if True:
+        import os, runpy, sys
+        sys.argv.pop(0)
+        sys.path.insert(0, os.path.dirname(sys.argv[0]))
+        import bufr_guard
+        bufr_guard.INTERVAL = 0
+        runpy.run_path(sys.argv[0])
+    """
+    words = [sys.executable, "-c", script, str(EXTRACT), f"time={year}"]
+    done = subprocess.run(words, input=message * 20_000, stdout=subprocess.PIPE, stderr=subprocess.PIPE)
+    want(b" so far, " in done.stderr, f"a feed without a pause: {done.stderr}")
 
 
 def serves_a_feed(folder: pathlib.Path) -> None:

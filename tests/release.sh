@@ -110,7 +110,7 @@ fake "$logic" "cp '$work/unmarked' crates/bufr/out/bufr"
 refuses 1 'built with logic none' "$make" "$work/first"
 # A gate that takes so long that the run is interrupted: its script alone, as by `kill`, or all, as by Ctrl-C. Until it
 # ends, it makes the folders that the script removes.
-slow="echo \$\$ > '$work/pid'; at=\$PWD; while mkdir -p \"\$at/crates/bufr/out\"; do :; done"
+slow="at=\$PWD; while mkdir -p \"\$at/crates/bufr/out\"; do :; done"
 ends_it() { # ends_it SIGNAL: the script ended by this signal leaves nothing
     refuses $((128 + $(kill -l "$1"))) 'no release was made' env TMPDIR="$work/temporary" "$make" "$work/first"
     [ -z "$(ls -A "$work/temporary")" ] || fail "after $1 remains $(ls -A "$work/temporary")"
@@ -121,14 +121,14 @@ is_over() { # is_over: the toolchain ended with the script
 }
 mkdir "$work/temporary"
 for number in TERM INT HUP; do
-    fake "$logic" "kill -$number \$PPID; $slow"
+    fake "$logic" "echo \$\$ > '$work/pid'; kill -$number \$PPID; $slow"
     ends_it $number
     is_over
 done
-fake "$logic" '' "kill -TERM \$PPID; $slow"
+fake "$logic" '' "echo \$\$ > '$work/pid'; kill -TERM \$PPID; $slow"
 ends_it TERM
 is_over
-fake "$logic" "kill -KILL \$PPID; echo \$\$ > '$work/pid'; exec sleep 60"
+fake "$logic" "echo \$\$ > '$work/pid'; kill -KILL \$PPID; exec sleep 60"
 ! TMPDIR=$work/temporary "$make" "$work/fourth" > "$work/told" 2>&1 || fail "a killed script succeeds"
 is_over
 # All is proved.
