@@ -34,7 +34,7 @@ commit=$(git rev-parse HEAD) || die 'this directory is not a clone of the reposi
 # while its folder is removed; the second time it cannot.
 leave() {
     trap '' HUP INT TERM
-    kill $running 2> /dev/null && wait || true
+    kill "$running" 2> /dev/null && wait || true
     rm -rf "$clone" "$work" 2> /dev/null || rm -rf "$clone" "$work"
     [ -n "$is_made" ] || echo "$0: no release was made" >&2
 }
@@ -61,7 +61,7 @@ prove() {
     wait $running && status=0 || status=$?
     running=''
     wait
-    return $status
+    return "$status"
 }
 
 logic=$(sed -n 's/.*`logic \([0-9a-f]\{16\}\)`.*/\1/p' README.md | head -n 1)
