@@ -43,6 +43,8 @@ else:
     from _functools import partial
 
 BLOCK = 1 << 20
+# The notes on a feed so far are printed if it pauses for a second, and otherwise every this many seconds.
+INTERVAL = 60
 NOWHERE = float("inf")
 # The processes that were started and not yet waited for.
 RUNNING: list[list[int]] = []
@@ -367,17 +369,24 @@ def wait(process: int) -> int:
     return status if status >= 0 else 128 - status
 
 
-def lines_from(pipe: int, progress: Progress, place: Callable[[], int]) -> Iterator[bytes]:
+def lines_from(
+    pipe: int, progress: Progress, place: Callable[[], int], report: Optional[Callable[[], None]] = None
+) -> Iterator[bytes]:
     """Blocks of whole lines from a pipe, and at the end the incomplete last line, if there is one.
 
-    Meanwhile, `place()` is shown as progress.
+    Meanwhile, `place()` is shown as progress. `report()` is called in each second without a block, and every minute.
     """
-    rest, block = b"", b" "
+    rest, block, due = b"", b" ", time.monotonic() + INTERVAL
     while block:
-        if progress.is_on:
+        if progress.is_on or report:
             while not select.select([pipe], [], [], 1)[0]:
                 progress.at(place())
+                if report:
+                    report()
             progress.at(place())
+            if report and time.monotonic() >= due:
+                report()
+                due = time.monotonic() + INTERVAL
         block = os.read(pipe, BLOCK)
         lines, end, rest = (rest + block).rpartition(b"\n")
         if len(rest) > BLOCK:
