@@ -200,6 +200,8 @@ def reason(error: BaseException) -> str:
             return f"{os.fsdecode(error.filename)}: {error.strerror}"
         is_write = error.errno in (errno.EPIPE, errno.ENOSPC, errno.EFBIG)
         return f"write failed: {error.strerror}" if is_write else error.strerror
+    if isinstance(error, RuntimeError) and str(error) == "can't start new thread":
+        return "cannot start a thread; free memory, or raise the limit on processes (ulimit -u)"
     place, where = error.__traceback__, ""
     while place:
         where = f" ({os.path.basename(place.tb_frame.f_code.co_filename)}, line {place.tb_lineno})"

@@ -230,7 +230,8 @@ def tries_levels(awk: list, sounding: bytes, synop: bytes) -> None:
     wanted = (0, "message,subset,007004,012101,012103\n1,1,1,1.0,\n1,1,2,,2.0\n", "")
     want(behind == wanted, f"{awk}: an item behind two passes is in a row: {behind}")
     # passes that cannot be told apart, between others: the rest is given
-    both = BEHIND[:-4] + b"".join((ENCLOSED % 3).splitlines(True)[2:])
+    good = BEHIND.splitlines(True)
+    both = b"".join([*good[:-1], *(ENCLOSED % 3).splitlines(True)[2:-1], *good[2:]])
     between = both + NESTED + ENCLOSED % 2 + ODD + NESTED
     status, output, errors = run(awk, between, levels="1", columns="007004,012101")
     told = "table.awk: skipped subsets without a level: 1, the first is message 4 subset 1\n"

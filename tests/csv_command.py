@@ -330,7 +330,7 @@ def several_files(folder: pathlib.Path) -> None:
         holds(f"{file.name} as JSON", (done.returncode, done.stdout) == (0, b""), done)
 
 
-def notes(_folder: pathlib.Path) -> None:
+def notes(folder: pathlib.Path) -> None:
     """Columns without a value, subsets without levels, and those whose levels cannot be told apart."""
     done = run("-c", "012101,012104", SYNOP)
     holds("an empty column", (done.returncode, done.stderr) == (0, b"bufr-csv: no row has 012104\n"), done)
@@ -345,6 +345,9 @@ def notes(_folder: pathlib.Path) -> None:
     twice = lib.message(bits.octets(), lib.words("103000 031001 008002 020011 008002"))
     done = run("--levels", "-c", "020011", input=twice)
     holds("levels that cannot be told apart", done.returncode == 1 and b"levels cannot be told apart: 1" in done.stderr, done)
+    (folder / "twice").write_bytes(twice)
+    done = run("--levels", "-c", "020011", folder / "nosuch", folder / "twice")
+    holds("levels that cannot be told apart after a missing file", done.returncode == 2, done)
     later = lib.asking(lib.message(b"\x14"), 45)
     done = run("-c", "001001", input=later)
     holds("a note on tables", done.returncode == 0 and b"bufr-csv: 1 message, at offset 0: version 45" in done.stderr, done)
@@ -467,7 +470,7 @@ def failures(folder: pathlib.Path) -> None:
 
 def feed(awk: list, _folder: pathlib.Path) -> None:
     """The rows of a message are written before more input comes, by itself and with the columns of its place."""
-    for words in (["-c", "001015"], ["-c", "offset,001015", "--json"], []):
+    for words in (["-c", "001015"], ["-c", "offset,001015", "--json"], [], ["-c", "001015", SYNOP, "-"]):
         command = [sys.executable, TOP / "scripts/bufr-csv", *words]
         environment = {**os.environ, "BUFR": program(), "AWK": " ".join(awk)}
         pipe = subprocess.PIPE

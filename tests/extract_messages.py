@@ -252,6 +252,10 @@ def skips_what_is_too_long(folder: pathlib.Path) -> None:
         for name, done in (("a file", run([*words, path])), ("a pipe", run(words, input=octets))):
             want(done.stdout == b"".join(map(made, taken)), f"{words} of {name}: other messages")
             want((done.returncode, done.stderr.decode().splitlines()) == (1, told), f"{words} of {name}: {done}")
+    before = made(1) * 40_000  # more than is buffered
+    done = run(["--max-length", str(limit)], input=before + longer)
+    note = f"bufr-extract: offset {len(before)}: skipped a message that declares {len(longer)} bytes\n"
+    want(done.stderr.decode() == note, f"after {len(before)} bytes, --max-length reports {done.stderr}")
     whole = run(["--max-length", "16777215", path])
     want(whole.stdout == run([path]).stdout != b"", "a high limit changes what is taken")
     want(run([f"--max-length={len(made(1))}", "-"], input=made(1)).returncode == 0, "a message as long as the limit is skipped")

@@ -64,7 +64,7 @@ class Trial:
         done = subprocess.run(
             [*self.words, *map(str, words)], capture_output=True, env=environment, preexec_fn=prepare, timeout=120, **more
         )
-        for text in (b"Traceback", b"Exception ignored"):
+        for text in (b"Traceback", b"Exception ignored", b"internal error"):
             holds(f"{self.name} {words}: what Python prints", text not in done.stderr, done.stderr)
         return done
 
@@ -122,6 +122,15 @@ runpy.run_path(sys.argv[0], run_name="__main__")
 """
 
 
+# A script whose threads ask for more stack than there is memory.
+THREADLESS = """
+import runpy, sys, threading
+sys.path[0], sys.argv = "{}", sys.argv[1:]
+threading.stack_size(1 << 46)
+runpy.run_path(sys.argv[0], run_name="__main__")
+"""
+
+
 # A script whose programs start a moment later.
 LATE = """
 import runpy, sys, time
@@ -154,6 +163,10 @@ def memory(trial: Trial) -> None:
         holds(f"{trial.name} in {megabytes} MB: a prefix", whole.stdout.startswith(done.stdout), done.stdout[-300:])
     trial.words[1:1] = ["-c", REFUSED.format(TOP / "scripts")]
     trial.fails("want of memory", trial.run([stream]), f"{trial.name}: out of memory")
+    if trial.name in ("bufr-csv", "bufr-extract", "bufr-parallel"):
+        trial.words[2] = THREADLESS.format(TOP / "scripts")
+        done = trial.run(input=SYNOP.read_bytes())
+        trial.fails("no thread", done, "cannot start a thread; free memory, or raise the limit on processes (ulimit -u)")
 
 
 def least_memory(words: list, most: int):
