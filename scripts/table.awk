@@ -95,12 +95,12 @@ function next_listed(   line, words, is_read) {
     do {
         if ((is_read = (getline line < listing)) <= 0)
             return is_read < 0 ? fail("cannot read " listing) : 0
-        if (line !~ /^offset=[0-9]+ /)
+        if (line !~ /^offset=/)
             fail(listing " is not the output of bufr ls")
         split(line, words, /[= ]/)
         header["offset"] = words[2]
         header["length"] = words[4]
-        while (fault + 0 < header["offset"] + 0 && (is_read = (getline line < faults)) > 0)
+        while (fault < header["offset"] && (is_read = (getline line < faults)) > 0)
             if (line ~ /^offset [0-9]+: /) {
                 split(line, words, /[ :]/)
                 fault = words[2]

@@ -81,11 +81,11 @@ def run(awk: list, text: bytes, **variables) -> tuple:
 
 
 def tries_wide(awk: list, text: bytes) -> None:
-    head = "message,subset,001002,012101:2,012104\n"
-    told = "table.awk: no row has 012101:2\ntable.awk: no row has 012104\n"
+    head = "message,subset,001002,012101:10,012104\n"
+    told = "table.awk: no row has 012101:10\ntable.awk: no row has 012104\n"
     wanted = (0, head + "1,1,836,,\n1,2,772,,\n1,3,680,,\n", told)
     want(
-        run(awk, text, columns="001002,012101:2,012104") == wanted,
+        run(awk, text, columns="001002,012101:10,012104") == wanted,
         f"{awk}: empty columns have no note",
     )
     status, output, errors = run(awk, ODD, columns="centre,012101,012101:2,001015,001015:2,001015:3")
@@ -122,7 +122,7 @@ class Stream:
             done = subprocess.run(
                 [lib.program(), *words, folder / "stream"], stdout=subprocess.PIPE, stderr=subprocess.PIPE
             )
-            path.write_bytes(done.stdout if output == 1 else done.stderr)
+            path.write_bytes(done.stdout if output == 1 else b"note 99999999: of another program\n" + done.stderr)
         self.text, self.places = done.stdout, []
         # which messages are dumped, by a run for each alone
         for offset, length in re.findall(rb"^offset=(\d+) length=(\d+) ", self.listing.read_bytes(), re.M):
