@@ -120,10 +120,10 @@ function is_descriptor(word, of_subset) {
 
 # Splits a list of columns and returns their number. `keys` are the words that are allowed in addition to descriptors.
 function split_columns(words, list, keys,   count, column, word) {
-    count = split(words, list, /[ ,]+/)
+    count = split(words, list, ",")
     for (column = 1; column <= count; column++) {
         word = list[column]
-        if (word != "" && index(keys, " " word " "))
+        if (index(keys, " " word " "))
             is_key[word] = wanted[word] = 1
         else if (by_item)
             fail("without columns, keep must have only header keys, not: " word)
@@ -160,10 +160,8 @@ function write_item(   is_reference, comment) {
     else
         sub(/^[0-9]+ [^ ]*/, "", comment)
     if (!(comment in names)) {
-        if (++name_count > 10000) {
+        if (++name_count % 10000 == 0)
             split("", names)
-            name_count = 1
-        }
         names[comment] = name_and_unit(comment)
     }
     items++
