@@ -230,7 +230,7 @@ function skip_subset(fxy) {
 # `pass_inner`.
 function item(fxy) {
     if (left && (opener == "" || fxy == opener)) {
-        if (opened > 1 && !inner && !pass_inner && items != pass_items) {
+        if (opened > 1 && !pass_inner && items != pass_items) {
             skip_subset(opener)
             return
         }
@@ -251,7 +251,7 @@ function item(fxy) {
         }
     }
     if (fxy in factors) {
-        if (open && (left || opened > 1 && inner < pass_inner))
+        if (open && (left || inner < pass_inner))
             inner++
         else {
             end_pass()

@@ -237,6 +237,11 @@ def tries_levels(awk: list, sounding: bytes, synop: bytes) -> None:
     empty = run(awk, b"message\nsubset 1\n031001 2\nsubset 2\n012101 1.0\nend\n", levels="1", columns="012101")
     wanted = (0, "message,subset,012101\n", "table.awk: no row has 012101\n" + bare.format(2))
     want(empty == wanted, f"{awk}: passes without items give {empty}")
+    # a descriptor that begins a pass comes again before a group inside it
+    again = b"message\nsubset 1\n031001 3\n" + b"007004 1\n007004 2\n031001 1\n011001 3\n" * 3 + b"end\n"
+    status, output, errors = run(awk, again, levels="1", columns="007004")
+    is_so = (status, output.count("\n")) == (1, 1) and "told apart: 1, the first is message 1 subset 1: 007004\n" in errors
+    want(is_so, f"{awk}: a descriptor that comes again gives {status}, {output}, {errors}")
     # passes that cannot be told apart, between others: the rest is given
     good = BEHIND.splitlines(True)
     both = b"".join([*good[:-1], *(ENCLOSED % 3).splitlines(True)[2:-1], *good[2:]])
@@ -247,6 +252,10 @@ def tries_levels(awk: list, sounding: bytes, synop: bytes) -> None:
     want((status, errors) == (1, told), f"{awk}: passes that cannot be told apart give {status}, {errors}")
     rows = [line.split(",")[0] for line in output.splitlines()[1:]]
     want(rows == ["2"] * 5 + ["5"] * 5, f"{awk}: beside passes that cannot be told apart there are {output}")
+    after = ENCLOSED % 3 + b"message\nsubset 1\n031001 1\n008002 9\n020011 5\nend\n"
+    status, output, _ = run(awk, after, levels="1", columns="008002,020011")
+    wanted = (1, "message,subset,008002,020011\n2,1,9,5\n")
+    want((status, output) == wanted, f"{awk}: behind passes that cannot be told apart come {output}")
     # three passes, of which the second has lines that are no items
     head, one, rest = (b"".join(ODD.splitlines(True)[part]) for part in (slice(6), slice(6, 10), slice(10, None)))
     odd = head + b"031001 3\n" + one + b"\n# a note\n" + one + one + rest
