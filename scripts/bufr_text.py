@@ -529,7 +529,7 @@ def _passes(subset: List[Item]) -> List[List[Item]]:
             if one is not None and (left or inner < pass_inner):
                 inner += 1
             else:
-                one, opener, opened, items, inner = None, "", 0, 0, 0
+                one, opener, opened, inner = None, "", 0, 0
                 left = int(item.value) if isinstance(item.value, Decimal) else 0
                 continue
         items += 1

@@ -257,7 +257,7 @@ function item(fxy) {
             end_pass()
             left = field() + 0
             opener = ""
-            opened = items = inner = 0
+            opened = inner = 0
             return
         }
     }
@@ -333,8 +333,7 @@ BEGIN {
         if (word in is_kept)
             first[word] = field()
     }
-    if (left || open || $1 in factors)
-        item($1)
+    item($1)
     next
 }
 $1 == "message" {
@@ -365,11 +364,10 @@ $1 == "subset" {
     next
 }
 $1 == "#" {
-    if (/^# offset=/)
-        take_place()
+    take_place()
     next
 }
-!subset { header[$1] = $2 }
+{ header[$1] = $2 }
 
 END {
     if (failed)

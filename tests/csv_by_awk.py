@@ -65,7 +65,7 @@ end
 """
 # behind two passes come an item that is not asked for, and one that is
 BEHIND = b"message\nsubset 1\n031001 2\n007004 1\n012101 1.0\n007004 2\n012103 2.0\n002001 1\n012101 3.0\nend\n"
-WORDS = ["airTemperature", "01210", "0121011", "412101", "064001", "001256", "012101,x", "012101,", "local1", "optiona"]
+WORDS = ["airTemperature", "01210", "0121011", "412101", "064001", "001256", "012101,x", "012101,", "local1", "optiona", "file"]
 
 
 def run(awk: list, text: bytes, **variables) -> tuple:
@@ -92,6 +92,7 @@ def tries_wide(awk: list, text: bytes) -> None:
     rows = list(csv.reader(output.splitlines()))[1:]
     wanted = ["1", "1", "74", "28.5", "", 'A \\"B\\\\', '\\\\\\\\\\" # \\\\\\"', ""]
     want((status, rows, errors) == (0, [wanted], ""), f"{awk}: of odd texts there are {rows}: {errors}")
+    want(run(awk, b"", columns="012101") == (0, "message,subset,012101\n", ""), f"{awk}: of no message something is told")
     head = re.findall(rb"^(\w+) (\d+)$", text, re.M)[:20]
     status, output, errors = run(awk, text, columns=",".join(key.decode() for key, _ in head))
     row = output.splitlines()[-1].split(",")
@@ -123,7 +124,7 @@ class Stream:
                 [lib.program(), *words, folder / "stream"], stdout=subprocess.PIPE, stderr=subprocess.PIPE
             )
             path.write_bytes(done.stdout if output == 1 else b"note 99999999: of another program\n" + done.stderr)
-        self.text, self.places = done.stdout, []
+        self.text, self.places = done.stdout.replace(b"\nedition", b"\n# a note\nedition"), []
         # which messages are dumped, by a run for each alone
         for offset, length in re.findall(rb"^offset=(\d+) length=(\d+) ", self.listing.read_bytes(), re.M):
             one = octets[int(offset) : int(offset) + int(length)]
@@ -153,7 +154,8 @@ def tries_offsets(awk: list, stream: Stream) -> None:
             ({"listing": stream.listing, "faults": "nosuch"}, "cannot read nosuch"),
         ]:
             status, _, errors = run(awk, stream.text, **columns, **given)
-            want(status == 2 and told in errors, f"{awk}: {columns} with {given} ends with {status}: {errors}")
+            is_so = status == 2 and told in errors and errors.count("\n") == 1
+            want(is_so, f"{awk}: {columns} with {given} ends with {status}: {errors}")
 
 
 def seconds(words: list, path: pathlib.Path) -> float:

@@ -398,6 +398,7 @@ class Tables(unittest.TestCase):
             count += len(rows)
             lines = [line for line in done.stderr.decode().splitlines() if "told apart" in line]
             self.assertEqual([f"table.awk: {one.message}" for one in told], lines)
+            self.assertEqual({one.filename for one in told}, {__file__})
             unclear += done.returncode
         self.assertGreater(count, 100)
         self.assertGreater(unclear, 0)
@@ -614,12 +615,12 @@ class Runs(unittest.TestCase):
         self.assertEqual(str(warned.warning).partition(";")[0], wanted)
 
     def test_what_a_program_tells_beside_faults_is_a_warning(self):
-        self.use_program('[ "$1" = ls ] || { echo $$ >&2; echo strange >&2; }; exec "$REAL" "$@"')
+        self.use_program('[ "$1" = ls ] || { echo $$ >&2; printf "strange\\377\\n" >&2; }; exec "$REAL" "$@"')
         self.stream.write_bytes((TOP / "examples/synop.bufr").read_bytes())
         with warnings.catch_warnings(record=True) as told:
             warnings.simplefilter("always")
             self.assertEqual(len(list(bufr_text.dump(self.stream, *TABLES))), 1)
-        self.assertEqual(str(told[1].message), f"{self.stream}: messages: 1, the first at offset 0: strange")
+        self.assertEqual(str(told[1].message), f"{self.stream}: messages: 1, the first at offset 0: strange\ufffd")
         # their kinds are bounded, as what is held is
         seen = bufr_text._Told(self.stream, None)
         for number in range(5000):
@@ -671,6 +672,14 @@ class Runs(unittest.TestCase):
             with self.subTest(script), self.assertRaisesRegex(bufr_text.RunError, told) as error:
                 list(bufr_text.dump(self.stream, *TABLES, []))
             self.assertEqual(error.exception.status, status)
+
+    def test_a_folder_is_no_program(self):
+        shutil.copy(TOP / "scripts/bufr_text.py", self.folder)
+        (self.folder / "bufr").mkdir()
+        code = "import bufr_text; print(bufr_text._bufr())"
+        environment = {name: value for name, value in os.environ.items() if name != "BUFR"}
+        done = run(sys.executable, "-c", code, cwd=self.folder, env=environment)
+        self.assertEqual(done.stdout, b"bufr\n", done.stderr)
 
     def test_a_full_disk_is_named(self):
         self.use_program("exit 2")
