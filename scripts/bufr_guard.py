@@ -15,7 +15,7 @@ function raises `Failed` if it cannot continue.
 - `run` calls the function, flushes the output and exits with the status. For the exception `Question`, it prints the
   help or the version. It reports any other exception in one line on standard error, with status 2.
 - `start` and `wait` run a program. A signal that ends the script also ends the program. `checked` fails if it crashed.
-- `opened`, `temporary`, `put_aside` and `copied` return descriptors, and fail if there is no room for temporary files.
+- `opened`, `temporary` and `copied` return descriptors, and fail if there is no room for temporary files.
   `output` is a descriptor, standard output by default, that is written in large blocks.
 - `say` writes lines to standard error, and `Progress` a line that disappears again. `bare` is the note on a file that
   has no message.
@@ -102,8 +102,6 @@ def take_descriptors() -> None:
         except OSError:
             os.open(os.devnull, mode)
     # Python sets these to None, and would then print errors on standard output.
-    if sys.stdin is None:
-        sys.stdin = open(0, closefd=False)
     if sys.stdout is None:
         sys.stdout = open(1, "w", closefd=False)
     if sys.stderr is None:
@@ -202,6 +200,8 @@ def reason(error: BaseException) -> str:
             return f"{os.fsdecode(error.filename)}: {error.strerror}"
         is_write = error.errno in (errno.EPIPE, errno.ENOSPC, errno.EFBIG)
         return f"write failed: {error.strerror}" if is_write else error.strerror
+    if isinstance(error, RuntimeError) and str(error) == "can't start new thread":
+        return "cannot start a thread; free memory, or raise the limit on processes (ulimit -u)"
     place, where = error.__traceback__, ""
     while place:
         where = f" ({os.path.basename(place.tb_frame.f_code.co_filename)}, line {place.tb_lineno})"
@@ -481,14 +481,6 @@ def no_room() -> Failed:
     return Failed(f"no room in {folder_of_temporary()}; set TMPDIR to another directory")
 
 
-def put_aside(octets: bytes) -> int:
-    """A temporary file with these bytes, positioned at its start."""
-    descriptor = temporary()
-    keep(descriptor, octets)
-    os.lseek(descriptor, 0, os.SEEK_SET)
-    return descriptor
-
-
 def copied(source: int, name: str) -> int:
     """A temporary file with everything that can be read from a descriptor, positioned at its start."""
     descriptor, octets, progress, size = temporary(), b" ", Progress(has_texts=False), 0
@@ -516,7 +508,7 @@ def read_at(descriptor: int, offset: int, length: int) -> bytes:
         if not pieces[-1]:
             raise Failed("the input became shorter while it was read")
         offset += len(pieces[-1])
-    return pieces[0] if len(pieces) == 1 else b"".join(pieces)
+    return b"".join(pieces)
 
 
 def fault_lines(errors: int) -> Iterator[tuple[float, bytes]]:

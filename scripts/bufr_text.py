@@ -515,7 +515,7 @@ def _passes(subset: List[Item]) -> List[List[Item]]:
         if item.reference:
             continue
         if left and opener in ("", item.fxy):
-            if opened > 1 and not inner and not pass_inner and items != pass_items:
+            if opened > 1 and not pass_inner and items != pass_items:
                 raise ValueError(opener)
             one, opener, opened, left = [], item.fxy, opened + 1, left - 1
             passes.append(one)
@@ -526,10 +526,10 @@ def _passes(subset: List[Item]) -> List[List[Item]]:
             elif item.fxy == opener:
                 raise ValueError(opener)
         if item.fxy in ("031000", "031001", "031002"):
-            if one is not None and (left or (opened > 1 and inner < pass_inner)):
+            if one is not None and (left or inner < pass_inner):
                 inner += 1
             else:
-                one, opener, opened, items, inner = None, "", 0, 0, 0
+                one, opener, opened, inner = None, "", 0, 0
                 left = int(item.value) if isinstance(item.value, Decimal) else 0
                 continue
         items += 1
@@ -780,6 +780,6 @@ def _program(name: str) -> str:
     """The program beside this file, in the directory `bin` of the same installation or of Python, or on PATH."""
     here = pathlib.Path(__file__).resolve().parent
     for path in (here / name, here.parent.parent / "bin" / name, pathlib.Path(sys.prefix) / "bin" / name):
-        if os.access(path, os.X_OK):
+        if shutil.which(path):
             return str(path)
     return name

@@ -101,12 +101,12 @@ function next_listed(   line, words, is_read) {
     do {
         if ((is_read = (getline line < listing)) <= 0)
             return is_read < 0 ? fail("cannot read " listing) : 0
-        if (line !~ /^offset=[0-9]+ /)
+        if (line !~ /^offset=/)
             fail(listing " is not the output of bufr ls")
         split(line, words, /[= ]/)
         header["offset"] = words[2]
         header["length"] = words[4]
-        while (fault + 0 < header["offset"] + 0 && (is_read = (getline line < faults)) > 0)
+        while (fault < header["offset"] && (is_read = (getline line < faults)) > 0)
             if (line ~ /^offset [0-9]+: /) {
                 split(line, words, /[ :]/)
                 fault = words[2]
@@ -126,10 +126,10 @@ function is_descriptor(word, of_subset) {
 
 # Splits a list of columns and returns their number. `keys` are the words that are allowed in addition to descriptors.
 function split_columns(words, list, keys,   count, column, word) {
-    count = split(words, list, /[ ,]+/)
+    count = split(words, list, ",")
     for (column = 1; column <= count; column++) {
         word = list[column]
-        if (word != "" && index(keys, " " word " "))
+        if (index(keys, " " word " "))
             is_key[word] = wanted[word] = 1
         else if (by_item)
             fail("without columns, keep must have only header keys, not: " word)
@@ -166,10 +166,8 @@ function write_item(   is_reference, comment) {
     else
         sub(/^[0-9]+ [^ ]*/, "", comment)
     if (!(comment in names)) {
-        if (++name_count > 10000) {
+        if (++name_count % 10000 == 0)
             split("", names)
-            name_count = 1
-        }
         names[comment] = name_and_unit(comment)
     }
     items++
@@ -244,7 +242,7 @@ function skip_subset(fxy) {
 # `pass_inner`.
 function item(fxy) {
     if (left && (opener == "" || fxy == opener)) {
-        if (opened > 1 && !inner && !pass_inner && items != pass_items) {
+        if (opened > 1 && !pass_inner && items != pass_items) {
             skip_subset(opener)
             return
         }
@@ -265,13 +263,13 @@ function item(fxy) {
         }
     }
     if (fxy in factors) {
-        if (open && (left || opened > 1 && inner < pass_inner))
+        if (open && (left || inner < pass_inner))
             inner++
         else {
             end_pass()
             left = field() + 0
             opener = ""
-            opened = items = inner = 0
+            opened = inner = 0
             return
         }
     }
@@ -347,8 +345,7 @@ BEGIN {
         if (word in is_kept)
             first[word] = field()
     }
-    if (left || open || $1 in factors)
-        item($1)
+    item($1)
     next
 }
 $1 == "message" {
@@ -379,11 +376,10 @@ $1 == "subset" {
     next
 }
 $1 == "#" {
-    if (/^# offset=/)
-        take_place()
+    take_place()
     next
 }
-!subset { header[$1] = $2 }
+{ header[$1] = $2 }
 
 END {
     if (failed)

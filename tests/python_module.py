@@ -382,6 +382,7 @@ class Tables(unittest.TestCase):
         # passes that begin and end with the same descriptor, two and three of them
         enclosed = b"031001 %d\n" + b"008002 1\n020011 2\n008002 MISSING\n" * 3
         texts += [with_line(24, enclosed % passes) for passes in (2, 3)]
+        texts.append(with_line(24, b"031001 3\n" + b"007004 1\n007004 2\n031001 1\n011001 3\n" * 3))
         lists = [("001015", "007004,012101,012103"), ("001001", "007004"), ("007004", "012101,007004"), ("", "020012,020011"), ("", "008002")]
         unclear, count = 0, 0
         for keep, columns in lists:
@@ -397,6 +398,7 @@ class Tables(unittest.TestCase):
             count += len(rows)
             lines = [line for line in done.stderr.decode().splitlines() if "told apart" in line]
             self.assertEqual([f"table.awk: {one.message}" for one in told], lines)
+            self.assertEqual({one.filename for one in told}, {__file__})
             unclear += done.returncode
         self.assertGreater(count, 100)
         self.assertGreater(unclear, 0)
@@ -603,6 +605,9 @@ class Runs(unittest.TestCase):
     def test_notes_of_tables_are_warnings(self):
         text = (TOP / "examples/synop.txt").read_bytes().replace(b"masterversion 39", b"masterversion 45")
         later = bufr_text.encode(bufr_text.read(io.BytesIO(text)), *TABLES)
+        with self.assertWarnsRegex(bufr_text.DumpWarning, "version 45 is later than wmo-39") as warned:
+            self.assertEqual(bufr_text.encode(bufr_text.read(io.BytesIO(text))), later)
+        self.assertEqual(warned.filename, __file__)
         self.stream.write_bytes(self.octets + later * 2)
         with self.assertWarns(bufr_text.DumpWarning) as warned:
             list(bufr_text.dump(self.stream, faults=[]))
@@ -610,12 +615,12 @@ class Runs(unittest.TestCase):
         self.assertEqual(str(warned.warning).partition(";")[0], wanted)
 
     def test_what_a_program_tells_beside_faults_is_a_warning(self):
-        self.use_program('[ "$1" = ls ] || { echo $$ >&2; echo strange >&2; }; exec "$REAL" "$@"')
+        self.use_program('[ "$1" = ls ] || { echo $$ >&2; printf "strange\\377\\n" >&2; }; exec "$REAL" "$@"')
         self.stream.write_bytes((TOP / "examples/synop.bufr").read_bytes())
         with warnings.catch_warnings(record=True) as told:
             warnings.simplefilter("always")
             self.assertEqual(len(list(bufr_text.dump(self.stream, *TABLES))), 1)
-        self.assertEqual(str(told[1].message), f"{self.stream}: messages: 1, the first at offset 0: strange")
+        self.assertEqual(str(told[1].message), f"{self.stream}: messages: 1, the first at offset 0: strange\ufffd")
         # their kinds are bounded, as what is held is
         seen = bufr_text._Told(self.stream, None)
         for number in range(5000):
@@ -667,6 +672,14 @@ class Runs(unittest.TestCase):
             with self.subTest(script), self.assertRaisesRegex(bufr_text.RunError, told) as error:
                 list(bufr_text.dump(self.stream, *TABLES, []))
             self.assertEqual(error.exception.status, status)
+
+    def test_a_folder_is_no_program(self):
+        shutil.copy(TOP / "scripts/bufr_text.py", self.folder)
+        (self.folder / "bufr").mkdir()
+        code = "import bufr_text; print(bufr_text._bufr())"
+        environment = {name: value for name, value in os.environ.items() if name != "BUFR"}
+        done = run(sys.executable, "-c", code, cwd=self.folder, env=environment)
+        self.assertEqual(done.stdout, b"bufr\n", done.stderr)
 
     def test_a_full_disk_is_named(self):
         self.use_program("exit 2")

@@ -103,9 +103,44 @@ def wreport_row(fxy: str, name: str, unit: str, scale: str, reference: str, widt
 ELEMENT = "012101,NAME,K,2,0,16\n"
 # The elements that version 14 defines otherwise than version 13, on the first of two lines.
 CHANGED = "  elements changed: 13: 014001 014002 014003 014004 014011 014012 014013 014014 014017 014018 014028"
+# Two small sets, and what has changed from one to the other.
+ONE = """\
+001033,A \udcff,CODE TABLE,0,0,8
+001034,B,Numeric,0,0,8
+001035,C,K,0,0,8
+001036,D,CCITT IA5,0,0,8
+001037,E,FLAG TABLE,0,0,8
+001038,F
+""", "301001,001033\n301002,001033\n"
+OTHER = """\
+001033,A,COMMON CODE TABLE C-1,0,0,8
+001035,C,M,0,0,9
+001036,D,Numeric,0,0,8
+001037,E,Code table,0,0,8
+001038,F
+001039,G,K,0,0,8
+""", "301001,001034\n"
+TOLD = """\
+one to other
+  elements changed: 2: 001035 001036
+  elements gone: 1: 001034
+  elements new: 1
+  sequences changed: 1: 301001
+  sequences gone: 1: 301002
+  sequences new: 0
+"""
 TWICE = "left out of source: %s: the source has different rows for it\n"
 SOURCES = [
-    ("B.csv", f"{HEADERS['B']}\n{ELEMENT}{ELEMENT}", 0, "", ELEMENT),
+    ("B.csv", f"{HEADERS['B']}\n{ELEMENT}\n{ELEMENT}", 0, "", ELEMENT),
+    ("B.csv", "", 2, "source/B.csv has no column fxy\n", None),
+    (
+        "B.csv",
+        f"{HEADERS['B']}\n064000,{'N' * 64},K,2,0,16\n064001,{'N' * 65},K,2,0,16\n",
+        1,
+        f"left out of source: 064000 {'N' * 64} K 2 0 16: X over 63\nleft out of source: 064001 {'N' * 65} K 2 0..: X over 63\n",
+        "",
+    ),
+    ("BUFR_TableD_en_01.csv", "FXY1,FXY2\n301001,001001\n", 0, "", "301001,001001\n"),
     (
         "B.csv",
         f"{HEADERS['B']}\n{ELEMENT}012101,NAME,K,1,0,12\n012103,NAME,K,2,0,16\n",
@@ -135,7 +170,7 @@ SOURCES = [
         "left out of source: 012101 A NAME K 2 0: the scale must be a whole number from -127 to 127\n",
         "",
     ),
-    ("element.table", "012101|a|long|NAME|K|2\n", 2, "source/element.table, line 1: expected at least eight fields\n", None),
+    ("element.table", "012101|a|long|NAME|K|2|0\n", 2, "source/element.table, line 1: expected at least eight fields\n", None),
     ("sequence.def", '"307060" = 001001\n', 2, 'source/sequence.def: expected "FXY" = [ MEMBER, .. ], found "307060" = 001001\n', None),
     (
         "B.csv",
@@ -180,7 +215,7 @@ SOURCES = [
     ("Dmade.txt", " D07210  1 B01210\n", 2, "source/Dmade.txt, line 1: expected a sequence or one of its members\n", None),
     (
         "Bmade.txt",
-        " 012101 NAME K 2 0 16\n",
+        wreport_row("012101", "NAME", "K", "2", "0", ""),
         2,
         "source/Bmade.txt, line 1: expected a scale, a reference and a width in columns 98 to 118\n",
         None,
@@ -245,11 +280,17 @@ def failures(place: pathlib.Path) -> list:
         holds(f"files of {limit} octets", done, (2, "", "convert.py: cannot write out/B.csv: File too large\n"))
         holds(f"the set behind files of {limit} octets", behind_headers(place), before)
         holds(f"what is left behind files of {limit} octets", len(list((place / "out").iterdir())), 2)
-    holds("a whole set", run("convert.py", "out", TOP / "tables/wmo-39"), (0, "", ""))
+    for out in ("out", "new/out"):
+        holds("a whole set", run("convert.py", out, TOP / "tables/wmo-39"), (0, "", ""))
+    for name in ("Bone.txt", "Dother.txt"):
+        (place / "several").mkdir(exist_ok=True)
+        (place / "several" / name).touch()
     holds("what is left", len(list((place / "out").iterdir())), 2)
     for told, words in (
         ("expected OUT and at least one SOURCE; see convert.py --help", ["out"]),
         (r"no\x1Bsuch has no tables in a known format; see convert.py --help", ["out", "no\x1bsuch"]),
+        ("Bnosuch.txt has no tables in a known format; see convert.py --help", ["out", "Bnosuch.txt"]),
+        ("several has several wreport tables; give one of its B*.txt files as SOURCE", ["out", "several"]),
         ("long/B.csv, line 2: field larger than field limit (131072)", ["out", "long"]),
     ):
         (place / "long").mkdir(exist_ok=True)
@@ -266,6 +307,11 @@ def failures(place: pathlib.Path) -> list:
         holds(f"changes.py {words}", run("changes.py", *words), (2, "", f"changes.py: {told}\n"))
     status, told, _ = run("changes.py", TOP / "tables/wmo-13", TOP / "tables/wmo-14")
     holds("changes.py", (status, told.splitlines()[:2]), (0, ["wmo-13 to wmo-14", CHANGED]))
+    for name, elements, sequences in (("one", *ONE), ("other", *OTHER)):
+        (place / name).mkdir()
+        (place / name / "B.csv").write_text(f"\ufeff{HEADERS['B']}\n{elements}", **AS_IT_IS)
+        (place / name / "D.csv").write_text(f"{HEADERS['D']}\n{sequences}")
+    holds("changes.py of two small sets", run("changes.py", "one", "other"), (0, TOLD, ""))
     for name in ("convert.py", "changes.py"):
         holds(f"{name} --help", run(name, "--help")[0], 0)
     return wrongs
