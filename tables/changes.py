@@ -1,11 +1,11 @@
 #!/usr/bin/env python3
-"""Lists the changes from one table set to another.
+"""Lists the differences between two table sets.
 
     tables/changes.py OLD NEW
 
-OLD and NEW are directories with B.csv and D.csv. An element has changed if its scale, reference or width is different, or
-if its unit makes it another kind of value (number, code or text), because these determine how data are read. Changed names
-are not listed, because they only affect the comments of a dump.
+OLD and NEW are directories that contain B.csv and D.csv. changes.py lists an element as changed if its scale, reference or
+width differs, or if its unit makes it a different kind of value (number, code or string), because these determine how data
+are read. It does not list changed names, because they only affect the comments in a dump.
 """
 import os
 import sys

@@ -3,25 +3,26 @@
 
     tables/convert.py OUT SOURCE..
 
-Each SOURCE is a directory. Its files determine its format:
+Each SOURCE is a directory. Its format is recognized by its files:
 
-    B.csv, D.csv                      a table set, as in this directory
+    B.csv, D.csv                      a table set, like those in this directory
     BUFRCREX_TableB_en*.csv,          the CSV files that WMO publishes
     BUFR_TableD_en*.csv
     element.table, sequence.def       ecCodes definition files, including those of local tables
     B*.txt, D*.txt                    the fixed-column files of wreport
 
-wreport has many tables in one directory. To choose one, give its B*.txt file as SOURCE; convert.py then also reads the
-D*.txt file with the same name.
+wreport keeps many tables in one directory. To choose one, name its B*.txt file as SOURCE; convert.py also reads the D*.txt
+file that has the same name after the first letter.
 
-Rows of a later SOURCE replace those of an earlier one, so give the master tables first and local tables after them. The
-new tables are OUT/B.csv and OUT/D.csv, sorted by descriptor.
+Rows from a later SOURCE replace those from an earlier one, so name master tables before local tables. The new
+tables are OUT/B.csv and OUT/D.csv, sorted by descriptor.
 
-convert.py leaves out elements and sequences that `bufr` would refuse, and prints the reason for each on standard error.
-It leaves out a whole sequence if one of its members is invalid. Rows of an earlier SOURCE for the same descriptor remain.
+convert.py leaves out elements and sequences that `bufr` would refuse, and prints the reason for each on standard error. If
+one member of a sequence is invalid, the whole sequence is left out. Rows from an earlier SOURCE for the same descriptor
+remain.
 
-The exit status is 0 if nothing was left out, and 1 if something was. It is 2 if convert.py wrote nothing, because a SOURCE
-has no tables, a file has an unknown layout, or the output failed.
+The exit status is 0 if no row was left out, and 1 if any was. It is 2 if convert.py wrote nothing, because a SOURCE has no
+tables, a file has an unknown layout, or the output could not be written.
 """
 import os
 import sys
