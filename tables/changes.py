@@ -43,7 +43,7 @@ def rows(folder: str, name: str, *columns: str):
 
 
 def read(folder: str):
-    """The properties that determine how each element is read, and the members of each sequence."""
+    """Returns the properties that determine how each element is read, and the members of each sequence."""
     elements = {
         fxy: (*numbers, kind(unit))
         for fxy, unit, *numbers in rows(folder, "B.csv", "fxy", "unit", "scale", "reference", "width")
@@ -67,8 +67,8 @@ def work(words: list) -> int:
     print(" to ".join(bufr_guard.shown(pathlib.Path(folder).name) for folder in words))
     for kind_of_row, before, after in zip(("elements", "sequences"), old, new):
         report(f"{kind_of_row} changed", [fxy for fxy in before if before[fxy] != after.get(fxy, before[fxy])])
-        report(f"{kind_of_row} gone", [fxy for fxy in before if fxy not in after])
-        print(f"  {kind_of_row} new: {len(after.keys() - before.keys())}")
+        report(f"{kind_of_row} removed", [fxy for fxy in before if fxy not in after])
+        print(f"  {kind_of_row} added: {len(after.keys() - before.keys())}")
     return 0
 
 

@@ -356,7 +356,7 @@ def refusals(_folder: pathlib.Path) -> None:
     for words, told in [
         (["-x"], b"unknown option -x"),
         (["--column", "001001"], b"unknown option --column"),
-        (["-c=001001"], b"not '=001001'"),
+        (["-c=001001"], b"found '=001001'"),
         (["-c", ""], b"empty column"),
         (["-c", "001001,"], b"empty column"),
         (["-c", "AIR TEMPERATURE"], b"names of 012001, 012101, 012004, 012104"),
@@ -382,7 +382,7 @@ def refusals(_folder: pathlib.Path) -> None:
         (["--levels", "-c", "year"], b"use --keep"),
         (["--levels", "-c", "012101:2"], b"use --keep"),
         (["--keep", "012101"], b"without -c, use only header keys"),
-        (["--keep", "year", "-c", "012101"], b"--keep works with --levels"),
+        (["--keep", "year", "-c", "012101"], b"--keep works only with --levels"),
         (["--names"], b"--names needs -c"),
         (["--json", "-c", "012101,012101"], b"012101 is given twice"),
         (["--json", "--levels", "-c", "012101", "--keep", "012101"], b"012101 is given twice"),
