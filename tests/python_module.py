@@ -361,7 +361,7 @@ class Tables(unittest.TestCase):
             pathlib.Path(without_tables, "wmo-39").mkdir()
             for place in ("/nosuch", without_tables):
                 os.environ["BUFR_TABLES"] = place
-                with self.assertRaisesRegex(ValueError, "not 'AIR TEMPERATURE'$"):
+                with self.assertRaisesRegex(ValueError, "found 'AIR TEMPERATURE'$"):
                     bufr_text.rows([], ["AIR TEMPERATURE"])
             # Rows that are too short count as none, and so does a table with another header.
             table = pathlib.Path(without_tables, "wmo-39/B.csv")
@@ -372,7 +372,7 @@ class Tables(unittest.TestCase):
                 ("", ""),
             ):
                 table.write_text(text)
-                with self.assertRaisesRegex(ValueError, f"not 'AIR TEMPERATURE'{told}$"):
+                with self.assertRaisesRegex(ValueError, f"found 'AIR TEMPERATURE'{told}$"):
                     bufr_text.rows([], ["AIR TEMPERATURE"])
 
     def test_levels_are_those_of_table_awk(self):
