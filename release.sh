@@ -2,10 +2,10 @@
 # Makes a release of the current commit: an archive that installs without the toolchain, the wheel, and their checksums.
 #
 #     ./release.sh [DIST]                         proves everything from scratch first, which takes one to two hours
-#     ./release.sh --unproved PROGRAM [DIST]      packs this program; its BUILD file says that it is unproved
+#     ./release.sh --unproved PROGRAM [DIST]      packs this program, and records in BUILD that it is unproved
 #
-# The files go to the directory DIST, by default dist. If a step fails, DIST is unchanged. The same commit and program
-# give the same bytes on every run, in every directory, for every user. Uncommitted changes are left out.
+# The files are written to the directory DIST, by default dist. If a step fails, DIST is unchanged. From the same commit and
+# program, every run makes identical files, in any directory and for any user. Uncommitted changes are left out.
 set -eu -o pipefail
 export LC_ALL=C
 
@@ -25,13 +25,13 @@ fi
 case $#${1-} in 0 | 1[!-]*) ;; *) usage ;; esac
 dist=$(realpath -m "${1:-$(dirname "$0")/dist}")
 cd "$(dirname "$0")"
-commit=$(git rev-parse HEAD) || die 'this directory is not a clone of the repository, from which a release is made'
-[ -z "$(git status --porcelain)" ] || echo "$0: there are uncommitted changes, which the release leaves out" >&2
+commit=$(git rev-parse HEAD) || die 'this directory is not a clone of the repository, which is needed to make a release'
+[ -z "$(git status --porcelain)" ] || echo "$0: the release does not contain the uncommitted changes in this directory" >&2
 
-# Everything is made in a directory inside DIST, so that the last step only renames files.
+# All files are made in a directory inside DIST, so that the last step only renames them.
 mkdir -p "$dist"
 work=$(mktemp -d "$dist/.unfinished.XXXXXX") is_made=''
-# A step that ends late, after a signal, may still make a file while its folder is removed; the second time it cannot.
+# After a signal, a step that is still ending may create a file while rm removes the directory. The second rm succeeds.
 trap 'rm -rf "$work" 2> /dev/null || rm -rf "$work"; [ -n "$is_made" ] || echo "$0: no release was made" >&2' EXIT
 git clone -q --no-checkout . "$work/clone"
 cd "$work/clone"
@@ -45,14 +45,14 @@ if [ $proof = proved ]; then
     program=crates/bufr/out/bufr
     kit=$(rt version) || die 'the toolchain (rt) is not on PATH; use --unproved PROGRAM to release a program without a proof'
     [ "${kit##* }" = "$logic" ] || die "the toolchain is $kit, but README.md names logic $logic"
-    setpriv --pdeathsig TERM rt ci --anew 2>&1 | tee "$work/gate" || die 'the proofs or the tests failed (rt ci); the output above says which'
+    setpriv --pdeathsig TERM rt ci --anew 2>&1 | tee "$work/gate" || die 'a proof or a test failed (rt ci); see the output above'
     gate=$(tail -n 1 "$work/gate")
     of_gate=$(sum_of $program)
     # A second build writes the stamp: the checksum of all sources, followed by that of the program.
     (cd crates/bufr && rt run -- --version)
-    [ "$(sum_of $program)" = "$of_gate" ] || die 'a second build made a different program'
+    [ "$(sum_of $program)" = "$of_gate" ] || die 'a second build produced a different program'
     stamp=$(< $program.stamp)
-    [ "${stamp:64}" = "$of_gate" ] || die 'the stamp is that of a different program'
+    [ "${stamp:64}" = "$of_gate" ] || die 'the stamp belongs to a different program'
     sources=${stamp:0:64}
 fi
 mark=$(grep -aom 1 'rattle logic=[0-9a-f]\{16\}' "$program" | cut -d = -f 2) || mark=none
@@ -62,7 +62,7 @@ version=${version#bufr }
 wheel=$(python3 -c 'import build_wheel, sys; print(build_wheel.build_wheel(sys.argv[1]))' "$work")
 case $wheel in bufr_text-"$version"-*) ;; *) die "the program has version $version, but the wheel is $wheel" ;; esac
 
-# The archive has install.sh and everything that it installs.
+# The archive contains install.sh and everything that it installs.
 name=bufr-$version-linux-x86_64
 mkdir "$work/$name"
 git archive HEAD scripts tables docs man completions examples NOTICE README.md CHANGELOG.md CONTRIBUTING.md install.sh |
