@@ -45,7 +45,7 @@ if [ $proof = proved ]; then
     program=crates/bufr/out/bufr
     kit=$(rt version) || die 'the toolchain (rt) is not on PATH; use --unproved PROGRAM to release a program without a proof'
     [ "${kit##* }" = "$logic" ] || die "the toolchain is $kit, but README.md names logic $logic"
-    setpriv --pdeathsig TERM rt ci --anew 2>&1 | tee "$work/gate" || die 'a proof or a test failed (rt ci); see the output above'
+    setpriv --pdeathsig TERM rt ci --anew 2>&1 | tee "$work/gate" || die 'the proofs or the tests failed (rt ci); see the output above'
     gate=$(tail -n 1 "$work/gate")
     of_gate=$(sum_of $program)
     # A second build writes the stamp: the checksum of all sources, followed by that of the program.
