@@ -198,10 +198,10 @@ def advice(tables: TableSet, centre: int, version: int, local: int) -> str:
         return "to make it: " + command(tables, centre, local, of_wreport, tables.folder)
     if (centre, local) in ECCODES_HAS:
         words = command(tables, centre, local, tables.folder, of_eccodes[-1])
-        return f"to make it, install libeccodes-data (Debian), then: {words}"
+        return f"to make it, install libeccodes-data (Debian), then run: {words}"
     if (version, centre, local) in WREPORT_HAS:
         words = command(tables, centre, local, of_wreport, tables.folder)
-        return f"to make it, install wreport-common (Debian), then: {words}"
+        return f"to make it, install wreport-common (Debian), then run: {words}"
     return f"no public source is known: ask centre {centre} (WMO's Common Code Table C-11 lists its name)"
 
 

@@ -81,7 +81,7 @@ _CAUSES = [
         (rb">.*", "a > from a quoted email"),
         (rb"[^\"#]*\t.*", "a tab instead of a space"),
         (rb" .*", "a space at the beginning"),
-        (rb"message", "message; the document before it has no end"),
+        (rb"message", "message; the previous document has no end line"),
         (rb"(?:R )?\d{1,5} .*", "a descriptor of fewer than six digits"),
         (rb"[^\"#]*\S  +[^ #].*", "two spaces instead of one"),
         (rb"[^\"#]*[^\"# ]#.*|[^\"]*\".*\"#.*", "no space before #"),

@@ -197,12 +197,12 @@ def draws(python: str, program: str, folder: pathlib.Path) -> None:
         (["map", "--message", "1", folder / "b.png"], b"", 2, "unknown option --message"),
         (["map"], b"", 2, "expected map PICTURE or map PICTURE DUMP"),
         (["map", folder / "b.png", folder / "c", folder / "d"], b"", 2, "expected map PICTURE or map PICTURE DUMP"),
-        ([], b"", 2, "expected map or sounding first"),
+        ([], b"", 2, "expected map or sounding as the first argument"),
         (["map", folder / "b.png"], b"no dump\n", 2, "line 1: expected message"),
         (["map", folder / "b.png", folder / "nosuch"], b"", 2, "nosuch"),
         (["map", folder / "no" / "b.png"], texts["synop"], 2, f"cannot write {folder / 'no' / 'b.png'}: No such file"),
         (["map", folder / "b.text"], texts["synop"], 2, "text"),
-        (["picture", folder / "b.png"], b"", 2, "expected map or sounding first"),
+        (["picture", folder / "b.png"], b"", 2, "expected map or sounding as the first argument"),
     ]:
         done = run(python, words, text)
         want(

@@ -67,7 +67,7 @@ MISTAKES = [
     (24, b"> 001001 10\n", "a > from a quoted email"),
     (24, b"001001\t10\n", "a tab instead of a space"),
     (24, b" 001001 10\n", "a space at the beginning"),
-    (25, b"message\n", "message; the document before it has no end"),
+    (25, b"message\n", "message; the previous document has no end line"),
     (24, b"1001 10\n", "a descriptor of fewer than six digits"),
     (2, b"edition  4\n", "two spaces instead of one"),
     (22, b"descriptors  001001\n", "two spaces instead of one"),
