@@ -364,7 +364,7 @@ def _escaped(found: re.Match[bytes]) -> bytes:
 
 
 def find(subset: List[Item], fxy: str, count: int = 1) -> Optional[Item]:
-    """Returns the first item in a subset with this descriptor, or the item with number `count`, or `None`.
+    """Returns the `count`-th item with this descriptor in a subset, or `None`.
 
     New reference values that are defined in the data are not counted.
     """
