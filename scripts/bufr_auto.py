@@ -9,6 +9,7 @@ from __future__ import annotations
 
 import os
 import stat
+import time
 
 import bufr_guard
 import bufr_options
@@ -51,10 +52,11 @@ class Unread(Exception):
 
 
 class Feed:
-    """Reads a file or standard input as its bytes arrive."""
+    """Reads a file or standard input as its bytes arrive. If the input pauses, it calls `report` once."""
 
-    def __init__(self, file: Optional[str]) -> None:
+    def __init__(self, file: Optional[str], report: Callable[[], None]) -> None:
         self.file, self.name, self.begin, self.taken = file, bufr_guard.named(file), b"", 0
+        self.report = report
         try:
             self.descriptor = 0 if file is None else os.open(file, os.O_RDONLY)
         except OSError as error:
@@ -75,7 +77,8 @@ class Feed:
 
     def read(self) -> bytes:
         try:
-            if self.poll is not None:
+            if self.poll is not None and not self.poll.poll(1000):
+                self.report()
                 self.poll.poll()
             octets = os.read(self.descriptor, 1 << 20)
         except OSError as error:
@@ -331,7 +334,7 @@ class Reason:
 
     def __init__(self, text: str, concerns: Callable[[str], bool], advice: Callable[[], str] = str) -> None:
         self.text, self.concerns, self.advice = text, concerns, advice
-        self.count, self.first = 0, ""
+        self.count, self.first, self.is_told = 0, "", False
 
 
 class Run:
@@ -542,10 +545,12 @@ class Notes:
             return self.others
         return self.reasons.setdefault(reason.text, reason)
 
-    def lines(self, piece: str) -> Iterator[bytes]:
+    def lines(self, piece: str, so_far: str) -> Iterator[bytes]:
+        """Yields the notes that have not been printed yet."""
         for reason in [*self.reasons.values(), self.others]:
-            if reason.count:
-                pieces = f"1 {piece}," if reason.count == 1 else f"{reason.count} {piece}s, the first"
+            if reason.count and not reason.is_told:
+                reason.is_told = True
+                pieces = f"1 {piece}{so_far}," if reason.count == 1 else f"{reason.count} {piece}s{so_far}, the first"
                 advice = reason.advice()
                 line = f"{bufr_guard.name()}: {pieces} {reason.first}: {reason.text}{'; ' + advice if advice else ''}\n"
                 yield line.encode("utf-8", "surrogateescape")
@@ -577,6 +582,8 @@ class Work:
         self.longest: Optional[int] = None
         self.conditions: Optional[Conditions] = None
         self.has_places = False
+        self.more_notes: Callable[[], bytes] = bytes
+        self.next_notes = time.monotonic() + bufr_guard.INTERVAL
         self.known: Dict[Tables, Tuple[bufr_sets.TableSet, List[Reason]]] = {}
         self.remembered: Dict[Tuple[bufr_sets.TableSet, Callable[[str], bool], bytes], bool] = {}
         self.notes, self.status, self.is_over, self.done = Notes(), 0, False, 0
@@ -596,10 +603,23 @@ class Work:
 
     def report_last(self) -> None:
         """Prints the notes, and the reasons why files and programs failed."""
-        left_out = self.conditions.note() if self.conditions else ""
-        notes = [*self.sets.notes, left_out] if left_out else self.sets.notes
+        self.say_notes("")
+        bufr_guard.say(b"".join(self.last))
+
+    def report(self) -> None:
+        """Prints the notes on a feed so far."""
+        self.say_notes(" so far")
+        bufr_guard.say(self.more_notes())
+        bufr_guard.output(2).flush()
+        self.next_notes = time.monotonic() + bufr_guard.INTERVAL
+
+    def say_notes(self, so_far: str) -> None:
+        """Prints the notes that have not been printed yet."""
+        notes, self.sets.notes = self.sets.notes, []
+        if self.conditions:
+            notes += self.conditions.new_note(so_far)
         told = [os.fsencode(f"{bufr_guard.name()}: {bufr_guard.shown(note)}\n") for note in notes]
-        bufr_guard.say(b"".join([*self.notes.lines(self.kind.PIECE), *told, *self.last]))
+        bufr_guard.say(b"".join([*self.notes.lines(self.kind.PIECE, so_far), *told]))
 
     def fail(self, unread: Unread) -> None:
         """Records why a file could not be read. The work continues with the next file."""
@@ -609,7 +629,7 @@ class Work:
     def serve(self, file: Optional[str]) -> None:
         """Processes a file. If a part has several runs, they start before the previous part is written."""
         try:
-            feed = Feed(file)
+            feed = Feed(file, self.report)
         except Unread as unread:
             self.fail(unread)
             return
@@ -620,6 +640,8 @@ class Work:
                 part.start(None)
             if before:
                 self.write(before, feed)
+                if feed.poll is not None and time.monotonic() >= self.next_notes:
+                    self.report()
             if self.is_over:
                 bufr_guard.stop()
                 return
@@ -821,14 +843,17 @@ def dump(
     longest: Optional[int] = None,
     conditions: Optional[Conditions] = None,
     has_places: bool = False,
+    more_notes: Callable[[], bytes] = bytes,
 ) -> int:
     """Writes the dump of these files to a descriptor, and returns the status. None is standard input.
 
     Fault lines, notes and progress go to standard error, as in bufr-auto. Messages are skipped if they declare more than
     `longest` bytes, or if they do not meet the conditions. With `has_places`, a comment before each document gives its
-    place: `# offset=595 length=422 file=NAME`.
+    place: `# offset=595 length=422 file=NAME`. Whenever the notes on a feed are printed, `more_notes` returns further
+    lines.
     """
     work = Work(Dump, files, output)
+    work.more_notes = more_notes
     work.longest, work.conditions, work.has_places = longest, conditions, has_places
     return work.do()
 

@@ -32,7 +32,7 @@ class Conditions:
         # The first condition on `time`, and the years in all such conditions as years of the century.
         self.asked = ""
         self.of_century: List[str] = []
-        self.left_out = 0
+        self.left_out, self.is_told = 0, False
         for word in words:
             self.add(word)
         self.compiled = [(negated, re.compile(pattern.encode())) for negated, pattern in self.patterns]
@@ -72,10 +72,16 @@ class Conditions:
         self.left_out += is_left_out
         return not is_left_out
 
-    def note(self) -> str:
+    def note(self, so_far: str = "") -> str:
         """Returns a note on the messages that were left out, or an empty string."""
         if not self.left_out:
             return ""
         messages = "1 edition 3 message" if self.left_out == 1 else f"{self.left_out} edition 3 messages"
         both = f"{self.asked},{','.join(self.of_century)}"
-        return f"left out {messages} because of two-digit years; {both} selects both editions"
+        return f"left out {messages}{so_far} because of two-digit years; {both} selects both editions"
+
+    def new_note(self, so_far: str) -> List[str]:
+        """Returns the note, if there is one and it has not been returned before."""
+        notes = [self.note(so_far)] * (self.left_out > 0 and not self.is_told)
+        self.is_told = self.left_out > 0
+        return notes

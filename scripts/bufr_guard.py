@@ -44,6 +44,8 @@ else:
     from _functools import partial
 
 BLOCK = 1 << 20
+# Notes on a feed are printed when the feed pauses for a second, and otherwise at this interval, in seconds.
+INTERVAL = 60
 NOWHERE = float("inf")
 # The processes that were started but have not been waited for.
 RUNNING: list[list[int]] = []
@@ -369,17 +371,25 @@ def wait(process: int) -> int:
     return status if status >= 0 else 128 - status
 
 
-def lines_from(pipe: int, progress: Progress, place: Callable[[], int]) -> Iterator[bytes]:
+def lines_from(
+    pipe: int, progress: Progress, place: Callable[[], int], report: Optional[Callable[[], None]] = None
+) -> Iterator[bytes]:
     """Yields blocks of whole lines from a pipe and, at the end, the incomplete last line, if any.
 
-    While waiting, it displays `place()` as the progress.
+    While waiting, it displays `place()` as the progress. It calls `report()` in each second without a block, and every
+    minute.
     """
-    rest, block = b"", b" "
+    rest, block, due = b"", b" ", time.monotonic() + INTERVAL
     while block:
-        if progress.is_on:
+        if progress.is_on or report:
             while not select.select([pipe], [], [], 1)[0]:
                 progress.at(place())
+                if report:
+                    report()
             progress.at(place())
+            if report and time.monotonic() >= due:
+                report()
+                due = time.monotonic() + INTERVAL
         block = os.read(pipe, BLOCK)
         lines, end, rest = (rest + block).rpartition(b"\n")
         if len(rest) > BLOCK:

@@ -67,7 +67,7 @@ _LISTED = re.compile(
     b"subsets=N observed=N compressed=N optional=N descriptors=N\n".replace(b"N", rb"(\d+)")
 )
 _FAULT = re.compile(rb"offset (\d+): (\d+) (.*)\n?")
-_NOTE = re.compile(rb"bufr-auto: (\d+) messages?,(?: the first)? at offset (\d+): (.*)")
+_NOTE = re.compile(rb"bufr-auto: (\d+) messages?(?: so far)?,(?: the first)? at offset (\d+): (.*)")
 _UNPRINTED = re.compile(rb'["\\]|[^ -~]')
 
 

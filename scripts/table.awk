@@ -47,6 +47,12 @@ function fail(text) {
     exit failed = 2
 }
 
+# Prints the note on skipped subsets. In a feed, bufr-csv prints it after the first such subset, so it has no count.
+function tell_skipped(which, where) {
+    print name ": skipped subsets " which ", the first is message " where | "cat >&2"
+    close("cat >&2")
+}
+
 # Quotes a string. The string of an item contains escapes: JSON uses the same \" and \\, and \u00HH for \xHH. A plain
 # string contains no escapes.
 function quoted(text, is_plain,   parts, count, part) {
@@ -196,8 +202,11 @@ function end_pass(   column, line, others, value) {
 function end_subset(   row, column, line) {
     if (subset && !by_item) {
         end_pass()
-        if (levels && !row_count && !twice && !bare++)
+        if (levels && !row_count && !twice && !bare++) {
             first_bare = message " subset " subset
+            if (feed == 1)
+                tell_skipped("without a level", first_bare)
+        }
         if (!levels || row_count)
             line = begin_row()
         if (!levels)
@@ -221,8 +230,11 @@ function begin_row(   line, column) {
 
 # Skips a subset in which the descriptor that begins a pass also occurs inside a pass.
 function skip_subset(fxy) {
-    if (!unclear++)
+    if (!unclear++) {
         first_unclear = message " subset " subset ": " fxy
+        if (feed == 1)
+            tell_skipped("whose levels cannot be told apart", first_unclear)
+    }
     twice = 1
     open = left = row_count = 0
     split("", values)
@@ -389,11 +401,10 @@ END {
     for (column = 1; column <= level_count; column++)
         if (!(level[column] in had))
             print name ": no row has " level[column] | "cat >&2"
-    if (bare)
-        print name ": skipped subsets without a level: " bare ", the first is message " first_bare | "cat >&2"
-    if (unclear) {
-        line = name ": skipped subsets whose levels cannot be told apart: " unclear
-        print line ", the first is message " first_unclear | "cat >&2"
+    if (bare && feed != 1)
+        tell_skipped("without a level: " bare, first_bare)
+    if (unclear && feed != 1)
+        tell_skipped("whose levels cannot be told apart: " unclear, first_unclear)
+    if (unclear)
         exit 1
-    }
 }

@@ -262,6 +262,23 @@ class Trial:
         last = (texts[0], fault % (len(one * 2 + false * 2 + other), b"1 cut"))
         self.feed("lengths", ["--max-length", "1024"], steps, last, 1)
 
+    def notes_of_feeds(self) -> None:
+        """A note comes in a pause, or after a minute, and once: of later messages only another one is there."""
+        note = b"bufr-auto: 1 message so far, at offset %d: version %d is later than wmo-39" + NEWER.encode() + b"\n"
+        later, latest = made(41, LISTS[0], b"\1\1"), made(42, LISTS[0], b"\1\1")
+        texts = [self.one_by_one(message)[0] for message in (later, latest)]
+        steps = [
+            (later, texts[0], note % (0, 41)),
+            (later * 2, texts[0] * 2, b""),
+            (latest, texts[1], note % (3 * len(later), 42)),
+        ]
+        self.feed("notes", [], steps, (b"", b""), 0)
+        # This feed does not pause. The first part has 16,384 messages.
+        minute = "import sys; sys.path.insert(0, sys.argv[1]); import bufr_auto, bufr_guard; bufr_guard.INTERVAL = 0; "
+        words = [sys.executable, "-c", minute + "bufr_auto.dump([None])", TOP / "scripts"]
+        done = subprocess.run(words, input=later * 20_000, capture_output=True, env=self.environment)
+        self.holds("notes of a feed without a pause", b" 16384 messages so far, the first at offset 0: " in done.stderr, done.stderr)
+
     def few_files(self) -> None:
         """40 parts of a feed with at most 32 open files, and 60 files with at most 40, most of them open at once."""
         message = made(39, LISTS[1], b"\1\1\0")
@@ -650,6 +667,7 @@ def main() -> None:
             trial.conditions,
             trial.stops,
             trial.feeds,
+            trial.notes_of_feeds,
             trial.lengths,
             trial.encodes,
             trial.same_as_one_by_one,

@@ -330,7 +330,7 @@ def several_files(folder: pathlib.Path) -> None:
         holds(f"{file.name} as JSON", (done.returncode, done.stdout) == (0, b""), done)
 
 
-def notes(_folder: pathlib.Path) -> None:
+def notes(folder: pathlib.Path) -> None:
     """Columns without a value, subsets without levels, and those whose levels cannot be told apart."""
     done = run("-c", "012101,012104", SYNOP)
     holds("an empty column", (done.returncode, done.stderr) == (0, b"bufr-csv: no row has 012104\n"), done)
@@ -344,7 +344,11 @@ def notes(_folder: pathlib.Path) -> None:
             bits.put(value, width)
     twice = lib.message(bits.octets(), lib.words("103000 031001 008002 020011 008002"))
     done = run("--levels", "-c", "020011", input=twice)
-    holds("levels that cannot be told apart", done.returncode == 1 and b"levels cannot be told apart: 1" in done.stderr, done)
+    (folder / "twice").write_bytes(twice)
+    told = b"bufr-csv: skipped subsets whose levels cannot be told apart%s, the first is message 1 subset 1: 008002\n"
+    of_file = run("--levels", "-c", "020011", folder / "twice")
+    for what, done, count in (("a file", of_file, b": 1"), ("a pipe", done, b"")):
+        holds(f"levels of {what} that cannot be told apart", (done.returncode, done.stderr) == (1, told % count), done)
     later = lib.asking(lib.message(b"\x14"), 45)
     done = run("-c", "001001", input=later)
     holds("a note on tables", done.returncode == 0 and b"bufr-csv: 1 message, at offset 0: version 45" in done.stderr, done)
@@ -486,6 +490,21 @@ def feed(awk: list, _folder: pathlib.Path) -> None:
             process.stdout.read()
         if complaints:
             return  # each wait for rows that do not come is long
+    # Notes come in a pause: on the tables from bufr-auto, on a subset without a level from awk.
+    environment, told = {**os.environ, "BUFR": program(), "AWK": " ".join(awk)}, b""
+    command = [sys.executable, TOP / "scripts/bufr-csv", "--levels", "-c", "020011"]
+    with subprocess.Popen(command, stdin=pipe, stdout=subprocess.DEVNULL, stderr=pipe, env=environment) as process:
+        process.stdin.write(lib.asking(lib.message(b"\x14"), 45))
+        process.stdin.flush()
+        while told.count(b"\n") < 2 and select.select([process.stderr], [], [], 20)[0]:
+            told += os.read(process.stderr.fileno(), 1 << 16)
+        is_right = told.startswith(b"bufr-csv: 1 message so far, at offset 0: version 45 ") and told.endswith(
+            b"\nbufr-csv: skipped subsets without a level, the first is message 1 subset 1\n"
+        )
+        holds(f"{awk}: the notes of a live feed", is_right, told)
+        process.stdin.close()
+        told = process.stderr.read()
+        holds(f"{awk}: the notes of a live feed at its end", told == b"bufr-csv: no row has 020011\n", told)
 
 
 def seconds(folder: pathlib.Path) -> None:

@@ -273,6 +273,34 @@ def skips_what_is_too_long(folder: pathlib.Path) -> None:
         want(feed.wait() == 1, "a live feed with a stray ends otherwise")
 
 
+def tells_a_feed() -> None:
+    """The note on messages that are left out comes in a pause of a feed, or after a minute, and once."""
+    message = lib.message(b"\x14", edition=3)
+    year = 2000 + message[8 + 12]
+    rest = f" because of two-digit years; time={year},00{year - 2000:02} selects both editions\n"
+    note = f"bufr-extract: left out 2 edition 3 messages so far{rest}".encode()
+    with subprocess.Popen([sys.executable, EXTRACT, f"time={year}"], stdin=subprocess.PIPE, stderr=subprocess.PIPE, bufsize=0) as feed:
+        feed.stdin.write(message * 2)
+        is_there = select.select([feed.stderr], [], [], 20)[0]
+        told = feed.stderr.read(1 << 16) if is_there else b""
+        want(told == note, f"a live feed's note on years is {told}")
+        feed.stdin.write(message)
+        feed.stdin.close()
+        want(feed.wait() == 0 and not feed.stderr.read(), "a live feed's note on years comes again")
+    # This feed does not pause, and its minutes are short.
+    script = """if True:
+        import os, runpy, sys
+        sys.argv.pop(0)
+        sys.path.insert(0, os.path.dirname(sys.argv[0]))
+        import bufr_guard
+        bufr_guard.INTERVAL = 0
+        runpy.run_path(sys.argv[0])
+    """
+    words = [sys.executable, "-c", script, str(EXTRACT), f"time={year}"]
+    done = subprocess.run(words, input=message * 20_000, stdout=subprocess.PIPE, stderr=subprocess.PIPE)
+    want(b" so far " in done.stderr, f"a feed without a pause: {done.stderr}")
+
+
 def serves_a_feed(folder: pathlib.Path) -> None:
     """Each message is there before the next one is sent, by any awk."""
     for awk in filter(None, map(shutil.which, ("awk", "mawk", "gawk"))):
@@ -333,6 +361,7 @@ def main() -> None:
         tells_that_there_is_no_message(folder / "none")
         ignores_the_locale(folder)
         skips_what_is_too_long(folder)
+        tells_a_feed()
         serves_a_feed(folder)
         takes_at_most_three_times_as_long(program, folder)
 
