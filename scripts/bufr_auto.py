@@ -85,9 +85,6 @@ class Feed:
             raise Unread(f"cannot read {self.name}: {error.strerror}") from None
         if not octets and self.taken < self.length:
             raise Unread(f"{self.name} was truncated while it was read")
-        if len(octets) == 1 << 16:
-            widen(self.descriptor)
-            widen(1)
         self.taken += len(octets)
         self.begin += octets[: 256 - len(self.begin)]
         return octets
@@ -95,16 +92,6 @@ class Feed:
     def close(self) -> None:
         if self.descriptor:
             os.close(self.descriptor)
-
-
-def widen(pipe: int) -> None:
-    """Enlarges the buffer of a pipe to 1 MB, so that the two ends wait for each other less often."""
-    import fcntl
-
-    try:
-        fcntl.fcntl(pipe, 1031, 1 << 20)  # Linux's F_SETPIPE_SZ
-    except OSError:
-        pass
 
 
 class Finder:
@@ -716,11 +703,9 @@ class Work:
                 self.progress.at(self.done + feed.taken)
         except BrokenPipeError:
             pass  # the program has refused the piece and reported the fault
-        except Unread as unread:
-            self.fail(unread)
         finally:
             os.close(pipe)
-        part.pieces.append((place, source.lines, run, notes, b""))
+            part.pieces.append((place, source.lines, run, notes, b""))
 
     def selected(self, part: Part) -> Part:
         """Returns the part with only the candidates that meet the conditions or that `bufr ls` does not list."""

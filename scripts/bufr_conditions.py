@@ -39,7 +39,7 @@ class Conditions:
         self.is_left_out = re.compile(self.pattern_of_left_out().encode())
 
     def add(self, word: str) -> None:
-        found = re.fullmatch(r"([a-z]+)(!?)=(.*)", word, re.DOTALL)
+        found = re.fullmatch(r"([a-z]+)(!?)=(.*)", word)
         if not found:
             raise ValueError(f"'{word}' is not a condition: expected KEY=VALUE or KEY!=VALUE")
         key, negated, text = found.groups()
@@ -50,18 +50,18 @@ class Conditions:
         values = text.split(",")
         pattern = f"(^| ){key}=({'|'.join(values)})([ T:/-]|$)"
         if key == "time" and not negated:
-            years = [value for value in values if re.match("[1-9][0-9]{3}", value)]
+            years = [value for value in values if re.match("[0-9]{4}", value)]
             of_century = [f"00{year[2:]}" for year in years if f"00{year[2:4]}" not in {value[:4] for value in values}]
             if of_century:
                 # The pattern also matches edition 3 lines, so that they can be counted before they are left out.
                 self.asked = self.asked or word
                 self.of_century += of_century
-                pattern += f"| edition=3 .* time=({'|'.join(of_century)})[ T:/-]"
+                pattern += f"| edition=3 .* time=({'|'.join(of_century)})[ T:-]"
         self.patterns.append((bool(negated), pattern))
 
     def pattern_of_left_out(self) -> str:
         """Returns a pattern without groups for lines that match but are left out."""
-        return f" edition=3 .* time=(?:{'|'.join(self.of_century)})[ T:/-]" if self.of_century else "(?!)"
+        return f" edition=3 .* time=(?:{'|'.join(self.of_century)})[ T:-]" if self.of_century else "(?!)"
 
     def are_met(self, line: bytes) -> bool:
         """Returns whether a line meets all conditions. Counts the edition 3 messages that are left out."""

@@ -16,8 +16,8 @@ function raises `Failed` if it cannot continue.
   by printing the help or the version, and any other exception by printing one line and exiting with status 2.
 - `start` and `wait` run a program. A signal that ends the script also ends the program. `checked` raises `Failed` if the
   program crashed.
-- `opened`, `temporary`, `put_aside` and `copied` return file descriptors. They raise `Failed` if there is no space for
-  temporary files. `output` buffers what is written to a descriptor, by default standard output, in large blocks.
+- `opened`, `temporary` and `copied` return file descriptors. They raise `Failed` if there is no space for temporary
+  files. `output` buffers what is written to a descriptor, by default standard output, in large blocks.
 - `say` writes lines to standard error, and `Progress` displays a temporary progress line. `bare` returns the note on a
   file that has no message.
 
@@ -103,8 +103,6 @@ def take_descriptors() -> None:
         except OSError:
             os.open(os.devnull, mode)
     # Python sets these to None, and would then print errors to standard output.
-    if sys.stdin is None:
-        sys.stdin = open(0, closefd=False)
     if sys.stdout is None:
         sys.stdout = open(1, "w", closefd=False)
     if sys.stderr is None:
@@ -203,6 +201,8 @@ def reason(error: BaseException) -> str:
             return f"{os.fsdecode(error.filename)}: {error.strerror}"
         is_write = error.errno in (errno.EPIPE, errno.ENOSPC, errno.EFBIG)
         return f"write failed: {error.strerror}" if is_write else error.strerror
+    if isinstance(error, RuntimeError) and str(error) == "can't start new thread":
+        return "cannot start a thread; free memory, or raise the limit on processes (ulimit -u)"
     place, where = error.__traceback__, ""
     while place:
         where = f" ({os.path.basename(place.tb_frame.f_code.co_filename)}, line {place.tb_lineno})"
@@ -484,14 +484,6 @@ def no_room() -> Failed:
     return Failed(f"no space left in {folder_of_temporary()}; set TMPDIR to another directory")
 
 
-def put_aside(octets: bytes) -> int:
-    """Writes bytes to a temporary file, and returns its descriptor, positioned at the start."""
-    descriptor = temporary()
-    keep(descriptor, octets)
-    os.lseek(descriptor, 0, os.SEEK_SET)
-    return descriptor
-
-
 def copied(source: int, name: str) -> int:
     """Copies everything from a descriptor to a temporary file, and returns its descriptor, positioned at the start."""
     descriptor, octets, progress, size = temporary(), b" ", Progress(has_texts=False), 0
@@ -519,7 +511,7 @@ def read_at(descriptor: int, offset: int, length: int) -> bytes:
         if not pieces[-1]:
             raise Failed("the input was truncated while it was read")
         offset += len(pieces[-1])
-    return pieces[0] if len(pieces) == 1 else b"".join(pieces)
+    return b"".join(pieces)
 
 
 def fault_lines(errors: int) -> Iterator[tuple[float, bytes]]:

@@ -57,7 +57,7 @@ class Asked:
                 self.given[word] = []
             else:
                 name, value = parts(word)
-                if name in flags and word.startswith("--"):
+                if name in flags:
                     raise misused(f"{name} takes no value")
                 if name not in values:
                     raise misused(f"unknown option {name if word.startswith('--') else word}")

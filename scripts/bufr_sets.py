@@ -190,7 +190,7 @@ def is_local(fxy: str) -> bool:
 def advice(tables: TableSet, centre: int, version: int, local: int) -> str:
     """Returns the command that adds a centre's local rows to a WMO set, or whom to ask for these rows."""
     folders = [*os.environ.get("ECCODES_DEFINITION_PATH", "").split(":"), ECCODES]
-    of_eccodes = [f"{folder}/bufr/tables/0/local/{local}/{centre}/0" for folder in folders if folder]
+    of_eccodes = [f"{folder}/bufr/tables/0/local/{local}/{centre}/0" for folder in folders]
     of_wreport = f"{WREPORT}/B00000000{centre:05}{version:03}{local:03}.txt"
     for source in filter(os.path.isdir, of_eccodes):
         return "to make it: " + command(tables, centre, local, tables.folder, source)
@@ -218,4 +218,4 @@ def command(tables: TableSet, centre: int, local: int, *sources: str) -> str:
 
 def own_name(tables: TableSet, centre: int, local: int) -> str:
     """Returns the name of the set that adds a centre's local rows to a WMO set."""
-    return f"wmo-{tables.version:02}+{centre}-{local}"
+    return f"{tables.name}+{centre}-{local}"

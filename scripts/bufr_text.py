@@ -782,6 +782,6 @@ def _program(name: str) -> str:
     """Finds a program next to this file, in the `bin` directory of this installation or of Python, or on PATH."""
     here = pathlib.Path(__file__).resolve().parent
     for path in (here / name, here.parent.parent / "bin" / name, pathlib.Path(sys.prefix) / "bin" / name):
-        if os.access(path, os.X_OK):
+        if shutil.which(path):
             return str(path)
     return name

@@ -102,12 +102,12 @@ function next_listed(   line, words, is_read) {
     do {
         if ((is_read = (getline line < listing)) <= 0)
             return is_read < 0 ? fail("cannot read " listing) : 0
-        if (line !~ /^offset=[0-9]+ /)
+        if (line !~ /^offset=/)
             fail(listing " is not the output of bufr ls")
         split(line, words, /[= ]/)
         header["offset"] = words[2]
         header["length"] = words[4]
-        while (fault + 0 < header["offset"] + 0 && (is_read = (getline line < faults)) > 0)
+        while (fault < header["offset"] && (is_read = (getline line < faults)) > 0)
             if (line ~ /^offset [0-9]+: /) {
                 split(line, words, /[ :]/)
                 fault = words[2]
@@ -127,10 +127,10 @@ function is_descriptor(word, of_subset) {
 
 # Splits a list of columns and returns their number. `keys` lists the words that are allowed besides descriptors.
 function split_columns(words, list, keys,   count, column, word) {
-    count = split(words, list, /[ ,]+/)
+    count = split(words, list, ",")
     for (column = 1; column <= count; column++) {
         word = list[column]
-        if (word != "" && index(keys, " " word " "))
+        if (index(keys, " " word " "))
             is_key[word] = wanted[word] = 1
         else if (by_item)
             fail("without columns, keep can contain only header keys, not: " word)
@@ -167,10 +167,8 @@ function write_item(   is_reference, comment) {
     else
         sub(/^[0-9]+ [^ ]*/, "", comment)
     if (!(comment in names)) {
-        if (++name_count > 10000) {
+        if (++name_count % 10000 == 0)
             split("", names)
-            name_count = 1
-        }
         names[comment] = name_and_unit(comment)
     }
     items++

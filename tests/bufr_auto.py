@@ -133,6 +133,14 @@ class Trial:
         """Where a table is at fault what stands before is written, and no more: the status is 2."""
         tables = self.place / "tables"
         shutil.copytree(TABLES, tables)
+        for name in ("wmo-x", "wmo-13+98", "wmo-13+98-1-2", "wmo-\u0661\u0663", "wmo-1234567890", "own-39"):
+            (tables / name).mkdir()  # no names of sets
+        with open(tables / "wmo-17/D.csv", "a") as file:
+            file.write("no row\n")
+        (self.place / "17").write_bytes(made(17, LISTS[1], b"\1" * 3))
+        done = self.auto(*[str(self.place / "17")] * 2, BUFR_TABLES=str(tables))
+        told = f"table D: 45 csv\nbufr-auto: cannot use {tables}/wmo-17/D.csv: 45 csv\n"
+        self.same("two files with a table at fault", (done.stdout, done.stderr.decode(), done.returncode), (b"", told, 2))
         with open(tables / "wmo-17/B.csv", "a") as file:
             file.write("no row\n")
         before = made(13, LISTS[1], b"\1" * 3) + made(16, LISTS[5], b"") + made(16, LISTS[1], b"\1" * 3)
@@ -154,6 +162,9 @@ class Trial:
         )
         whole = (done.stdout.count(b"message\n"), done.stderr == faults + notes, done.returncode)
         self.holds("an incomplete set", whole == (stream.count(b"BUFR") - 1, True, 1), done)
+        (tables / "wmo-6").symlink_to(TABLES / "wmo-13")
+        done = self.auto(stream=made(6, "012073", b"\1\1"), BUFR_TABLES=str(tables))
+        self.holds("a set of version 6", b"012073" in done.stdout and b"version 6" not in done.stderr, done)
         (self.place / "none/wmo-40").mkdir(parents=True)
         done = self.auto(stream=stream, BUFR_TABLES=str(self.place / "none"))
         self.holds("no complete set", done.returncode == 2 and b"wmo-40, which has no B.csv" in done.stderr, done)
@@ -205,9 +216,10 @@ class Trial:
         for length, wanted in ((4096, (one, b"", 0)), (4097, (b"", b"line 1: 50 line\n", 1))):
             done = self.in_pieces(b"#".ljust(length, b"x") + b"\n" + self.one_by_one(one)[0], "--encode")
             self.same(f"a comment of {length} bytes", (done.stdout, done.stderr, done.returncode), wanted)
-        text = b"# A comment before a document.\n" * 200_000 + b"\nmessage\nedition 4\nnonsense\n"
-        done = self.auto("--encode", stream=text)
-        self.same("many comments", (done.stdout, done.stderr, done.returncode), (b"", b"line 200004: 50 line\n", 1))
+        comments = b"# A comment on BUFR in a document.\n" * 200_000
+        for text, line in ((comments + b"\nmessage\nedition 4\nnonsense\n", 200004), (b"message\nnonsense\n" + comments, 2)):
+            done = self.auto("--encode", stream=text)
+            self.same("many comments", (done.stdout, done.stderr, done.returncode), (b"", b"line %d: 50 line\n" % line, 1))
         # BUFR is refused before its end, and a note names the option to leave out.
         note = b"bufr-auto: standard input is BUFR, not a dump; to dump it, leave out --encode\n"
         for begin in (b"BUFR", b"\1\r\r\n001\r\r\nIUSK01 ENMI 010000\r\r\nBUFR"):
@@ -335,6 +347,7 @@ class Trial:
         code += "bufr_guard.run(work, '')"
         seven, both = made(13, LISTS[1], b"\1\1\0", 7), made(39, LISTS[1], b"\1\1\0", 98, section_2=bytes(5_000_000))
         stream = seven + b"BUFR" + both + made(13, "063255", b"", 98) + seven[:-30] + both + made(39, "063255", b"", 7)
+        stream += b"BUFR\0\0\x0c\x047777"  # shorter than what is read of a message
         (self.place / "a file").write_bytes(stream)
         texts = {centre: self.one_by_one(message)[0] for centre, message in ((7, seven), (98, both))}
         comment = "# offset={} length={} file={}\n"
@@ -346,6 +359,7 @@ class Trial:
             wanted = b"".join(comment.format(place, len(both), file).encode() + texts[98] for place in places)
             at = [found.start() for found in re.finditer(b"BUFR", stream)]
             told = f"offset {at[1]}: 3 no end\noffset {at[3]}: 20 unknown element 063255\noffset {at[4]}: 3 no end\n"
+            told += f"offset {at[7]}: 12 section 1 past the end\n"
             self.same("a condition", (done.stdout, done.stderr.decode(), done.returncode), (wanted, told, 1))
 
     def feed(self, what: str, words: list, steps: list, last: tuple, status: int, files: int = 256) -> None:
@@ -383,6 +397,15 @@ class Trial:
             b"\nbufr-auto: cannot open nosuch: No such file or directory\nbufr-auto: cannot read folder: Is a directory\n"
         )
         self.same("files", (done.stdout, done.stderr, done.returncode), (b"".join(texts), told, 2))
+        # The progress counts the bytes of all files.
+        code = "import sys; sys.path.insert(0, sys.argv[1]); import bufr_auto, bufr_guard\n"
+        code += "bufr_guard.Progress.at = lambda _, octets: bufr_guard.say(b'%d\\n' % octets)\n"
+        code += "bufr_guard.run(lambda words: bufr_auto.dump(words[1:]), '')"
+        words = [sys.executable, "-c", code, str(TOP / "scripts"), "file 0", "file 1"]
+        done = subprocess.run(words, cwd=self.place, env=self.environment, capture_output=True)
+        sizes = [(self.place / name).stat().st_size for name in ("file 0", "file 1")]
+        told = [int(line) for line in done.stderr.splitlines() if line.isdigit()]
+        self.holds("progress", [*dict.fromkeys(told)] == [sizes[0], sum(sizes)], told)
         for number, text in enumerate(texts):
             (self.place / f"text {number}").write_bytes(text)
         (self.place / "text 1").write_bytes(texts[1].replace(b"\n012101 ", b"\n012101 x", 1))
@@ -450,7 +473,7 @@ class Trial:
         # A sequence of a table that the centre's descriptor is in, and a version that has no set.
         done = self.auto("--encode", stream=b"message\nmasterversion 999999999\ndescriptors 012101\nsubset 1\nend\n")
         self.holds("a version of nine digits", done.stderr == b"line 2: 50 line\n", done)
-        exact = made(14, LISTS[0], b"\1" * 2) + made(37, LISTS[0], b"\1" * 2)
+        exact = made(14, LISTS[0], b"\1" * 2) + made(37, LISTS[0], b"\1" * 2) + made(7, "012073", b"\1\1")
         stream = exact + made(6, "012073", b"\1\1") + made(6, "012101", b"\1\1") + made(6, "307018", b"") * 2
         stream += made(13, "012101", b"\1\1", local=102) + made(13, "206008 001250", b"\1", local=102)
         stream += made(13, "001212", b"\1", local=102) * 2 + made(40, "012101", b"\1\1")
@@ -459,9 +482,9 @@ class Trial:
         told = [line for line in done.stderr.decode().splitlines() if line.startswith("bufr-auto: ")]
         at = [found.start() for found in re.finditer(b"BUFR", stream)]
         wanted = [
-            f"3 messages, the first at offset {at[2]}: some descriptors differ between version 6 and wmo-13",
-            f"2 messages, the first at offset {at[8]}: there is no wmo-13+98-102 for local table 102 of centre 98; to make it",
-            f"1 message, at offset {at[10]}: version 40 is later than wmo-39{NEWER}",
+            f"3 messages, the first at offset {at[3]}: some descriptors differ between version 6 and wmo-13",
+            f"2 messages, the first at offset {at[9]}: there is no wmo-13+98-102 for local table 102 of centre 98; to make it",
+            f"1 message, at offset {at[11]}: version 40 is later than wmo-39{NEWER}",
         ]
         starts = [line[: len(note) + 11] for line, note in zip(told, wanted)]
         self.holds("notes", len(told) == 3 and starts == [f"bufr-auto: {note}" for note in wanted], told)
@@ -493,7 +516,7 @@ class Trial:
         for words, why in (
             (["--other"], "unknown option --other"),
             ([file, "--other=1"], "unknown option --other"),
-            (["-x", file], "unknown option -x"),
+            (["-xyz", file], "unknown option -xyz"),
             (["--encode=1"], "--encode takes no value"),
             ([file, "--max-length"], "--max-length needs a value"),
             (["--max-length", "11"], "--max-length '11': expected a whole number, at least 12"),
@@ -590,9 +613,26 @@ class Trial:
         self.holds("a file that becomes shorter", is_prefix and (done.returncode, done.stderr) == (2, told), done.stderr)
         # What a child gives is not whole, and it says nothing of that.
         other.write_text(f'#!/bin/sh\n"{self.program}" "$@" | head -c 3000\n')
-        done = self.auto(stream=made(13, LISTS[1], b"\1\1\0") * 9 + made(39, LISTS[1], b"\1\1\0"), BUFR=str(other))
-        told = b"bufr-auto: bufr stopped early; output is incomplete\n"
+        done = self.auto(stream=made(41, LISTS[1], b"\1\1\0") + made(13, LISTS[1], b"\1\1\0") * 9, BUFR=str(other))
+        told = b"bufr-auto: 1 message, at offset 0: version 41 is later than wmo-39" + NEWER.encode()
+        told += b"\nbufr-auto: bufr stopped early; output is incomplete\n"
         self.holds("a text that is cut", (done.returncode, done.stderr) == (2, told), done)
+        # A long document is cut while it is encoded.
+        other.write_text(f'#!/bin/sh\nhead -c 5000000 "$STREAM" > "$STREAM.1"\ncat "$STREAM.1" > "$STREAM"\nexec "{self.program}" "$@"\n')
+        (self.place / "stream").write_bytes(b"message\n" + b"# A comment in a document.\n" * 1_000_000)
+        done = self.auto("--encode", str(self.place / "stream"), **words)
+        told = f"bufr-auto: {self.place}/stream was truncated while it was read\n".encode()
+        self.holds("a document that becomes shorter", (done.returncode, done.stderr) == (2, told), done)
+        # Standard input whose reads do not wait.
+        given, pipe = os.pipe()
+        os.set_blocking(given, False)
+        with subprocess.Popen(AUTO, stdin=given, stdout=subprocess.PIPE, stderr=subprocess.PIPE, env=self.environment) as child:
+            os.close(given)
+            time.sleep(0.2)
+            os.write(pipe, made(39, LISTS[1], b"\1\1\0"))
+            os.close(pipe)
+            told = child.communicate()
+        self.holds("an input that does not wait", (child.returncode, told[0][-4:], told[1]) == (0, b"end\n", b""), told)
         ignoring = "import os, signal, sys; signal.signal(signal.SIGCHLD, signal.SIG_IGN); os.execv(sys.argv[1], sys.argv[1:])"
         words = [sys.executable, "-c", ignoring, *AUTO, str(TOP / "examples/synop.bufr")]
         done = subprocess.run(words, env=self.environment, capture_output=True)

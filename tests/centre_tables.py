@@ -234,6 +234,13 @@ def main() -> None:
                 done = subprocess.run(words, stdin=stream, capture_output=True, env=environment)
             told = (done.returncode, done.stdout.decode(), done.stderr.decode()[:6])
             holds(f"{name} from octet 4 on", told, (1, output, errors))
+        (place / "text").write_bytes(message + b"text")
+        with open(place / "text", "rb", buffering=0) as stream:
+            stream.seek(len(message))
+            words = [sys.executable, TOP / "scripts/bufr-lacks"]
+            done = subprocess.run(words, stdin=stream, capture_output=True, env=environment)
+        told = b"bufr-lacks: standard input has no message: it looks like text\n"
+        holds("bufr-lacks behind a message", (done.returncode, done.stdout, done.stderr), (0, b"", told))
         nearest_own_set(place / "tables", script, message_9, holds)
         versions_and_editions(script, holds)
         in_packages(holds)

@@ -81,11 +81,11 @@ def run(awk: list, text: bytes, **variables) -> tuple:
 
 
 def tries_wide(awk: list, text: bytes) -> None:
-    head = "message,subset,001002,012101:2,012104\n"
-    told = "table.awk: no row has 012101:2\ntable.awk: no row has 012104\n"
+    head = "message,subset,001002,012101:10,012104\n"
+    told = "table.awk: no row has 012101:10\ntable.awk: no row has 012104\n"
     wanted = (0, head + "1,1,836,,\n1,2,772,,\n1,3,680,,\n", told)
     want(
-        run(awk, text, columns="001002,012101:2,012104") == wanted,
+        run(awk, text, columns="001002,012101:10,012104") == wanted,
         f"{awk}: empty columns have no note",
     )
     status, output, errors = run(awk, ODD, columns="centre,012101,012101:2,001015,001015:2,001015:3")
@@ -122,7 +122,7 @@ class Stream:
             done = subprocess.run(
                 [lib.program(), *words, folder / "stream"], stdout=subprocess.PIPE, stderr=subprocess.PIPE
             )
-            path.write_bytes(done.stdout if output == 1 else done.stderr)
+            path.write_bytes(done.stdout if output == 1 else b"note 99999999: of another program\n" + done.stderr)
         self.text, self.places = done.stdout, []
         # which messages are dumped, by a run for each alone
         for offset, length in re.findall(rb"^offset=(\d+) length=(\d+) ", self.listing.read_bytes(), re.M):
@@ -229,8 +229,17 @@ def tries_levels(awk: list, sounding: bytes, synop: bytes) -> None:
     behind = run(awk, BEHIND, levels="1", columns="007004,012101,012103")
     wanted = (0, "message,subset,007004,012101,012103\n1,1,1,1.0,\n1,1,2,,2.0\n", "")
     want(behind == wanted, f"{awk}: an item behind two passes is in a row: {behind}")
+    # of subsets without a level no item counts, nor does a factor behind which nothing comes
+    bare = "table.awk: skipped subsets without a level: {}, the first is message 1 subset 1\n"
+    status, _, errors = run(awk, ODD + BEHIND, levels="1", keep="001015", columns="007004,012101")
+    told = "table.awk: no row has 001015\n" + bare.format(1)
+    want((status, errors) == (0, told), f"{awk}: a column of a subset without a level is told as {errors}")
+    empty = run(awk, b"message\nsubset 1\n031001 2\nsubset 2\n012101 1.0\nend\n", levels="1", columns="012101")
+    wanted = (0, "message,subset,012101\n", "table.awk: no row has 012101\n" + bare.format(2))
+    want(empty == wanted, f"{awk}: passes without items give {empty}")
     # passes that cannot be told apart, between others: the rest is given
-    both = BEHIND[:-4] + b"".join((ENCLOSED % 3).splitlines(True)[2:])
+    good = BEHIND.splitlines(True)
+    both = b"".join([*good[:-1], *(ENCLOSED % 3).splitlines(True)[2:-1], *good[2:]])
     between = both + NESTED + ENCLOSED % 2 + ODD + NESTED
     status, output, errors = run(awk, between, levels="1", columns="007004,012101")
     told = "table.awk: skipped subsets without a level: 1, the first is message 4 subset 1\n"
@@ -248,7 +257,7 @@ def tries_levels(awk: list, sounding: bytes, synop: bytes) -> None:
     status, _, errors = run(awk, NESTED[:-4], levels="1", columns="007004")
     want((status, errors) == (2, "table.awk: the dump ends inside a message, so it is incomplete\n"), f"{awk}: a cut text gives {errors}")
     for word in WORDS:
-        for names in ({"columns": word}, {"keep": word, "columns": "007004"}):
+        for names in ({"columns": word}, {"columns": "007004:2"}, {"keep": word, "columns": "007004"}):
             status, output, errors = run(awk, sounding, levels="1", **names)
             want(
                 status == 2 and not output and "expected a descriptor of six digits" in errors,

@@ -138,10 +138,16 @@ def refuses_what_it_cannot(path: pathlib.Path) -> None:
     want((done.returncode, done.stdout) == (0, made(1)), f"a line that awk selects later is refused: {done}")
     done = run(["--awk", "NR == 2 { exit 2 } 1", path])
     want((done.returncode, done.stdout) == (2, made(1)), f"an awk that fails is no failure: {done}")
+    done = run(["--awk", 'NR == 2 { system("kill -9 $PPID") } 1', path])
+    told = b"bufr-extract: awk was killed (signal 9); output is incomplete\n"
+    want((done.returncode, done.stderr) == (2, told), f"of an awk that is killed: {done}")
     # More lines than a pipe holds: `bufr ls` does not wait for an awk that has ended.
     path.write_bytes(made(1) * 4000)
     done = run(["--awk", "NR == 2 { exit 2 } 1", path], timeout=60)
     want((done.returncode, done.stdout) == (2, made(1)), f"of an awk that ends early: {done}")
+    # A line that comes once more, after more lines than are read at once.
+    done = run(["--awk", "NR == 1 { first = $0 } 1; END { print first }", path])
+    want(done.returncode == 2 and b"--awk may only select lines" in done.stderr, f"a line that comes twice: {done.stderr}")
     killed = path.with_name("killed")
     killed.write_text('#!/bin/sh\nprintf "offset=0 length=5"\nkill -9 $$\n')
     killed.chmod(0o755)
@@ -157,9 +163,10 @@ def refuses_what_it_cannot(path: pathlib.Path) -> None:
     want(run([path, "category=9"]).returncode == 0, "no message to take is a fault")
 
 
-    path.with_name("time").write_bytes(made(1))
-    want(run(["time"], cwd=path.parent).stdout == made(1), "a file with the name of a key is not read")
-    path.with_name("time").unlink()
+    for name in ("time", "A=1", "a1=1", "\u00e9=1"):
+        path.with_name(name).write_bytes(made(1))
+        want(run([name], cwd=path.parent).stdout == made(1), f"a file with the name {name} is not read")
+        path.with_name(name).unlink()
     words = ["--max-length", "12", "--max-length", str(len(made(1))), path.name]
     want(run(words, cwd=path.parent).stdout == made(1), "the last of two options does not count")
 
@@ -183,6 +190,11 @@ def tells_years_of_the_century(folder: pathlib.Path) -> None:
     for words, taken, told in (
         (["time=2014"], [whole], f"2 edition 3 messages {two_digits}; time=2014,0014 selects both editions"),
         (["time=2014-06"], [], f"1 edition 3 message {two_digits}; time=2014-06,0014-06 selects both editions"),
+        (
+            ["time=2014-05-02T03"],
+            [whole],
+            f"1 edition 3 message {two_digits}; time=2014-05-02T03,0014-05-02T03 selects both editions",
+        ),
         (["time=2014,0014"], [first, second, whole, of_14], ""),
         (["time=2014,0014-05"], [first, whole, of_14], ""),
         (["time=2015", "edition=4"], [whole_next], ""),
@@ -221,6 +233,16 @@ def tells_that_there_is_no_message(path: pathlib.Path) -> None:
                 want((done.returncode, lines[status:]) == (status, wanted), f"{words} of {octets[:9]}: {done}")
 
 
+def begins_behind_a_message(path: pathlib.Path) -> None:
+    """Standard input may begin behind a message, in front of other bytes."""
+    path.write_bytes(made(1) + b"\ntext\n")
+    with path.open("rb", buffering=0) as stream:
+        stream.seek(len(made(1)))
+        done = run([], stdin=stream)
+    told = b"bufr-extract: standard input has no message: it looks like text\n"
+    want((done.returncode, done.stdout, done.stderr) == (0, b"", told), f"behind a message: {done}")
+
+
 def ignores_the_locale(folder: pathlib.Path) -> None:
     """A condition means the same in every locale: gawk counts characters, or bytes in the locale C."""
     gawk = shutil.which("gawk")
@@ -252,6 +274,10 @@ def skips_what_is_too_long(folder: pathlib.Path) -> None:
         for name, done in (("a file", run([*words, path])), ("a pipe", run(words, input=octets))):
             want(done.stdout == b"".join(map(made, taken)), f"{words} of {name}: other messages")
             want((done.returncode, done.stderr.decode().splitlines()) == (1, told), f"{words} of {name}: {done}")
+    before = made(1) * 40_000  # more than is buffered
+    done = run(["--max-length", str(limit)], input=before + longer)
+    note = f"bufr-extract: offset {len(before)}: skipped a message that declares {len(longer)} bytes\n"
+    want(done.stderr.decode() == note, f"after {len(before)} bytes, --max-length reports {done.stderr}")
     whole = run(["--max-length", "16777215", path])
     want(whole.stdout == run([path]).stdout != b"", "a high limit changes what is taken")
     want(run([f"--max-length={len(made(1))}", "-"], input=made(1)).returncode == 0, "a message as long as the limit is skipped")
@@ -359,6 +385,7 @@ def main() -> None:
         refuses_what_it_cannot(folder / "one.bufr")
         tells_years_of_the_century(folder)
         tells_that_there_is_no_message(folder / "none")
+        begins_behind_a_message(folder / "behind")
         ignores_the_locale(folder)
         skips_what_is_too_long(folder)
         tells_a_feed()

@@ -1,16 +1,14 @@
 #!/usr/bin/env python3
-"""Breaks the scripts on purpose, one change at a time, and wants the test that stands beside it to fail.
+"""Breaks the scripts on purpose, one change at a time: the test that is named beside each change must fail.
 
-    tests/mutations.py [--all | --only WORD] [PROGRAM]
-
-Each change is made in a copy of this tree. Without --all only the first is tried, and of the others it is looked at
-whether their text is still there. --only tries those whose file, text or test has this word.
+Each change is made in a copy of this tree. Without an option, only the first one is tried. In any case, the text that a
+change replaces must still be in its file.
 """
+import argparse
 import os
 import pathlib
 import shutil
 import subprocess
-import sys
 import tempfile
 
 from lib import BUILT, TOP, finish
@@ -317,7 +315,7 @@ MUTATIONS = [
     ("scripts/bufr_guard.py", "        write_all(2, os.fsencode(", "        Output(2).write(os.fsencode(", "tests/failures_of_scripts.py bufr-csv"),
     ("scripts/bufr_guard.py", "\nBLOCK = 1 << 20", "\n BLOCK = 1 << 20", "tests/failures_of_scripts.py bufr-lacks"),
     ("scripts/bufr_sets.py", "if len(cache) > CACHED:", "if False:", "tests/memory_of_scripts.py bufr-lacks"),
-    ("scripts/table.awk", "if (++name_count > 10000) {", "if (0) {", "tests/csv_by_awk.py"),
+    ("scripts/table.awk", "if (++name_count % 10000 == 0)", "if (0)", "tests/csv_by_awk.py"),
     ("scripts/bufr-plot", "(bytes, type(None))) and not item.reference", "(bytes, type(None)))", "tests/pictures.py"),
     ("scripts/bufr-extract", "            os.close(source)\n", "            pass\n", "tests/extract_messages.py"),
     ("scripts/bufr-extract", "            bufr_guard.stop()  # otherwise", "            pass  # otherwise", "tests/failures_of_scripts.py bufr-extract"),
@@ -326,6 +324,25 @@ MUTATIONS = [
         "self.thread = threading.Thread(target=self.feed, daemon=True)",
         "self.thread = threading.Thread(target=int)\n        threading.Thread(target=self.feed, daemon=True).start()",
         "tests/failures_of_scripts.py bufr-extract",
+    ),
+    ("scripts/bufr-csv", "not all(map(is_regular, files))", "not any(map(is_regular, files))", "tests/csv_command.py"),
+    ("scripts/bufr-csv", "return max(status, rows.end())", "return rows.end() or status", "tests/csv_command.py"),
+    ("scripts/bufr-plot", "if self.values <= MOST_LABELS:", "if self.values < MOST_LABELS:", "tests/pictures.py"),
+    ("scripts/bufr_auto.py", "stray_line(finder.passed + begin, fault)", "stray_line(begin, fault)", "tests/extract_messages.py"),
+    (
+        "scripts/bufr_text.py",
+        'warnings.warn(line.decode(errors="replace"), DumpWarning, stacklevel=2)',
+        "pass",
+        "tests/python_module.py",
+    ),
+    ("scripts/table.awk", "    if (twice)\n", "    if (twice > 1)\n", "tests/csv_by_awk.py"),
+    ("tables/changes.py", '"common code table", ', "", "tests/table_converter.py"),
+    ("install.sh", "is_marked \"$program\" || logic=none\n", "", "tests/installation.sh"),
+    (
+        "scripts/bufr_guard.py",
+        'isinstance(error, RuntimeError) and str(error) == "can\'t start new thread"',
+        "False",
+        "tests/failures_of_scripts.py bufr-parallel",
     ),
 ]
 
@@ -361,14 +378,18 @@ def told_of(top: pathlib.Path, mutation: tuple, program: str) -> tuple:
 
 
 def main() -> None:
-    words = sys.argv[1:]
-    asked = MUTATIONS[:1]
-    if words[:1] == ["--all"]:
-        asked, words = MUTATIONS, words[1:]
-    elif words[:1] == ["--only"]:
-        asked, words = [mutation for mutation in MUTATIONS if words[1] in " ".join(mutation)], words[2:]
-    program = os.path.abspath(words[0] if words else BUILT)
-    wrongs = []
+    asker = argparse.ArgumentParser(description=__doc__, formatter_class=argparse.RawDescriptionHelpFormatter)
+    which = asker.add_mutually_exclusive_group()
+    which.add_argument("--all", action="store_true", help="try all changes")
+    which.add_argument("--only", metavar="WORD", help="try the changes whose file, text or test has WORD")
+    asker.add_argument("program", nargs="?", default=BUILT, help="the program for the tests")
+    words = asker.parse_args()
+    asked = MUTATIONS if words.all else MUTATIONS[:1]
+    if words.only:
+        asked = [mutation for mutation in MUTATIONS if words.only in " ".join(mutation)]
+    if not asked:
+        asker.error(f"no change has {words.only}")
+    program, wrongs = os.path.abspath(words.program), []
     for file, old, *_ in MUTATIONS:
         count = (TOP / file).read_text(encoding="utf-8").count(old)
         wrongs += [f"{file} has {count} times {old!r}"] * (count == 0)

@@ -603,6 +603,9 @@ class Runs(unittest.TestCase):
     def test_notes_of_tables_are_warnings(self):
         text = (TOP / "examples/synop.txt").read_bytes().replace(b"masterversion 39", b"masterversion 45")
         later = bufr_text.encode(bufr_text.read(io.BytesIO(text)), *TABLES)
+        with self.assertWarnsRegex(bufr_text.DumpWarning, "version 45 is later than wmo-39") as warned:
+            self.assertEqual(bufr_text.encode(bufr_text.read(io.BytesIO(text))), later)
+        self.assertEqual(warned.filename, __file__)
         self.stream.write_bytes(self.octets + later * 2)
         with self.assertWarns(bufr_text.DumpWarning) as warned:
             list(bufr_text.dump(self.stream, faults=[]))

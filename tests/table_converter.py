@@ -266,6 +266,11 @@ def failures(place: pathlib.Path) -> list:
         holds(f"changes.py {words}", run("changes.py", *words), (2, "", f"changes.py: {told}\n"))
     status, told, _ = run("changes.py", TOP / "tables/wmo-13", TOP / "tables/wmo-14")
     holds("changes.py", (status, told.splitlines()[:2]), (0, ["wmo-13 to wmo-14", CHANGED]))
+    for name, unit in (("one", "CODE TABLE"), ("other", "COMMON CODE TABLE C-1")):
+        (place / name).mkdir()
+        (place / name / "B.csv").write_text(f"{HEADERS['B']}\n001033,CENTRE,{unit},0,0,8\n")
+        (place / name / "D.csv").write_text(f"{HEADERS['D']}\n")
+    holds("a common code table", run("changes.py", "one", "other")[1].splitlines()[1], "  elements changed: 0")
     for name in ("convert.py", "changes.py"):
         holds(f"{name} --help", run(name, "--help")[0], 0)
     return wrongs
