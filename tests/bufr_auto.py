@@ -221,7 +221,7 @@ class Trial:
             done = self.auto("--encode", stream=text)
             self.same("many comments", (done.stdout, done.stderr, done.returncode), (b"", b"line %d: 50 line\n" % line, 1))
         # BUFR is refused before its end, and a note names the option to leave out.
-        note = b"bufr-auto: standard input is BUFR, not a dump; leave out --encode to dump it\n"
+        note = b"bufr-auto: standard input is BUFR, not a dump; to dump it, leave out --encode\n"
         for begin in (b"BUFR", b"\1\r\r\n001\r\r\nIUSK01 ENMI 010000\r\r\nBUFR"):
             steps = [(begin + bytes(100) + b"\n", b"", b"line 1: 50 line\n" + note)]
             self.feed("no text", ["--encode"], steps, (b"", b""), 1)
@@ -432,7 +432,7 @@ class Trial:
             (b"\n<!DOCTYPE HTML><p>BUFR", "looks like HTML", 1),
             (b"<HTML>", "looks like HTML", 0),
             (b"<?xml version='1.0'?>", "looks like XML", 0),
-            ((TOP / "examples/synop.txt").read_bytes(), "looks like the text of a dump (--encode)", 0),
+            ((TOP / "examples/synop.txt").read_bytes(), "looks like a dump (--encode)", 0),
             (b"SMVD01 EKMI 010000\r\r\n", "looks like text", 0),
             (b"\1\r\r\n123\r\r\nSMVD01 EKMI 010000\tA\r\r\n\3", "looks like text", 0),
             (b"", "is empty", 0),
@@ -469,7 +469,7 @@ class Trial:
         edition_3 = bytearray(lib.message(b"\1", lib.words("001192"), edition=3))
         edition_3[12:14], edition_3[18:20] = b"\7\x62", b"\x0d\x66"
         done = self.auto(stream=bytes(edition_3))
-        self.holds("edition 3", b"local table 102 of centre 98: there is no wmo-13+98-102" in done.stderr, done)
+        self.holds("edition 3", b"there is no wmo-13+98-102 for local table 102 of centre 98" in done.stderr, done)
         # A sequence of a table that the centre's descriptor is in, and a version that has no set.
         done = self.auto("--encode", stream=b"message\nmasterversion 999999999\ndescriptors 012101\nsubset 1\nend\n")
         self.holds("a version of nine digits", done.stderr == b"line 2: 50 line\n", done)
@@ -483,7 +483,7 @@ class Trial:
         at = [found.start() for found in re.finditer(b"BUFR", stream)]
         wanted = [
             f"3 messages, the first at offset {at[3]}: some descriptors differ between version 6 and wmo-13",
-            f"2 messages, the first at offset {at[9]}: local table 102 of centre 98: there is no wmo-13+98-102; to make it",
+            f"2 messages, the first at offset {at[9]}: there is no wmo-13+98-102 for local table 102 of centre 98; to make it",
             f"1 message, at offset {at[11]}: version 40 is later than wmo-39{NEWER}",
         ]
         starts = [line[: len(note) + 11] for line, note in zip(told, wanted)]
@@ -491,7 +491,7 @@ class Trial:
         self.holds("no notes", self.auto(stream=exact).stderr == b"", self.auto(stream=exact).stderr)
         stream = b"".join(made(13, "001212", b"\1", centre, 1) for centre in range(1, 1300))
         told = [line for line in self.auto(stream=stream).stderr.decode().splitlines() if line.startswith("bufr-auto: ")]
-        rest = "bufr-auto: 299 messages, the first at offset 48000: no set matches exactly, for reasons beyond the first 1,000"
+        rest = "bufr-auto: 299 messages, the first at offset 48000: no set matches exactly, for reasons other than the first 1,000"
         self.holds("kinds of notes", (len(told), told[-1]) == (1001, rest), (len(told), told[-1]))
         refused = made(41, "012101", b"\1\1").replace(b"\0\0\x16", b"\0\0\x15", 1)
         done = self.auto(stream=refused)
@@ -607,7 +607,7 @@ class Trial:
         (self.place / "stream").write_bytes(many * 80)
         words = {"BUFR": str(other), "STREAM": str(self.place / "stream")}
         done = self.auto(str(self.place / "stream"), **words)
-        told = f"bufr-auto: {self.place}/stream became shorter while it was read\n".encode()
+        told = f"bufr-auto: {self.place}/stream was truncated while it was read\n".encode()
         whole = self.one_by_one(many)[0] * 80
         is_prefix = whole.startswith(done.stdout) and done.stdout.endswith(b"\nend\n")
         self.holds("a file that becomes shorter", is_prefix and (done.returncode, done.stderr) == (2, told), done.stderr)
@@ -615,13 +615,13 @@ class Trial:
         other.write_text(f'#!/bin/sh\n"{self.program}" "$@" | head -c 3000\n')
         done = self.auto(stream=made(41, LISTS[1], b"\1\1\0") + made(13, LISTS[1], b"\1\1\0") * 9, BUFR=str(other))
         told = b"bufr-auto: 1 message, at offset 0: version 41 is later than wmo-39" + NEWER.encode()
-        told += b"\nbufr-auto: bufr stopped before the end of its output; output is incomplete\n"
+        told += b"\nbufr-auto: bufr stopped early; output is incomplete\n"
         self.holds("a text that is cut", (done.returncode, done.stderr) == (2, told), done)
         # A long document is cut while it is encoded.
         other.write_text(f'#!/bin/sh\nhead -c 5000000 "$STREAM" > "$STREAM.1"\ncat "$STREAM.1" > "$STREAM"\nexec "{self.program}" "$@"\n')
         (self.place / "stream").write_bytes(b"message\n" + b"# A comment in a document.\n" * 1_000_000)
         done = self.auto("--encode", str(self.place / "stream"), **words)
-        told = f"bufr-auto: {self.place}/stream became shorter while it was read\n".encode()
+        told = f"bufr-auto: {self.place}/stream was truncated while it was read\n".encode()
         self.holds("a document that becomes shorter", (done.returncode, done.stderr) == (2, told), done)
         # Standard input whose reads do not wait.
         given, pipe = os.pipe()

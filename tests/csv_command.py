@@ -362,7 +362,7 @@ def refusals(_folder: pathlib.Path) -> None:
     for words, told in [
         (["-x"], b"unknown option -x"),
         (["--column", "001001"], b"unknown option --column"),
-        (["-c=001001"], b"not '=001001'"),
+        (["-c=001001"], b"found '=001001'"),
         (["-c", ""], b"empty column"),
         (["-c", "001001,"], b"empty column"),
         (["-c", "AIR TEMPERATURE"], b"names of 012001, 012101, 012004, 012104"),
@@ -390,7 +390,7 @@ def refusals(_folder: pathlib.Path) -> None:
         (["--levels", "-c", "012101:2"], b"use --keep"),
         (["--keep", "012101"], b"without -c, use only header keys"),
         (["--keep", "012101:2"], b"without -c, use only header keys"),
-        (["--keep", "year", "-c", "012101"], b"--keep works with --levels"),
+        (["--keep", "year", "-c", "012101"], b"--keep works only with --levels"),
         (["--names"], b"--names needs -c"),
         (["--json", "-c", "012101,012101"], b"012101 is given twice"),
         (["--json", "--levels", "-c", "012101", "--keep", "012101"], b"012101 is given twice"),
@@ -447,7 +447,7 @@ def failures(folder: pathlib.Path) -> None:
     holds("awk ends early", done.returncode == 2 and len(lines) == 1 and lines[0].endswith(b"gone stopped before the end of its input; output is incomplete"), done)
     silent = script("silent", "cat > /dev/null; exit 2")
     done = run("-c", "001015", SYNOP, awk=[silent])
-    told = f"bufr-csv: {silent} stopped with status 2; output is incomplete\n".encode()
+    told = f"bufr-csv: {silent} exited with status 2; output is incomplete\n".encode()
     holds("awk fails without a word", (done.returncode, done.stderr) == (2, told), done)
     done = run("-c", "001015", SYNOP, awk=["/nosuch/awk"])
     told = b"bufr-csv: cannot run /nosuch/awk: No such file or directory\n"

@@ -131,7 +131,7 @@ def refuses_what_it_cannot(path: pathlib.Path) -> None:
             ("a pipe", run(["--awk", condition], input=path.read_bytes(), timeout=60)),
         ):
             lines = done.stderr.decode().splitlines()
-            told = "a line of the listing is longer than 1 MB" if "while" in condition else "--awk may only select lines, but printed or changed one"
+            told = "a line in the listing is longer than 1 MB" if "while" in condition else "--awk may only select lines, but it printed or changed this line"
             is_refused = done.returncode == 2 and done.stdout in (b"", made(1)) and len(lines) == 1 and told in lines[0]
             want(is_refused, f"--awk '{condition}' over {name}: {done}")
     done = run(["--awk", 'NR == 2 { print last } { last = $0; next }', path])
@@ -186,14 +186,14 @@ def tells_years_of_the_century(folder: pathlib.Path) -> None:
     path = folder / "years.bufr"
     path.write_bytes(b"".join(messages.values()))
     first, second, next_year, whole, of_14, whole_next = dates
-    two_digits = "whose years have two digits"
+    two_digits = "because of two-digit years"
     for words, taken, told in (
-        (["time=2014"], [whole], f"2 edition 3 messages, {two_digits}: time=2014,0014 selects both editions"),
-        (["time=2014-06"], [], f"1 edition 3 message, {two_digits}: time=2014-06,0014-06 selects both editions"),
+        (["time=2014"], [whole], f"2 edition 3 messages {two_digits}; time=2014,0014 selects both editions"),
+        (["time=2014-06"], [], f"1 edition 3 message {two_digits}; time=2014-06,0014-06 selects both editions"),
         (
             ["time=2014-05-02T03"],
             [whole],
-            f"1 edition 3 message, {two_digits}: time=2014-05-02T03,0014-05-02T03 selects both editions",
+            f"1 edition 3 message {two_digits}; time=2014-05-02T03,0014-05-02T03 selects both editions",
         ),
         (["time=2014,0014"], [first, second, whole, of_14], ""),
         (["time=2014,0014-05"], [first, whole, of_14], ""),
@@ -204,7 +204,7 @@ def tells_years_of_the_century(folder: pathlib.Path) -> None:
         (
             ["time=2014,0015", "time=2015,0014"],
             [],
-            f"3 edition 3 messages, {two_digits}: time=2014,0015,0014,0015 selects both editions",
+            f"3 edition 3 messages {two_digits}; time=2014,0015,0014,0015 selects both editions",
         ),
         (["time!=2014,0014"], [next_year, whole_next], ""),
     ):
@@ -303,7 +303,7 @@ def tells_a_feed() -> None:
     """The note on messages that are left out comes in a pause of a feed, or after a minute, and once."""
     message = lib.message(b"\x14", edition=3)
     year = 2000 + message[8 + 12]
-    rest = f", whose years have two digits: time={year},00{year - 2000:02} selects both editions\n"
+    rest = f" because of two-digit years; time={year},00{year - 2000:02} selects both editions\n"
     note = f"bufr-extract: left out 2 edition 3 messages so far{rest}".encode()
     with subprocess.Popen([sys.executable, EXTRACT, f"time={year}"], stdin=subprocess.PIPE, stderr=subprocess.PIPE, bufsize=0) as feed:
         feed.stdin.write(message * 2)
@@ -324,7 +324,7 @@ def tells_a_feed() -> None:
     """
     words = [sys.executable, "-c", script, str(EXTRACT), f"time={year}"]
     done = subprocess.run(words, input=message * 20_000, stdout=subprocess.PIPE, stderr=subprocess.PIPE)
-    want(b" so far, " in done.stderr, f"a feed without a pause: {done.stderr}")
+    want(b" so far " in done.stderr, f"a feed without a pause: {done.stderr}")
 
 
 def serves_a_feed(folder: pathlib.Path) -> None:

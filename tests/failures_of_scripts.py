@@ -213,15 +213,15 @@ def room(trial: Trial) -> None:
     if trial.name in ("bufr-extract", "bufr-parallel", "bufr-lacks"):
         for folder in (str(trial.place), ""):
             done = trial.run(input=octets, limits={resource.RLIMIT_FSIZE: 4096}, environment={"TMPDIR": folder})
-            told = f"{trial.name}: no room in {folder or '/tmp'}; set TMPDIR to another directory\n"
-            holds(f"{trial.name}: no room in {folder!r}", done.stderr.decode() == told, done)
+            told = f"{trial.name}: no space left in {folder or '/tmp'}; set TMPDIR to another directory\n"
+            holds(f"{trial.name}: no space left in {folder!r}", done.stderr.decode() == told, done)
     if trial.name == "bufr-extract":
         # `bufr ls` gets a part of the stream, and starts late or at once: the cut is no fault of the stream.
         octets *= 20
         for begin in (trial.words[:1], [*trial.words[:1], "-c", LATE.format(TOP / "scripts")]):
             trial.words[:1] = begin
             done = trial.run(input=octets, limits={resource.RLIMIT_FSIZE: 100_000})
-            trial.fails("room for a part", done, f"no room in {trial.place}; set TMPDIR to another directory")
+            trial.fails("room for a part", done, f"no space left in {trial.place}; set TMPDIR to another directory")
             holds("bufr-extract, room for a part: fault lines", b"offset" not in done.stderr, done.stderr)
 
 
@@ -248,14 +248,14 @@ def shorter(trial: Trial) -> None:
             is_same = (done.returncode, done.stdout, done.stderr) == (1, wanted.stdout, wanted.stderr)
             holds(f"{trial.name}: a file that is shorter when it is read", is_same, done.stderr)
             continue
-        trial.fails(f"a file that becomes shorter {what} `bufr ls`", done, "shorter")
+        trial.fails(f"a file that becomes shorter {what} `bufr ls`", done, "truncated")
         holds(f"{trial.name}, {what} `bufr ls`: a prefix", whole.startswith(done.stdout), len(done.stdout))
 
 
 def killed(trial: Trial) -> None:
     """A program that is killed, ends otherwise than `bufr`, or with 2 and no word."""
     for command in ("ls", "dump"):
-        stopped = "bufr stopped with status {}; output is incomplete".format
+        stopped = "bufr exited with status {}; output is incomplete".format
         killed = "bufr was killed (signal 9); output is incomplete"
         for how, told in (
             ("kill -9 $$", killed), ("exit 3", stopped(3)), ("exit 127", stopped(127)), ("exit 2", stopped(2))
@@ -273,7 +273,7 @@ def killed(trial: Trial) -> None:
                     holds(f"{trial.name}: {command} and {how}", trial.name in ("bufr-extract", "bufr-lacks"), done)
     if trial.name == "bufr-parallel":  # its fault lines wait in a file, where there may be no room for the last one
         done = trial.run([SYNOP], environment=trial.program('if [ "$1" = ls ]; then printf "offset 2" >&2; exit 2; fi'))
-        told = "bufr-parallel: bufr stopped with status 2; output is incomplete\n"
+        told = "bufr-parallel: bufr exited with status 2; output is incomplete\n"
         holds("bufr-parallel, a fault line that is cut", (done.returncode, done.stderr.decode()) == (2, told), done)
     done = trial.run([SYNOP], environment={"BUFR": "/nosuch"})
     trial.fails("no program", done, "cannot run /nosuch: No such file or directory")
@@ -517,7 +517,7 @@ def guard() -> None:
     work = "bufr_guard.run(lambda _: {}, '')"
     for code, status, told in (
         (few + work.format("bufr_guard.temporary()"), 2, "too many open files; raise the limit (ulimit -n)"),
-        (full + work.format("bufr_guard.temporary()"), 2, "cannot make a temporary file: No space left on device; set TMPDIR to another directory"),
+        (full + work.format("bufr_guard.temporary()"), 2, "cannot create a temporary file: No space left on device; set TMPDIR to another directory"),
         (work.format("1 // 0"), 2, "internal error: ZeroDivisionError: integer division or modulo by zero (<string>, line 1)"),
         (work.format("open('/nosuch')"), 2, "/nosuch: No such file or directory"),
         (small + work.format("bufr_guard.write_all(bufr_guard.temporary(), b'x')"), 2, "write failed: File too large"),

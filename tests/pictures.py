@@ -65,7 +65,7 @@ def strange(python: str, folder: pathlib.Path) -> None:
     want(draw(referred) == plain, "a reference value is taken for a latitude")
     want(draw(stations(3, longitude="180.0")) != draw(stations(3, longitude="-180.0")), "180 degrees are wrapped")
     for latitude, pole in (("91.5", "90.0"), ("-100.0", "-90.0")):
-        told = (draw(stations(3, pole))[0], "bufr-plot: 2 latitudes are beyond a pole and drawn at the pole\n")
+        told = (draw(stations(3, pole))[0], "bufr-plot: 2 latitudes are beyond a pole; their points are drawn at the pole\n")
         want(draw(stations(3, latitude)) == told, f"latitude {latitude} is not clipped, or not told")
     # half of the world, from 10.5 north and 20.5 east, and a little more
     for place, is_whole in (
@@ -207,8 +207,8 @@ def draws(python: str, program: str, folder: pathlib.Path) -> None:
         (["map", "--value", "012101:2", folder / "b.png"], texts["synop"], 1, "no subset has 012101:2"),
         (["map", folder / "b.png"], b"", 1, "bufr-plot: the input has no message"),
         (["sounding", folder / "b.png"], b"# a note\n", 1, "bufr-plot: the input has no message"),
-        (["map", "--value", "", folder / "b.png"], texts["synop"], 2, "--value '': a column is a descriptor such as 012101, not ''"),
-        (["map", "--value", "T", folder / "b.png"], texts["synop"], 2, "--value 'T': a column is a descriptor such as 012101, not 'T'"),
+        (["map", "--value", "", folder / "b.png"], texts["synop"], 2, "--value '': expected a descriptor such as 012101, found ''"),
+        (["map", "--value", "T", folder / "b.png"], texts["synop"], 2, "--value 'T': expected a descriptor such as 012101, found 'T'"),
         (["map", ""], texts["synop"], 2, "PICTURE must end in .png, .svg or .pdf: ''"),
         (["map", folder / "b.png", ""], b"", 2, "cannot open ''"),
         (["sounding", "--message", "x", folder / "b.png"], b"", 2, "--message 'x': expected a whole number, at least 1"),
@@ -217,12 +217,12 @@ def draws(python: str, program: str, folder: pathlib.Path) -> None:
         (["map", "--message", "1", folder / "b.png"], b"", 2, "unknown option --message"),
         (["map"], b"", 2, "expected map PICTURE or map PICTURE DUMP"),
         (["map", folder / "b.png", folder / "c", folder / "d"], b"", 2, "expected map PICTURE or map PICTURE DUMP"),
-        ([], b"", 2, "expected map or sounding first"),
+        ([], b"", 2, "expected map or sounding as the first argument"),
         (["map", folder / "b.png"], b"no dump\n", 2, "line 1: expected message"),
         (["map", folder / "b.png", folder / "nosuch"], b"", 2, "nosuch"),
         (["map", folder / "no" / "b.png"], texts["synop"], 2, f"cannot write {folder / 'no' / 'b.png'}: No such file"),
         (["map", folder / "b.text"], texts["synop"], 2, "text"),
-        (["picture", folder / "b.png"], b"", 2, "expected map or sounding first"),
+        (["picture", folder / "b.png"], b"", 2, "expected map or sounding as the first argument"),
     ]:
         done = run(python, words, text)
         want(

@@ -64,10 +64,10 @@ MISTAKES = [
     (1, b"IUAA01 EGRR 120700\r\r\n", "BUFR instead of a dump; use bufr-auto to dump it"),
     (1, b"\x01\r\r\n", "BUFR instead of a dump; use bufr-auto to dump it"),
     (24, b"001001 10\r\n", "a carriage return at the end"),
-    (24, b"> 001001 10\n", "the > of a quoted mail"),
+    (24, b"> 001001 10\n", "a > from a quoted email"),
     (24, b"001001\t10\n", "a tab instead of a space"),
     (24, b" 001001 10\n", "a space at the beginning"),
-    (25, b"message\n", "message; the document before it has no end"),
+    (25, b"message\n", "message; the previous document has no end line"),
     (24, b"1001 10\n", "a descriptor of fewer than six digits"),
     (2, b"edition  4\n", "two spaces instead of one"),
     (22, b"descriptors  001001\n", "two spaces instead of one"),
@@ -89,10 +89,10 @@ MISTAKES = [
     (2, b"edition 4 # NOTE\n", "a comment; only items may have one"),
     (24, b'001015 "\\xc4"\n', "\\x without two upper-case hexadecimal digits"),
     (24, b'001015 "\\xC"\n', "\\x without two upper-case hexadecimal digits"),
-    (24, b'001015 "B\xc3\x96BLINGEN"\n', "a byte in a text that must be written as \\xHH"),
-    (24, b'001015 "a"b"\n', 'a " or \\ in a text without \\ before it, or no " at the end'),
-    (24, b'001015 "a\n', 'a " or \\ in a text without \\ before it, or no " at the end'),
-    (24, b"001015 HEATHROW\n", "a text without quotes"),
+    (24, b'001015 "B\xc3\x96BLINGEN"\n', "a byte in a string that must be written as \\xHH"),
+    (24, b'001015 "a"b"\n', 'an unescaped " or \\ in a string, or no closing "'),
+    (24, b'001015 "a\n', 'an unescaped " or \\ in a string, or no closing "'),
+    (24, b"001015 HEATHROW\n", "a string without quotes"),
 ]
 # What `read` and `encode` take or refuse alike.
 ALIKE = [
@@ -344,7 +344,7 @@ class Tables(unittest.TestCase):
             bufr_text.levels([], ["012101"], keep=["012101:2"])
 
     def test_a_column_by_name_is_answered_with_numbers(self):
-        said = "a column is a descriptor such as 012101, not 'AIR TEMPERATURE', which is in the names of "
+        said = "expected a descriptor such as 012101, found 'AIR TEMPERATURE', which occurs in the names of "
         for call in (bufr_text.rows, bufr_text.levels):
             for word in ("AIR TEMPERATURE", "air temperature"):
                 with self.assertRaises(ValueError) as error:
@@ -353,7 +353,7 @@ class Tables(unittest.TestCase):
         for word in ("airTemperature", "1015", "", "012101:0"):
             with self.assertRaises(ValueError) as error:
                 bufr_text.rows([], [word])
-            self.assertEqual(str(error.exception), f"a column is a descriptor such as 012101, not '{word}'")
+            self.assertEqual(str(error.exception), f"expected a descriptor such as 012101, found '{word}'")
         with self.assertRaisesRegex(ValueError, "the header has no key 'place'; the keys are edition, master,"):
             bufr_text.rows([], [], ["place"])
         self.addCleanup(os.environ.pop, "BUFR_TABLES")
@@ -361,18 +361,18 @@ class Tables(unittest.TestCase):
             pathlib.Path(without_tables, "wmo-39").mkdir()
             for place in ("/nosuch", without_tables):
                 os.environ["BUFR_TABLES"] = place
-                with self.assertRaisesRegex(ValueError, "not 'AIR TEMPERATURE'$"):
+                with self.assertRaisesRegex(ValueError, "found 'AIR TEMPERATURE'$"):
                     bufr_text.rows([], ["AIR TEMPERATURE"])
             # Rows that are too short count as none, and so does a table with another header.
             table = pathlib.Path(without_tables, "wmo-39/B.csv")
             pathlib.Path(without_tables, "wmo-39/D.csv").touch()
             for text, told in (
-                ("fxy,name,unit\nshort\n012101,AIR TEMPERATURE,K\n", ", which is in the names of 012101"),
+                ("fxy,name,unit\nshort\n012101,AIR TEMPERATURE,K\n", ", which occurs in the names of 012101"),
                 ("fxy,unit\n012101,K\n", ""),
                 ("", ""),
             ):
                 table.write_text(text)
-                with self.assertRaisesRegex(ValueError, f"not 'AIR TEMPERATURE'{told}$"):
+                with self.assertRaisesRegex(ValueError, f"found 'AIR TEMPERATURE'{told}$"):
                     bufr_text.rows([], ["AIR TEMPERATURE"])
 
     def test_levels_are_those_of_table_awk(self):
@@ -546,7 +546,7 @@ class Runs(unittest.TestCase):
         self.assertEqual(levels, list(bufr_text.levels(bufr_text.dump(self.stream, faults=[]), ["007004"], ["offset"])))
         for call in (bufr_text.rows, bufr_text.levels):
             for given in ({"faults": []}, {"where": ["category=0"]}):
-                with self.assertRaisesRegex(TypeError, "pass them to dump"):
+                with self.assertRaisesRegex(TypeError, "pass faults and where to dump"):
                     call([land], ["012101"], **given)
 
     def test_messages_left_out_by_their_year_are_warned_of(self):
@@ -659,9 +659,9 @@ class Runs(unittest.TestCase):
         for script, told, status in [
             ("kill -9 $$", "was killed .signal 9.", -9),
             ('[ "$1" = ls ] || exec > /dev/full; exec "$REAL" "$@"', "71 write failed$", 2),
-            ("exit 7", "stopped with status 7", 7),
-            ("exit 1", "stopped with status 1", 1),
-            ('[ "$1" = ls ] && exec "$REAL" "$@"; exit 1', "stopped with status 1", 1),
+            ("exit 7", "exited with status 7", 7),
+            ("exit 1", "exited with status 1", 1),
+            ('[ "$1" = ls ] && exec "$REAL" "$@"; exit 1', "exited with status 1", 1),
             ("echo nonsense", "and bufr_text have different versions", 2),
             ('[ "$1" = ls ] && exec "$REAL" "$@" | sed "s/ .*/ /"', "and bufr_text have different versions", 2),
             ('[ "$1" = dump ] || exec "$REAL" "$@"', "wrote nothing for the message at offset 0", 2),
@@ -685,7 +685,7 @@ class Runs(unittest.TestCase):
         self.use_program("exit 2")
         with unittest.mock.patch("shutil.disk_usage") as usage:
             usage.return_value.free = 0
-            with self.assertRaisesRegex(bufr_text.RunError, f"stopped with status 2: {tempfile.gettempdir()} is full$"):
+            with self.assertRaisesRegex(bufr_text.RunError, f"exited with status 2: {tempfile.gettempdir()} is full$"):
                 list(bufr_text.dump(self.stream, *TABLES, []))
 
     def test_errors_go_from_one_process_to_another(self):

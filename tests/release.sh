@@ -299,7 +299,7 @@ echo 'offset 1: 1 cut' > log
 types block3
 [ ! -s told ] || fail "the hourly commands print $(cat told)"
 types block4
-grep -q 'elements new: 0' told && [ -s /home/day.before ] && cmp /home/day.before /home/day.after || fail "changes.py says $(cat told)"
+grep -q 'elements added: 0' told && [ -s /home/day.before ] && cmp /home/day.before /home/day.after || fail "changes.py says $(cat told)"
 types block5
 tar -xzf *.tar.gz
 types block6

@@ -17,30 +17,30 @@ from lib import TOP, finish, program
 
 AS_IT_IS = {"encoding": "utf-8", "errors": "surrogateescape"}
 HEADERS = {"B": "fxy,name,unit,scale,reference,width", "D": "fxy,member"}
-WIDE, WHOLE = "the width must be from 1 to 63 bits", "the width of a text must be a multiple of 8 from 8 to 2040 bits"
+WIDE, WHOLE = "the width must be from 1 to 63 bits", "the width of a string must be a multiple of 8 from 8 to 2040 bits"
 SCALE, REFERENCE = "the scale must be a whole number from -127 to 127", "the reference must be a signed 64-bit number"
 FACTOR = "a replication factor must be a number with scale 0, reference 0 and width 8"
 
 # fxy,name,unit,scale,reference,width | the reason
 ELEMENTS = f"""
 063255,NAME,K,2,-7,16 |
-064000,NAME,K,2,0,16 | X over 63
-012256,NAME,K,2,0,16 | Y over 255
-112101,NAME,K,2,0,16 | expected six digits, the first one 0
-12101,NAME,K,2,0,16 | expected six digits, the first one 0
-0121010,NAME,K,2,0,16 | expected six digits, the first one 0
-01210\u0661,NAME,K,2,0,16 | expected six digits, the first one 0
+064000,NAME,K,2,0,16 | X is over 63
+012256,NAME,K,2,0,16 | Y is over 255
+112101,NAME,K,2,0,16 | expected six digits, beginning with 0
+12101,NAME,K,2,0,16 | expected six digits, beginning with 0
+0121010,NAME,K,2,0,16 | expected six digits, beginning with 0
+01210\u0661,NAME,K,2,0,16 | expected six digits, beginning with 0
 012101,{'n' * 512},K,2,0,16 |
 012101,{'n' * 513},K,2,0,16 | the name is longer than 512 bytes
 012101,{'°' * 256},K,2,0,16 |
 012101,{'°' * 257},K,2,0,16 | the name is longer than 512 bytes
 012101,\udcb0\udcff,\udcb0C,2,0,16 |
-012101,A\x01B,K,2,0,16 | a control character in the name
-012101,A\x1bB,K,2,0,16 | a control character in the name
-012101,A\x7fB,K,2,0,16 | a control character in the name
+012101,A\x01B,K,2,0,16 | the name contains a control character
+012101,A\x1bB,K,2,0,16 | the name contains a control character
+012101,A\x7fB,K,2,0,16 | the name contains a control character
 012101,NAME,{'u' * 512},2,0,16 |
 012101,NAME,{'u' * 513},2,0,16 | the unit is longer than 512 bytes
-012101,NAME,A\x08B,2,0,16 | a control character in the unit
+012101,NAME,A\x08B,2,0,16 | the unit contains a control character
 012101,,,-127,0,16 |
 012101,NAME,K,127,0,16 |
 012101,NAME,K,128,0,16 | {SCALE}
@@ -80,16 +80,16 @@ ELEMENTS = f"""
 # fxy,member | the reason
 SEQUENCES = """
 363255,363254 |
-364000,001001 | X over 63
-307256,001001 | Y over 255
-207060,001001 | expected six digits, the first one 3
-30706,001001 | expected six digits, the first one 3
+364000,001001 | X is over 63
+307256,001001 | Y is over 255
+207060,001001 | expected six digits, beginning with 3
+30706,001001 | expected six digits, beginning with 3
 307060,263255 |
 307060,163255 |
-307060,064000 | member '064000': X over 63
-307060,107256 | member '107256': Y over 255
-307060,400000 | member '400000': expected six digits, the first one 0-3
-307060, | member '': expected six digits, the first one 0-3
+307060,064000 | member '064000': X is over 63
+307060,107256 | member '107256': Y is over 255
+307060,400000 | member '400000': expected six digits, beginning with 0-3
+307060, | member '': expected six digits, beginning with 0-3
 """.strip("\n")
 
 
@@ -129,7 +129,7 @@ one to other
   sequences gone: 1: 301002
   sequences new: 0
 """
-TWICE = "left out of source: %s: the source has different rows for it\n"
+TWICE = "left out of source: %s: the source has conflicting rows for it\n"
 SOURCES = [
     ("B.csv", f"{HEADERS['B']}\n{ELEMENT}\n{ELEMENT}", 0, "", ELEMENT),
     ("B.csv", "", 2, "source/B.csv has no column fxy\n", None),
@@ -159,7 +159,7 @@ SOURCES = [
         "sequence.def",
         '"307060" = [ 001001, 12101, 001002 ]\n"307061" = [ ]\n"307062" = [ 001001 , 001002, ] # a comment\n',
         1,
-        "left out of source: 307060 001001 12101 001002: member '12101': expected six digits, the first one 0-3\n"
+        "left out of source: 307060 001001 12101 001002: member '12101': expected six digits, beginning with 0-3\n"
         "left out of source: 307061: no members\n",
         "307062,001001\n307062,001002\n",
     ),
