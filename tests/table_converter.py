@@ -123,11 +123,11 @@ OTHER = """\
 TOLD = """\
 one to other
   elements changed: 2: 001035 001036
-  elements gone: 1: 001034
-  elements new: 1
+  elements removed: 1: 001034
+  elements added: 1
   sequences changed: 1: 301001
-  sequences gone: 1: 301002
-  sequences new: 0
+  sequences removed: 1: 301002
+  sequences added: 0
 """
 TWICE = "left out of source: %s: the source has conflicting rows for it\n"
 SOURCES = [
@@ -137,7 +137,7 @@ SOURCES = [
         "B.csv",
         f"{HEADERS['B']}\n064000,{'N' * 64},K,2,0,16\n064001,{'N' * 65},K,2,0,16\n",
         1,
-        f"left out of source: 064000 {'N' * 64} K 2 0 16: X over 63\nleft out of source: 064001 {'N' * 65} K 2 0..: X over 63\n",
+        f"left out of source: 064000 {'N' * 64} K 2 0 16: X is over 63\nleft out of source: 064001 {'N' * 65} K 2 0..: X is over 63\n",
         "",
     ),
     ("BUFR_TableD_en_01.csv", "FXY1,FXY2\n301001,001001\n", 0, "", "301001,001001\n"),
