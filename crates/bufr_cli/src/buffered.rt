@@ -201,7 +201,8 @@ impl<S: Sink> Sink for Buffered<S> {
         ensures handed { flushed_by S.all_flushed self.new
             ≡ all_flushed_after_write (flushed_by S.all_flushed self.old) result }
         ensures bounded { StaysBounded self.old self.new }
-        // A call fails only if a call of the sink does. Later calls try nothing.
+        // Until the first failure, a call fails if and only if a call of the sink does. After it,
+        // nothing is tried.
         ensures counts { self.old.failures ≡ 0
             → CountsCall S.Sink self.old.sink self.new.sink result }
         ensures again { 0 < self.old.failures → IsErr result × (self.new.sink ≡ self.old.sink)
@@ -225,7 +226,8 @@ impl<S: Sink> Sink for Buffered<S> {
         ensures handed { flushed_by S.all_flushed self.new
             ≡ all_flushed_after_flush (flushed_by S.all_flushed self.old) result }
         ensures bounded { StaysBounded self.old self.new }
-        // A call fails only if a call of the sink does. Later calls try nothing.
+        // Until the first failure, a call fails if and only if a call of the sink does. After it,
+        // nothing is tried.
         ensures counts { self.old.failures ≡ 0
             → CountsCall S.Sink self.old.sink self.new.sink result }
         ensures again { 0 < self.old.failures → IsErr result × (self.new.sink ≡ self.old.sink)
