@@ -91,7 +91,8 @@ IsUndecided s fault = (s.fault ≡ Some fault) × (s.ended ≡ false)
     × ((at : ℕ) → NoEventCertain at s.rest)
 
 -- how a fault leaves a finder: it is never one of a write; an input is too long only after 2^32
--- reads, each of which gave an octet; memory is needed only before, with room for less than twice the octets that may be held
+-- reads, each of which gave an octet; memory is needed only before, with room for less than twice
+-- the octets that may be held
 abbrev pub StopsFinder : (old new : FinderModel) → RunFault → Type 0
 StopsFinder old new Read = IsUndecided new Read
 StopsFinder old new Write = ⊥

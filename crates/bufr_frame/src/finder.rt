@@ -215,7 +215,7 @@ impl Finder {
         ensures asked { R.asked r.new ≡ counted (R.asked r.old)
             (asked_by (max min_held self.old.longest - length self.old.rest)
             (input_left self.old) (input_left self.new)) }
-        // The room is at least 8,192 octets. Where it grows, it doubles what was held.
+        // The room is at least 8,192 octets. If it grows, it becomes twice what was held, or 8,192.
         ensures least { 0 < self.new.reads → 2 * min_held ≤ self.new.room }
         ensures grows { (self.new.room ≡ self.old.room)
             ⊎ (2 * length self.old.rest ≤ self.new.room) }
