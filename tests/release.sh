@@ -72,6 +72,27 @@ refuses 1 "README.md names logic $logic" "$make" "$work/first"
 fake "$logic" 'echo low: not proved; exit 1'
 refuses 1 'the proofs or the tests failed' "$make" "$work/first"
 grep -q 'low: not proved' "$work/told" || fail "release.sh hides what the gate said: $(< "$work/told")"
+# A toolchain that builds a program, and its stamp: the program has no mark, is built twice, or is not that of the stamp.
+printf '#!/bin/sh\necho bufr 0.1.0\n' > "$work/unmarked"
+(cat "$work/unmarked" && echo "# rattle logic=$logic") > "$work/marked"
+chmod +x "$work/marked" "$work/unmarked"
+builds() { # builds PROGRAM COMMAND
+    fake "$logic" "if [ \$1 = ci ]; then mkdir -p crates/bufr/out; cp '$1' crates/bufr/out/bufr; echo 9 passed; exit; fi
+        printf '%064d%s' 5 \"\$(sha256sum < out/bufr | cut -c 1-64)\" > out/bufr.stamp; $2"
+}
+builds "$work/unmarked" :
+refuses 1 "built with logic none, but README.md names logic $logic" "$make" "$work/first"
+builds "$work/marked" 'echo >> out/bufr'
+refuses 1 'a second build made a different program' "$make" "$work/first"
+builds "$work/marked" 'tr 0-9 1-90 < out/bufr.stamp > other; cp other out/bufr.stamp'
+refuses 1 'the stamp is that of a different program' "$make" "$work/first"
+builds "$work/marked" :
+(cd "$work/one" && ./release.sh) > "$work/told" 2>&1 || fail "release.sh does not release what is proved: $(< "$work/told")"
+tar -xzOf "$work"/one/dist/*.tar.gz --wildcards '*/BUILD' > "$work/told"
+for line in 'proof: proved' "kit: kit logic $logic" "logic: $logic" "sources: $(printf %064d 5)" 'gate: 9 passed'; do
+    grep -qx "$line" "$work/told" || fail "BUILD of what is proved: no line $line"
+done
+rm -r "$work/one/dist"
 # This gate ends the script alone, as `kill` does.
 fake "$logic" "echo \$\$ > '$work/pid'; kill -TERM \$PPID; exec sleep 60"
 refuses $((128 + $(kill -l TERM))) 'no release was made' "$make" "$work/first"
