@@ -72,7 +72,7 @@ refuses 1 "README.md names logic $logic" "$make" "$work/first"
 fake "$logic" 'echo low: not proved; exit 1'
 refuses 1 'the proofs or the tests failed' "$make" "$work/first"
 grep -q 'low: not proved' "$work/told" || fail "release.sh hides what the gate said: $(< "$work/told")"
-# A toolchain that builds a program, and its stamp: the program has no mark, is built twice, or is not that of the stamp.
+# A toolchain whose program has no mark, changes in the second build, or does not match its stamp; and then a good one.
 printf '#!/bin/sh\necho bufr 0.1.0\n' > "$work/unmarked"
 (cat "$work/unmarked" && echo "# rattle logic=$logic") > "$work/marked"
 chmod +x "$work/marked" "$work/unmarked"
