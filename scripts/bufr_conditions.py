@@ -18,6 +18,8 @@ from typing import Iterable, List, Tuple
 KEYS = (
     "offset length edition centre update category tables time subsets observed compressed optional descriptors".split()
 )
+# A time, or its first parts.
+TIME = re.compile(r"\d{4,}(-\d{2,}(-\d{2,}(T\d{2,}(:\d{2,}(:\d{2,})?)?)?)?)?").fullmatch
 
 
 class Conditions:
@@ -48,10 +50,11 @@ class Conditions:
         if not re.fullmatch(r"[0-9T:/-]+(,[0-9T:/-]+)*", text):
             raise ValueError(f"the value in '{word}' cannot match: use only digits, T, colons, slashes and hyphens")
         values = text.split(",")
+        if key == "time" and not all(map(TIME, values)):
+            raise ValueError(f"the value in '{word}' cannot match: write times as in time=2023-03-14T18")
         pattern = f"(^| ){key}=({'|'.join(values)})([ T:/-]|$)"
         if key == "time" and not negated:
-            years = [value for value in values if re.match("[0-9]{4}", value)]
-            of_century = [f"00{year[2:]}" for year in years if f"00{year[2:4]}" not in {value[:4] for value in values}]
+            of_century = [f"00{year[2:]}" for year in values if f"00{year[2:4]}" not in {value[:4] for value in values}]
             if of_century:
                 # The pattern also matches edition 3 lines, so that they can be counted before they are left out.
                 self.asked = self.asked or word

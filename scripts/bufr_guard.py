@@ -193,7 +193,7 @@ def reason(error: BaseException) -> str:
     if isinstance(error, Failed):
         return str(error)
     if isinstance(error, ModuleNotFoundError):
-        debian = f"for Debian's /usr/bin/python3: apt-get install python3-{error.name}"
+        debian = f"on Debian: apt-get install python3-{error.name}, then /usr/bin/python3 {sys.argv[0]} .."
         return f"{error.name} is not installed for {sys.executable} ({debian})"
     if isinstance(error, OSError) and error.strerror:
         is_named = isinstance(error.filename, (str, bytes))

@@ -217,6 +217,7 @@ function end_subset(   row, column, line) {
 
 # Returns the beginning of a row: message, subset, and the columns for the whole subset.
 function begin_row(   line, column) {
+    has_rows = 1
     line = message_begin message subset_middle subset
     for (column = 1; column <= kept_count; column++) {
         if (item_of[column] in first)
@@ -392,7 +393,7 @@ END {
     if (!message)
         exit
     for (column = 1; column <= kept_count; column++)
-        if (!(item_of[column] in had))
+        if (!(item_of[column] in had) && (has_rows || !levels))
             print name ": no row has " kept[column] | "cat >&2"
     for (column = 1; column <= level_count; column++)
         if (!(level[column] in had))

@@ -56,6 +56,8 @@ REFUSED = [
     (["categori=0"], "unknown key categori in 'categori=0'"),
     (["category=land"], "the value in 'category=land' cannot match: use only digits"),
     (["category="], "the value in 'category=' cannot match"),
+    (["time=18"], "the value in 'time=18' cannot match: write times as in time=2023-03-14T18"),
+    (["time!=2024,2024-01-02T3"], "the value in 'time!=2024,2024-01-02T3' cannot match"),
     (["category", SYNOP], "category has no value; write category=VALUE"),
     ([SYNOP, "time"], "time has no value; write time=VALUE"),
     (["--awk", "1)"], "awk does not accept the condition 1)"),
