@@ -1,4 +1,4 @@
-"""Conditions KEY=VALUE and KEY!=VALUE on the lines of `bufr ls`, for bufr-extract, bufr-csv and bufr_text.
+"""Conditions KEY=VALUE and KEY!=VALUE on lines from `bufr ls`, for bufr-extract, bufr-csv and bufr_text.
 
     conditions = bufr_conditions.Conditions(["category=0", "time=2024-01-02"])
     for line in listing:        # a line as bytes
@@ -7,8 +7,8 @@
     note = conditions.note()    # says how many edition 3 messages were left out, or is empty
 
 KEY is the name of a field. VALUE is the whole value of the field or its first parts: category=0 matches 0/2/0, and
-time=2024-01-02 matches all times of that day. To match one of several values, separate them with commas. A line must meet
-all conditions. A word that is not a condition raises `ValueError`.
+time=2024-01-02 matches all times on that day. To match any of several values, separate them with commas. A line must meet
+all conditions. An invalid condition raises `ValueError`.
 """
 from __future__ import annotations
 
@@ -23,10 +23,10 @@ TIME = re.compile(r"\d{4,}(-\d{2,}(-\d{2,}(T\d{2,}(:\d{2,}(:\d{2,})?)?)?)?)?").f
 
 
 class Conditions:
-    """Conditions on a line. `patterns` has a pattern for each, for grep -E and `re`, and whether it must not match.
+    """Conditions on a line. `patterns` contains a pattern for each (for grep -E and `re`), and whether it must not match.
 
-    Edition 3 messages have only the year of the century, so time=2024 does not match 0024. Such messages are left out and
-    counted.
+    Edition 3 messages contain only the year of the century, so time=2024 does not match 0024. Such messages are left out
+    and counted.
     """
 
     def __init__(self, words: Iterable[str]) -> None:
@@ -84,7 +84,7 @@ class Conditions:
         return f"left out {messages}{so_far} because of two-digit years; {both} selects both editions"
 
     def new_note(self, so_far: str) -> List[str]:
-        """Returns the note, if there is one and it has not been returned before."""
+        """Returns a list of the note, which is empty if there is no note or it has been returned before."""
         notes = [self.note(so_far)] * (self.left_out > 0 and not self.is_told)
         self.is_told = self.left_out > 0
         return notes

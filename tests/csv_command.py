@@ -333,7 +333,7 @@ def several_files(folder: pathlib.Path) -> None:
 def notes(folder: pathlib.Path) -> None:
     """Columns without a value, subsets without levels, and those whose levels cannot be told apart."""
     done = run("-c", "012101,012104", SYNOP)
-    holds("an empty column", (done.returncode, done.stderr) == (0, b"bufr-csv: no row has 012104\n"), done)
+    holds("an empty column", (done.returncode, done.stderr) == (0, b"bufr-csv: no row has an item for 012104\n"), done)
     done = run("--levels", "-c", "020013,020011", SYNOP)
     told = b"bufr-csv: skipped subsets without a level: 1, the first is message 1 subset 1\n"
     holds("a subset without levels", (done.returncode, done.stderr) == (0, told), done)
@@ -469,7 +469,7 @@ def failures(folder: pathlib.Path) -> None:
         holds(f"AWK={word!r}", (done.returncode, done.stdout.count(b"\n")) == (0, 4), done)
     (folder / "no-tables/wmo-39").mkdir(parents=True)
     done = run("-c", "AIR TEMPERATURE", SYNOP, environment={"BUFR_TABLES": str(folder / "no-tables")})
-    told = f"has no table set such as wmo-39; ignored {folder}/no-tables/wmo-39, which has no B.csv".encode()
+    told = f"contains no table set such as wmo-39; ignored {folder}/no-tables/wmo-39, which has no B.csv".encode()
     holds("there is no table", done.returncode == 2 and told in done.stderr, done)
     done = run("-c", "AIR TEMPERATURE", SYNOP, environment={"BUFR_TABLES": "/nosuch"})
     holds("there are no tables", done.returncode == 2 and b"/nosuch" in done.stderr, done)
@@ -512,7 +512,7 @@ def feed(awk: list, _folder: pathlib.Path) -> None:
         holds(f"{awk}: the notes of a live feed", is_right, told)
         process.stdin.close()
         told = process.stderr.read()
-        holds(f"{awk}: the notes of a live feed at its end", told == b"bufr-csv: no row has 020011\n", told)
+        holds(f"{awk}: the notes of a live feed at its end", told == b"bufr-csv: no row has an item for 020011\n", told)
 
 
 def seconds(folder: pathlib.Path) -> None:

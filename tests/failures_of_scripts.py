@@ -423,7 +423,7 @@ def options(trial: Trial) -> None:
     trial.words = [kept[0], "-c", REFUSED.format(TOP / "scripts"), kept[1]]
     trial.fails("want of memory for the version", trial.run(["--version"]), f"{trial.name}: out of memory")
     trial.words[2] = trial.words[2].replace("import bufr_guard", "import bufr_guard\nsys.version_info = 3, 8, 18")
-    trial.fails("an old Python", trial.run(["--version"]), f"{trial.name}: {sys.executable} is too old; Python 3.9 or later is needed")
+    trial.fails("an old Python", trial.run(["--version"]), f"{trial.name}: {sys.executable} is too old; Python 3.9 or later is required")
     trial.words = kept
     installed = trial.place / "installed/share"
     shutil.copytree(TOP / "scripts", installed / "bufr")

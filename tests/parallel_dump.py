@@ -84,11 +84,11 @@ def same_as_one_run(program: str, folder: pathlib.Path) -> None:
         subprocess.run([*PARALLEL, "dump", *TABLES, path], stdout=text, stderr=subprocess.DEVNULL)
     want((folder / "text").read_bytes() == one[1], "onto the end of a file something else is written")
     empty = run([*PARALLEL, "dump", *TABLES], stdin=subprocess.DEVNULL)
-    told = b"bufr-parallel: standard input has no message: it is empty\n"
+    told = b"bufr-parallel: standard input contains no message: it is empty\n"
     want(empty == (0, b"", told), f"of nothing comes {empty}")
     small.write_bytes(b"\x1f\x8bBUFR\0\0\0\4")
     status, output, errors = run([*PARALLEL, "dump", *TABLES, small])
-    told = f"offset 2: 2 short length\nbufr-parallel: {small} has no message: it looks like gzip data (zcat)\n"
+    told = f"offset 2: 2 short length\nbufr-parallel: {small} contains no message: it looks like gzip data (zcat)\n"
     want((status, output, errors.decode()) == (1, b"", told), f"of a wrong file it is told {errors}")
 
 
