@@ -127,7 +127,7 @@ function is_descriptor(word, of_subset) {
 
 # Splits a list of columns and returns their number. `keys` lists the words that are allowed besides descriptors.
 function split_columns(words, list, keys,   count, column, word) {
-    count = split(words, list, ",")
+    count = split(words, list, /[ ,]+/)
     for (column = 1; column <= count; column++) {
         word = list[column]
         if (index(keys, " " word " "))

@@ -628,11 +628,18 @@ class Trial:
         os.set_blocking(given, False)
         with subprocess.Popen(AUTO, stdin=given, stdout=subprocess.PIPE, stderr=subprocess.PIPE, env=self.environment) as child:
             os.close(given)
-            time.sleep(0.2)
-            os.write(pipe, made(39, LISTS[1], b"\1\1\0"))
+            message, told = made(39, LISTS[1], b"\1\1\0"), b""
+            os.write(pipe, message)
+            while not told.endswith(b"end\n"):
+                told += (more := os.read(child.stdout.fileno(), 1 << 16))
+                if not more:
+                    break
+            time.sleep(0.2)  # the next read begins
+            if more:
+                os.write(pipe, message)
             os.close(pipe)
-            told = child.communicate()
-        self.holds("an input that does not block", (child.returncode, told[0][-4:], told[1]) == (0, b"end\n", b""), told)
+            output, errors = child.communicate()
+        self.holds("an input that does not block", (child.returncode, output, errors) == (0, told, b""), (told, output, errors))
         ignoring = "import os, signal, sys; signal.signal(signal.SIGCHLD, signal.SIG_IGN); os.execv(sys.argv[1], sys.argv[1:])"
         words = [sys.executable, "-c", ignoring, *AUTO, str(TOP / "examples/synop.bufr")]
         done = subprocess.run(words, env=self.environment, capture_output=True)

@@ -85,7 +85,7 @@ def tries_wide(awk: list, text: bytes) -> None:
     told = "table.awk: no row has an item for 012101:10\ntable.awk: no row has an item for 012104\n"
     wanted = (0, head + "1,1,836,,\n1,2,772,,\n1,3,680,,\n", told)
     want(
-        run(awk, text, columns="001002,012101:10,012104") == wanted,
+        run(awk, text, columns="001002, 012101:10,012104") == wanted,
         f"{awk}: empty columns have no note",
     )
     status, output, errors = run(awk, ODD, columns="centre,012101,012101:2,001015,001015:2,001015:3")

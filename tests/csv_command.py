@@ -69,6 +69,7 @@ def key_of(key: str, message, file):
     if key == "file":
         return os.fsencode(file)
     known = {**message.header, "offset": message.offset, "length": message.length, "subsets": len(message.subsets)}
+    known["optional"] = int(message.section2 is not None)
     return Number(known[key])
 
 
@@ -402,6 +403,8 @@ def refusals(_folder: pathlib.Path) -> None:
         lines = done.stderr.splitlines()
         is_so = (done.returncode, done.stdout, len(lines)) == (2, b"", 1) and told in lines[0]
         holds(f"refuses {words}", is_so and lines[0].startswith(b"bufr-csv: ") and b"--help" in lines[0], done)
+    keys = [*bufr_text.HEADER, "optional", "subsets"]
+    alike("all keys", run("-c", ",".join(keys), SYNOP), ["message", "subset", *keys], wanted_rows([SYNOP], keys), False)
     done = run("-c", "012101", "-c", "001015, 012101", SYNOP)
     holds("-c twice", done.stdout.startswith(b"message,subset,012101,001015,012101\n"), done)
 

@@ -64,7 +64,8 @@ for words in '' '--wrong p' 'p q' '--program' '--uninstall'; do
     "$top/install.sh" $words > "$work/output" 2> "$work/errors" && status=0 || status=$?
     [ "$status" -eq 2 ] && [ -s "$work/errors" ] || fail "install.sh $words: status $status"
 done
-! "$top/install.sh" '' 2> "$work/errors" && grep -q 'one PREFIX' "$work/errors" || fail "install.sh installs to '': $(< "$work/errors")"
+! (cd "$work/other" && "$top/install.sh" --program "$bufr" --unproved '') > "$work/output" 2> "$work/errors" &&
+    grep -q 'one PREFIX' "$work/errors" || fail "install.sh installs to '': $(< "$work/errors")"
 "$top/install.sh" --help | grep -q '^usage: ' || fail 'install.sh --help'
 ! "$top/install.sh" --uninstall "$work/nothing" 2> "$work/errors" && grep -q MANIFEST "$work/errors" ||
     fail "install.sh uninstalls what is not installed: $(< "$work/errors")"

@@ -56,7 +56,7 @@ def same_as_one_run(program: str, folder: pathlib.Path) -> None:
     most = run([*PARALLEL, "-P", "128", "dump", *TABLES, small])
     want(most == run([program, "dump", *TABLES, small]), "128 processes are refused")
     # refused for their data alone, at which `bufr ls` ends with 0
-    data_faults = lib.message(b"\x14", b"\x01\x01", 3) * 3
+    data_faults = lib.message(b"\x14", b"\x01\x01", 3) * 3 + lib.message(bytes(70_000)) * 2
     one_of_data = run([program, "dump", *TABLES], input=data_faults)
     want(one_of_data[0] == 1 and run([program, "ls"], input=data_faults)[0] == 0, "the data have other faults")
     want(run([*PARALLEL, "dump", *TABLES], input=data_faults) == one_of_data, "faults of data alone are told otherwise")
