@@ -240,7 +240,7 @@ def tries_levels(awk: list, sounding: bytes, synop: bytes) -> None:
     wanted = (0, "message,subset,012101\n", "table.awk: no row has an item for 012101\n" + bare.format(2))
     want(empty == wanted, f"{awk}: passes without items give {empty}")
     _, _, errors = run(awk, ODD, levels="1", keep="001015", columns="012101")
-    told = "table.awk: no row has 012101\n" + bare.format(1)
+    told = "table.awk: no row has an item for 012101\n" + bare.format(1)
     want(errors == told, f"{awk}: without a level, a kept column is told as {errors}")
     # the descriptor that begins a pass comes twice before an inner group
     again = b"message\nsubset 1\n031001 3\n" + b"007004 1\n007004 2\n031001 1\n011001 3\n" * 3 + b"end\n"

@@ -141,7 +141,7 @@ MUTATIONS = [
     ("release.sh", "--mode=u=rwX,go=rX", "", "tests/release.sh"),
     ("release.sh", "--owner=0 --group=0", "", "tests/release.sh"),
     ("release.sh", "--sort=name", "", "tests/release.sh"),
-    ("release.sh", "| sort | xargs", "| xargs", "tests/release.sh"),
+    ("release.sh", "SHA256SUMS | sort | xargs", "SHA256SUMS | xargs", "tests/release.sh"),
     ("build_wheel.py", "sorted([*contents, *about])", "[*contents, *about]", "tests/release.sh"),
     ("release.sh", "export GIT_CONFIG_GLOBAL=/dev/null GIT_CONFIG_SYSTEM=/dev/null\n", "", "tests/release.sh"),
     ("release.sh", "git clone -q --no-checkout . \"$clone\"", "cp -r . \"$clone\"", "tests/release.sh"),
