@@ -11,8 +11,8 @@ Each SOURCE is a directory. convert.py recognizes its format by the files in it:
     element.table, sequence.def       ecCodes definition files, including those of local tables
     B*.txt, D*.txt                    the fixed-column files of wreport
 
-wreport keeps many tables in one directory. To choose one, pass its B*.txt file as SOURCE; convert.py also reads the D*.txt
-file that has the same name after the first letter.
+wreport keeps many tables in one directory. To choose one of them, pass its B*.txt file instead of the directory; convert.py
+also reads the D*.txt file that has the same name after the first letter.
 
 Rows from a later SOURCE replace those from an earlier one for the same descriptor, so pass master tables before local
 tables. The new tables are OUT/B.csv and OUT/D.csv, sorted by descriptor.
