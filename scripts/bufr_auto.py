@@ -163,7 +163,7 @@ class Masker:
         self.finder, self.count = Finder(longest), 0
 
     def take(self, octets: bytes) -> Iterator[bytes]:
-        """Adds the next block, which is empty at the end, and yields the bytes that the program can now read."""
+        """Adds the next block (empty at the end of the stream), and yields the bytes that the program can now read."""
         finder = self.finder
         finder.put(octets)
         first = finder.at
@@ -219,7 +219,10 @@ class Messages(Source):
 
 
 class Documents(Source):
-    """The documents in a dump, with their line numbers. Each piece includes the lines before its document."""
+    """The documents in a dump, with their line numbers.
+
+    Each piece includes the lines before its document. Any lines after the last document are a piece of their own.
+    """
 
     def __init__(self, feed: Feed, _longest: Optional[int]) -> None:
         self.feed, self.held, self.has_ended = feed, bytearray(b"\n"), False
@@ -457,7 +460,7 @@ class Encode(Run):
 
     @staticmethod
     def size_of(octets: Octets) -> int:
-        """Returns the number of lines. If there is no `end` line, counts up to the line at which `bufr` reports this."""
+        """Returns the number of lines. If there is no `end` line, counts up to the line at which `bufr` reports that."""
         text = bytes(octets)
         return text.count(b"\n") + 2 * (not text.endswith(END))
 
@@ -499,7 +502,7 @@ class Encode(Run):
 
 
 class Part:
-    """Consecutive pieces, each with its place, its size, its run or else its fault, and notes; and a run for each set.
+    """Consecutive pieces, and a run for each set. Each piece has a place, a size, a run or a fault, and reasons for notes.
 
     If there are conditions, the pieces are first added to `candidates`, without a run.
     """
@@ -642,8 +645,8 @@ class Work:
     def parts(self, feed: Feed) -> Iterator[Optional[Part]]:
         """Yields the parts of a file, and None when they must be written: before a read that may block, and at the end.
 
-        This function is short because Python 3.11 allocates an integer to leave a `try` block that ends more than 256
-        instructions into a function, which fails if memory has run out.
+        This function is short: to leave a `try` block that ends more than 256 instructions into a function, Python 3.11
+        must allocate an integer, and that fails if memory has run out.
         """
         source = self.kind.SOURCE(feed, self.longest)
         pieces = iter(source)  # freed after the part, because Python may otherwise report that it cannot close the iterator
@@ -760,7 +763,7 @@ class Work:
         return part.runs[tables], notes
 
     def is_concerned(self, tables: bufr_sets.TableSet, reason: Reason, words: bytes) -> bool:
-        """Returns whether a reason concerns a descriptor that this list uses."""
+        """Returns whether a reason concerns a descriptor that a descriptor list uses."""
         key = tables, reason.concerns, words
         if key in self.remembered:
             return self.remembered[key]

@@ -84,7 +84,7 @@ class Conditions:
         return f"left out {messages}{so_far} because of two-digit years; {both} selects both editions"
 
     def new_note(self, so_far: str) -> List[str]:
-        """Returns a list of the note, which is empty if there is no note or it has been returned before."""
+        """Returns a list with the note, or an empty list if there is none or it has been returned before."""
         notes = [self.note(so_far)] * (self.left_out > 0 and not self.is_told)
         self.is_told = self.left_out > 0
         return notes

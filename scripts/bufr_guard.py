@@ -332,7 +332,7 @@ class Progress:
 
 
 def program() -> str:
-    """Returns the path of `bufr`: BUFR, the one next to the script, the first on PATH, or one built in the repository."""
+    """Returns the path of `bufr`: BUFR or else, in this order, next to the script, on PATH, or in the repository."""
     named = os.environ.get("BUFR")
     if named:
         return named
@@ -364,7 +364,7 @@ def start(words: Sequence[str], given: int = 0, output: int = 1, errors: int = 2
 
 
 def wait(process: int) -> int:
-    """Waits for a program to exit, and returns its exit status, or 128 + the signal that killed it."""
+    """Waits for a program to exit, and returns its exit status, or 128 plus the number of the signal that killed it."""
     os.waitid(os.P_PID, process, os.WEXITED | os.WNOWAIT)
     RUNNING.remove([process])
     status = os.waitstatus_to_exitcode(os.waitpid(process, 0)[1])
@@ -398,7 +398,7 @@ def lines_from(
 
 
 def checked(status: int, has_told: bool = True, what: str = "bufr") -> int:
-    """Returns a program's status if it is 0 or 1, or 2 and the program reported the reason. Otherwise, raises `Failed`."""
+    """Returns a program's status if it is 0 or 1, or if it is 2 and the reason was reported. Otherwise, raises `Failed`."""
     if status > 128:
         raise Failed(f"{what} was killed (signal {status - 128}); output is incomplete")
     if status not in (0, 1, 2) or (status == 2 and not has_told):

@@ -66,7 +66,7 @@ class TableSet:
         return self.sequences
 
     def cached(self) -> None:
-        """Records that the set is cached. If too many sets are cached, drops the tables of the first one."""
+        """Records that the set is cached. If too many sets are cached, drops the tables that were cached first."""
         if self not in cache:
             cache.append(self)
         if len(cache) > CACHED:
@@ -95,7 +95,7 @@ cache: List[TableSet] = []
 
 
 class TableSets:
-    """All table sets in a directory: `wmo-13`, or `wmo-13+98-102` with local rows (centre 98, local version 102).
+    """All table sets in a directory, such as `wmo-13`, or `wmo-13+98-102` with local rows (centre 98, local version 102).
 
     A set that lacks one of its tables is ignored, and `notes` contains a line about it.
     """
@@ -126,7 +126,8 @@ class TableSets:
         """Returns the set for a centre, a version and a local version.
 
         This is WMO's set for the version; failing that, the set for the next later version; and failing that, the latest
-        set. A set with the centre's local rows takes precedence if its version is in the range from `version` to WMO's.
+        set. A set with the centre's local rows takes precedence if its version is in the range from `version` to that of
+        WMO's set.
         """
         of_wmo = self.sets[None]
         nearest = min((number for number in of_wmo if number >= version), default=max(of_wmo))
@@ -156,7 +157,7 @@ def folder_of_sets() -> str:
 
 
 def words_of(message: Bytes) -> bytes:
-    """Returns the descriptors in section 3 of a message, as two bytes each, but no more than a template can have."""
+    """Returns the descriptors in section 3 of a message, as two bytes each, but no more than a template can contain."""
     begin = message(0, 26)
     at, flags = 8, begin[17 if begin[7:8] == b"\4" else 15 :][:1]
     for _ in range(2 if flags >= b"\x80" else 1):

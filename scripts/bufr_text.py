@@ -103,7 +103,7 @@ _CAUSES = [
 
 
 class TextError(ValueError):
-    """Reports an invalid line in a dump. `line` is the line number, counted from 1; the text says what was expected."""
+    """Reports an invalid line in a dump, what was expected, and the likely cause. `line` is its number, counted from 1."""
 
     def __init__(self, line: int, expected: str, cause: str = "") -> None:
         super().__init__(line, expected, cause)
@@ -115,7 +115,7 @@ class TextError(ValueError):
 
 
 class RunError(RuntimeError):
-    """Reports that a program failed or refused a dump. `status` is its exit status, or minus the signal that killed it."""
+    """Reports that a program failed or refused a dump. `status` is its exit status, or minus the signal number."""
 
     def __init__(self, status: int, reason: str) -> None:
         super().__init__(status, reason)
@@ -413,7 +413,7 @@ def levels(
 ) -> Iterator[Tuple[Cell, ...]]:
     """Yields a tuple for each level of a sounding: header values, then the values for `keep`, then column values.
 
-    A level is one repetition (pass) of a delayed replication. It has a tuple if it contains an item for the first column
+    A level is one repetition (pass) of a delayed replication. It yields a tuple if it contains an item for the first column
     and, if there are several columns, for at least one other column. Each column selects the first item with that
     descriptor in the level, and each descriptor in `keep` selects the first one in the whole subset. Otherwise, `levels`
     works like `rows`.

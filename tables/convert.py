@@ -11,8 +11,8 @@ Each SOURCE is a directory. convert.py recognizes its format by the files in it:
     element.table, sequence.def       ecCodes definition files, including those of local tables
     B*.txt, D*.txt                    the fixed-column files of wreport
 
-wreport keeps many tables in one directory. To choose one, pass its B*.txt file as SOURCE; convert.py also reads the D*.txt
-file that has the same name after the first letter.
+wreport keeps many tables in one directory. To choose one of them, pass its B*.txt file instead of the directory; convert.py
+also reads the D*.txt file that has the same name after the first letter.
 
 Rows from a later SOURCE replace those from an earlier one for the same descriptor, so pass master tables before local
 tables. The new tables are OUT/B.csv and OUT/D.csv, sorted by descriptor.
@@ -97,7 +97,7 @@ def lines_of(path: pathlib.Path):
 
 
 def of_element_table(path: pathlib.Path):
-    """Yields the rows of ecCodes' element.table: code|abbreviation|type|name|unit|scale|reference|width|.."""
+    """Yields the rows in ecCodes' element.table: code|abbreviation|type|name|unit|scale|reference|width|.."""
     for number, line in lines_of(path):
         if not line.startswith("#"):
             fields = [one_line(field) for field in line.split("|")]
@@ -118,7 +118,7 @@ def of_sequence_def(path: pathlib.Path):
 
 
 def of_wreport_b(path: pathlib.Path):
-    """Yields the rows of wreport's B*.txt."""
+    """Yields the rows in wreport's B*.txt."""
     for number, line in lines_of(path):
         fxy, name, unit, *numbers = (one_line(line[at:end]) for at, end in zip(WREPORT_B, WREPORT_B[1:]))
         if not all(numbers):
@@ -207,7 +207,7 @@ def no_text(what: str, text: str) -> str:
 
 
 def no_numbers(is_text: bool, scale: str, reference: str, width: str) -> str:
-    """Returns why `bufr` would refuse the numbers of an element, or an empty string if it would not."""
+    """Returns why `bufr` would refuse an element's numbers, or an empty string if it would not."""
     if not width:
         return "no width"
     if not is_whole(scale, -127, 127):
@@ -220,7 +220,7 @@ def no_numbers(is_text: bool, scale: str, reference: str, width: str) -> str:
 
 
 def no_element(row: list) -> str:
-    """Returns why `bufr` would refuse this row of Table B, or an empty string if it would not."""
+    """Returns why `bufr` would refuse this row in Table B, or an empty string if it would not."""
     fxy, name, unit, *numbers = row
     is_text = octets(unit).upper() == b"CCITT IA5"
     reason = no_descriptor(fxy, "0") or no_text("name", name) or no_text("unit", unit) or no_numbers(is_text, *numbers)
