@@ -67,6 +67,8 @@ MUTATIONS = [
     ("scripts/bufr-extract", "masker and masker.count else 0", "False else 0", "tests/extract_messages.py"),
     ("scripts/bufr_conditions.py", "self.asked = self.asked or word", "self.asked = word", "tests/extract_messages.py"),
     ("scripts/bufr_conditions.py", "if key == \"time\" and not negated:", "if key == \"time\":", "tests/extract_messages.py"),
+    ("scripts/bufr_conditions.py", "not all(map(TIME, values))", "False", "tests/extract_messages.py"),
+    ("scripts/table.awk", " && (has_rows || !levels)", "", "tests/csv_by_awk.py"),
     ("scripts/bufr_auto.py", "+ 2 * (not text.endswith(END))", "+ 1 * (not text.endswith(END))", "tests/bufr_auto.py encodes"),
     ("scripts/bufr_conditions.py", "pattern += f\"| edition=3", "pattern += f\"|", "tests/extract_messages.py"),
     ("scripts/bufr-extract", "raise Failed(f\"write failed: {error.strerror}\") from None", "raise", "tests/extract_messages.py"),
