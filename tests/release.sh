@@ -257,10 +257,12 @@ awk '/^```$/ { name = "" } name { print > name } /^```sh$/ { name = "block" ++bl
     /^```crontab$/ { name = "crontab" } /^```dockerfile$/ { name = "steps" }' $page
 sed -i 's,install.sh /,install.sh --unproved /,' block* steps
 [ "$(ls block* | wc -w)" -eq 9 ] || fail "$page has other blocks"
-systemctl() { echo "systemctl $*"; }
-journalctl() { cat /home/page/log; }
-export -f systemctl journalctl
-types() { PATH=/opt/bufr/bin:$PATH bash -eu "$1" > told 2>&1 || fail "$1 of $page: $(cat "$1" told)"; }
+# In place of systemd.
+mkdir /home/stubs
+printf '#!/bin/sh\necho "systemctl $*"\n' > /home/stubs/systemctl
+printf '#!/bin/sh\ncat /home/page/log\n' > /home/stubs/journalctl
+chmod +x /home/stubs/*
+types() { PATH=/home/stubs:/opt/bufr/bin:$PATH bash -eu "$1" > told 2>&1 || fail "$1 of $page: $(cat "$1" told)"; }
 types block1
 types block2
 types block3
@@ -280,7 +282,7 @@ mkdir -p /var/lib/feed /usr/local/lib/feed
 # cron COMMAND: runs the line of the crontab that has this command.
 cron() {
     sed -n "s/^[0-9*]* [0-9*]* \* \* \* root \(.*$1\)/\1/p" crontab > line
-    [ "$(wc -l < line)" -eq 1 ] && PATH=$(sed -n 's/^PATH=//p' crontab) bash -eu line > told 2>&1 || fail "$1 of the crontab: $(cat line told)"
+    [ "$(wc -l < line)" -eq 1 ] && PATH=/home/stubs:$(sed -n 's/^PATH=//p' crontab) bash -eu line > told 2>&1 || fail "$1 of the crontab: $(cat line told)"
 }
 {
     yes 'offset 1: 1 cut' | head -n 20
