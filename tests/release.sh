@@ -54,6 +54,7 @@ refuses() {
         fail "release.sh leaves $(ls -A "$work/first") after: $(< "$work/told")"
 }
 make=$work/one/release.sh
+"$make" --help | grep -q '^    ./release.sh --unproved PROGRAM ' || fail 'release.sh --help'
 for words in --unproved --wrong 'one two'; do
     # shellcheck disable=SC2086
     refuses 2 usage "$make" $words
@@ -292,13 +293,13 @@ cron() {
 cron hourly-feed
 printf '%s\n' 'messages refused or skipped: 21' 'bufr-feed failed: exit-code' 'nothing was dumped for an hour' | cmp - told ||
     fail "the hourly commands print $(cat told)"
-# A run that was killed has no last line to print.
+# A run that was killed.
 (
     cd /usr/local/lib/feed
     printf '#!/bin/sh\nkill -KILL $$\n' > bufr-auto
     chmod +x bufr-auto
     sed -n '/cat > hourly/,/^> END/s/^[$>] //p' $page | bash
-    PATH=$PWD:$PATH sh hourly one 0 2> told | grep -qx 'bufr-auto failed with status 137: '
+    PATH=$PWD:$PATH sh hourly one 0 2> told | grep -q '^bufr-auto failed with status 137:'
 ) || fail 'hourly does not print the status of a killed run'
 cron 'systemctl.*'
 [ "$(cat told)" = 'systemctl restart bufr-feed' ] || fail "the crontab runs $(cat line)"
