@@ -17,6 +17,9 @@ die() {
 usage() { die 'usage: release.sh [--unproved PROGRAM] [DIST]' 2; }
 sum_of() { sha256sum < "$1" | cut -c 1-64; }
 
+case ${1-} in
+    -h | --help) sed -n '2,/^set /s/^# \{0,1\}//p' "$0" && exit ;;
+esac
 program='' proof=proved
 if [ "${1-}" = --unproved ]; then
     [ $# -gt 1 ] || usage

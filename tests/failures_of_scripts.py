@@ -536,6 +536,13 @@ def guard() -> None:
         done = subprocess.run(words, cwd=TOP / "scripts", capture_output=True, env=environment)
         wanted = (status, b"", (told if told[:1] in ("", "\r") else f"-c: {told}\n").encode())
         holds(f"{code}", (done.returncode, done.stdout, done.stderr) == wanted, done)
+    # A script whose first import fails, as when memory is short.
+    with tempfile.TemporaryDirectory() as place:
+        (pathlib.Path(place) / "bufr_guard.py").write_text("raise MemoryError\n")
+        for name in [*SCRIPTS, *OTHERS]:
+            shutil.copy(TOP / "scripts" / name, place)
+            done = subprocess.run([sys.executable, str(pathlib.Path(place) / name)], capture_output=True)
+            holds(f"{name} without memory", (done.returncode, done.stdout) == (2, b"") and b"MemoryError" in done.stderr, done)
     # Standard output is flushed before standard error.
     code = "import bufr_guard; bufr_guard.run(lambda _: bufr_guard.say(b'2') or bufr_guard.output().write(b'1') or 0, '')"
     words = [sys.executable, "-c", code]
