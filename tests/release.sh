@@ -97,7 +97,7 @@ fake "$logic" 'echo low: not proved; exit 1'
 refuses 1 'the proofs or the tests failed' "$make" "$work/first"
 grep -q 'low: not proved' "$work/told" || fail "release.sh hides what the gate said: $(< "$work/told")"
 fake "$logic" 'echo BAD EDIT; count=$((count - 1))'
-refuses 1 "there are $count crates and must-fail edits, but rt ci says: $((count - 1)) passed" "$make" "$work/first"
+refuses 1 "there are $count crates and must-fail edits, but rt ci reports: $((count - 1)) passed" "$make" "$work/first"
 fake "$logic" "cp '$work/unmarked' crates/bufr/out/bufr"
 refuses 1 'built with logic none' "$make" "$work/first"
 # A gate that takes so long that the run is interrupted: its script alone, as by `kill`, or all, as by Ctrl-C. Until it
