@@ -612,7 +612,7 @@ class Work:
         bufr_guard.say(b"".join([*self.notes.lines(self.kind.PIECE, so_far), *told]))
 
     def fail(self, unread: Unread) -> None:
-        """Records why a file could not be read. The work continues with the next file."""
+        """Records why a file could not be read. Processing continues with the next file."""
         self.last.append(os.fsencode(f"{bufr_guard.name()}: {unread}\n"))
         self.status = 2
 
