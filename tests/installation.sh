@@ -132,6 +132,11 @@ stops_in_the_middle
 stops_in_the_middle
 "$top/install.sh" --program "$bufr" --unproved "$work/full" > "$work/output" || fail "a part of an installation is not repaired"
 cmp "$bufr" "$work/full/bin/bufr"
+# An upgrade that ends in the middle is repaired too.
+! (ulimit -f 60 && "$top/install.sh" --program "$work/tiny" --unproved "$work/full") > "$work/output" 2>&1 || fail "no limit"
+"$top/install.sh" --program "$bufr" --unproved "$work/full" > "$work/output" 2>&1 ||
+    fail "an upgrade that ended in the middle is not repaired: $(< "$work/output")"
+cmp "$bufr" "$work/full/bin/bufr"
 # A full disk that stops it before it changes anything. Then there is nothing to repair.
 ln -s /dev/full "$work/full/share/doc/bufr/MANIFEST.new"
 ! "$top/install.sh" --program "$work/tiny" --unproved "$work/full" > "$work/output" 2>&1 || fail "install.sh writes to a full disk"

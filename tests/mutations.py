@@ -400,6 +400,10 @@ MUTATIONS = [
     ("install.sh", '*":$prefix/bin:"*) ;;', "none) ;;", "tests/installation.sh"),
     ("install.sh", "program=$(realpath -- \"$program\")\n", ":\n", "tests/installation.sh"),
     ("release.sh", "-name out -prune -o ", "", "tests/release.sh"),
+    ("install.sh", '    rm -f "$root/$doc/SHA256SUMS"\n', "", "tests/installation.sh"),
+    ("scripts/bufr_auto.py", "if not self.is_over:", "if True:", "tests/bufr_auto.py"),
+    ("scripts/bufr_auto.py", "        os.close(listing)\n", "", "tests/csv_command.py"),
+    ("scripts/bufr_text.py", "optional=int(message.section2 is not None)", "optional=int(bool(message.section2))", "tests/python_module.py"),
     ("install.sh", "-name out -prune -o ", "", "tests/proved_installation.sh"),
     ("release.sh", '[ $proof = unproved ] || [ "$mark" = "$logic" ] ||', "true ||", "tests/release.sh"),
 ]
