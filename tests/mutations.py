@@ -152,6 +152,7 @@ MUTATIONS = [
     ("release.sh", "setpriv --pdeathsig TERM ", "", "tests/release.sh"),
     ("install.sh", "trap 'die interrupted' HUP INT TERM PIPE\n", "", "tests/installation.sh"),
     ("install.sh", "TERM PIPE\n", "TERM\n", "tests/installation.sh"),
+    ("scripts/bufr-auto", "sys.excepthook = lambda *error: (sys.__excepthook__(*error), os._exit(2))\n", "", "tests/failures_of_scripts.py bufr-auto"),
     ("install.sh", "put_manifest \"$work/both\"\n    is_begun=yes\n", "is_begun=yes\n    put_manifest \"$work/both\"\n", "tests/installation.sh"),
     ("install.sh", "[0-9]*' passed, 0 failed')", "*)", "tests/proved_installation.sh"),
     ("install.sh", "proved,[0-9a-f]*,", "proved,*,", "tests/proved_installation.sh"),
