@@ -414,7 +414,8 @@ class Trial:
         line = texts[1][: texts[1].index(b"\n012101 ") + 1].count(b"\n") + 1
         wanted = messages[0] + made(41, LISTS[0], b"\1\1")
         self.holds("texts: the messages", done.stdout == wanted, done)
-        self.holds("texts: the fault", done.stderr == b"text 1:line %d: 50 line\n" % line, (done, line))
+        self.holds("texts: the fault", done.stderr.startswith(b"text 1:line %d: 50 line\n" % line), (done, line))
+        self.holds("texts: no more files", b"nosuch" not in done.stderr, done)
         self.holds("texts: the status", done.returncode == 1, done)
 
     def no_message(self) -> None:

@@ -345,7 +345,6 @@ MUTATIONS = [
     ),
     ("scripts/table.awk", "    if (twice)\n", "    if (twice > 1)\n", "tests/csv_by_awk.py"),
     ("tables/changes.py", '"common code table", ', "", "tests/table_converter.py"),
-    ("install.sh", "is_marked \"$program\" || logic=none\n", "", "tests/installation.sh"),
     (
         "scripts/bufr_guard.py",
         'isinstance(error, RuntimeError) and str(error) == "can\'t start new thread"',
