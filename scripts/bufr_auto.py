@@ -683,7 +683,7 @@ class Work:
             pass  # it has refused the piece and reported that
         finally:
             os.close(pipe)
-            part.pieces.append((place, source.lines, run, notes, b""))
+        part.pieces.append((place, source.lines, run, notes, b""))
 
     def selected(self, part: Part) -> Part:
         """The part with only those candidates that meet the conditions or have no line in a listing."""
