@@ -5,6 +5,7 @@
 
 It encodes by the same rule, is quick, and leaves nothing behind. How it fails failures_of_scripts.py has too.
 """
+import contextlib
 import fcntl
 import os
 import pathlib
@@ -636,7 +637,7 @@ class Trial:
                 if not more:
                     break
             time.sleep(0.2)  # the next read begins
-            if more:
+            with contextlib.suppress(BrokenPipeError):
                 os.write(pipe, message)
             os.close(pipe)
             output, errors = child.communicate()

@@ -42,7 +42,7 @@ def holds(what: str, is_so: bool, told: object = "") -> None:
 
 def run(*words, awk=None, environment=None, **streams):
     """A run of bufr-csv: its status, output and errors."""
-    more = {"BUFR": program(), "LC_ALL": "C.UTF-8", **({"AWK": " ".join(awk)} if awk else {}), **(environment or {})}
+    more = {"BUFR": program(), **({"AWK": " ".join(awk)} if awk else {}), **(environment or {})}
     known = {name: value for name, value in os.environ.items() if name not in ("AWK", "BUFR_TABLES", "BUFR_CSV_LABELS")}
     if "input" not in streams:
         streams.setdefault("stdin", subprocess.DEVNULL)
