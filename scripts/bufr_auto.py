@@ -358,7 +358,7 @@ class Run:
 
     @staticmethod
     def descriptors(words: bytes) -> Tuple[str, ...]:
-        """Returns the descriptors from a list that `words_of` returned, each as six digits."""
+        """Converts a list that `words_of` returned to six-digit descriptors."""
         raise NotImplementedError
 
     def copy_piece(self) -> bool:
