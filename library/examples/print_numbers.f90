@@ -133,4 +133,5 @@ program print_numbers
       allocate (texts(counts%octets_needed))
     end if
   end do
+  deallocate (items, texts, stream, table_b, table_d)
 end program

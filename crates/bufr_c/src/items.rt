@@ -193,7 +193,7 @@ struct Expanded<'a, 'o> {
 
 /// Adds the items of a message by the template that was selected. Returns the number of its fault,
 /// or 0.
-#[tactic(auto, using(crate::proofs::RowLemmas::message_done, crate::proofs::RowLemmas::message_refused, crate::proofs::RowLemmas::template_refused))]
+#[tactic(auto, using(crate::proofs::RowLemmas::message_done, crate::proofs::RowLemmas::message_refused, crate::proofs::RowLemmas::template_refused, crate::proofs::RowLemmas::message_done_fault, crate::proofs::RowLemmas::message_refused_fault, crate::proofs::RowLemmas::template_refused_fault))]
 fn put_selected(
     message: &Message<'_>,
     templates: &TemplateCache<'_>,
