@@ -218,7 +218,7 @@ fn put_selected(
                     Err(_) => Err(AllocError),
                 },
                 Err(WalkFault::Memory) => Err(AllocError),
-                Err(fault) => Ok(fault.number()),
+                Err(why) => Ok(why.number()),
             }
         }
         Err(fault) => Ok(fault.number()),
