@@ -496,10 +496,14 @@ memory-status table_b table_d = record {
       (λ b. all-faults (table_d_of (records_of table_d)) (λ fault. IsTableStatus 100 fault (pos 73)) (λ fault. inr refl));
 }
 
+zero-first : (n : ℕ) → n ≡ 0 + n
+zero-first n = omega arith
+
 -- Table B cannot be read
 pub table-b-status : (table_b table_d : List ℕ) (fault : TableFault) (status : ℤ) → table_b_of (records_of table_b) ≡ Err fault → status ≡ pos (table_report fault).0
     → CallStatus table_b table_d status
-table-b-status table_b table_d fault status is number = record { read = rw is tt; no_table_b = rw is (inl number); no_table_d = rw is tt }
+table-b-status table_b table_d fault status is number =
+    record { read = rw is tt; no_table_b = rw is (inl (number ∙ ap pos (zero-first (table_report fault).0))); no_table_d = rw is tt }
 
 -- the numbers of the faults of tables
 number-bounds : (fault : TableFault) → (40 ≤ (table_report fault).0) × ((table_report fault).0 ≤ 73)
@@ -575,7 +579,7 @@ module _ (form : Form) (b : List Row) (d : List Sequence) (octets : List ℕ) (f
   pub encodes-none : HasNoRoom text old output errors texts output' errors' → old.at ≡ from → Encodes form b d octets from output' errors' texts (pos 74)
   encodes-none none at = record {
     done = λ no. absurd (apart-74-0 no);
-    stops = λ _. (record { output_needed = none.output_needed ∙ ap length is.output; errors_needed = none.errors_needed ∙ ap length is.errors; lacks = none.lacks }, none.at ∙ at);
+    stops = λ _. (record { output_needed = none.output_needed ∙ ap length is.output; errors_needed = none.errors_needed ∙ ap length is.errors; lacks = rw (none.same_output, none.same_errors) none.lacks }, none.at ∙ at);
   }
 
 -- a call that stopped before

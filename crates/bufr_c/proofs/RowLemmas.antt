@@ -16,9 +16,9 @@ use Rattle.bufr_c.proofs.EventLemmas.{apart-0-74, apart-73-0, apart-73-74, apart
 
 -- ---- The calls of a showing.
 
-calls_put : {E : Type 0} (p : Put) (calls : List Timed) (turns : ℕ) (q : Put) (steps : ℕ) → Shows {E = E} PutsCall p calls turns (Ok tt) q steps → q ≡ with_calls p calls
-calls_put p [] turns q steps (same, made) = same
-calls_put p (t ∷ calls) turns q steps (mid, one, more) = calls_put mid calls turns q steps more ∙ ap (λ m. with_calls m calls) one
+calls_put : (E : Type 0) (p : Put) (calls : List Timed) (turns : ℕ) (q : Put) (steps : ℕ) → Shows {E = E} PutsCall p calls turns (Ok tt) q steps → q ≡ with_calls p calls
+calls_put E p [] turns q steps (same, made) = same
+calls_put E p (t ∷ calls) turns q steps (mid, one, more) = calls_put E mid calls turns q steps more ∙ ap (λ m. with_calls m calls) one
 
 abbrev calls_by : List Row → Tree → Data → List Timed
 calls_by table template source = calls_of (read_by table template source 0 0)
@@ -38,10 +38,10 @@ no_fault : (b : List Row) (t : Tree) (s : Sections) (r : Read) (steps : ℕ) →
 no_fault b t s r steps (table, template, source, rest) =
     ap (λ st. option_map (λ why. fault_at why (reading_of (next_item b t) (data_of s)).subset (length (data_of s).bits - length (reading_of (next_item b t) (data_of s)).left)) st) rest.0
 
-pub message_done : {E : Type 0} (b : List Row) (d : List Sequence) (s : Sections) (p q : Put) (t : Tree) (r : Read) (steps steps' : ℕ) → tree_of (tables_of b d) s.descriptors ≡ Ok t
+pub message_done : (E : Type 0) (b : List Row) (d : List Sequence) (s : Sections) (p q : Put) (t : Tree) (r : Read) (steps steps' : ℕ) → tree_of (tables_of b d) s.descriptors ≡ Ok t
     → AnswersReading b t (data_of s) (Ok r) steps → Shows {E = E} PutsCall p (calls_of r) (turns_shown r) (Ok tt) q steps' → q ≡ message_put b d s p
-message_done b d s p q t r steps steps' tree (table, template, source, rest) shown =
-    calls_put p (calls_of r) (turns_shown r) q steps' shown
+message_done E b d s p q t r steps steps' tree (table, template, source, rest) shown =
+    calls_put E p (calls_of r) (turns_shown r) q steps' shown
     ∙ (ap (λ cs. with_calls p cs) (calls_same r b t (data_of s) table template source)
     ∙ (sym (ap (λ f. data_put p (calls_by b t (data_of s)) f) (no_fault b t s r steps (table, template, source, rest)))
     ∙ put_by_tree b d s p (Ok t) tree))
@@ -200,3 +200,15 @@ no-rows-passed b d wanted octets from room counts status at items octets' messag
     subst (λ n. PassesRows b d wanted octets n room counts status) at
     (let so = rows-none b d wanted octets room counts items octets' messages in
     record { passed = so.passed; events = so.events; leaves = so.leaves; done = λ is. absurd (stopped (inl is)); stops = λ is. absurd (stopped (inr is)) })
+
+-- The same in a loop, in which the tables and the wanted descriptors stay.
+pub record RowsLoop (b : List Row) (d : List Sequence) (wanted octets : List ℕ) (from : ℕ) (room : Rows) (counts : Counts) (b' : List Row) (d' : List Sequence) (wanted' : List ℕ) : Type 0 where
+  pub so : RowsSoFar b d wanted octets from room counts
+  pub table_b : b' ≡ b
+  pub table_d : d' ≡ d
+  pub same : wanted' ≡ wanted
+
+pub made-by-same : (b b' : List Row) (d d' : List Sequence) (wanted wanted' : List ℕ) (place : RowPlace) (event : StreamEvent) (made : Rows) → b' ≡ b → d' ≡ d → wanted' ≡ wanted
+    → made ≡ rows_of b' d' wanted' place event → made ≡ rows_of b d wanted place event
+made-by-same b b' d d' wanted wanted' place event made table_b table_d same is =
+    is ∙ (ap (λ x. rows_of x d' wanted' place event) table_b ∙ (ap (λ x. rows_of b x wanted' place event) table_d ∙ ap (λ x. rows_of b d x place event) same))

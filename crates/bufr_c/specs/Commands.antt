@@ -1,7 +1,8 @@
 -- What a command writes for an event, and the text of an event. (a choice of this project)
 use Rattle.std.specs.Prelude.{ℕ, ◌≡◌, ◌==◌, List, flat_map, Option, Some, None, if◌then◌else◌}
 use Rattle.bufr_frame.specs.Prelude.{StreamEvent}
-use Rattle.bufr_cli.specs.Prelude.{Piece, output_of, errors_of, is_accepted, ls_piece, dump_piece, Tallies, Tally}
+use Rattle.bufr_cli.specs.Prelude.{Piece, output_of, errors_of, is_accepted, ls_piece, dump_piece, Tallies}
+use Rattle.bufr_cli.specs.declared.outcome.Tally.{Tally}
 use Rattle.bufr_text.specs.declared.encode.Form.{Form}
 use Rattle.bufr_text.specs.declared.encode.Form.TheVariants.{AsWritten, Plain, Compressed}
 use Rattle.bufr_c.specs.declared.command.Command.{Command}
