@@ -1,11 +1,13 @@
 #!/usr/bin/env bash
 # Makes a release of the current commit: an archive that installs without the toolchain, the wheel, and their checksums.
 #
-#     ./release.sh [DIST]                         proves everything from scratch first, which takes one to two hours
-#     ./release.sh --unproved PROGRAM [DIST]      packs this program; its BUILD file says that it is unproved
+#     ./release.sh [DIST]                         proves everything from scratch, and then the program again, which takes
+#                                                 up to three hours
+#     ./release.sh --unproved PROGRAM [DIST]      packs this program, and records in BUILD that it is unproved
 #
-# The files go to the directory DIST, by default dist. If a step fails, DIST is unchanged. The same commit and program
-# give the same bytes on every run, in every directory, for every user. Uncommitted changes are left out.
+# The files are written to the directory DIST, by default dist. If a step fails or is interrupted, the files there are
+# unchanged. From the same commit and program, every run makes identical files, in any directory and for any user.
+# Uncommitted changes are left out. The proof needs a few GB in TMPDIR (default: /tmp).
 set -eu -o pipefail
 export LC_ALL=C
 
@@ -25,19 +27,42 @@ fi
 case $#${1-} in 0 | 1[!-]*) ;; *) usage ;; esac
 dist=$(realpath -m "${1:-$(dirname "$0")/dist}")
 cd "$(dirname "$0")"
-commit=$(git rev-parse HEAD) || die 'this directory is not a clone of the repository, from which a release is made'
-[ -z "$(git status --porcelain)" ] || echo "$0: there are uncommitted changes, which the release leaves out" >&2
+commit=$(git rev-parse HEAD) || die 'this directory is not a clone of the repository, which is needed to make a release'
+[ -z "$(git status --porcelain)" ] || echo "$0: the release does not contain the uncommitted changes in this directory" >&2
 
-# Everything is made in a directory inside DIST, so that the last step only renames files.
+# leave: stops what is still running, and removes the temporary files. A process that rt started may exit a moment later,
+# and create a file while rm removes its directory. The second rm then succeeds.
+leave() {
+    trap '' HUP INT TERM
+    kill "$running" 2> /dev/null && wait || true
+    rm -rf "$clone" "$work" 2> /dev/null || rm -rf "$clone" "$work"
+    [ -n "$is_made" ] || echo "$0: no release was made" >&2
+}
+# The files are made in a directory inside DIST, so that the last step only renames them. The clone is elsewhere, because
+# `rt ci` fails in a repository that contains another repository.
 mkdir -p "$dist"
-work=$(mktemp -d "$dist/.unfinished.XXXXXX") is_made=''
-# A step that ends late, after a signal, may still make a file while its folder is removed; the second time it cannot.
-trap 'rm -rf "$work" 2> /dev/null || rm -rf "$work"; [ -n "$is_made" ] || echo "$0: no release was made" >&2' EXIT
-git clone -q --no-checkout . "$work/clone"
-cd "$work/clone"
+running='' is_made='' work='' clone=''
+trap leave EXIT
+work=$(mktemp -d "$dist/.unfinished.XXXXXX")
+clone=$(mktemp -d -t bufr-release.XXXXXX)
+git clone -q --no-checkout . "$clone"
+cd "$clone"
 # The user's settings could change line endings and modes.
 export GIT_CONFIG_GLOBAL=/dev/null GIT_CONFIG_SYSTEM=/dev/null
 git checkout -q --detach "$commit"
+
+# prove WORD..: runs a command of the toolchain, and prints and logs what it says. A signal that ends this script ends the
+# command too: `wait` returns at once, and does not wait for the command as the shell would in the foreground.
+prove() {
+    : > "$work/log"
+    setpriv --pdeathsig TERM "$@" >> "$work/log" 2>&1 &
+    running=$!
+    tail -s 0.1 -n +1 -f --pid=$running "$work/log" &
+    wait $running && status=0 || status=$?
+    running=''
+    wait
+    return "$status"
+}
 
 logic=$(sed -n 's/.*`logic \([0-9a-f]\{16\}\)`.*/\1/p' README.md | head -n 1)
 gate='not run' sources=unknown kit=unknown
@@ -45,14 +70,19 @@ if [ $proof = proved ]; then
     program=crates/bufr/out/bufr
     kit=$(rt version) || die 'the toolchain (rt) is not on PATH; use --unproved PROGRAM to release a program without a proof'
     [ "${kit##* }" = "$logic" ] || die "the toolchain is $kit, but README.md names logic $logic"
-    setpriv --pdeathsig TERM rt ci --anew 2>&1 | tee "$work/gate" || die 'the proofs or the tests failed (rt ci); the output above says which'
-    gate=$(tail -n 1 "$work/gate")
+    unset RT_BACKEND # `rt ci` ignores it, but `rt run` does not
+    shopt -s nullglob
+    proved=(crates/*/src crates/*/must-fail/*.edit)
+    prove rt ci --anew || die 'the proofs or the tests failed (rt ci); see the output above'
+    gate=$(tail -n 1 "$work/log")
+    # `rt ci` does not count an invalid must-fail edit, but succeeds anyway.
+    [ "$gate" = "${#proved[@]} passed, 0 failed" ] || die "there are ${#proved[@]} crates and must-fail edits, but rt ci says: $gate"
     of_gate=$(sum_of $program)
-    # A second build writes the stamp: the checksum of all sources, followed by that of the program.
-    (cd crates/bufr && rt run -- --version)
-    [ "$(sum_of $program)" = "$of_gate" ] || die 'a second build made a different program'
+    # A second build writes the stamp, which `rt ci` does not: the checksum of all sources, followed by that of the program.
+    prove env -C crates/bufr rt run -- --version || die 'the second build failed (rt run); see the output above'
+    [ "$(sum_of $program)" = "$of_gate" ] || die 'a second build produced a different program'
     stamp=$(< $program.stamp)
-    [ "${stamp:64}" = "$of_gate" ] || die 'the stamp is that of a different program'
+    [ "${stamp:64}" = "$of_gate" ] || die 'the stamp belongs to a different program'
     sources=${stamp:0:64}
 fi
 mark=$(grep -aom 1 'rattle logic=[0-9a-f]\{16\}' "$program" | cut -d = -f 2) || mark=none
@@ -62,11 +92,10 @@ version=${version#bufr }
 wheel=$(python3 -c 'import build_wheel, sys; print(build_wheel.build_wheel(sys.argv[1]))' "$work")
 case $wheel in bufr_text-"$version"-*) ;; *) die "the program has version $version, but the wheel is $wheel" ;; esac
 
-# The archive has install.sh and everything that it installs.
+# The archive contains the whole repository, so that the links in its pages work.
 name=bufr-$version-linux-x86_64
 mkdir "$work/$name"
-git archive HEAD scripts tables docs man completions examples NOTICE README.md CHANGELOG.md CONTRIBUTING.md install.sh |
-    tar -x -C "$work/$name"
+git archive HEAD | tar -x -C "$work/$name"
 install -D -m 755 "$program" "$work/$name/bin/bufr"
 cat > "$work/$name/BUILD" << END
 version: $version

@@ -1,10 +1,10 @@
 #!/bin/sh
-# Dumps a BUFR file with a trial build of the program. Nothing is proved or installed. It takes one or two minutes.
+# Dumps a BUFR file with a trial build of the program. This takes one or two minutes, and proves or installs nothing.
 #
 #     ./try.sh FILE
 set -eu
 [ $# -eq 1 ] || { echo "usage: $0 FILE" >&2; exit 2; }
-command -v rt > /dev/null || { echo "$0: the toolchain (rt) is not on PATH; README.md names the one that you need" >&2; exit 1; }
+command -v rt > /dev/null || { echo "$0: the toolchain (rt) is not on PATH; README.md says which toolchain you need" >&2; exit 1; }
 file=$(realpath -e -- "$1")
 cd "$(dirname "$0")/crates/bufr"
 tables=../../tables/wmo-39

@@ -29,26 +29,26 @@ SHORT = 0.01
 
 STREAMS = {
     "small": "500,000 messages of 48 bytes",
-    "small_3": "the same in edition 3, of 46 bytes",
+    "small_3": "500,000 edition 3 messages of 46 bytes",
     "middle": "messages of 10 KB",
     "bulletins": "bulletins with one message of 10 KB each",
     "large": "messages of 1 MB",
-    "noise": "no message",
-    "hostile": "six million times the word `BUFR`, each declaring 1 MB",
+    "noise": "a stream without messages",
+    "hostile": "six million strays that declare 1 MB each",
     "dump_reports": "100,000 short reports",
-    "dump_reports_3": "the same in edition 3",
-    "dump_packed_reports": "1,000 messages of 200 short reports, compressed",
-    "dump_plain": "10 messages of 1,000 subsets by 500 elements",
-    "dump_packed": "the same, compressed",
-    "dump_half_missing": "reports, half of the items missing",
-    "dump_mostly_alike": "compressed, three quarters of the items the same in all subsets",
-    "dump_all_missing": "all items missing",
-    "dump_compressed_all_missing": "the same, compressed",
-    "dump_texts": "texts",
-    "dump_new_references": "references redefined by 2 03",
-    "dump_twelve_lists": "12 descriptor lists in turn",
-    "dump_lists_in_turn": "14 lists in turn",
-    "dump_hundred_lists": "100 lists in turn",
+    "dump_reports_3": "100,000 short reports in edition 3",
+    "dump_packed_reports": "1,000 compressed messages of 200 short reports",
+    "dump_plain": "10 messages of 1,000 subsets with 500 elements each",
+    "dump_packed": "10 compressed messages of 1,000 subsets with 500 elements each",
+    "dump_half_missing": "reports with half of the items missing",
+    "dump_mostly_alike": "compressed messages with three quarters of the items the same in every subset",
+    "dump_all_missing": "messages with all items missing",
+    "dump_compressed_all_missing": "compressed messages with all items missing",
+    "dump_texts": "messages of strings",
+    "dump_new_references": "messages that redefine reference values with 2 03",
+    "dump_twelve_lists": "messages with 12 alternating descriptor lists",
+    "dump_lists_in_turn": "messages with 14 alternating descriptor lists",
+    "dump_hundred_lists": "messages with 100 alternating descriptor lists",
 }
 LISTED = [name for name in STREAMS if not name.startswith("dump_")]
 DUMPED = [name for name in STREAMS if name.startswith("dump_")]
@@ -143,7 +143,7 @@ class Measuring:
     def summary(self) -> None:
         """Prints the tables of bench/README.md."""
         for commands, streams in ((["ls"], LISTED), (["dump", "encode"], DUMPED)):
-            columns = ["stream", *(f"`{command}`, s | ratio | KiB" for command in commands)]
+            columns = ["stream", *(f"`{command}` (s) | ratio | KiB" for command in commands)]
             print("\n| " + " | ".join(columns) + " |\n" + "|---" * (1 + 3 * len(commands)) + "|")
             for stream in streams:
                 cells = [cell for command in commands for cell in self.cells[command, stream]]
@@ -175,7 +175,7 @@ def main() -> None:
     program = sys.argv[1] if len(sys.argv) > 1 else str(BUILT)
     folder = pathlib.Path(sys.argv[2]) if len(sys.argv) > 2 else TOP / "bench/out"
     if not pathlib.Path(program).exists():
-        sys.exit(f"{program} is not there: build it first (README.md, On a fresh machine)")
+        sys.exit(f"{program} is not there: build it first (see README.md)")
     for tool in ["rustc", "time"]:
         if shutil.which(tool) is None:
             sys.exit(f"{tool} is not there")

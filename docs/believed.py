@@ -14,6 +14,7 @@ reported, and the status is 1. The counts go to standard error.
 import functools
 import pathlib
 import re
+import signal
 import subprocess
 import sys
 
@@ -372,4 +373,6 @@ def main():
 
 
 if __name__ == "__main__":
+    # `docs/believed.py | head` ends without a traceback.
+    signal.signal(signal.SIGPIPE, signal.SIG_DFL)
     main()

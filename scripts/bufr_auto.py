@@ -1,14 +1,15 @@
-"""The work of bufr-auto: finds the messages of a stream, or the documents of a dump, and chooses a table set for each.
+"""The code of bufr-auto: finds the messages in a stream, or the documents in a dump, and chooses a table set for each.
 
     status = bufr_auto.dump(["a.bufr", None], output=pipe)  # None is standard input
 
-It finds the messages itself, so that it need not wait for a listing. `bufr` does everything else: for each part of the
-stream, it runs once for each table set. Parts are written in order, and each before the next read that may block.
+This module finds the messages itself, so that it does not have to wait for a listing. `bufr` does everything else: it
+runs once for each table set in each part of the stream. Parts are written in order, before the next read that may block.
 """
 from __future__ import annotations
 
 import os
 import stat
+import time
 
 import bufr_guard
 import bufr_options
@@ -22,22 +23,22 @@ if TYPE_CHECKING:
     from bufr_conditions import Conditions
 
     Octets = Union[bytes, memoryview]
-    # A message, a document or a stray: its place (an offset or a line), its bytes, and the fault of a stray.
+    # A message, a document or a stray: its place (an offset or a line number), its bytes, and the fault of a stray.
     Piece = Tuple[int, Octets, bytes]
     Bytes = bufr_sets.Bytes
     # The numbers in a header that determine the tables: centre, master table, version and local version.
     Tables = Tuple[int, int, int, int]
 
-# A part has at most about this many bytes, and this many pieces, so buffers do not grow with the stream.
+# The approximate maximum number of bytes and pieces in a part, so that buffers do not grow with the stream.
 PART, PIECES = 1 << 22, 1 << 14
 BLOCK = 1 << 18
-# The maximum length of a line, and of the beginning of a document that has its header and its descriptors.
+# The maximum length of a line, and of the beginning of a document that contains the header and the descriptors.
 LINE, HEADER = 4096, 1 << 20
 END = b"\nend\n"
-# How many kinds of notes are counted separately, and how many descriptors and lists are cached.
+# The number of different notes that are counted separately, and of descriptors and lists that are cached.
 KINDS_OF_NOTES = 1000
 REMEMBERED = 1 << 8
-# The descriptors that version 13 defines differently from versions up to 6.
+# The descriptors that have different definitions in version 13 and in versions up to 6.
 CHANGED_SINCE_6 = set(
     """
     001003 001022 002028 002160 004024 008006 008065 008066 012073 015003 015004 021017 022004 022062 025030 029002
@@ -47,14 +48,15 @@ CHANGED_SINCE_6 = set(
 
 
 class Unread(Exception):
-    """The reason why a file could not be read to its end."""
+    """Explains why a file could not be read to the end."""
 
 
 class Feed:
-    """The bytes of a file, or of standard input, as they arrive."""
+    """Reads a file or standard input as its bytes arrive. If the input pauses, it calls `report` once."""
 
-    def __init__(self, file: Optional[str]) -> None:
+    def __init__(self, file: Optional[str], report: Callable[[], None]) -> None:
         self.file, self.name, self.begin, self.taken = file, bufr_guard.named(file), b"", 0
+        self.report = report
         try:
             self.descriptor = 0 if file is None else os.open(file, os.O_RDONLY)
         except OSError as error:
@@ -75,16 +77,14 @@ class Feed:
 
     def read(self) -> bytes:
         try:
-            if self.poll is not None:
+            if self.poll is not None and not self.poll.poll(1000):
+                self.report()
                 self.poll.poll()
             octets = os.read(self.descriptor, 1 << 20)
         except OSError as error:
             raise Unread(f"cannot read {self.name}: {error.strerror}") from None
         if not octets and self.taken < self.length:
-            raise Unread(f"{self.name} became shorter while it was read")
-        if len(octets) == 1 << 16:
-            widen(self.descriptor)
-            widen(1)
+            raise Unread(f"{self.name} was truncated while it was read")
         self.taken += len(octets)
         self.begin += octets[: 256 - len(self.begin)]
         return octets
@@ -94,30 +94,20 @@ class Feed:
             os.close(self.descriptor)
 
 
-def widen(pipe: int) -> None:
-    """Enlarges the buffer of a pipe to a megabyte, so that its two ends wait for each other less often."""
-    import fcntl
-
-    try:
-        fcntl.fcntl(pipe, 1031, 1 << 20)  # Linux's F_SETPIPE_SZ
-    except OSError:
-        pass
-
-
 class Finder:
-    """Finds the messages of a stream, block by block. It buffers the current message and a block.
+    """Finds the messages in a stream, block by block. It buffers the current message and one block.
 
-    A message that declares more than `longest` bytes is skipped: the search continues after its first four bytes.
+    If a message declares more than `longest` bytes, the finder skips it: the search continues after its first four bytes.
     """
 
     def __init__(self, longest: Optional[int] = None) -> None:
         self.longest = 1 << 24 if longest is None else longest
-        # The buffered bytes end at `end`, and the search continues at `at`. held[0] is at offset `passed` of the stream.
+        # The buffered bytes end at `end`, the search continues at `at`, and held[0] is at offset `passed` of the stream.
         # The buffer never shrinks: freeing and allocating it again would fragment the heap.
         self.held, self.at, self.end, self.passed, self.has_ended = bytearray(), 0, 0, 0, False
 
     def put(self, octets: bytes) -> None:
-        """Adds the next block, which is empty at the end of the stream."""
+        """Adds the next block. An empty block marks the end of the stream."""
         if self.at > BLOCK:
             with memoryview(self.held) as held:
                 held[: self.end - self.at] = held[self.at : self.end]
@@ -127,9 +117,9 @@ class Finder:
         self.has_ended = not octets
 
     def find(self) -> Optional[Tuple[int, int, bytes]]:
-        """Where the next message or stray begins and ends, and its fault. None if more bytes are needed.
+        """Returns where the next message or stray begins and ends, and its fault, or None if more bytes are needed.
 
-        A stray is a `BUFR` that begins no message.
+        A stray is the bytes `BUFR` where no complete message begins.
         """
         at = self.held.find(b"BUFR", self.at, self.end)
         if at < 0:
@@ -153,27 +143,27 @@ class Finder:
 
 
 def is_stray(fault: bytes) -> bool:
-    """Whether a fault is that of a stray, not a report of a skipped message."""
+    """Returns whether a fault is that of a stray, and not a report of a skipped message."""
     return fault[:1].isdigit()
 
 
 def stray_line(offset: int, fault: bytes, prefix: bytes = b"") -> bytes:
-    """The line that reports a stray or a skipped message."""
+    """Returns the line that reports a stray or a skipped message."""
     line = b"%soffset %d: %s\n" % (prefix, offset, fault)
     return line if is_stray(fault) else os.fsencode(bufr_guard.name()) + b": " + line
 
 
 class Masker:
-    """Hides the messages that declare more than `longest` bytes from a program that reads the stream.
+    """Hides messages that declare more than `longest` bytes from the program that reads the stream.
 
-    It replaces their first four bytes with zeros, so that offsets do not change, and reports each.
+    The masker replaces their first four bytes with zeros, so that offsets do not change, and reports each message.
     """
 
     def __init__(self, longest: int) -> None:
         self.finder, self.count = Finder(longest), 0
 
     def take(self, octets: bytes) -> Iterator[bytes]:
-        """Adds the next block, which is empty at the end, and yields the bytes that the program may now read."""
+        """Adds the next block, which is empty at the end, and yields the bytes that the program can now read."""
         finder = self.finder
         finder.put(octets)
         first = finder.at
@@ -189,10 +179,10 @@ class Masker:
 
 
 class Source:
-    """The pieces of a file, in order. Each is valid until the next one is requested.
+    """The pieces of a file, in order. Each piece is valid until the next one is requested.
 
-    The iterator yields None before a read that may block. If the last piece `is_long`, it is only a beginning. `rest`
-    then yields the whole piece, block by block, and sets `lines` to its size.
+    The iterator yields None before a read that may block. If `is_long` is true, the last piece is only the beginning of
+    a long piece. `rest` then yields the whole piece, block by block, and sets `lines` to its size.
     """
 
     is_long = False
@@ -206,7 +196,7 @@ class Source:
 
 
 class Messages(Source):
-    """The messages and strays of a stream, at their offsets."""
+    """The messages and strays in a stream, with their offsets."""
 
     def __init__(self, feed: Feed, longest: Optional[int]) -> None:
         self.feed, self.finder = feed, Finder(longest)
@@ -229,13 +219,13 @@ class Messages(Source):
 
 
 class Documents(Source):
-    """The documents of a dump, at their first lines. Each includes the lines before it; lines after the last are another."""
+    """The documents in a dump, with their line numbers. Each includes the lines before it; trailing lines are one more."""
 
     def __init__(self, feed: Feed, _longest: Optional[int]) -> None:
         self.feed, self.held, self.has_ended = feed, bytearray(b"\n"), False
 
     def __iter__(self) -> Iterator[Optional[Piece]]:
-        # The line feed before a document ends the previous document.
+        # The line feed before a document is the end of the previous document.
         held, number, at = self.held, 1, 0
         while True:
             found = held.find(END, at)
@@ -271,7 +261,7 @@ class Documents(Source):
         held, self.lines, found = self.held, 0, -1
         while found < 0:
             found = held.find(END)
-            # Until the end is found, the buffer retains the bytes that may begin it, and the byte before them.
+            # Until the end line is found, the buffer keeps the bytes that may begin it, and the byte before them.
             kept = 0 if found >= 0 or self.has_ended else len(END) - 1
             end = found + len(END) if found >= 0 else max(1, len(held) - kept)
             text = bytes(held[1:end])
@@ -286,7 +276,7 @@ class Documents(Source):
 
 
 def begin_of(text: bytearray) -> int:
-    """Where the first line that is neither empty nor a comment begins, after a line feed."""
+    """Returns where the first line begins that is neither empty nor a comment. The text begins with a line feed."""
     at, end = 1, text.find(b"\n", 1)
     while end == at or (at < end <= at + LINE and text.startswith(b"#", at)):
         at, end = end + 1, text.find(b"\n", end + 1)
@@ -294,14 +284,14 @@ def begin_of(text: bytearray) -> int:
 
 
 def may_begin(text: bytearray) -> bool:
-    """Whether a document may begin like this. If not, as for an archive of messages, nothing more is read."""
+    """Returns whether a document may begin like this. If not, as in a file of messages, nothing more is read."""
     at = begin_of(text)
     end = text.find(b"\n", at)
     return len(text) - at <= LINE if end < 0 else text[at:end] == b"message"
 
 
 class Store:
-    """A temporary file that is filled in large blocks."""
+    """A temporary file that is written in large blocks."""
 
     def __init__(self) -> None:
         self.file, self.block = bufr_guard.temporary(), bytearray()
@@ -320,22 +310,22 @@ class Store:
         self.block.clear()
 
     def descriptor(self) -> int:
-        """The file, at its start."""
+        """Returns the descriptor of the file, positioned at the start."""
         self.flush()
         os.lseek(self.file, 0, os.SEEK_SET)
         return self.file
 
 
 class Reason:
-    """Why a set may not match a message exactly, which descriptors this concerns, and how to get the missing set."""
+    """A reason why a set may not match a message exactly, the descriptors concerned, and how to get the missing set."""
 
     def __init__(self, text: str, concerns: Callable[[str], bool], advice: Callable[[], str] = str) -> None:
         self.text, self.concerns, self.advice = text, concerns, advice
-        self.count, self.first = 0, ""
+        self.count, self.first, self.is_told = 0, "", False
 
 
 class Run:
-    """One run of `bufr` on the pieces of a part that belong to one set."""
+    """A run of `bufr` on the pieces of a part that need the same set."""
 
     COMMAND: str
     PLACE: bytes
@@ -350,30 +340,30 @@ class Run:
 
     @staticmethod
     def size_of(octets: Octets) -> int:
-        """The size of a piece, in the unit that fault lines use: bytes or lines."""
+        """Returns the size of a piece, in the unit that fault lines use: bytes or lines."""
         raise NotImplementedError
 
     @staticmethod
     def asked_by(piece: Bytes) -> Tables:
-        """The numbers in the header of a piece that determine its tables."""
+        """Returns the numbers in the header of a piece that determine its tables."""
         raise NotImplementedError
 
     @staticmethod
     def words_of(piece: Bytes) -> bytes:
-        """The descriptor list of a piece, in the form that the piece has."""
+        """Returns the descriptor list of a piece, in the form that the piece contains."""
         raise NotImplementedError
 
     @staticmethod
     def descriptors(words: bytes) -> Tuple[str, ...]:
-        """The descriptors of such a list, as six digits each."""
+        """Returns the descriptors in a list from `words_of`, as six digits each."""
         raise NotImplementedError
 
     def copy_piece(self) -> bool:
-        """Copies the output for the next piece, and returns whether it is complete."""
+        """Copies the output for the next piece. Returns whether the output is complete."""
         raise NotImplementedError
 
     def start(self, output: Optional[int]) -> None:
-        """Starts the run. Its output goes to a descriptor, or to a file from which it is copied piece by piece."""
+        """Starts the run. The output goes to a descriptor, or to a file that is later copied piece by piece."""
         self.start_on(self.pieces.descriptor(), output)
 
     def start_on(self, given: int, output: Optional[int]) -> None:
@@ -384,10 +374,10 @@ class Run:
         self.output = open(copied, "rb", 0) if output is None else None
 
     def finish(self) -> None:
-        """Waits for the run to end."""
+        """Waits for the program to exit."""
         self.status = bufr_guard.wait(self.process)
-        self.others: List[bytes] = []  # lines that are not faults of pieces
-        self.passed = 0  # the size of all pieces before the next one, in bytes or lines
+        self.others: List[bytes] = []  # lines that do not report faults in pieces
+        self.passed = 0  # the total size of all previous pieces, in bytes or lines
         self.errors.seek(0)
         self.take_fault()
         if self.output is not None:
@@ -395,7 +385,7 @@ class Run:
             self.read, self.at = b"", 0
 
     def take_fault(self) -> None:
-        """Reads the next fault line: its place, and the text after that."""
+        """Reads the next fault line: its place, and the text after the place."""
         for line in self.errors:
             word, _, self.told = line.partition(b": ")
             if word.startswith(self.PLACE) and word[len(self.PLACE) :].isdigit():
@@ -405,7 +395,7 @@ class Run:
         self.place = bufr_guard.NOWHERE
 
     def fault(self, place: int, size: int) -> bytes:
-        """The fault line of the next piece, or an empty text if there is none."""
+        """Returns the fault line for the next piece, or an empty string if the piece has no fault."""
         begin, self.passed = self.passed, self.passed + size
         if self.place >= self.passed:
             return b""
@@ -414,12 +404,12 @@ class Run:
         return line
 
     def copy(self, target: bufr_guard.Output) -> bool:
-        """Copies the output for the next piece to the target, and returns whether it is complete."""
+        """Copies the output for the next piece to the target. Returns whether the output is complete."""
         self.target = target
         return self.output is None or self.copy_piece()
 
     def take(self) -> bool:
-        """Reads more of its output."""
+        """Reads more of the program's output. Returns whether there was any."""
         assert self.output is not None
         octets = self.output.read(BLOCK)
         self.read, self.at = self.read[self.at :] + octets, 0
@@ -437,7 +427,7 @@ class Run:
 
 
 class Dump(Run):
-    """Its pieces are messages, at their offsets."""
+    """A run of `bufr dump`. Its pieces are messages, and their places are offsets."""
 
     COMMAND, PLACE, FIRST, PIECE, SOURCE = "dump", b"offset ", 0, "message", Messages
     size_of, words_of = staticmethod(len), staticmethod(bufr_sets.words_of)
@@ -461,13 +451,13 @@ class Dump(Run):
 
 
 class Encode(Run):
-    """Its pieces are documents, at their first lines. The first invalid one stops everything."""
+    """A run of `bufr encode`. Its pieces are documents, and their places are line numbers."""
 
     COMMAND, PLACE, FIRST, PIECE, SOURCE = "encode", b"line ", 1, "document", Documents
 
     @staticmethod
     def size_of(octets: Octets) -> int:
-        """The number of lines. If the `end` line is missing, the count includes the line at which `bufr` reports this."""
+        """Returns the number of lines. If there is no `end` line, counts the line at which `bufr` reports this fault."""
         text = bytes(octets)
         return text.count(b"\n") + 2 * (not text.endswith(END))
 
@@ -496,7 +486,7 @@ class Encode(Run):
     def copy_piece(self) -> bool:
         while len(self.read) < self.at + 7:
             if not self.take():
-                # Only comments may follow the last document.
+                # Only comments can follow the last document.
                 return self.status == 0 and self.at == len(self.read)
         left = int.from_bytes(self.read[self.at + 4 : self.at + 7], "big")
         while left > len(self.read) - self.at:
@@ -509,9 +499,9 @@ class Encode(Run):
 
 
 class Part:
-    """Consecutive pieces, and a run for each set. Each piece has its place, its size, and its run or its fault.
+    """Consecutive pieces, and a run for each set. For each piece, there is a place, a size, and a run or a fault.
 
-    If there are conditions, the pieces first go to `candidates`, without a run.
+    If there are conditions, the pieces are first added to `candidates`, without a run.
     """
 
     def __init__(self) -> None:
@@ -530,29 +520,31 @@ class Part:
 
 
 class Notes:
-    """For each reason why no set matches exactly, the number of pieces, and the place of the first one."""
+    """The reasons why no set matches exactly, each with the number of pieces and the place of the first one."""
 
     def __init__(self) -> None:
         self.reasons: Dict[str, Reason] = {}
-        self.others = Reason(f"no set matches exactly, for reasons beyond the first {KINDS_OF_NOTES:,}", bool)
+        self.others = Reason(f"no set matches exactly, for reasons other than the first {KINDS_OF_NOTES:,}", bool)
 
     def known(self, reason: Reason) -> Reason:
-        """The known reason with this text. If there are too many reasons, it is the one for all others."""
+        """Returns the known reason with the same text or, if there are too many reasons, the one for all others."""
         if reason.text not in self.reasons and len(self.reasons) >= KINDS_OF_NOTES:
             return self.others
         return self.reasons.setdefault(reason.text, reason)
 
-    def lines(self, piece: str) -> Iterator[bytes]:
+    def lines(self, piece: str, so_far: str) -> Iterator[bytes]:
+        """Yields the notes that have not been printed yet."""
         for reason in [*self.reasons.values(), self.others]:
-            if reason.count:
-                pieces = f"1 {piece}," if reason.count == 1 else f"{reason.count} {piece}s, the first"
+            if reason.count and not reason.is_told:
+                reason.is_told = True
+                pieces = f"1 {piece}{so_far}," if reason.count == 1 else f"{reason.count} {piece}s{so_far}, the first"
                 advice = reason.advice()
                 line = f"{bufr_guard.name()}: {pieces} {reason.first}: {reason.text}{'; ' + advice if advice else ''}\n"
                 yield line.encode("utf-8", "surrogateescape")
 
 
 def reasons(asked: Tables, tables: bufr_sets.TableSet) -> List[Reason]:
-    """The reasons why a set may not match a message exactly."""
+    """Returns the reasons why a set may not match a message exactly."""
     centre, master, version, local = asked
     found = []
     if master != 0:
@@ -564,19 +556,21 @@ def reasons(asked: Tables, tables: bufr_sets.TableSet) -> List[Reason]:
         found.append(Reason(text, CHANGED_SINCE_6.__contains__))
     if local != 0 and tables.own is None:
         own = bufr_sets.own_name(tables, centre, local)
-        text = f"local table {local} of centre {centre}: there is no {own}"
+        text = f"there is no {own} for local table {local} of centre {centre}"
         found.append(Reason(text, bufr_sets.is_local, lambda: bufr_sets.advice(tables, centre, version, local)))
     return found
 
 
 class Work:
-    """Dumps or encodes all files. It has the status so far, and the lines to print at the end."""
+    """Dumps or encodes all files. Records the status so far, and the lines to print at the end."""
 
     def __init__(self, kind: Type[Run], files: Sequence[Optional[str]], output: int = 1) -> None:
         self.kind, self.files, self.sets, self.target = kind, files, bufr_sets.TableSets(), bufr_guard.output(output)
         self.longest: Optional[int] = None
         self.conditions: Optional[Conditions] = None
         self.has_places = False
+        self.more_notes: Callable[[], bytes] = bytes
+        self.next_notes = time.monotonic() + bufr_guard.INTERVAL
         self.known: Dict[Tables, Tuple[bufr_sets.TableSet, List[Reason]]] = {}
         self.remembered: Dict[Tuple[bufr_sets.TableSet, Callable[[str], bool], bytes], bool] = {}
         self.notes, self.status, self.is_over, self.done = Notes(), 0, False, 0
@@ -596,20 +590,33 @@ class Work:
 
     def report_last(self) -> None:
         """Prints the notes, and the reasons why files and programs failed."""
-        left_out = self.conditions.note() if self.conditions else ""
-        notes = [*self.sets.notes, left_out] if left_out else self.sets.notes
+        self.say_notes("")
+        bufr_guard.say(b"".join(self.last))
+
+    def report(self) -> None:
+        """Prints the notes on a feed so far."""
+        self.say_notes(" so far")
+        bufr_guard.say(self.more_notes())
+        bufr_guard.output(2).flush()
+        self.next_notes = time.monotonic() + bufr_guard.INTERVAL
+
+    def say_notes(self, so_far: str) -> None:
+        """Prints the notes that have not been printed yet."""
+        notes, self.sets.notes = self.sets.notes, []
+        if self.conditions:
+            notes += self.conditions.new_note(so_far)
         told = [os.fsencode(f"{bufr_guard.name()}: {bufr_guard.shown(note)}\n") for note in notes]
-        bufr_guard.say(b"".join([*self.notes.lines(self.kind.PIECE), *told, *self.last]))
+        bufr_guard.say(b"".join([*self.notes.lines(self.kind.PIECE, so_far), *told]))
 
     def fail(self, unread: Unread) -> None:
-        """Records why a file failed. The work continues with the next one."""
+        """Records why a file could not be read. The work continues with the next file."""
         self.last.append(os.fsencode(f"{bufr_guard.name()}: {unread}\n"))
         self.status = 2
 
     def serve(self, file: Optional[str]) -> None:
-        """Does the work for a file. The runs of a part, if there are several, start before the previous part is written."""
+        """Processes a file. If a part has several runs, they start before the previous part is written."""
         try:
-            feed = Feed(file)
+            feed = Feed(file, self.report)
         except Unread as unread:
             self.fail(unread)
             return
@@ -620,6 +627,8 @@ class Work:
                 part.start(None)
             if before:
                 self.write(before, feed)
+                if feed.poll is not None and time.monotonic() >= self.next_notes:
+                    self.report()
             if self.is_over:
                 bufr_guard.stop()
                 return
@@ -631,13 +640,13 @@ class Work:
         feed.close()
 
     def parts(self, feed: Feed) -> Iterator[Optional[Part]]:
-        """The parts of a file. It yields None when all parts must be written: before a read that may block, and at the end.
+        """Yields the parts of a file, and None when they must be written: before a read that may block, and at the end.
 
-        This function is short because Python 3.11 cannot leave a `try` that ends after more than 256 instructions if it
-        cannot allocate a number over 256.
+        This function is short because Python 3.11 cannot leave a `try` block that ends after more than 256 instructions
+        if it cannot allocate a number over 256.
         """
         source = self.kind.SOURCE(feed, self.longest)
-        pieces = iter(source)  # freed after the part; otherwise Python may report that it cannot close it
+        pieces = iter(source)  # freed after the part, because Python may otherwise report that it cannot close the iterator
         self.part = Part()
         try:
             yield from self.full_parts(feed, source, pieces)
@@ -647,7 +656,7 @@ class Work:
         yield None
 
     def full_parts(self, feed: Feed, source: Source, pieces: Iterator[Optional[Piece]]) -> Iterator[Optional[Part]]:
-        """The parts of a file, except the last one, which is still open."""
+        """Yields the parts of a file, except the last one, which is still open."""
         count = 0
         for piece in pieces:
             count += piece is not None and not is_stray(piece[2])
@@ -681,7 +690,7 @@ class Work:
             part.pieces.append((place, self.kind.size_of(octets), run, notes, b""))
 
     def feed(self, part: Part, source: Source, feed: Feed, piece: Piece) -> None:
-        """Passes a long piece to a run of its own as it arrives."""
+        """Passes a long piece to a separate run, block by block as it arrives."""
         place, begin, _ = piece
         run, notes = self.assigned(part, lambda at, length: bytes(begin[at : at + length]))
         os.close(run.pieces.descriptor())
@@ -693,15 +702,13 @@ class Work:
                 bufr_guard.write_all(pipe, octets)
                 self.progress.at(self.done + feed.taken)
         except BrokenPipeError:
-            pass  # it has refused the piece and reported that
-        except Unread as unread:
-            self.fail(unread)
+            pass  # the program has refused the piece and reported the fault
         finally:
             os.close(pipe)
-        part.pieces.append((place, source.lines, run, notes, b""))
+            part.pieces.append((place, source.lines, run, notes, b""))
 
     def selected(self, part: Part) -> Part:
-        """The part with only those candidates that meet the conditions or have no line in a listing."""
+        """Returns the part with only the candidates that meet the conditions or that `bufr ls` does not list."""
         if part.candidates is None:
             return part
         candidates, chosen, begin = part.candidates.descriptor(), Part(), 0
@@ -720,7 +727,7 @@ class Work:
         return chosen
 
     def refused(self, candidates: int) -> FrozenSet[int]:
-        """The offsets of the candidates whose line of `bufr ls` does not meet the conditions."""
+        """Returns the offsets of the candidates whose line in the output of `bufr ls` does not meet the conditions."""
         assert self.conditions
         (listing, target), nothing = os.pipe(), os.open(os.devnull, os.O_WRONLY)
         process = bufr_guard.start([bufr_guard.program(), "ls"], candidates, target, nothing)
@@ -736,7 +743,7 @@ class Work:
         return frozenset(found)
 
     def assigned(self, part: Part, piece: Bytes) -> Tuple[Run, List[Reason]]:
-        """The run for a piece, and the reasons why its set may not match it exactly."""
+        """Returns the run for a piece, and the reasons why its set may not match exactly."""
         asked = self.kind.asked_by(piece)
         if asked not in self.known:
             if len(self.known) == KINDS_OF_NOTES:
@@ -753,7 +760,7 @@ class Work:
         return part.runs[tables], notes
 
     def is_concerned(self, tables: bufr_sets.TableSet, reason: Reason, words: bytes) -> bool:
-        """Whether a reason concerns a descriptor that this list uses."""
+        """Returns whether a reason concerns a descriptor that this list uses."""
         key = tables, reason.concerns, words
         if key in self.remembered:
             return self.remembered[key]
@@ -765,7 +772,7 @@ class Work:
         return is_concerned
 
     def write(self, part: Part, feed: Feed) -> None:
-        """Writes the output of the runs of a part, in the order of its pieces."""
+        """Writes the output of all runs of a part, in the order of the pieces."""
         for run in part.runs.values():
             run.finish()
         prefix, within = (b"", "") if len(self.files) == 1 else (os.fsencode(feed.name) + b":", f"in {feed.name} ")
@@ -785,7 +792,7 @@ class Work:
                 bufr_guard.say(prefix + fault)
                 self.is_over = one.COMMAND == "encode"
                 if fault == b"line 1: 50 line\n" and b"BUFR" in feed.begin:
-                    told = f"{bufr_guard.name()}: {feed.name} is BUFR, not a dump; leave out --encode to dump it\n"
+                    told = f"{bufr_guard.name()}: {feed.name} is BUFR, not a dump; to dump it, leave out --encode\n"
                     self.last.append(os.fsencode(told))
             else:
                 if self.has_places:
@@ -802,7 +809,7 @@ class Work:
             self.end(worst, is_whole)
 
     def end(self, run: Run, is_whole: bool) -> None:
-        """Adds the status of a run to that of the work."""
+        """Combines the status of a run with the status of the work."""
         self.last += run.others
         for line in run.others:
             if line.startswith((b"table B: ", b"table D: ")):
@@ -810,7 +817,7 @@ class Work:
                 self.last.append(os.fsencode(f"{bufr_guard.name()}: cannot use {file}: ") + line[9:])
         status = bufr_guard.checked(run.status, bool(run.others))
         if not is_whole and status < 2:
-            raise bufr_guard.Failed("bufr stopped before the end of its output; output is incomplete")
+            raise bufr_guard.Failed("bufr stopped early; output is incomplete")
         self.is_over = self.is_over or status == 2
         self.status = max(self.status, status)
 
@@ -821,14 +828,17 @@ def dump(
     longest: Optional[int] = None,
     conditions: Optional[Conditions] = None,
     has_places: bool = False,
+    more_notes: Callable[[], bytes] = bytes,
 ) -> int:
     """Writes the dump of these files to a descriptor, and returns the status. None is standard input.
 
-    Fault lines, notes and progress go to standard error, as in bufr-auto. Messages that declare more than `longest`
-    bytes, and those whose line in the output of `bufr ls` does not meet the conditions, are skipped. With `has_places`,
-    a comment precedes each document: `# offset=595 length=422 file=NAME`.
+    Fault lines, notes and progress go to standard error, as in bufr-auto. Messages are skipped if they declare more than
+    `longest` bytes, or if they do not meet the conditions. With `has_places`, a comment before each document gives its
+    place: `# offset=595 length=422 file=NAME`. Whenever the notes on a feed are printed, `more_notes` returns further
+    lines.
     """
     work = Work(Dump, files, output)
+    work.more_notes = more_notes
     work.longest, work.conditions, work.has_places = longest, conditions, has_places
     return work.do()
 

@@ -4,11 +4,11 @@
     for line in listing:        # a line as bytes
         if conditions.are_met(line):
             ..
-    note = conditions.note()    # "", or how many edition 3 messages were left out, and why
+    note = conditions.note()    # says how many edition 3 messages were left out, or is empty
 
-KEY is the name of a field. VALUE is its value, or the leading parts of it: category=0 matches 0/2/0, and time=2024-01-02
-matches each hour of that day. Commas separate several values. All conditions must hold. Raises `ValueError` if a word is
-not a condition.
+KEY is the name of a field. VALUE is the whole value of the field or its first parts: category=0 matches 0/2/0, and
+time=2024-01-02 matches all times of that day. To match one of several values, separate them with commas. A line must meet
+all conditions. A word that is not a condition raises `ValueError`.
 """
 from __future__ import annotations
 
@@ -21,25 +21,25 @@ KEYS = (
 
 
 class Conditions:
-    """Conditions on a line. `patterns` has a pattern for grep -E and `re` for each, and whether it must not match.
+    """Conditions on a line. `patterns` has a pattern for each, for grep -E and `re`, and whether it must not match.
 
-    Edition 3 messages have the year of the century instead of the year, so time=2024 does not match 0024. These messages
-    are left out and counted.
+    Edition 3 messages have only the year of the century, so time=2024 does not match 0024. Such messages are left out and
+    counted.
     """
 
     def __init__(self, words: Iterable[str]) -> None:
         self.patterns: List[Tuple[bool, str]] = []
-        # The first condition on `time`, and the years of the century for the years in all of them.
+        # The first condition on `time`, and the years in all such conditions as years of the century.
         self.asked = ""
         self.of_century: List[str] = []
-        self.left_out = 0
+        self.left_out, self.is_told = 0, False
         for word in words:
             self.add(word)
         self.compiled = [(negated, re.compile(pattern.encode())) for negated, pattern in self.patterns]
         self.is_left_out = re.compile(self.pattern_of_left_out().encode())
 
     def add(self, word: str) -> None:
-        found = re.fullmatch(r"([a-z]+)(!?)=(.*)", word, re.DOTALL)
+        found = re.fullmatch(r"([a-z]+)(!?)=(.*)", word)
         if not found:
             raise ValueError(f"'{word}' is not a condition: expected KEY=VALUE or KEY!=VALUE")
         key, negated, text = found.groups()
@@ -50,21 +50,21 @@ class Conditions:
         values = text.split(",")
         pattern = f"(^| ){key}=({'|'.join(values)})([ T:/-]|$)"
         if key == "time" and not negated:
-            years = [value for value in values if re.match("[1-9][0-9]{3}", value)]
+            years = [value for value in values if re.match("[0-9]{4}", value)]
             of_century = [f"00{year[2:]}" for year in years if f"00{year[2:4]}" not in {value[:4] for value in values}]
             if of_century:
-                # The pattern matches these lines too, so that they can be counted before they are left out.
+                # The pattern also matches edition 3 lines, so that they can be counted before they are left out.
                 self.asked = self.asked or word
                 self.of_century += of_century
-                pattern += f"| edition=3 .* time=({'|'.join(of_century)})[ T:/-]"
+                pattern += f"| edition=3 .* time=({'|'.join(of_century)})[ T:-]"
         self.patterns.append((bool(negated), pattern))
 
     def pattern_of_left_out(self) -> str:
-        """A pattern, without groups, for the lines that match but are left out."""
-        return f" edition=3 .* time=(?:{'|'.join(self.of_century)})[ T:/-]" if self.of_century else "(?!)"
+        """Returns a pattern without groups for lines that match but are left out."""
+        return f" edition=3 .* time=(?:{'|'.join(self.of_century)})[ T:-]" if self.of_century else "(?!)"
 
     def are_met(self, line: bytes) -> bool:
-        """Whether a line meets all conditions. Counts edition 3 messages that it leaves out."""
+        """Returns whether a line meets all conditions. Counts the edition 3 messages that are left out."""
         line = line.rstrip(b"\n")
         if any(bool(pattern.search(line)) == negated for negated, pattern in self.compiled):
             return False
@@ -72,10 +72,16 @@ class Conditions:
         self.left_out += is_left_out
         return not is_left_out
 
-    def note(self) -> str:
-        """A note on the messages that were left out, or an empty text."""
+    def note(self, so_far: str = "") -> str:
+        """Returns a note on the messages that were left out, or an empty string."""
         if not self.left_out:
             return ""
         messages = "1 edition 3 message" if self.left_out == 1 else f"{self.left_out} edition 3 messages"
         both = f"{self.asked},{','.join(self.of_century)}"
-        return f"left out {messages}, whose years have two digits: {both} selects both editions"
+        return f"left out {messages}{so_far} because of two-digit years; {both} selects both editions"
+
+    def new_note(self, so_far: str) -> List[str]:
+        """Returns the note, if there is one and it has not been returned before."""
+        notes = [self.note(so_far)] * (self.left_out > 0 and not self.is_told)
+        self.is_told = self.left_out > 0
+        return notes

@@ -1,6 +1,6 @@
-"""Shared code of the scripts: starting, stopping and failing, running programs, and reporting.
+"""Code that the scripts share: for errors and signals, for running programs, and for output.
 
-A script passes `run` its work, a function that takes the words of the command line and returns the exit status. The
+A script passes its work to `run`, as a function that takes the command-line arguments and returns the exit status. The
 function raises `Failed` if it cannot continue.
 
     def work(words):
@@ -12,15 +12,16 @@ function raises `Failed` if it cannot continue.
     sys.excepthook = bufr_guard.hook  # before the script imports anything else
     bufr_guard.run(work, __doc__)
 
-- `run` calls the function, flushes the output and exits with the status. For the exception `Question`, it prints the
-  help or the version. It reports any other exception in one line on standard error, with status 2.
-- `start` and `wait` run a program. A signal that ends the script also ends the program. `checked` fails if it crashed.
-- `opened`, `temporary`, `put_aside` and `copied` return descriptors, and fail if there is no room for temporary files.
-  `output` is a descriptor, standard output by default, that is written in large blocks.
-- `say` writes lines to standard error, and `Progress` a line that disappears again. `bare` is the note on a file that
-  has no message.
+- `run` calls the function, flushes the output, and exits with the returned status. It handles the exception `Question`
+  by printing the help or the version, and any other exception by printing one line and exiting with status 2.
+- `start` and `wait` run a program. A signal that ends the script also ends the program. `checked` raises `Failed` if the
+  program crashed.
+- `opened`, `temporary` and `copied` return file descriptors. They raise `Failed` if there is no space for temporary
+  files. `output` buffers what is written to a descriptor, by default standard output, in large blocks.
+- `say` writes lines to standard error, and `Progress` displays a temporary progress line. `bare` returns the note on a
+  file that has no message.
 
-Every script loads this module, so it imports as little as possible.
+Every script loads this module, so it imports as few modules as possible.
 """
 from __future__ import annotations
 
@@ -43,8 +44,10 @@ else:
     from _functools import partial
 
 BLOCK = 1 << 20
+# Notes on a feed are printed when the feed pauses for a second, and otherwise at this interval, in seconds.
+INTERVAL = 60
 NOWHERE = float("inf")
-# The processes that were started and not yet waited for.
+# The processes that were started but have not been waited for.
 RUNNING: list[list[int]] = []
 # The first bytes of files without a message, and their types.
 KINDS_OF_FILES = {
@@ -59,33 +62,33 @@ KINDS_OF_FILES = {
     b"<!doctype html": "HTML",
     b"<html": "HTML",
     b"<?xml": "XML",
-    b"message\n": "the text of a dump (--encode)",
+    b"message\n": "a dump (--encode)",
 }
 
 
 class Failed(Exception):
-    """The reason why the script stops with status 2."""
+    """Explains why the script stops with status 2."""
 
 
 class Question(Exception):
-    """The option --help or --version, which `run` answers."""
+    """Raised for --help or --version, which `run` handles."""
 
 
 def run(work: Callable[[List[str]], int], text: Optional[str], ends_by_pipe: bool = False) -> NoReturn:
-    """Runs the work of a script on the words of its command line, and exits. The text is its help.
+    """Runs the work of a script on its command-line arguments, and exits. `text` is the help of the script.
 
-    A signal ends the script and the programs that it runs. If the reader of its output stops, the script reports a
-    failed write, or with `ends_by_pipe` ends silently.
+    A signal ends the script and the programs that it runs. If the reader of its output exits, the script reports a
+    failed write or, with `ends_by_pipe`, exits silently.
     """
     status = 2
     try:
         take_descriptors()
-        sys.unraisablehook = lambda _: None  # otherwise Python reports at the end that it could not flush
+        sys.unraisablehook = lambda _: None  # otherwise Python reports at exit that it could not flush
         signals = [signal.SIGINT, signal.SIGTERM, signal.SIGHUP, *[signal.SIGPIPE] * ends_by_pipe]
         for number in signals:
             if number == signal.SIGPIPE or signal.getsignal(number) != signal.SIG_IGN:
                 signal.signal(number, leave)
-        signal.signal(signal.SIGCHLD, signal.SIG_DFL)  # if it were ignored, the status of programs would be lost
+        signal.signal(signal.SIGCHLD, signal.SIG_DFL)  # otherwise, if it is ignored, exit statuses are lost
         status = guarded(work, text or "")
         stop()
     finally:
@@ -93,15 +96,13 @@ def run(work: Callable[[List[str]], int], text: Optional[str], ends_by_pipe: boo
 
 
 def take_descriptors() -> None:
-    """Opens descriptor 0, 1 or 2 if it is closed, so that no file gets its number. Reading or writing it still fails."""
+    """Opens any of the descriptors 0 to 2 that is closed, so that no file gets its number. Using it still fails."""
     for number, mode in ((0, os.O_WRONLY), (1, os.O_RDONLY), (2, os.O_RDONLY)):
         try:
             os.fstat(number)
         except OSError:
             os.open(os.devnull, mode)
-    # Python sets these to None, and would then print errors on standard output.
-    if sys.stdin is None:
-        sys.stdin = open(0, closefd=False)
+    # Python sets these to None, and would then print errors to standard output.
     if sys.stdout is None:
         sys.stdout = open(1, "w", closefd=False)
     if sys.stderr is None:
@@ -109,7 +110,7 @@ def take_descriptors() -> None:
 
 
 def guarded(work: Callable[[List[str]], int], text: str) -> int:
-    """The status of the work, or 2 after reporting an exception."""
+    """Returns the status of the work. If the work raises an exception, reports the exception and returns 2."""
     try:
         if sys.version_info < (3, 9):
             raise Failed(f"{sys.executable} is too old; Python 3.9 or later is needed")
@@ -124,20 +125,20 @@ def guarded(work: Callable[[List[str]], int], text: str) -> int:
         told = "out of memory"
     except BaseException as error:
         told = reason(error)
-    # By now, the memory of the exception's frames has been freed.
+    # At this point, the memory used by the exception's frames has been freed.
     end_badly(told)
     return 2
 
 
 def end_badly(told: str) -> None:
-    """Flushes the output, and then reports why the script stops. Either may fail silently."""
+    """Flushes the output, and then reports why the script stops. Ignores failures of either step."""
     Progress.clear()
     for file in written():
         try:
             file.flush()
         except Exception:
             pass
-    # Not through `output`, whose buffer may not fit into the remaining memory.
+    # This does not use `output`, whose buffer may not fit in the remaining memory.
     try:
         write_all(2, os.fsencode(shown(f"{name()}: {told}") + "\n"))
     except OSError:
@@ -145,7 +146,7 @@ def end_badly(told: str) -> None:
 
 
 def hook(_kind: Type[BaseException], error: BaseException, _place: Optional[TracebackType]) -> None:
-    """Python's hook for an exception outside `run`, for example during an import."""
+    """Python's hook for exceptions outside `run`, for example during an import."""
     try:
         if isinstance(error, KeyboardInterrupt):
             leave(signal.SIGINT, None)
@@ -155,7 +156,7 @@ def hook(_kind: Type[BaseException], error: BaseException, _place: Optional[Trac
 
 
 def answer(question: str, text: str) -> int:
-    """Prints the help or the version as UTF-8, whatever the locale, and returns the status."""
+    """Prints the help or the version as UTF-8, regardless of the locale, and returns the exit status."""
     if question == "--help":
         output().write(text.strip().encode() + b"\n")
         return 0
@@ -168,9 +169,9 @@ def answer(question: str, text: str) -> int:
 
 
 def build() -> str:
-    """The commit of the program, and whether it is proved.
+    """Returns the commit of the program, and whether the program is proved.
 
-    install.sh records both, with the program's SHA-256, in a file beside the pages.
+    install.sh records both, and the SHA-256 of the program, in a file next to the documentation.
     """
     import hashlib
     import shutil
@@ -183,12 +184,12 @@ def build() -> str:
         if digest == known["program"]:
             return f"commit {known['commit'][:12]}, {known['proof']}"
     except (OSError, ValueError, KeyError):
-        pass  # install.sh did not install it
+        pass  # install.sh did not install this program
     return "unknown build"
 
 
 def reason(error: BaseException) -> str:
-    """The message for an exception. For an internal error, it includes the place in the code."""
+    """Returns the message for an exception. For an internal error, the message includes the place in the code."""
     if isinstance(error, Failed):
         return str(error)
     if isinstance(error, ModuleNotFoundError):
@@ -200,6 +201,8 @@ def reason(error: BaseException) -> str:
             return f"{os.fsdecode(error.filename)}: {error.strerror}"
         is_write = error.errno in (errno.EPIPE, errno.ENOSPC, errno.EFBIG)
         return f"write failed: {error.strerror}" if is_write else error.strerror
+    if isinstance(error, RuntimeError) and str(error) == "can't start new thread":
+        return "cannot start a thread; free memory, or raise the limit on processes (ulimit -u)"
     place, where = error.__traceback__, ""
     while place:
         where = f" ({os.path.basename(place.tb_frame.f_code.co_filename)}, line {place.tb_lineno})"
@@ -208,12 +211,12 @@ def reason(error: BaseException) -> str:
 
 
 def name() -> str:
-    """The script's name."""
+    """Returns the name of the script."""
     return os.path.basename(sys.argv[0])
 
 
 def shown(text: str) -> str:
-    r"""A text with \xHH for each byte that is not printable."""
+    r"""Returns a string with \xHH in place of each unprintable byte."""
     if text.isprintable():
         return text
     hidden = (sign if sign.isprintable() else "".join(f"\\x{octet:02X}" for octet in os.fsencode(sign)) for sign in text)
@@ -224,7 +227,7 @@ def shown(text: str) -> str:
 
 
 class Output:
-    """Buffers output to a descriptor in large blocks."""
+    """Writes to a descriptor in large blocks."""
 
     def __init__(self, descriptor: int) -> None:
         self.descriptor = descriptor
@@ -244,20 +247,20 @@ OUTPUTS: Dict[int, Output] = {}
 
 
 def output(descriptor: int = 1) -> Output:
-    """Standard output, or another descriptor, in large blocks. `run` flushes it at the end."""
+    """Returns the buffered output for standard output or another descriptor. `run` flushes it at the end."""
     if descriptor not in OUTPUTS:
         OUTPUTS[descriptor] = Output(descriptor)
     return OUTPUTS[descriptor]
 
 
 def written() -> List[Any]:
-    """The files that may buffer output, standard error last."""
+    """Returns the files that may contain buffered output, standard error last."""
     ours = [file for descriptor, file in OUTPUTS.items() if descriptor != 2]
     return [*ours, *filter(None, (sys.stdout, output(2), sys.stderr))]
 
 
 def flush() -> None:
-    """Flushes all output. Raises `OSError` if that fails."""
+    """Flushes all output. Raises `OSError` if flushing fails."""
     for file in written():
         file.flush()
 
@@ -271,14 +274,14 @@ def write_all(descriptor: int, octets: Union[bytes, bytearray, memoryview]) -> N
 
 
 def say(lines: bytes) -> None:
-    """Writes lines to standard error. The next `flush` prints them, if they were not printed before."""
+    """Writes lines to standard error. They are printed at the next `flush`, if not before."""
     if lines:
         Progress.clear()
         output(2).write(lines)
 
 
 def bare(file: Optional[str], begin: bytes, piece: str = "message") -> bytes:
-    """The note that a file or standard input has no message, with a guess at its type from its first bytes."""
+    """Returns the note that a file or standard input has no message. It guesses the file type from the first bytes."""
     head = begin.lstrip()
     if head[:1] == b"<":
         head = head.lower()
@@ -290,9 +293,10 @@ def bare(file: Optional[str], begin: bytes, piece: str = "message") -> bytes:
 
 
 class Progress:
-    """A line on standard error, updated at most once a second, if that is a terminal. The next output replaces it.
+    """A progress line on standard error, if that is a terminal. It is updated at most once a second.
 
-    If standard output is a terminal too, text there already shows the progress. `has_texts` says whether there is any.
+    The next output replaces the line. If standard output is also a terminal, its text already shows the progress;
+    `has_texts` says whether there is any text.
     """
 
     is_shown: bool = False
@@ -302,12 +306,12 @@ class Progress:
         self.is_on = os.isatty(2) and not (has_texts and os.isatty(1))
 
     def at(self, octets: int) -> None:
-        """Shows that the given number of bytes is done."""
+        """Shows that `octets` bytes have been processed."""
         if self.is_on and time.monotonic() >= self.next:
             self.next = time.monotonic() + 1
             total = f" of {self.total / 1e6:.0f}" if self.total else ""
             Progress.is_shown = True
-            # If a program writes a fault line there, it covers this shorter line.
+            # If a program writes a fault line over this line, the fault line is longer and covers it.
             self.put(f"\r\x1b[K{octets / 1e6:.0f}{total} MB\r".encode())
 
     @staticmethod
@@ -321,14 +325,14 @@ class Progress:
         try:
             os.write(2, octets)
         except OSError:
-            pass  # the script continues without a terminal
+            pass  # the script continues even if the terminal is gone
 
 
 # The programs that a script runs.
 
 
 def program() -> str:
-    """The path of `bufr`: BUFR, or the one beside the script, the first on PATH, or the one built in the repository."""
+    """Returns the path of `bufr`: BUFR, or next to the script, or the first on PATH, or as built in the repository."""
     named = os.environ.get("BUFR")
     if named:
         return named
@@ -345,13 +349,13 @@ def is_program(path: str) -> bool:
 
 
 def start(words: Sequence[str], given: int = 0, output: int = 1, errors: int = 2) -> int:
-    """Starts a program with these descriptors, and returns its process."""
+    """Starts a program with these descriptors, and returns its process ID."""
     actions = [(os.POSIX_SPAWN_DUP2, source, target) for target, source in enumerate((given, output, errors))]
     spawn = partial(os.posix_spawnp, file_actions=actions, setsigdef=[signal.SIGPIPE])
     process: List[int] = []
     RUNNING.append(process)
     try:
-        # A single C call starts the program and records it, so no signal handler runs between the two.
+        # A single C call starts and records the program, so no signal handler can run between the two steps.
         process.extend(map(spawn, [words[0]], [list(words)], [os.environ]))
     except OSError as error:
         advice = "; install bufr, or set BUFR to its path" if words[0] == program() else ""
@@ -360,38 +364,46 @@ def start(words: Sequence[str], given: int = 0, output: int = 1, errors: int = 2
 
 
 def wait(process: int) -> int:
-    """Waits for a program, and returns its status as a shell does."""
+    """Waits for a program to exit, and returns its exit status, like a shell."""
     os.waitid(os.P_PID, process, os.WEXITED | os.WNOWAIT)
     RUNNING.remove([process])
     status = os.waitstatus_to_exitcode(os.waitpid(process, 0)[1])
     return status if status >= 0 else 128 - status
 
 
-def lines_from(pipe: int, progress: Progress, place: Callable[[], int]) -> Iterator[bytes]:
-    """Blocks of whole lines from a pipe, and at the end the incomplete last line, if there is one.
+def lines_from(
+    pipe: int, progress: Progress, place: Callable[[], int], report: Optional[Callable[[], None]] = None
+) -> Iterator[bytes]:
+    """Yields blocks of whole lines from a pipe and, at the end, the incomplete last line, if any.
 
-    Meanwhile, `place()` is shown as progress.
+    While waiting, it displays `place()` as the progress. It calls `report()` in each second without a block, and every
+    minute.
     """
-    rest, block = b"", b" "
+    rest, block, due = b"", b" ", time.monotonic() + INTERVAL
     while block:
-        if progress.is_on:
+        if progress.is_on or report:
             while not select.select([pipe], [], [], 1)[0]:
                 progress.at(place())
+                if report:
+                    report()
             progress.at(place())
+            if report and time.monotonic() >= due:
+                report()
+                due = time.monotonic() + INTERVAL
         block = os.read(pipe, BLOCK)
         lines, end, rest = (rest + block).rpartition(b"\n")
         if len(rest) > BLOCK:
-            raise Failed("a line of the listing is longer than 1 MB")
+            raise Failed("a line in the listing is longer than 1 MB")
         yield lines + end
     yield rest
 
 
 def checked(status: int, has_told: bool = True, what: str = "bufr") -> int:
-    """The status of a program: 0, 1, or 2 if it has reported the reason. Fails for any other."""
+    """Returns the status of a program, if it is 0 or 1, or 2 with a reported reason. Otherwise raises `Failed`."""
     if status > 128:
         raise Failed(f"{what} was killed (signal {status - 128}); output is incomplete")
     if status not in (0, 1, 2) or (status == 2 and not has_told):
-        raise Failed(f"{what} stopped with status {status}; output is incomplete")
+        raise Failed(f"{what} exited with status {status}; output is incomplete")
     return status
 
 
@@ -405,7 +417,7 @@ def stop() -> None:
 
 
 def leave(number: int, _frame: Optional[FrameType]) -> None:
-    """Kills the programs that are still running, and then ends this script by that signal."""
+    """Kills the programs that are still running, and then ends this script with the same signal."""
     signal.signal(signal.SIGUSR1, signal.SIG_IGN)  # bufr-csv uses it to report that awk has stopped
     stop()
     Progress.clear()
@@ -417,13 +429,13 @@ def leave(number: int, _frame: Optional[FrameType]) -> None:
 
 
 def opened(file: Optional[str]) -> int:
-    """A file descriptor that can be read at any offset. If necessary, it is that of a temporary copy."""
+    """Opens a file for reading at any offset. If this is not possible, returns the descriptor of a temporary copy."""
     descriptor = to_read(file)
     return descriptor if is_regular(descriptor) else copied(descriptor, named(file))
 
 
 def to_read(file: Optional[str]) -> int:
-    """A descriptor of a file, or of standard input."""
+    """Returns the descriptor of a file, or of standard input."""
     try:
         return 0 if file is None else os.open(file, os.O_RDONLY)
     except OSError as error:
@@ -431,7 +443,7 @@ def to_read(file: Optional[str]) -> int:
 
 
 def named(file: Optional[str]) -> str:
-    """The name of a file in a message."""
+    """Returns the name of a file for use in messages."""
     return "standard input" if file is None else shown(file) or "''"
 
 
@@ -440,20 +452,20 @@ def is_regular(descriptor: int) -> bool:
 
 
 def temporary() -> int:
-    """A descriptor of a new file without a name, in TMPDIR."""
+    """Creates a file without a name in TMPDIR, and returns its descriptor."""
     try:
         return os.open(folder_of_temporary(), os.O_TMPFILE | os.O_RDWR, 0o600)
     except OSError as error:
         if error.errno in (errno.EMFILE, errno.ENFILE):
             raise Failed("too many open files; raise the limit (ulimit -n)") from None
-    # The directory cannot be written, or its file system has no unnamed files.
+    # The directory is not writable, or its file system does not support unnamed files.
     import tempfile
 
     try:
         with tempfile.TemporaryFile() as file:
             return os.dup(file.fileno())
     except OSError as error:
-        raise Failed(f"cannot make a temporary file: {error.strerror}; set TMPDIR to another directory") from None
+        raise Failed(f"cannot create a temporary file: {error.strerror}; set TMPDIR to another directory") from None
 
 
 def folder_of_temporary() -> str:
@@ -469,19 +481,11 @@ def keep(descriptor: int, octets: Union[bytes, bytearray, memoryview]) -> None:
 
 
 def no_room() -> Failed:
-    return Failed(f"no room in {folder_of_temporary()}; set TMPDIR to another directory")
-
-
-def put_aside(octets: bytes) -> int:
-    """A temporary file with these bytes, positioned at its start."""
-    descriptor = temporary()
-    keep(descriptor, octets)
-    os.lseek(descriptor, 0, os.SEEK_SET)
-    return descriptor
+    return Failed(f"no space left in {folder_of_temporary()}; set TMPDIR to another directory")
 
 
 def copied(source: int, name: str) -> int:
-    """A temporary file with everything that can be read from a descriptor, positioned at its start."""
+    """Copies everything from a descriptor to a temporary file, and returns its descriptor, positioned at the start."""
     descriptor, octets, progress, size = temporary(), b" ", Progress(has_texts=False), 0
     while octets:
         try:
@@ -497,7 +501,7 @@ def copied(source: int, name: str) -> int:
 
 
 def read_at(descriptor: int, offset: int, length: int) -> bytes:
-    """Bytes of a message that a listing has found in a file."""
+    """Reads bytes of a message that was found in a file."""
     pieces, end = [], offset + length
     while offset < end:
         try:
@@ -505,15 +509,15 @@ def read_at(descriptor: int, offset: int, length: int) -> bytes:
         except OSError as error:
             raise Failed(f"cannot read the input: {error.strerror}") from None
         if not pieces[-1]:
-            raise Failed("the input became shorter while it was read")
+            raise Failed("the input was truncated while it was read")
         offset += len(pieces[-1])
-    return pieces[0] if len(pieces) == 1 else b"".join(pieces)
+    return b"".join(pieces)
 
 
 def fault_lines(errors: int) -> Iterator[tuple[float, bytes]]:
-    """The lines that a run of `bufr` wrote to a file, one by one, each with its offset.
+    """Yields each line that a run of `bufr` wrote to a file, with its offset.
 
-    Lines that are not faults of messages come last, with the offset `NOWHERE`.
+    Lines that do not report faults in messages come last, with the offset `NOWHERE`.
     """
     with open(os.dup(errors), "rb") as lines:
         lines.seek(0)
@@ -525,9 +529,9 @@ def fault_lines(errors: int) -> Iterator[tuple[float, bytes]]:
 
 
 class Faults:
-    """The fault lines of a listing, so that they can be printed between its messages.
+    """The fault lines of a listing, which can be printed in order with the output for its messages.
 
-    Other lines are printed at the end. `has_told` says whether there were any.
+    Other lines are printed at the end. `has_told` says whether there were any other lines.
     """
 
     def __init__(self, errors: int) -> None:
@@ -535,7 +539,7 @@ class Faults:
         self.next = next(self.lines, (NOWHERE, b""))
 
     def tell_before(self, offset: float) -> None:
-        """Prints the fault lines before an offset."""
+        """Prints the remaining fault lines before an offset."""
         while self.next[0] < offset:
             say(self.next[1])
             self.next = next(self.lines, (NOWHERE, b""))

@@ -8,11 +8,12 @@
             ..
     bufr_guard.run(work, __doc__)
 
-`-c VALUE` and `-cVALUE` are the same, and so are `--name VALUE` and `--name=VALUE`. Options may follow operands. After
-`--`, every word is an operand. A function in `values` converts a word to a value; its ValueError states what was expected.
+`-c VALUE` and `-cVALUE` have the same effect, and so do `--name VALUE` and `--name=VALUE`. Options may follow operands.
+After `--`, every word is an operand. A function in `values` converts a word to a value, or raises a ValueError whose
+message states what was expected.
 
-An invalid command line raises `bufr_guard.Failed`, with a message that points to --help. For --help and --version, the
-parser raises `bufr_guard.Question`, which `run` answers.
+An invalid command line raises `bufr_guard.Failed`, with a message that refers to --help. The options --help and --version
+raise `bufr_guard.Question`, which `run` handles.
 """
 from __future__ import annotations
 
@@ -30,7 +31,7 @@ ANSWERS = {"-h": "--help", "--help": "--help", "-V": "--version", "--version": "
 class Asked:
     """The options and operands of a command line.
 
-    With `takes_conditions`, operands such as `category=0` count as values of --where.
+    With `takes_conditions`, operands such as `category=0` are treated as values of --where.
     """
 
     def __init__(
@@ -56,7 +57,7 @@ class Asked:
                 self.given[word] = []
             else:
                 name, value = parts(word)
-                if name in flags and word.startswith("--"):
+                if name in flags:
                     raise misused(f"{name} takes no value")
                 if name not in values:
                     raise misused(f"unknown option {name if word.startswith('--') else word}")
@@ -72,23 +73,23 @@ class Asked:
             raise misused(f"{name} '{value}': {error}") from None
 
     def has(self, name: str) -> bool:
-        """Whether an option is given."""
+        """Returns whether an option is given."""
         return name in self.given
 
     def all(self, name: str) -> list[Any]:
-        """The values of an option, in order."""
+        """Returns the values of an option, in order."""
         return self.given.get(name, [])
 
     def last(self, name: str, default: Any = None) -> Any:
-        """The value of an option, or the last one if it is given several times."""
+        """Returns the value of an option, or its last value if the option is given several times."""
         return [default, *self.all(name)][-1]
 
     def files(self, skipped: int = 0) -> list[Optional[str]]:
-        """The operands as files, without the first `skipped` ones. None is standard input, which is the default."""
+        """Returns the operands after the first `skipped` as file names. None is standard input, which is the default."""
         return [None if file == "-" else file for file in self.operands[skipped:]] or [None]
 
     def conditions(self) -> Optional[Conditions]:
-        """The conditions of --where, or None without it."""
+        """Returns the conditions from --where, or None without --where."""
         if not self.has("--where"):
             return None
         import bufr_conditions
@@ -100,14 +101,14 @@ class Asked:
 
 
 def is_condition(word: str) -> bool:
-    """Whether a word is KEY=VALUE or KEY!=VALUE."""
+    """Returns whether a word has the form KEY=VALUE or KEY!=VALUE."""
     key, equals, _ = word.partition("=")
     key = key[:-1] if key.endswith("!") else key
     return bool(equals) and key.isascii() and key.isalpha() and key.islower()
 
 
 def parts(word: str) -> tuple[str, Optional[str]]:
-    """The name of an option and the value that is joined to it, if there is one."""
+    """Splits a word into the name of an option and the value that is joined to it, or None."""
     if word.startswith("--"):
         name, equals, value = word.partition("=")
         return name, value if equals else None
@@ -115,12 +116,12 @@ def parts(word: str) -> tuple[str, Optional[str]]:
 
 
 def misused(why: str) -> bufr_guard.Failed:
-    """The exception for an invalid command line."""
+    """Returns the exception for an invalid command line."""
     return bufr_guard.Failed(f"{why}; see {bufr_guard.name()} --help")
 
 
 def number_from(least: int) -> Callable[[str], int]:
-    """A function for `values` that accepts a whole number of at least this size."""
+    """Returns a function for `values` that accepts whole numbers of at least `least`."""
 
     def number(word: str) -> int:
         if not (word.isascii() and word.isdigit() and len(word) < 19) or int(word) < least:

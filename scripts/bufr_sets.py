@@ -1,4 +1,4 @@
-"""Table sets: which set a message needs, and which rows its descriptors use."""
+"""Chooses a table set for a message, and finds the rows that its descriptors use."""
 from __future__ import annotations
 
 import os
@@ -10,17 +10,17 @@ TYPE_CHECKING = False
 if TYPE_CHECKING:
     from typing import Callable, Dict, FrozenSet, Iterator, List, Optional, Tuple
 
-    # The bytes of a message from an offset on, at most the given number of them.
+    # Returns the bytes of a message from an offset, up to a given number of bytes.
     Bytes = Callable[[int, int], bytes]
 
-# A template has at most about this many descriptors.
+# The approximate maximum number of descriptors in a template.
 LONGEST = 1 << 16
-# The tables of this many sets are cached.
+# The number of sets whose tables are cached.
 CACHED = 8
 
 
 class TableSet:
-    """A directory with the tables of a WMO version, perhaps with local rows of a centre (its number and local version)."""
+    """A directory with the tables of a WMO version. `own` is the centre and local version of its local rows, if any."""
 
     def __init__(self, folder: str, version: int, own: Optional[Tuple[int, int]]) -> None:
         self.folder, self.name, self.version, self.own = folder, os.path.basename(folder), version, own
@@ -31,7 +31,7 @@ class TableSet:
         return os.path.join(self.folder, name)
 
     def rows(self, name: str, *columns: str) -> Iterator[List[str]]:
-        """These columns of a table. Invalid rows are skipped here; `bufr` reports them."""
+        """Yields these columns of each row of a table. Skips invalid rows, because `bufr` reports them."""
         import csv
 
         csv.field_size_limit(1 << 30)
@@ -45,18 +45,18 @@ class TableSet:
                         yield [row[place] for place in places]
 
     def names(self) -> Dict[str, Tuple[str, str]]:
-        """The name and the unit of each element."""
+        """Returns the name and the unit of each element."""
         return {fxy: (name, unit) for fxy, name, unit in self.rows("B.csv", "fxy", "name", "unit")}
 
     def has(self, fxy: str) -> bool:
-        """Whether the set has an element or a sequence."""
+        """Returns whether the set contains an element or a sequence."""
         if self.elements is None:
             self.elements = frozenset(fxy for [fxy] in self.rows("B.csv", "fxy"))
             self.cached()
         return fxy in self.elements or fxy in self.members()
 
     def members(self) -> Dict[str, Tuple[str, ...]]:
-        """The members of each sequence."""
+        """Returns the members of each sequence."""
         if self.sequences is None:
             found: Dict[str, List[str]] = {}
             for fxy, member in self.rows("D.csv", "fxy", "member"):
@@ -66,7 +66,7 @@ class TableSet:
         return self.sequences
 
     def cached(self) -> None:
-        """Records that the set is cached, and drops the tables of another set if there are too many."""
+        """Records that the set is cached. If too many sets are cached, drops the tables of another one."""
         if self not in cache:
             cache.append(self)
         if len(cache) > CACHED:
@@ -74,9 +74,10 @@ class TableSet:
             first.elements = first.sequences = None
 
     def used(self, descriptors: Tuple[str, ...]) -> Iterator[str]:
-        """The elements and sequences in a descriptor list and in its sequences. An element after 2 06 Y needs no row.
+        """Yields the elements and sequences that a descriptor list uses, directly or through sequences.
 
-        The tables are read only if the list has a sequence, and after its own descriptors.
+        An element after 2 06 Y needs no row. The tables are read only if the list contains a sequence, and only after
+        its own descriptors have been yielded.
         """
         found = set()
         sequences = [""]
@@ -94,9 +95,9 @@ cache: List[TableSet] = []
 
 
 class TableSets:
-    """All table sets in a directory: `wmo-13`, or with a centre's rows `wmo-13+98-102` (centre 98, local version 102).
+    """All table sets in a directory: `wmo-13`, or `wmo-13+98-102` with local rows (centre 98, local version 102).
 
-    A set that lacks a table counts as not installed; `notes` has a line for each of these.
+    A set without one of its tables is ignored, and `notes` has a line about it.
     """
 
     def __init__(self) -> None:
@@ -118,14 +119,14 @@ class TableSets:
             raise bufr_guard.Failed("; ".join([f"{self.folder} has no table set such as wmo-39", *self.notes]))
 
     def latest(self) -> TableSet:
-        """WMO's latest set."""
+        """Returns WMO's latest set."""
         return self.sets[None][max(self.sets[None])]
 
     def asked(self, centre: int, version: int, local: int) -> TableSet:
-        """The set for a centre, a version and a local version.
+        """Returns the set for a centre, a version and a local version.
 
-        It is the set of the version, the next later one, or the latest. A centre's own set takes precedence, unless
-        its version would read WMO's rows differently.
+        This is the set for the version or for the next later version, or else the latest set. A set with the centre's
+        local rows takes precedence, unless its version would change how WMO's rows are read.
         """
         of_wmo = self.sets[None]
         nearest = min((number for number in of_wmo if number >= version), default=max(of_wmo))
@@ -139,7 +140,7 @@ def is_number(word: str) -> bool:
 
 
 def folder_of_sets() -> str:
-    """The directory of the table sets: BUFR_TABLES, or the one of this installation, of Python or of the repository."""
+    """Returns the directory of the table sets: BUFR_TABLES, or that of this installation, of Python or the repository."""
     named = os.environ.get("BUFR_TABLES")
     if named:
         places = [named]
@@ -155,7 +156,7 @@ def folder_of_sets() -> str:
 
 
 def words_of(message: Bytes) -> bytes:
-    """The descriptor list in section 3 of a message, two bytes each, up to the length of the longest template."""
+    """Returns the descriptors in section 3 of a message, two bytes each, up to the length of the longest template."""
     begin = message(0, 26)
     at, flags = 8, begin[17 if begin[7:8] == b"\4" else 15 :][:1]
     for _ in range(2 if flags >= b"\x80" else 1):
@@ -165,7 +166,7 @@ def words_of(message: Bytes) -> bytes:
 
 
 def descriptors(words: bytes) -> Tuple[str, ...]:
-    """The descriptors of such a list, as six digits each."""
+    """Returns the descriptors in a list that has two bytes for each, as six digits each."""
     pairs = (words[at] << 8 | words[at + 1] for at in range(0, len(words) - 1, 2))
     return tuple(f"{word >> 14}{word >> 8 & 63:02}{word & 255:03}" for word in pairs)
 
@@ -174,7 +175,7 @@ def descriptors(words: bytes) -> Tuple[str, ...]:
 
 WREPORT = "/usr/share/wreport"
 ECCODES = "/usr/share/eccodes/definitions"
-# The tables in these Debian packages: (version, centre, local version), and (centre, local version).
+# The tables that these Debian packages contain: (version, centre, local version), or (centre, local version).
 WREPORT_HAS = {(14, 85, 0), (14, 85, 1), (13, 98, 1), (13, 98, 102), (16, 98, 1), (19, 254, 1)}
 ECCODES_HAS = {(39, 1), *((78, local) for local in range(1, 9)), (98, 1), (98, 2), (98, 3), (98, 4), (98, 101), (254, 1)}
 
@@ -182,14 +183,14 @@ NEWER = "get newer tables from WMO (wmo-im/BUFR4 on GitHub), and convert them wi
 
 
 def is_local(fxy: str) -> bool:
-    """Whether a descriptor is for local use, which means that a centre defines it."""
+    """Returns whether a descriptor is for local use, which means that a centre defines it."""
     return int(fxy[1:3]) >= 48 or int(fxy[3:]) >= 192
 
 
 def advice(tables: TableSet, centre: int, version: int, local: int) -> str:
-    """How to get the set that adds a centre's rows to a WMO set: the command that makes it, or whom to ask."""
+    """Returns the command that adds a centre's local rows to a WMO set, or whom to ask for these rows."""
     folders = [*os.environ.get("ECCODES_DEFINITION_PATH", "").split(":"), ECCODES]
-    of_eccodes = [f"{folder}/bufr/tables/0/local/{local}/{centre}/0" for folder in folders if folder]
+    of_eccodes = [f"{folder}/bufr/tables/0/local/{local}/{centre}/0" for folder in folders]
     of_wreport = f"{WREPORT}/B00000000{centre:05}{version:03}{local:03}.txt"
     for source in filter(os.path.isdir, of_eccodes):
         return "to make it: " + command(tables, centre, local, tables.folder, source)
@@ -197,15 +198,15 @@ def advice(tables: TableSet, centre: int, version: int, local: int) -> str:
         return "to make it: " + command(tables, centre, local, of_wreport, tables.folder)
     if (centre, local) in ECCODES_HAS:
         words = command(tables, centre, local, tables.folder, of_eccodes[-1])
-        return f"to make it, install libeccodes-data (Debian), then: {words}"
+        return f"to make it, install libeccodes-data (Debian), then run: {words}"
     if (version, centre, local) in WREPORT_HAS:
         words = command(tables, centre, local, of_wreport, tables.folder)
-        return f"to make it, install wreport-common (Debian), then: {words}"
-    return f"no public source is known: ask centre {centre} (WMO's Common Code Table C-11 has its name)"
+        return f"to make it, install wreport-common (Debian), then run: {words}"
+    return f"no public source is known: ask centre {centre} (WMO's Common Code Table C-11 lists its name)"
 
 
 def command(tables: TableSet, centre: int, local: int, *sources: str) -> str:
-    """The command that makes the set with a centre's rows from these sources."""
+    """Returns the command that makes a set with a centre's local rows from these sources."""
     import shlex
 
     out = os.path.join(os.path.dirname(tables.folder), own_name(tables, centre, local))
@@ -216,5 +217,5 @@ def command(tables: TableSet, centre: int, local: int, *sources: str) -> str:
 
 
 def own_name(tables: TableSet, centre: int, local: int) -> str:
-    """The name of the set that adds a centre's rows to a WMO set."""
-    return f"wmo-{tables.version:02}+{centre}-{local}"
+    """Returns the name of the set that adds a centre's local rows to a WMO set."""
+    return f"{tables.name}+{centre}-{local}"

@@ -1,4 +1,4 @@
-"""Runs `bufr` from Python, and reads and writes the text of `bufr dump`. It needs only the standard library.
+"""Runs `bufr` from Python, and reads and writes the output of `bufr dump`. Needs only the standard library.
 
     import bufr_text
     for row in bufr_text.rows("synop.bufr", ["001015", "012101"], ["year"], where=["category=0"]):
@@ -8,13 +8,13 @@
             air = bufr_text.find(subset, "012101")
             print(message.offset, air.value, air.unit)
 
-`rows` and `levels` yield tuples for a table. `dump` yields messages, `listing` yields their places and headers, and
-`encode` turns messages into BUFR. These functions run `bufr`. `read` and `write` convert between dumps and messages
-without it.
+`rows` and `levels` yield the rows of a table as tuples. `dump` yields messages, `listing` yields their places and headers,
+and `encode` converts messages to BUFR. These functions run `bufr`. `read` and `write` convert between dumps and messages
+without running it.
 
-Messages are read one at a time, so the memory depends on the longest message of a file, not on the length of the file:
+Messages are read one at a time, so memory use depends on the longest message in a file, not on the length of the file:
 48 MB including Python, 1 KB for each item of that message, and twice the length of its dump. The faults in your list and
-the result of `encode` need memory in addition.
+the result of `encode` need additional memory.
 """
 from __future__ import annotations
 
@@ -41,19 +41,19 @@ __all__ = (
     "dump encode find levels listing parts read rows write"
 ).split()
 
-#: The value of an item: a number, a text as bytes, or `None` if it is missing.
+#: The value of an item: a number, a string as bytes, or `None` if the value is missing.
 Value = Union[Decimal, bytes, None]
-#: A value in a row: a whole number, another number, a text, or `None`.
+#: A value in a row: an integer, another number, a string, or `None`.
 Cell = Union[int, float, str, None]
 _Path = Union[str, "os.PathLike[str]"]
 
-#: The keys of a message's header, in the order of their lines. `optional` and `subsets` are derived from the message.
+#: The header keys of a message, in the order of their lines. `optional` and `subsets` are derived from the message.
 HEADER = (
     "edition master centre subcentre update category subcategory localsubcategory masterversion localversion "
     "year month day hour minute second observed compressed"
 ).split()
 
-# The text between two quotes: runs of plain bytes, with escapes between them.
+# The bytes between two quotes: plain bytes and escapes.
 _QUOTED = rb'[ !#-\[\]-~]*(?:\\(?:["\\]|x[0-9A-F]{2})[ !#-\[\]-~]*)*'
 _FXY = rb"[0-3](?:[0-5]\d|6[0-3])(?:[01]\d\d|2[0-4]\d|25[0-5])"
 _COLUMN = re.compile(_FXY.decode() + r"(?::[1-9]\d*)?")
@@ -67,21 +67,21 @@ _LISTED = re.compile(
     b"subsets=N observed=N compressed=N optional=N descriptors=N\n".replace(b"N", rb"(\d+)")
 )
 _FAULT = re.compile(rb"offset (\d+): (\d+) (.*)\n?")
-_NOTE = re.compile(rb"bufr-auto: (\d+) messages?,(?: the first)? at offset (\d+): (.*)")
+_NOTE = re.compile(rb"bufr-auto: (\d+) messages?(?: so far)?,(?: the first)? at offset (\d+): (.*)")
 _UNPRINTED = re.compile(rb'["\\]|[^ -~]')
 
 
-# Patterns of invalid lines, and their likely causes. The first pattern that matches is reported.
+# Patterns of invalid lines, and their likely causes. The cause of the first matching pattern is reported.
 _CAUSES = [
     (re.compile(pattern, re.DOTALL), cause)
     for pattern, cause in [
         (rb"\xef\xbb\xbf.*", "a byte order mark"),
         (rb"(?:\x01|[A-Z]{4}\d\d [A-Z]{4} |BUFR).*", "BUFR instead of a dump; use bufr-auto to dump it"),
         (rb".*\r", "a carriage return at the end"),
-        (rb">.*", "the > of a quoted mail"),
+        (rb">.*", "a > from a quoted email"),
         (rb"[^\"#]*\t.*", "a tab instead of a space"),
         (rb" .*", "a space at the beginning"),
-        (rb"message", "message; the document before it has no end"),
+        (rb"message", "message; the previous document has no end line"),
         (rb"(?:R )?\d{1,5} .*", "a descriptor of fewer than six digits"),
         (rb"[^\"#]*\S  +[^ #].*", "two spaces instead of one"),
         (rb"[^\"#]*[^\"# ]#.*|[^\"]*\".*\"#.*", "no space before #"),
@@ -95,15 +95,15 @@ _CAUSES = [
         (rb".* ", "a space at the end"),
         (rb"[a-z][^#]*#.*", "a comment; only items may have one"),
         (rb"\d{6} \"[^\"]*\\x(?![0-9A-F]{2}).*", "\\x without two upper-case hexadecimal digits"),
-        (rb"\d{6} \"[^\"]*[^ -~].*", "a byte in a text that must be written as \\xHH"),
-        (rb"\d{6} \".*", "a \" or \\ in a text without \\ before it, or no \" at the end"),
-        (rb"\d{6} [^-.\d\"].*", "a text without quotes"),
+        (rb"\d{6} \"[^\"]*[^ -~].*", "a byte in a string that must be written as \\xHH"),
+        (rb"\d{6} \".*", "an unescaped \" or \\ in a string, or no closing \""),
+        (rb"\d{6} [^-.\d\"].*", "a string without quotes"),
     ]
 ]
 
 
 class TextError(ValueError):
-    """An invalid line. `line` is its number, from 1. The message says what was expected, and the likely cause."""
+    """An invalid line. `line` is its number, counted from 1. The message says what was expected, and the likely cause."""
 
     def __init__(self, line: int, expected: str, cause: str = "") -> None:
         super().__init__(line, expected, cause)
@@ -115,7 +115,7 @@ class TextError(ValueError):
 
 
 class RunError(RuntimeError):
-    """The program failed or refused a text. `status` is its exit status, negative if a signal killed it."""
+    """The program failed or refused a dump. `status` is its exit status, which is negative if a signal killed it."""
 
     def __init__(self, status: int, reason: str) -> None:
         super().__init__(status, reason)
@@ -126,11 +126,11 @@ class RunError(RuntimeError):
 
 
 class DumpWarning(UserWarning):
-    """Warns that a file has no message, messages were refused or left out, or levels cannot be told apart."""
+    """Warns that a file has no message, that messages were refused or left out, or that levels cannot be told apart."""
 
 
 class Fault(NamedTuple):
-    """A fault line: the offset in the file, the number of the fault, and its text."""
+    """A fault line: the offset in the file, the fault number, and the fault text."""
 
     offset: int
     number: int
@@ -141,7 +141,7 @@ class Fault(NamedTuple):
 
 
 class Listed(NamedTuple):
-    """One line of `bufr ls`: the offset of a message in the file, its length, and its header with the keys of `HEADER`.
+    """One line from `bufr ls`: the offset of a message in the file, its length, and its header, with the keys in `HEADER`.
 
     `descriptors` is the number of descriptors in section 3.
     """
@@ -173,10 +173,10 @@ class Listed(NamedTuple):
 
 @dataclass
 class Item:
-    """One item of a subset: its descriptor as six digits, its value, and its name and unit from Table B.
+    """One item in a subset: its descriptor as six digits, its value, and its name and unit from Table B.
 
-    Name and unit are `None` if `bufr` read the item without a row of Table B. `reference` marks a reference value that
-    the data define (a line that begins with `R`).
+    The name and the unit are `None` if the item was read without a row of Table B. `reference` is true for a new
+    reference value that is defined in the data (a line that begins with `R`).
     """
 
     fxy: str
@@ -188,11 +188,11 @@ class Item:
 
 @dataclass
 class Message:
-    """One message: the numbers of its header by the keys of `HEADER`, its descriptors, and its subsets.
+    """One message: its header as numbers with the keys in `HEADER`, its descriptors, and its subsets.
 
-    `local1` is the local-use bytes of section 1. `section2` is the bytes of section 2, or `None` if there is no such
-    section. Each subset is a list of items. `offset` and `length` are those of the message in the file that `dump` read,
-    or `None` if `read` made the message.
+    `local1` contains the local-use bytes of section 1. `section2` contains the bytes of section 2, or is `None` if there
+    is no section 2. Each subset is a list of items. If `dump` read the message, `offset` and `length` are its place in the
+    file; otherwise, they are `None`.
     """
 
     header: Dict[str, int]
@@ -205,7 +205,7 @@ class Message:
 
 
 class _Lines:
-    """The lines of a dump without empty lines and comments. It has the current line and its number."""
+    """The lines of a dump, without empty lines and comments. `line` is the current line, and `number` its number."""
 
     def __init__(self, stream: Iterable[bytes]) -> None:
         self.rest = iter(stream)
@@ -225,21 +225,21 @@ class _Lines:
         return None
 
     def inside(self, expected: str) -> bytes:
-        """The next line. Fails at the end of the input, because the message is not complete."""
+        """Returns the next line. Raises `TextError` at the end of the input, because the message is incomplete."""
         line = self.take()
         if line is None:
             raise self.refused(expected)
         return line
 
     def refused(self, expected: str) -> TextError:
-        """The error for the current line."""
+        """Returns the error for the current line."""
         if self.line is None:
             return TextError(self.number, expected, "the end of the input")
         cause = next((cause for pattern, cause in _CAUSES if pattern.fullmatch(self.line)), "")
         return TextError(self.number, expected, cause)
 
     def count(self, key: str) -> int:
-        """The number after a key. A valid one has at most five digits after its leading zeros."""
+        """Reads the number after a key. A valid number has at most five digits after any leading zeros."""
         found = re.fullmatch(key.encode() + rb" 0*(\d{1,5})", self.inside(key))
         if not found:
             raise self.refused(f"{key} and a number")
@@ -247,10 +247,10 @@ class _Lines:
 
 
 def read(stream: Iterable[bytes]) -> Iterator[Message]:
-    """The messages of a dump. `stream` yields its lines as bytes, like a file opened in mode "rb".
+    """Yields the messages in a dump. `stream` yields its lines as bytes, like a file opened in mode "rb".
 
-    Raises `TextError` at the first invalid line. `bufr encode` also checks the range of header values, and whether the
-    items fit the descriptors. A number such as `1.` is a `TextError` here, and fault 52 in `bufr encode`.
+    Raises `TextError` at the first invalid line. `bufr encode` also checks the ranges of header values, and whether the
+    items match the descriptors. A number such as `1.` raises `TextError` here, but is fault 52 in `bufr encode`.
     """
     lines = _Lines(stream)
     line = lines.take()
@@ -314,10 +314,10 @@ def _read_item(lines: _Lines, line: bytes) -> Item:
 
 
 def write(messages: Iterable[Message], stream: IO[bytes]) -> None:
-    """Writes messages as a dump. `read` followed by `write` leaves a dump unchanged.
+    """Writes messages as a dump. `read` followed by `write` does not change a dump.
 
-    Subsets are numbered again, so you may add and remove subsets. Raises `TypeError` for a value that is not a `Decimal`,
-    bytes or `None` (a `float` has no exact decimal), and `ValueError` for a `Decimal` that is not a number.
+    Subsets are renumbered, so you can add and remove subsets. Raises `TypeError` for a value that is not a `Decimal`,
+    bytes or `None` (a `float` is not an exact decimal), and `ValueError` for a `Decimal` that is not a number.
     """
     for message in messages:
         stream.write(b"".join(line + b"\n" for line in _lines_of(message)))
@@ -364,9 +364,9 @@ def _escaped(found: re.Match[bytes]) -> bytes:
 
 
 def find(subset: List[Item], fxy: str, count: int = 1) -> Optional[Item]:
-    """The item of a subset that is number `count`, from 1, of those with this descriptor, or `None`.
+    """Returns the `count`-th item with this descriptor in a subset, or `None`.
 
-    Reference values that the data define are not counted.
+    New reference values that are defined in the data are not counted.
     """
     for item in subset:
         if item.fxy == fxy and not item.reference:
@@ -383,16 +383,17 @@ def rows(
     faults: Optional[List[Fault]] = None,
     where: Sequence[str] = (),
 ) -> Iterator[Tuple[Cell, ...]]:
-    """A tuple for each subset, as a row for `csv.writer` or a DataFrame: values of the header, then of the columns.
+    """Yields a tuple for each subset, for example for `csv.writer` or a DataFrame: header values, then columns.
 
-    `messages` is the name of a file, or the messages from `dump` or `read`. For a file, `faults` and `where` are those
-    of `dump`. A column is a descriptor such as `"012101"`, or `"012101:2"` for its second item in the subset. `header`
-    may have keys of `HEADER`, `"optional"`, `"subsets"`, `"offset"` and `"length"`, and the numbers `"message"` and
-    `"subset"`, counted from 1.
+    `messages` is the name of a file, or messages from `dump` or `read`. For a file, `faults` and `where` have the same
+    meaning as in `dump`. A column is a descriptor such as `"012101"`, or `"012101:2"` for the second such item in the
+    subset. `header` can contain keys from `HEADER`, `"optional"`, `"subsets"`, `"offset"` and `"length"`, and the numbers
+    `"message"` and `"subset"`, which are counted from 1.
 
-    A number is an `int` if its scale allows no digits after the point, and otherwise the nearest `float`. A text has the
-    escapes of a dump, but no trailing spaces. A value is `None` if it is missing or the subset has no such item. Raises
-    `ValueError` for a word that is not a column. If names in Table B contain the word, the error lists their descriptors.
+    A number is an `int` if its scale allows no decimal places, and otherwise the nearest `float`. A string contains the
+    same escapes as in a dump, but no trailing spaces. A value is `None` if it is missing or the subset has no such item.
+    Raises `ValueError` for a word that is not a column. If names in Table B contain the word, the error lists their
+    descriptors.
     """
     _check([*columns], _COLUMN, header)
     asked = [(word[:6], int(word[7:] or 1)) for word in columns]
@@ -410,14 +411,15 @@ def levels(
     faults: Optional[List[Fault]] = None,
     where: Sequence[str] = (),
 ) -> Iterator[Tuple[Cell, ...]]:
-    """A tuple for each level of a sounding: values of the header, of `keep`, then of the columns.
+    """Yields a tuple for each level of a sounding: header values, then `keep`, then columns.
 
-    A level is one pass of a delayed replication. It has a tuple if it has an item for the first column and, if there are
-    several columns, for at least one other. Each column selects the first item with that descriptor in the pass, and
-    each descriptor of `keep` the first one in the whole subset. Everything else is as for `rows`.
+    A level is one repetition (pass) of a delayed replication. It has a tuple if it contains an item for the first column
+    and, if there are several columns, for at least one other column. Each column selects the first item with that
+    descriptor in the level, and each descriptor in `keep` selects the first one in the whole subset. Otherwise, `levels`
+    works like `rows`.
 
-    A subset is skipped if a pass has the descriptor that begins it twice, because its passes cannot be told apart. A
-    `DumpWarning` at the end says how many subsets were skipped.
+    A subset is skipped if its levels cannot be told apart, because the descriptor that begins a level occurs in it twice.
+    A `DumpWarning` at the end says how many subsets were skipped.
     """
     _check([*columns, *keep], re.compile(_FXY.decode()), header)
     messages = _messages(messages, faults, where)
@@ -427,7 +429,7 @@ def levels(
 def _check(columns: List[str], form: re.Pattern[str], header: Sequence[str]) -> None:
     for word in columns:
         if not form.fullmatch(word):
-            raise ValueError(f"a column is a descriptor such as 012101, not '{word}'{_named(word)}")
+            raise ValueError(f"expected a descriptor such as 012101, found '{word}'{_named(word)}")
     keys = (*HEADER, "optional", "subsets", "offset", "length", "message", "subset")
     for word in header:
         if word not in keys:
@@ -435,9 +437,9 @@ def _check(columns: List[str], form: re.Pattern[str], header: Sequence[str]) -> 
 
 
 def _named(word: str) -> str:
-    """The part of an error message that lists the elements whose names contain the word, exact matches first.
+    """Returns the part of an error message that lists the elements whose names contain the word, exact matches first.
 
-    It uses the latest tables.
+    The names come from the latest tables.
     """
     import bufr_guard
     import bufr_sets
@@ -449,7 +451,7 @@ def _named(word: str) -> str:
     asked = word.upper()
     names_of = [(fxy, name.upper()) for fxy, (name, _) in names.items() if asked in name.upper()]
     found = sorted((asked not in name.split("/"), fxy) for fxy, name in names_of)
-    return f", which is in the names of {', '.join(fxy for _, fxy in found)}" if word and found else ""
+    return f", which occurs in the names of {', '.join(fxy for _, fxy in found)}" if word and found else ""
 
 
 def _messages(
@@ -458,12 +460,12 @@ def _messages(
     if isinstance(messages, (str, os.PathLike)):
         return dump(messages, faults=faults, where=where)
     if faults is not None or where:
-        raise TypeError("faults and where need the name of a file; with messages, pass them to dump")
+        raise TypeError("faults and where require a file name; if you pass messages, pass faults and where to dump")
     return messages
 
 
 def _subsets(messages: Iterable[Message], header: Sequence[str]) -> Iterator[Tuple[List[Cell], List[Item]]]:
-    """Each subset, with the values of the header's keys."""
+    """Yields each subset, with the values of the header keys."""
     for number, message in enumerate(messages, 1):
         known: Dict[str, Cell] = {**message.header, "offset": message.offset, "length": message.length}
         known.update(message=number, subsets=len(message.subsets), optional=int(message.section2 is not None))
@@ -502,10 +504,10 @@ def _levels(
 
 
 def _passes(subset: List[Item]) -> List[List[Item]]:
-    """The items of each pass of each delayed replication. Raises `ValueError` if passes cannot be told apart.
+    """Returns the items in each pass of each delayed replication. Raises `ValueError` if passes cannot be told apart.
 
-    `left` passes of the replication have not begun. Each begins with the descriptor `opener`. `one` is the current pass.
-    It has had `items` items and `inner` factors so far, and the previous pass had `pass_items` and `pass_inner`.
+    `left` passes of the replication have not begun. Each pass begins with the descriptor `opener`. `one` is the current
+    pass. It has had `items` items and `inner` factors so far; the previous pass had `pass_items` and `pass_inner`.
     """
     passes: List[List[Item]] = []
     one: Optional[List[Item]] = None
@@ -515,7 +517,7 @@ def _passes(subset: List[Item]) -> List[List[Item]]:
         if item.reference:
             continue
         if left and opener in ("", item.fxy):
-            if opened > 1 and not inner and not pass_inner and items != pass_items:
+            if opened > 1 and not pass_inner and items != pass_items:
                 raise ValueError(opener)
             one, opener, opened, left = [], item.fxy, opened + 1, left - 1
             passes.append(one)
@@ -526,10 +528,10 @@ def _passes(subset: List[Item]) -> List[List[Item]]:
             elif item.fxy == opener:
                 raise ValueError(opener)
         if item.fxy in ("031000", "031001", "031002"):
-            if one is not None and (left or (opened > 1 and inner < pass_inner)):
+            if one is not None and (left or inner < pass_inner):
                 inner += 1
             else:
-                one, opener, opened, items, inner = None, "", 0, 0, 0
+                one, opener, opened, inner = None, "", 0, 0
                 left = int(item.value) if isinstance(item.value, Decimal) else 0
                 continue
         items += 1
@@ -539,7 +541,7 @@ def _passes(subset: List[Item]) -> List[List[Item]]:
 
 
 def listing(file: _Path, faults: Optional[List[Fault]] = None) -> Iterator[Listed]:
-    """One object for each line of `bufr ls`. `faults` and the exceptions are those of `dump`."""
+    """Yields one object for each line from `bufr ls`. `faults` and exceptions are the same as for `dump`."""
     told = _Told(file, faults)
     with _opened(file) as stream, tempfile.TemporaryFile() as errors:
         for place in _listed(stream, errors, told):
@@ -549,7 +551,7 @@ def listing(file: _Path, faults: Optional[List[Fault]] = None) -> Iterator[Liste
 
 
 def parts(places: Iterable[Listed], octets: int = 1 << 19) -> Iterator[List[Listed]]:
-    """Splits the places into lists. In each list but the last, the messages have at least `octets` bytes."""
+    """Splits the places into lists. In every list except the last, the messages have at least `octets` bytes in total."""
     part: List[Listed] = []
     held = 0
     for place in places:
@@ -570,22 +572,22 @@ def dump(
     places: Optional[Iterable[Listed]] = None,
     where: Sequence[str] = (),
 ) -> Iterator[Message]:
-    """The messages of a file. It runs `bufr dump` with these two tables, or `bufr-auto` if you pass no tables.
+    """Yields the messages in a file. Runs `bufr dump` with these two tables, or `bufr-auto` if you pass no tables.
 
     `where` is a list of conditions `KEY=VALUE` or `KEY!=VALUE`, as for bufr-extract: `["category=0", "centre!=98"]`. Only
-    messages that meet all of them are dumped. Instead of `where`, you can pass some results of `listing` as `places`.
+    messages that meet all conditions are dumped. Instead of `where`, you can pass results of `listing` as `places`.
 
-    Faults are appended to the list `faults`, in order: when you get a message, the list has all faults before it.
-    Without a list, they are printed on `sys.stderr`, and a `DumpWarning` at the end counts them. There is also a
-    `DumpWarning` for each note of `bufr-auto`, and for a file without a message.
+    Faults are appended to the list `faults`, in order: when you get a message, the list contains all earlier faults.
+    Without a list, faults are printed to `sys.stderr`, and a `DumpWarning` at the end counts them. There is also a
+    `DumpWarning` for each note from `bufr-auto`, and for a file without messages.
 
     `dump` first lists the file, and then reads its messages. It copies a pipe to a temporary file. Raises `ValueError`
-    for an invalid condition, `RunError` if a program ends with a status over 1, and `OSError` if a file cannot be read.
-    The environment variable `BUFR` can name another program.
+    for an invalid condition, `RunError` if a program exits with a status over 1, and `OSError` if a file cannot be read.
+    The environment variable `BUFR` can name a different program.
     """
     words = _words("dump", table_b, table_d)
     if where and places is not None:
-        raise TypeError("where selects from the whole file; pass either where or places")
+        raise TypeError("where selects messages from the whole file; pass either where or places, not both")
     told = _Told(file, faults)
     if where:
         import bufr_conditions
@@ -596,7 +598,7 @@ def dump(
 
 def _dumped(words: List[str], told: _Told, places: Optional[Iterable[Listed]]) -> Iterator[Message]:
     with _opened(told.file) as stream, tempfile.TemporaryFile() as errors:
-        # the refused messages of a part are known only after its run
+        # only after the run of a part is it known which messages were refused
         for part in parts(_listed(stream, errors, told) if places is None else places):
             with tempfile.TemporaryFile() as octets, tempfile.TemporaryFile() as text:
                 for place in part:
@@ -619,7 +621,7 @@ def _dumped(words: List[str], told: _Told, places: Optional[Iterable[Listed]]) -
 
 
 class _Told:
-    """Reports on a file: its faults in order, including strays between messages, and then notes."""
+    """Reports the faults in a file in order, including strays between messages, and then the notes."""
 
     def __init__(self, file: _Path, faults: Optional[List[Fault]]) -> None:
         self.file, self.faults, self.count, self.is_bare = file, faults, 0, False
@@ -644,7 +646,7 @@ class _Told:
             self.stray = next(self.strays, None)
 
     def of_part(self, errors: bytes, part: List[Listed]) -> Dict[int, Fault]:
-        """The faults in a part, by offset. Notes are counted, and reported at the end."""
+        """Returns the faults in a part by their offsets. Counts the notes, which are reported at the end."""
         begins = itertools.accumulate((place.length for place in part), initial=0)
         offsets = {begin: place.offset for begin, place in zip(begins, part)}
         refused = {}
@@ -661,7 +663,7 @@ class _Told:
         return refused
 
     def end(self, stream: IO[bytes]) -> None:
-        """Reports the remaining strays, and warns."""
+        """Reports the remaining strays, and issues the warnings."""
         self.up_to(float("inf"))
         told = [f"no message{_looks(stream)}"] * self.is_bare
         told += [f"fault lines: {self.count}, the first: {self.first}"] * (self.faults is None and self.count > 0)
@@ -674,7 +676,7 @@ class _Told:
 
 
 def _opened(file: _Path) -> IO[bytes]:
-    """A file that can be read at any offset: a copy, unless it is a regular file."""
+    """Opens a file for reading at any offset. If it is not a regular file, returns a copy."""
     stream = open(file, "rb")
     if stat.S_ISREG(os.fstat(stream.fileno()).st_mode):
         return stream
@@ -693,14 +695,14 @@ def _octets(stream: IO[bytes], place: Listed) -> bytes:
 
 
 def _looks(stream: IO[bytes]) -> str:
-    """The likely type of a file without a message. `bufr-auto` guesses it from the first bytes."""
+    """Returns the likely type of a file without messages, which `bufr-auto` guesses from its first bytes."""
     words, begin = [_program("bufr-auto")], os.pread(stream.fileno(), 256, 0)
     told = subprocess.run(words, input=begin, stdout=subprocess.PIPE, stderr=subprocess.PIPE).stderr
     return told.decode(errors="replace").rstrip().rpartition("has no message")[2]
 
 
 def _listed(stream: IO[bytes], errors: IO[bytes], told: _Told) -> Iterator[Listed]:
-    """The messages of a stream that meet the conditions. Strays remain in a file until they are reported."""
+    """Yields the messages in a stream that meet the conditions. Strays stay in a file until they are reported."""
     with tempfile.TemporaryFile() as lines:
         words = [_bufr(), "ls"]
         status = subprocess.run(words, stdin=stream, stdout=lines, stderr=errors).returncode
@@ -715,7 +717,7 @@ def _listed(stream: IO[bytes], errors: IO[bytes], told: _Told) -> Iterator[Liste
         for line in lines:
             found = _LISTED.fullmatch(line)
             if not found:
-                raise RunError(2, f"{words[0]} and bufr_text have different versions; install both from one release")
+                raise RunError(2, f"{words[0]} and bufr_text have different versions; install both from the same release")
             if told.conditions is None or told.conditions.are_met(line):
                 yield Listed._make(map(int, found.groups()))
 
@@ -726,10 +728,10 @@ def encode(
     table_d: Optional[_Path] = None,
     form: Optional[str] = None,
 ) -> bytes:
-    """The messages as BUFR. It runs `bufr encode` with these two tables, or `bufr-auto --encode` if you pass no tables.
+    """Encodes messages in BUFR. Runs `bufr encode` with these two tables, or `bufr-auto --encode` if you pass no tables.
 
-    The form is "plain" or "compressed". Without it, each message has the form that its header says. Raises `RunError`
-    with the fault line if a message is refused.
+    `form` is "plain" or "compressed". Without `form`, each message is encoded in the form that its header specifies. If a
+    message is refused, raises `RunError` with the fault line.
     """
     if form is not None:
         compressed = ["plain", "compressed"].index(form)
@@ -765,10 +767,10 @@ def _run(words: List[str], source: IO[bytes], target: IO[bytes]) -> subprocess.C
 
 
 def _failure(status: int, words: List[str], errors: Iterable[bytes]) -> RunError:
-    """The error for a failed program: its output, or its status if there is none, and whether a disk is full."""
+    """Returns the error for a failed program: its output or else its status, and whether the disk is full."""
     told = b"".join(line for line in errors if not _FAULT.match(line)).decode(errors="replace").strip()
-    told = told or f"{words[0]} " + (f"was killed (signal {-status})" if status < 0 else f"stopped with status {status}")
-    folder = tempfile.gettempdir()  # where all output goes
+    told = told or f"{words[0]} " + (f"was killed (signal {-status})" if status < 0 else f"exited with status {status}")
+    folder = tempfile.gettempdir()  # all output is in temporary files
     return RunError(status, f"{told}: {folder} is full" if shutil.disk_usage(folder).free < 1 << 16 else told)
 
 
@@ -777,9 +779,9 @@ def _bufr() -> str:
 
 
 def _program(name: str) -> str:
-    """The program beside this file, in the directory `bin` of the same installation or of Python, or on PATH."""
+    """Finds a program next to this file, in the `bin` directory of this installation or of Python, or on PATH."""
     here = pathlib.Path(__file__).resolve().parent
     for path in (here / name, here.parent.parent / "bin" / name, pathlib.Path(sys.prefix) / "bin" / name):
-        if os.access(path, os.X_OK):
+        if shutil.which(path):
             return str(path)
     return name

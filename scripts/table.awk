@@ -1,4 +1,4 @@
-# Makes CSV of a dump: a row for each item, for each subset, or for each level of a sounding.
+# Converts a dump to CSV, with a row for each item, each subset, or each level of a sounding.
 #
 #     bufr dump -B B.csv -D D.csv FILE | awk -f scripts/table.awk
 #     bufr dump -B B.csv -D D.csv FILE | awk -v columns=centre,year,001001,012101 -f scripts/table.awk
@@ -6,48 +6,55 @@
 #       awk -v levels=1 -v keep=year,001001,001002 -v columns=007004,012101,012103 -f scripts/table.awk
 #
 # Without columns, each item has a row: message, subset, item, descriptor, value, name, unit. Messages, subsets and items
-# are counted from 1. An item that `bufr` read without a row of Table B has no name and no unit. A reference value that
-# the data define has the name REFERENCE. The columns of `keep`, which must be header keys, come after the subset.
+# are counted from 1. An item that `bufr` read without a row of Table B has no name and no unit. A new reference value that
+# is defined in the data has the name REFERENCE. The columns in `keep`, which must be header keys, come after the subset.
 #
 # With columns, each subset has a row. A column is a descriptor or a header key (the first word of a header line). A
-# descriptor selects its first item in the subset, and 012101:2 selects the second. If a subset has no such item, the
+# descriptor selects its first item in the subset, and 012101:2 selects the second item. If a subset has no such item, the
 # field is empty.
 #
-# With levels=1, each level has a row. A level is one pass of a delayed replication, a group that is repeated as often as
-# a factor in the data says (031000 to 031002). It has a row if it has an item for the first column and, if there are
-# several columns, for at least one other. The columns of `keep` describe the whole subset and come first.
+# With levels=1, each level has a row. A level is one repetition (pass) of a delayed replication, whose factor (031000 to
+# 031002) is in the data. A level has a row if it contains an item for the first column and, if there are several columns,
+# for at least one other column. The columns in `keep` describe the whole subset and come first.
 #
-# A dump does not mark where a pass begins. The first pass begins after the factor, and the next one at the descriptor
-# that began the first, so a pass of two equal halves counts as two. A group inside a pass belongs to that pass. A subset
-# is skipped if it has no level, or if the descriptor that begins a pass also comes inside one.
+# A dump does not mark where a pass begins. The first pass begins after the factor. The next pass begins at the next item
+# with the same descriptor as the first item, so a pass with two equal halves counts as two. A replication inside a pass
+# belongs to that pass. A subset is skipped if it has no levels, or if the descriptor that begins a pass also occurs inside
+# a pass.
 #
-# Text is quoted. It has no trailing spaces, and it has the escapes of the dump (\", \\, \xHH). A missing value is an
-# empty field. With json=1, each row is a JSON object. A missing value is then null, and \xHH becomes the character with
-# that number.
+# Strings are quoted. They have no trailing spaces, and contain the same escapes as in a dump (\", \\, \xHH). A missing
+# value is an empty field. With json=1, each row is a JSON object, a missing value is null, and \xHH becomes the character
+# with that number.
 #
-# A dump does not contain offsets. The columns `offset` and `length` come from a listing. The fault lines of the dump name
-# the messages of the listing that the dump does not have:
+# A dump does not contain offsets. The columns `offset` and `length` come from a listing. The fault lines of the dump show
+# which messages in the listing are not in the dump:
 #
 #     bufr ls FILE > listing
 #     bufr dump -B B.csv -D D.csv FILE 2> faults |
 #       awk -v columns=offset,012101 -v listing=listing -v faults=faults -f scripts/table.awk
 #
-# Notes on standard error name the columns for which no row has an item, and count the subsets that were skipped. The
+# Notes on standard error name the columns for which no row has an item, and count the subsets that were skipped. The exit
 # status is 1 if a subset was skipped because its levels cannot be told apart. It is 2 if a column is neither a descriptor
-# nor a header key, if the dump ends inside a message, or if the listing and the fault lines do not match the dump. Any awk
-# can run this script.
+# nor a header key, if the dump ends inside a message, or if the listing and the fault lines do not match the dump. The
+# script runs in any awk.
 #
-# bufr-csv sets three more variables. `name` is the beginning of each note. With placed=1, a comment before each message
-# has its offset, length and file, which can then be columns. With feed=0, rows are not flushed at the end of each message.
-# The environment variable BUFR_CSV_LABELS has the headings of the columns, one per line.
+# bufr-csv sets three more variables. Each note begins with `name`. With placed=1, a comment before each message contains
+# its offset, length and file, which can then be columns. With feed=0, rows are not flushed at the end of each message. The
+# environment variable BUFR_CSV_LABELS contains the column headings, one per line.
 
 function fail(text) {
     print name ": " text | "cat >&2"
     exit failed = 2
 }
 
-# A text in quotes. The text of an item has escapes: JSON has the same \" and \\, and \u00HH for \xHH. A plain text has
-# none.
+# Prints the note on skipped subsets. In a feed, bufr-csv prints it after the first such subset, so it has no count.
+function tell_skipped(which, where) {
+    print name ": skipped subsets " which ", the first is message " where | "cat >&2"
+    close("cat >&2")
+}
+
+# Quotes a string. The string of an item contains escapes: JSON uses the same \" and \\, and \u00HH for \xHH. A plain
+# string contains no escapes.
 function quoted(text, is_plain,   parts, count, part) {
     if (!json)
         gsub(/"/, "\"\"", text)
@@ -65,7 +72,7 @@ function quoted(text, is_plain,   parts, count, part) {
     return "\"" text "\""
 }
 
-# The value of an item. No function looks at the comment, whose bytes may be invalid in the locale.
+# Returns the value of an item. It never examines the comment, whose bytes may be invalid in the locale.
 function field(   parts, part, value) {
     if ($2 !~ /^"/)
         return $2 == "MISSING" ? "" : $2
@@ -77,12 +84,12 @@ function field(   parts, part, value) {
     return quoted(value)
 }
 
-# A field that may be empty, after its separator.
+# Returns a separator and a field, which may be empty.
 function cell(begin, value) {
     return begin (json && value == "" ? "null" : value)
 }
 
-# Reads the offset, length and file of the next message from the comment before it.
+# Reads the offset, length and file of the next message from the comment before the message.
 function take_place(   words) {
     split($0, words, /[= ]/)
     header["offset"] = words[3]
@@ -90,17 +97,17 @@ function take_place(   words) {
     header["file"] = quoted(substr($0, index($0, " file=") + 6), 1)
 }
 
-# Finds the offset and length of the next message of the listing that has no fault line. Returns whether there is one.
+# Finds the offset and length of the next message in the listing without a fault line. Returns whether there is one.
 function next_listed(   line, words, is_read) {
     do {
         if ((is_read = (getline line < listing)) <= 0)
             return is_read < 0 ? fail("cannot read " listing) : 0
-        if (line !~ /^offset=[0-9]+ /)
+        if (line !~ /^offset=/)
             fail(listing " is not the output of bufr ls")
         split(line, words, /[= ]/)
         header["offset"] = words[2]
         header["length"] = words[4]
-        while (fault + 0 < header["offset"] + 0 && (is_read = (getline line < faults)) > 0)
+        while (fault < header["offset"] && (is_read = (getline line < faults)) > 0)
             if (line ~ /^offset [0-9]+: /) {
                 split(line, words, /[ :]/)
                 fault = words[2]
@@ -111,22 +118,22 @@ function next_listed(   line, words, is_read) {
     return 1
 }
 
-# Whether a word is a descriptor of six digits. In a column of the whole subset, a colon and a count from 1 may follow.
+# Returns whether a word is a descriptor of six digits. For the whole subset, a colon and a count from 1 may follow.
 function is_descriptor(word, of_subset) {
     if (of_subset)
         sub(/:[1-9][0-9]*$/, "", word)
     return word ~ /^[0-3][0-9][0-9][0-9][0-9][0-9]$/ && substr(word, 2, 2) < 64 && substr(word, 4, 3) < 256
 }
 
-# Splits a list of columns and returns their number. `keys` are the words that are allowed in addition to descriptors.
+# Splits a list of columns and returns their number. `keys` lists the words that are allowed besides descriptors.
 function split_columns(words, list, keys,   count, column, word) {
-    count = split(words, list, /[ ,]+/)
+    count = split(words, list, ",")
     for (column = 1; column <= count; column++) {
         word = list[column]
-        if (word != "" && index(keys, " " word " "))
+        if (index(keys, " " word " "))
             is_key[word] = wanted[word] = 1
         else if (by_item)
-            fail("without columns, keep must have only header keys, not: " word)
+            fail("without columns, keep can contain only header keys, not: " word)
         else if (is_descriptor(word, keys != ""))
             wanted[substr(word, 1, 6)] = 1
         else
@@ -139,7 +146,7 @@ function split_columns(words, list, keys,   count, column, word) {
     return count
 }
 
-# The end of an item's row: the name and unit from a comment. The unit is after the last ` [`.
+# Returns the end of an item's row: the name and unit from its comment. The unit follows the last ` [`.
 function name_and_unit(comment,   parts, part, count, title, unit) {
     sub(/^ *# ?/, "", comment)
     count = split(comment, parts, / \[/)
@@ -151,7 +158,7 @@ function name_and_unit(comment,   parts, part, count, title, unit) {
     return cell(name_begin, title == "" ? "" : quoted(title, 1)) cell(unit_begin, unit == "" ? "" : quoted(unit, 1)) row_end
 }
 
-# Writes the row of an item. Names are cached by their comments.
+# Writes the row of an item. Names and units are cached by their comments.
 function write_item(   is_reference, comment) {
     is_reference = sub(/^R /, "")
     comment = $0
@@ -160,17 +167,15 @@ function write_item(   is_reference, comment) {
     else
         sub(/^[0-9]+ [^ ]*/, "", comment)
     if (!(comment in names)) {
-        if (++name_count > 10000) {
+        if (++name_count % 10000 == 0)
             split("", names)
-            name_count = 1
-        }
         names[comment] = name_and_unit(comment)
     }
     items++
     print subset_begin items fxy_begin $1 cell(value_begin, field()) (is_reference ? reference : names[comment])
 }
 
-# Ends the open pass. If it has a row, the row is buffered until the subset ends.
+# Ends the open pass. If the pass has a row, the row is buffered until the end of the subset.
 function end_pass(   column, line, others, value) {
     if (!open)
         return
@@ -191,12 +196,15 @@ function end_pass(   column, line, others, value) {
     split("", values)
 }
 
-# Writes the rows of the subset that was read, if there was one.
+# Writes the rows of the last subset, if there is one.
 function end_subset(   row, column, line) {
     if (subset && !by_item) {
         end_pass()
-        if (levels && !row_count && !twice && !bare++)
+        if (levels && !row_count && !twice && !bare++) {
             first_bare = message " subset " subset
+            if (feed == 1)
+                tell_skipped("without a level", first_bare)
+        }
         if (!levels || row_count)
             line = begin_row()
         if (!levels)
@@ -207,7 +215,7 @@ function end_subset(   row, column, line) {
     row_count = subset = left = twice = 0
 }
 
-# The beginning of a row: message, subset, and the columns of the whole subset.
+# Returns the beginning of a row: message, subset, and the columns for the whole subset.
 function begin_row(   line, column) {
     line = message_begin message subset_middle subset
     for (column = 1; column <= kept_count; column++) {
@@ -218,21 +226,24 @@ function begin_row(   line, column) {
     return line
 }
 
-# Skips a subset in which the descriptor that begins a pass also comes inside a pass.
+# Skips a subset in which the descriptor that begins a pass also occurs inside a pass.
 function skip_subset(fxy) {
-    if (!unclear++)
+    if (!unclear++) {
         first_unclear = message " subset " subset ": " fxy
+        if (feed == 1)
+            tell_skipped("whose levels cannot be told apart", first_unclear)
+    }
     twice = 1
     open = left = row_count = 0
     split("", values)
 }
 
-# One item in or before the passes of a replication. `left` passes have not begun; each begins with the descriptor
-# `opener`. The open pass has had `items` items and `inner` factors so far, and the previous pass had `pass_items` and
-# `pass_inner`.
+# Processes an item in or before the passes of a replication. `left` passes have not begun. Each pass begins with the
+# descriptor `opener`. The open pass has had `items` items and `inner` factors so far; the previous pass had `pass_items`
+# and `pass_inner`.
 function item(fxy) {
     if (left && (opener == "" || fxy == opener)) {
-        if (opened > 1 && !inner && !pass_inner && items != pass_items) {
+        if (opened > 1 && !pass_inner && items != pass_items) {
             skip_subset(opener)
             return
         }
@@ -253,13 +264,13 @@ function item(fxy) {
         }
     }
     if (fxy in factors) {
-        if (open && (left || opened > 1 && inner < pass_inner))
+        if (open && (left || inner < pass_inner))
             inner++
         else {
             end_pass()
             left = field() + 0
             opener = ""
-            opened = items = inner = 0
+            opened = inner = 0
             return
         }
     }
@@ -275,7 +286,7 @@ BEGIN {
     if (levels && by_item)
         fail("levels=1 needs columns, for example -v columns=007004,012101")
     if (keep != "" && !levels && !by_item)
-        fail("keep works with levels=1 or without columns")
+        fail("keep works only with levels=1 or without columns")
     keys = " offset length edition master centre subcentre update category subcategory localsubcategory masterversion" \
         " localversion year month day hour minute second observed compressed optional subsets "
     if (placed)
@@ -286,7 +297,7 @@ BEGIN {
         level_count = split_columns(columns, level, "")
     is_joined = !placed && ("offset" in is_key || "length" in is_key)
     if (is_joined && (listing == "" || faults == ""))
-        fail("columns offset and length need -v listing=FILE (output of bufr ls) and -v faults=FILE (faults of the dump)")
+        fail("columns offset and length need -v listing=FILE (from bufr ls) and -v faults=FILE (from bufr dump)")
     fault = -1
     for (column = 1; column <= kept_count; column++) {
         word = kept[column]
@@ -315,7 +326,7 @@ BEGIN {
         print "message,subset" heading (by_item ? ",item,descriptor,value,name,unit" : "")
 }
 
-# Most items are not in a column. Outside passes they are skipped, and inside passes they are counted.
+# Most items are not in a column. They are skipped outside passes, and counted inside passes.
 !($1 in wanted) {
     if (by_item) {
         if (subset && /^[0-3R]/)
@@ -335,8 +346,7 @@ BEGIN {
         if (word in is_kept)
             first[word] = field()
     }
-    if (left || open || $1 in factors)
-        item($1)
+    item($1)
     next
 }
 $1 == "message" {
@@ -367,11 +377,10 @@ $1 == "subset" {
     next
 }
 $1 == "#" {
-    if (/^# offset=/)
-        take_place()
+    take_place()
     next
 }
-!subset { header[$1] = $2 }
+{ header[$1] = $2 }
 
 END {
     if (failed)
@@ -388,11 +397,10 @@ END {
     for (column = 1; column <= level_count; column++)
         if (!(level[column] in had))
             print name ": no row has " level[column] | "cat >&2"
-    if (bare)
-        print name ": skipped subsets without a level: " bare ", the first is message " first_bare | "cat >&2"
-    if (unclear) {
-        line = name ": skipped subsets whose levels cannot be told apart: " unclear
-        print line ", the first is message " first_unclear | "cat >&2"
+    if (bare && feed != 1)
+        tell_skipped("without a level: " bare, first_bare)
+    if (unclear && feed != 1)
+        tell_skipped("whose levels cannot be told apart: " unclear, first_unclear)
+    if (unclear)
         exit 1
-    }
 }

@@ -1,11 +1,11 @@
 #!/usr/bin/env python3
-"""Lists the changes from one table set to another.
+"""Lists the differences between two table sets.
 
     tables/changes.py OLD NEW
 
-OLD and NEW are directories with B.csv and D.csv. An element has changed if its scale, reference or width is different, or
-if its unit makes it another kind of value (number, code or text), because these determine how data are read. Changed names
-are not listed, because they only affect the comments of a dump.
+OLD and NEW are directories that contain B.csv and D.csv. changes.py lists an element as changed if its scale, reference or
+width differs, or if its unit makes it a different kind of value (number, code or string), because these determine how data
+are read. It does not list changed names, because they only affect the comments in a dump.
 """
 import os
 import sys
@@ -43,7 +43,7 @@ def rows(folder: str, name: str, *columns: str):
 
 
 def read(folder: str):
-    """The properties that determine how each element is read, and the members of each sequence."""
+    """Returns the properties that determine how each element is read, and the members of each sequence."""
     elements = {
         fxy: (*numbers, kind(unit))
         for fxy, unit, *numbers in rows(folder, "B.csv", "fxy", "unit", "scale", "reference", "width")
@@ -67,8 +67,8 @@ def work(words: list) -> int:
     print(" to ".join(bufr_guard.shown(pathlib.Path(folder).name) for folder in words))
     for kind_of_row, before, after in zip(("elements", "sequences"), old, new):
         report(f"{kind_of_row} changed", [fxy for fxy in before if before[fxy] != after.get(fxy, before[fxy])])
-        report(f"{kind_of_row} gone", [fxy for fxy in before if fxy not in after])
-        print(f"  {kind_of_row} new: {len(after.keys() - before.keys())}")
+        report(f"{kind_of_row} removed", [fxy for fxy in before if fxy not in after])
+        print(f"  {kind_of_row} added: {len(after.keys() - before.keys())}")
     return 0
 
 

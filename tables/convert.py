@@ -3,25 +3,26 @@
 
     tables/convert.py OUT SOURCE..
 
-Each SOURCE is a directory. Its files determine its format:
+Each SOURCE is a directory. Its format is recognized by its files:
 
-    B.csv, D.csv                      a table set, as in this directory
+    B.csv, D.csv                      a table set, like those in this directory
     BUFRCREX_TableB_en*.csv,          the CSV files that WMO publishes
     BUFR_TableD_en*.csv
     element.table, sequence.def       ecCodes definition files, including those of local tables
     B*.txt, D*.txt                    the fixed-column files of wreport
 
-wreport has many tables in one directory. To choose one, give its B*.txt file as SOURCE; convert.py then also reads the
-D*.txt file with the same name.
+wreport keeps many tables in one directory. To choose one, name its B*.txt file as SOURCE; convert.py also reads the D*.txt
+file that has the same name after the first letter.
 
-Rows of a later SOURCE replace those of an earlier one, so give the master tables first and local tables after them. The
-new tables are OUT/B.csv and OUT/D.csv, sorted by descriptor.
+Rows from a later SOURCE replace those from an earlier one, so name master tables before local tables. The new
+tables are OUT/B.csv and OUT/D.csv, sorted by descriptor.
 
-convert.py leaves out elements and sequences that `bufr` would refuse, and prints the reason for each on standard error.
-It leaves out a whole sequence if one of its members is invalid. Rows of an earlier SOURCE for the same descriptor remain.
+convert.py leaves out elements and sequences that `bufr` would refuse, and prints the reason for each on standard error. If
+one member of a sequence is invalid, the whole sequence is left out. Rows from an earlier SOURCE for the same descriptor
+remain.
 
-The exit status is 0 if nothing was left out, and 1 if something was. It is 2 if convert.py wrote nothing, because a SOURCE
-has no tables, a file has an unknown layout, or the output failed.
+The exit status is 0 if no row was left out, and 1 if any was. It is 2 if convert.py wrote nothing, because a SOURCE has no
+tables, a file has an unknown layout, or the output could not be written.
 """
 import os
 import sys
@@ -39,23 +40,23 @@ import re  # noqa: E402
 import bufr_options  # noqa: E402
 from bufr_guard import Failed  # noqa: E402
 
-# The columns of WMO's files that are used. There may be other columns between them.
+# The columns that are used in WMO's files, which may contain other columns.
 WMO_B = "FXY ElementName_en BUFR_Unit BUFR_Scale BUFR_ReferenceValue BUFR_DataWidth_Bits".split()
 WMO_D = "FXY1 FXY2".split()
 OURS_B = "fxy name unit scale reference width".split()
 OURS_D = "fxy member".split()
-# The positions in wreport's B*.txt where the six columns of OURS_B begin, and where the last one ends.
+# The positions in wreport's B*.txt at which the six columns of OURS_B begin, and at which the last one ends.
 WREPORT_B = [1, 8, 73, 97, 101, 114, 118]
-# Units that wreport's files abbreviate at the beginning.
+# Prefixes of units that are abbreviated in wreport's files.
 WREPORT_UNITS = {
     "CCITTIA5": "CCITT IA5",
     "COMMONCODETABLE": "COMMON CODE TABLE ",
     "CODETABLE": "CODE TABLE ",
     "FLAGTABLE": "FLAG TABLE ",
 }
-# Bytes that are not UTF-8 are copied unchanged, because `bufr` accepts them too.
+# Bytes that are not UTF-8 are copied unchanged, because `bufr` accepts them.
 AS_IT_IS = {"encoding": "utf-8", "errors": "surrogateescape"}
-# The widths of the factors of delayed replications.
+# The widths of delayed replication factors.
 FACTORS = {"031000": 1, "031001": 8, "031002": 16}
 
 
@@ -64,7 +65,7 @@ def one_line(text: str) -> str:
 
 
 def of_csv(folder: pathlib.Path, pattern: str, columns: list):
-    """These columns of each row of the files, which may begin with a byte order mark."""
+    """Yields these columns of each row in the files, which may begin with a byte order mark."""
     for path in sorted(folder.glob(pattern)):
         with open(path, newline="", **{**AS_IT_IS, "encoding": "utf-8-sig"}) as file:
             rows = csv.reader(file)
@@ -83,20 +84,20 @@ def of_csv(folder: pathlib.Path, pattern: str, columns: list):
 
 
 def sequences_of(rows):
-    """Each run of rows with the same sequence, as a list of the sequence and its members."""
+    """Yields each group of consecutive rows for a sequence, as a list of the sequence and its members."""
     for fxy, run in itertools.groupby(rows, key=lambda row: row[0]):
         yield [fxy, *(member for _, member in run)]
 
 
 def lines_of(path: pathlib.Path):
-    """The number and the text of each line that is not empty."""
+    """Yields the number and the text of each line that is not empty."""
     for number, line in enumerate(path.read_text(**AS_IT_IS).split("\n"), 1):
         if line.strip():
             yield number, line
 
 
 def of_element_table(path: pathlib.Path):
-    """The rows of ecCodes' element.table: code|abbreviation|type|name|unit|scale|reference|width|.."""
+    """Yields the rows of ecCodes' element.table: code|abbreviation|type|name|unit|scale|reference|width|.."""
     for number, line in lines_of(path):
         if not line.startswith("#"):
             fields = [one_line(field) for field in line.split("|")]
@@ -106,7 +107,7 @@ def of_element_table(path: pathlib.Path):
 
 
 def of_sequence_def(path: pathlib.Path):
-    """The sequences of ecCodes' sequence.def: "fxy" = [ member, .. ]"""
+    """Yields the sequences in ecCodes' sequence.def: "fxy" = [ member, .. ]"""
     text = re.sub("#.*", "", path.read_text(**AS_IT_IS))
     one = r'"([^"]*)"\s*=\s*\[([^\]]*)\]'
     rest = re.sub(one, "", text).split()
@@ -117,7 +118,7 @@ def of_sequence_def(path: pathlib.Path):
 
 
 def of_wreport_b(path: pathlib.Path):
-    """The rows of wreport's B*.txt."""
+    """Yields the rows of wreport's B*.txt."""
     for number, line in lines_of(path):
         fxy, name, unit, *numbers = (one_line(line[at:end]) for at, end in zip(WREPORT_B, WREPORT_B[1:]))
         if not all(numbers):
@@ -130,9 +131,9 @@ def of_wreport_b(path: pathlib.Path):
 
 
 def of_wreport_d(path: pathlib.Path):
-    """The sequences of wreport's D*.txt. The number of members follows each sequence there.
+    """Returns the sequences in wreport's D*.txt, where each sequence is followed by the number of its members.
 
-    If a sequence occurs twice, the first one is used.
+    If a sequence occurs twice, the first occurrence is used.
     """
     runs = []
     for number, line in lines_of(path):
@@ -151,13 +152,13 @@ def of_wreport_d(path: pathlib.Path):
 
 
 def of_wreport(path: pathlib.Path):
-    """The rows and the sequences of wreport's B*.txt and D*.txt with the same name. One of the files may be missing."""
+    """Returns the rows of wreport's B*.txt and the sequences of the D*.txt beside it. One of the files may be missing."""
     table_b, table_d = (path.with_name(letter + path.name[1:]) for letter in "BD")
     return of_wreport_b(table_b) if table_b.exists() else [], of_wreport_d(table_d) if table_d.exists() else []
 
 
 def source(folder: pathlib.Path):
-    """The rows for Table B, and the sequences for Table D, of a source."""
+    """Returns the rows for Table B and the sequences for Table D from a source."""
     if (folder / "B.csv").exists() or (folder / "D.csv").exists():
         return of_csv(folder, "B.csv", OURS_B), sequences_of(of_csv(folder, "D.csv", OURS_D))
     elements, sequences = folder / "element.table", folder / "sequence.def"
@@ -182,31 +183,31 @@ def octets(text: str) -> bytes:
 
 
 def is_whole(text: str, least: int, most: int) -> bool:
-    """Whether a text is a whole number within these limits."""
+    """Returns whether a string is a whole number within these limits."""
     return re.fullmatch(r"-?0*[0-9]{1,19}", text) is not None and least <= whole(text) <= most
 
 
 def whole(text: str) -> int:
-    """The number in a text. It may have any number of leading zeros."""
+    """Returns the number in a string, which may have any number of leading zeros."""
     return int(re.sub("^(-?)0+(?=[0-9])", r"\1", text))
 
 
 def no_descriptor(fxy: str, first: str) -> str:
-    """The reason why a text is not a descriptor with this first digit, or an empty text."""
+    """Returns why a string is not a descriptor with this first digit, or an empty string if it is."""
     if not re.fullmatch(f"[{first}][0-9]{{5}}", fxy):
-        return f"expected six digits, the first one {first}"
-    return "X over 63" if int(fxy[1:3]) > 63 else "Y over 255" if int(fxy[3:]) > 255 else ""
+        return f"expected six digits, beginning with {first}"
+    return "X is over 63" if int(fxy[1:3]) > 63 else "Y is over 255" if int(fxy[3:]) > 255 else ""
 
 
 def no_text(what: str, text: str) -> str:
-    """The reason why `bufr` would refuse a name or a unit, or an empty text."""
+    """Returns why `bufr` would refuse a name or a unit, or an empty string if it would not."""
     if len(octets(text)) > 512:
         return f"the {what} is longer than 512 bytes"
-    return f"a control character in the {what}" if re.search(r"[\0-\x1f\x7f]", text) else ""
+    return f"the {what} contains a control character" if re.search(r"[\0-\x1f\x7f]", text) else ""
 
 
 def no_numbers(is_text: bool, scale: str, reference: str, width: str) -> str:
-    """The reason why `bufr` would refuse the numbers of an element, or an empty text."""
+    """Returns why `bufr` would refuse the numbers of an element, or an empty string if it would not."""
     if not width:
         return "no width"
     if not is_whole(scale, -127, 127):
@@ -214,12 +215,12 @@ def no_numbers(is_text: bool, scale: str, reference: str, width: str) -> str:
     if not is_whole(reference, -(2**63), 2**63 - 1):
         return "the reference must be a signed 64-bit number"
     if is_text and not (is_whole(width, 8, 2040) and whole(width) % 8 == 0):
-        return "the width of a text must be a multiple of 8 from 8 to 2040 bits"
+        return "the width of a string must be a multiple of 8 from 8 to 2040 bits"
     return "" if is_text or is_whole(width, 1, 63) else "the width must be from 1 to 63 bits"
 
 
 def no_element(row: list) -> str:
-    """Why `bufr` would refuse this row of Table B, or an empty string if it would not."""
+    """Returns why `bufr` would refuse this row of Table B, or an empty string if it would not."""
     fxy, name, unit, *numbers = row
     is_text = octets(unit).upper() == b"CCITT IA5"
     reason = no_descriptor(fxy, "0") or no_text("name", name) or no_text("unit", unit) or no_numbers(is_text, *numbers)
@@ -229,7 +230,7 @@ def no_element(row: list) -> str:
 
 
 def no_sequence(sequence: list) -> str:
-    """The reason why `bufr` would refuse the rows of a sequence, or an empty text."""
+    """Returns why `bufr` would refuse the rows of a sequence, or an empty string if it would not."""
     fxy, *members = sequence
     if no_descriptor(fxy, "3") or not members:
         return no_descriptor(fxy, "3") or "no members"
@@ -238,19 +239,19 @@ def no_sequence(sequence: list) -> str:
 
 
 def shown(words: list) -> str:
-    """The words in at most 80 characters, with escapes for those that cannot be printed."""
+    """Joins the words in at most 80 characters, with unprintable characters escaped."""
     text = "".join(sign if sign.isprintable() else ascii(sign)[1:-1] for sign in " ".join(words))
     return text if len(text) <= 80 else text[:78] + ".."
 
 
 def taken(folder: pathlib.Path, entries, refused) -> tuple:
-    """The entries that `bufr` accepts, by descriptor, and the number of those that it refuses. Reports each of those."""
+    """Returns the entries that `bufr` accepts, by descriptor, and how many it refuses. Reports each refused entry."""
     found, left_out = {}, 0
     for entry in entries:
         found.setdefault(entry[0], []).append(entry)
     for fxy, alike in list(found.items()):
         for entry in alike:
-            reason = refused(entry) or ("the source has different rows for it" if alike.count(entry) < len(alike) else "")
+            reason = refused(entry) or ("the source has conflicting rows for it" if alike.count(entry) < len(alike) else "")
             if reason:
                 told = f"left out of {bufr_guard.shown(str(folder))}: {shown(entry)}: {reason}\n"
                 bufr_guard.say(told.encode(**AS_IT_IS))
@@ -260,7 +261,7 @@ def taken(folder: pathlib.Path, entries, refused) -> tuple:
 
 
 def write(path: pathlib.Path, aside: pathlib.Path, header: list, rows) -> None:
-    """Writes a table to the temporary file `aside`. Error messages name `path`."""
+    """Writes a table to the temporary file `aside`. Error messages contain `path` instead."""
     try:
         with open(aside, "w", newline="", **AS_IT_IS) as file:
             table = csv.writer(file, lineterminator="\n")

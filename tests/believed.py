@@ -116,6 +116,10 @@ def main() -> None:
         done = run(TOP / "docs/believed.py", name)
         if done.returncode != 1 or message not in done.stderr:
             wrongs.append(f"{name}: status {done.returncode}, {done.stderr}")
+    with subprocess.Popen([TOP / "docs/believed.py"], stdout=subprocess.PIPE, stderr=subprocess.PIPE) as piped:
+        piped.stdout.close()
+        if message := piped.stderr.read():
+            wrongs.append(f"a closed output gives {message}")
     sys.setrecursionlimit(10_000)
     finish(wrongs + of_copies() + of_every_function())
 

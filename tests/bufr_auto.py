@@ -133,6 +133,14 @@ class Trial:
         """Where a table is at fault what stands before is written, and no more: the status is 2."""
         tables = self.place / "tables"
         shutil.copytree(TABLES, tables)
+        for name in ("wmo-x", "wmo-13+98", "wmo-13+98-1-2", "wmo-\u0661\u0663", "wmo-1234567890", "own-39"):
+            (tables / name).mkdir()  # no names of sets
+        with open(tables / "wmo-17/D.csv", "a") as file:
+            file.write("no row\n")
+        (self.place / "17").write_bytes(made(17, LISTS[1], b"\1" * 3))
+        done = self.auto(*[str(self.place / "17")] * 2, BUFR_TABLES=str(tables))
+        told = f"table D: 45 csv\nbufr-auto: cannot use {tables}/wmo-17/D.csv: 45 csv\n"
+        self.same("two files with a table at fault", (done.stdout, done.stderr.decode(), done.returncode), (b"", told, 2))
         with open(tables / "wmo-17/B.csv", "a") as file:
             file.write("no row\n")
         before = made(13, LISTS[1], b"\1" * 3) + made(16, LISTS[5], b"") + made(16, LISTS[1], b"\1" * 3)
@@ -154,6 +162,9 @@ class Trial:
         )
         whole = (done.stdout.count(b"message\n"), done.stderr == faults + notes, done.returncode)
         self.holds("an incomplete set", whole == (stream.count(b"BUFR") - 1, True, 1), done)
+        (tables / "wmo-6").symlink_to(TABLES / "wmo-13")
+        done = self.auto(stream=made(6, "012073", b"\1\1"), BUFR_TABLES=str(tables))
+        self.holds("a set of version 6", b"012073" in done.stdout and b"version 6" not in done.stderr, done)
         (self.place / "none/wmo-40").mkdir(parents=True)
         done = self.auto(stream=stream, BUFR_TABLES=str(self.place / "none"))
         self.holds("no complete set", done.returncode == 2 and b"wmo-40, which has no B.csv" in done.stderr, done)
@@ -205,11 +216,12 @@ class Trial:
         for length, wanted in ((4096, (one, b"", 0)), (4097, (b"", b"line 1: 50 line\n", 1))):
             done = self.in_pieces(b"#".ljust(length, b"x") + b"\n" + self.one_by_one(one)[0], "--encode")
             self.same(f"a comment of {length} bytes", (done.stdout, done.stderr, done.returncode), wanted)
-        text = b"# A comment before a document.\n" * 200_000 + b"\nmessage\nedition 4\nnonsense\n"
-        done = self.auto("--encode", stream=text)
-        self.same("many comments", (done.stdout, done.stderr, done.returncode), (b"", b"line 200004: 50 line\n", 1))
+        comments = b"# A comment on BUFR in a document.\n" * 200_000
+        for text, line in ((comments + b"\nmessage\nedition 4\nnonsense\n", 200004), (b"message\nnonsense\n" + comments, 2)):
+            done = self.auto("--encode", stream=text)
+            self.same("many comments", (done.stdout, done.stderr, done.returncode), (b"", b"line %d: 50 line\n" % line, 1))
         # BUFR is refused before its end, and a note names the option to leave out.
-        note = b"bufr-auto: standard input is BUFR, not a dump; leave out --encode to dump it\n"
+        note = b"bufr-auto: standard input is BUFR, not a dump; to dump it, leave out --encode\n"
         for begin in (b"BUFR", b"\1\r\r\n001\r\r\nIUSK01 ENMI 010000\r\r\nBUFR"):
             steps = [(begin + bytes(100) + b"\n", b"", b"line 1: 50 line\n" + note)]
             self.feed("no text", ["--encode"], steps, (b"", b""), 1)
@@ -261,6 +273,23 @@ class Trial:
         ]
         last = (texts[0], fault % (len(one * 2 + false * 2 + other), b"1 cut"))
         self.feed("lengths", ["--max-length", "1024"], steps, last, 1)
+
+    def notes_of_feeds(self) -> None:
+        """A note comes in a pause, or after a minute, and once: of later messages only another one is there."""
+        note = b"bufr-auto: 1 message so far, at offset %d: version %d is later than wmo-39" + NEWER.encode() + b"\n"
+        later, latest = made(41, LISTS[0], b"\1\1"), made(42, LISTS[0], b"\1\1")
+        texts = [self.one_by_one(message)[0] for message in (later, latest)]
+        steps = [
+            (later, texts[0], note % (0, 41)),
+            (later * 2, texts[0] * 2, b""),
+            (latest, texts[1], note % (3 * len(later), 42)),
+        ]
+        self.feed("notes", [], steps, (b"", b""), 0)
+        # This feed does not pause. The first part has 16,384 messages.
+        minute = "import sys; sys.path.insert(0, sys.argv[1]); import bufr_auto, bufr_guard; bufr_guard.INTERVAL = 0; "
+        words = [sys.executable, "-c", minute + "bufr_auto.dump([None])", TOP / "scripts"]
+        done = subprocess.run(words, input=later * 20_000, capture_output=True, env=self.environment)
+        self.holds("notes of a feed without a pause", b" 16384 messages so far, the first at offset 0: " in done.stderr, done.stderr)
 
     def few_files(self) -> None:
         """40 parts of a feed with at most 32 open files, and 60 files with at most 40, most of them open at once."""
@@ -318,6 +347,7 @@ class Trial:
         code += "bufr_guard.run(work, '')"
         seven, both = made(13, LISTS[1], b"\1\1\0", 7), made(39, LISTS[1], b"\1\1\0", 98, section_2=bytes(5_000_000))
         stream = seven + b"BUFR" + both + made(13, "063255", b"", 98) + seven[:-30] + both + made(39, "063255", b"", 7)
+        stream += b"BUFR\0\0\x0c\x047777"  # shorter than what is read of a message
         (self.place / "a file").write_bytes(stream)
         texts = {centre: self.one_by_one(message)[0] for centre, message in ((7, seven), (98, both))}
         comment = "# offset={} length={} file={}\n"
@@ -329,6 +359,7 @@ class Trial:
             wanted = b"".join(comment.format(place, len(both), file).encode() + texts[98] for place in places)
             at = [found.start() for found in re.finditer(b"BUFR", stream)]
             told = f"offset {at[1]}: 3 no end\noffset {at[3]}: 20 unknown element 063255\noffset {at[4]}: 3 no end\n"
+            told += f"offset {at[7]}: 12 section 1 past the end\n"
             self.same("a condition", (done.stdout, done.stderr.decode(), done.returncode), (wanted, told, 1))
 
     def feed(self, what: str, words: list, steps: list, last: tuple, status: int, files: int = 256) -> None:
@@ -366,6 +397,15 @@ class Trial:
             b"\nbufr-auto: cannot open nosuch: No such file or directory\nbufr-auto: cannot read folder: Is a directory\n"
         )
         self.same("files", (done.stdout, done.stderr, done.returncode), (b"".join(texts), told, 2))
+        # The progress counts the bytes of all files.
+        code = "import sys; sys.path.insert(0, sys.argv[1]); import bufr_auto, bufr_guard\n"
+        code += "bufr_guard.Progress.at = lambda _, octets: bufr_guard.say(b'%d\\n' % octets)\n"
+        code += "bufr_guard.run(lambda words: bufr_auto.dump(words[1:]), '')"
+        words = [sys.executable, "-c", code, str(TOP / "scripts"), "file 0", "file 1"]
+        done = subprocess.run(words, cwd=self.place, env=self.environment, capture_output=True)
+        sizes = [(self.place / name).stat().st_size for name in ("file 0", "file 1")]
+        told = [int(line) for line in done.stderr.splitlines() if line.isdigit()]
+        self.holds("progress", [*dict.fromkeys(told)] == [sizes[0], sum(sizes)], told)
         for number, text in enumerate(texts):
             (self.place / f"text {number}").write_bytes(text)
         (self.place / "text 1").write_bytes(texts[1].replace(b"\n012101 ", b"\n012101 x", 1))
@@ -392,7 +432,7 @@ class Trial:
             (b"\n<!DOCTYPE HTML><p>BUFR", "looks like HTML", 1),
             (b"<HTML>", "looks like HTML", 0),
             (b"<?xml version='1.0'?>", "looks like XML", 0),
-            ((TOP / "examples/synop.txt").read_bytes(), "looks like the text of a dump (--encode)", 0),
+            ((TOP / "examples/synop.txt").read_bytes(), "looks like a dump (--encode)", 0),
             (b"SMVD01 EKMI 010000\r\r\n", "looks like text", 0),
             (b"\1\r\r\n123\r\r\nSMVD01 EKMI 010000\tA\r\r\n\3", "looks like text", 0),
             (b"", "is empty", 0),
@@ -429,11 +469,11 @@ class Trial:
         edition_3 = bytearray(lib.message(b"\1", lib.words("001192"), edition=3))
         edition_3[12:14], edition_3[18:20] = b"\7\x62", b"\x0d\x66"
         done = self.auto(stream=bytes(edition_3))
-        self.holds("edition 3", b"local table 102 of centre 98: there is no wmo-13+98-102" in done.stderr, done)
+        self.holds("edition 3", b"there is no wmo-13+98-102 for local table 102 of centre 98" in done.stderr, done)
         # A sequence of a table that the centre's descriptor is in, and a version that has no set.
         done = self.auto("--encode", stream=b"message\nmasterversion 999999999\ndescriptors 012101\nsubset 1\nend\n")
         self.holds("a version of nine digits", done.stderr == b"line 2: 50 line\n", done)
-        exact = made(14, LISTS[0], b"\1" * 2) + made(37, LISTS[0], b"\1" * 2)
+        exact = made(14, LISTS[0], b"\1" * 2) + made(37, LISTS[0], b"\1" * 2) + made(7, "012073", b"\1\1")
         stream = exact + made(6, "012073", b"\1\1") + made(6, "012101", b"\1\1") + made(6, "307018", b"") * 2
         stream += made(13, "012101", b"\1\1", local=102) + made(13, "206008 001250", b"\1", local=102)
         stream += made(13, "001212", b"\1", local=102) * 2 + made(40, "012101", b"\1\1")
@@ -442,16 +482,16 @@ class Trial:
         told = [line for line in done.stderr.decode().splitlines() if line.startswith("bufr-auto: ")]
         at = [found.start() for found in re.finditer(b"BUFR", stream)]
         wanted = [
-            f"3 messages, the first at offset {at[2]}: some descriptors differ between version 6 and wmo-13",
-            f"2 messages, the first at offset {at[8]}: local table 102 of centre 98: there is no wmo-13+98-102; to make it",
-            f"1 message, at offset {at[10]}: version 40 is later than wmo-39{NEWER}",
+            f"3 messages, the first at offset {at[3]}: some descriptors differ between version 6 and wmo-13",
+            f"2 messages, the first at offset {at[9]}: there is no wmo-13+98-102 for local table 102 of centre 98; to make it",
+            f"1 message, at offset {at[11]}: version 40 is later than wmo-39{NEWER}",
         ]
         starts = [line[: len(note) + 11] for line, note in zip(told, wanted)]
         self.holds("notes", len(told) == 3 and starts == [f"bufr-auto: {note}" for note in wanted], told)
         self.holds("no notes", self.auto(stream=exact).stderr == b"", self.auto(stream=exact).stderr)
         stream = b"".join(made(13, "001212", b"\1", centre, 1) for centre in range(1, 1300))
         told = [line for line in self.auto(stream=stream).stderr.decode().splitlines() if line.startswith("bufr-auto: ")]
-        rest = "bufr-auto: 299 messages, the first at offset 48000: no set matches exactly, for reasons beyond the first 1,000"
+        rest = "bufr-auto: 299 messages, the first at offset 48000: no set matches exactly, for reasons other than the first 1,000"
         self.holds("kinds of notes", (len(told), told[-1]) == (1001, rest), (len(told), told[-1]))
         refused = made(41, "012101", b"\1\1").replace(b"\0\0\x16", b"\0\0\x15", 1)
         done = self.auto(stream=refused)
@@ -476,7 +516,7 @@ class Trial:
         for words, why in (
             (["--other"], "unknown option --other"),
             ([file, "--other=1"], "unknown option --other"),
-            (["-x", file], "unknown option -x"),
+            (["-xyz", file], "unknown option -xyz"),
             (["--encode=1"], "--encode takes no value"),
             ([file, "--max-length"], "--max-length needs a value"),
             (["--max-length", "11"], "--max-length '11': expected a whole number, at least 12"),
@@ -567,15 +607,32 @@ class Trial:
         (self.place / "stream").write_bytes(many * 80)
         words = {"BUFR": str(other), "STREAM": str(self.place / "stream")}
         done = self.auto(str(self.place / "stream"), **words)
-        told = f"bufr-auto: {self.place}/stream became shorter while it was read\n".encode()
+        told = f"bufr-auto: {self.place}/stream was truncated while it was read\n".encode()
         whole = self.one_by_one(many)[0] * 80
         is_prefix = whole.startswith(done.stdout) and done.stdout.endswith(b"\nend\n")
         self.holds("a file that becomes shorter", is_prefix and (done.returncode, done.stderr) == (2, told), done.stderr)
         # What a child gives is not whole, and it says nothing of that.
         other.write_text(f'#!/bin/sh\n"{self.program}" "$@" | head -c 3000\n')
-        done = self.auto(stream=made(13, LISTS[1], b"\1\1\0") * 9 + made(39, LISTS[1], b"\1\1\0"), BUFR=str(other))
-        told = b"bufr-auto: bufr stopped before the end of its output; output is incomplete\n"
+        done = self.auto(stream=made(41, LISTS[1], b"\1\1\0") + made(13, LISTS[1], b"\1\1\0") * 9, BUFR=str(other))
+        told = b"bufr-auto: 1 message, at offset 0: version 41 is later than wmo-39" + NEWER.encode()
+        told += b"\nbufr-auto: bufr stopped early; output is incomplete\n"
         self.holds("a text that is cut", (done.returncode, done.stderr) == (2, told), done)
+        # A long document is cut while it is encoded.
+        other.write_text(f'#!/bin/sh\nhead -c 5000000 "$STREAM" > "$STREAM.1"\ncat "$STREAM.1" > "$STREAM"\nexec "{self.program}" "$@"\n')
+        (self.place / "stream").write_bytes(b"message\n" + b"# A comment in a document.\n" * 1_000_000)
+        done = self.auto("--encode", str(self.place / "stream"), **words)
+        told = f"bufr-auto: {self.place}/stream was truncated while it was read\n".encode()
+        self.holds("a document that becomes shorter", (done.returncode, done.stderr) == (2, told), done)
+        # Standard input whose reads do not wait.
+        given, pipe = os.pipe()
+        os.set_blocking(given, False)
+        with subprocess.Popen(AUTO, stdin=given, stdout=subprocess.PIPE, stderr=subprocess.PIPE, env=self.environment) as child:
+            os.close(given)
+            time.sleep(0.2)
+            os.write(pipe, made(39, LISTS[1], b"\1\1\0"))
+            os.close(pipe)
+            told = child.communicate()
+        self.holds("an input that does not wait", (child.returncode, told[0][-4:], told[1]) == (0, b"end\n", b""), told)
         ignoring = "import os, signal, sys; signal.signal(signal.SIGCHLD, signal.SIG_IGN); os.execv(sys.argv[1], sys.argv[1:])"
         words = [sys.executable, "-c", ignoring, *AUTO, str(TOP / "examples/synop.bufr")]
         done = subprocess.run(words, env=self.environment, capture_output=True)
@@ -650,6 +707,7 @@ def main() -> None:
             trial.conditions,
             trial.stops,
             trial.feeds,
+            trial.notes_of_feeds,
             trial.lengths,
             trial.encodes,
             trial.same_as_one_by_one,

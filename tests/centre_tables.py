@@ -30,7 +30,7 @@ TABLE_D = """\
            012101
  301250  1 001213
 """
-ASK = "no public source is known: ask centre {} (WMO's Common Code Table C-11 has its name)\n"
+ASK = "no public source is known: ask centre {} (WMO's Common Code Table C-11 lists its name)\n"
 TEXT = """\
 message
 edition 4
@@ -136,7 +136,7 @@ def limits(script, holds) -> None:
     kinds = b"".join(made(13, 1, centre, "063255", b"") for centre in range(1, 1004)) * 2
     status, output, errors = script("bufr-lacks", kinds)
     holds("the kinds that are listed", (status, output.count("\n"), output.count("2 messages")), (1, 1000, 1000))
-    first = "bufr-lacks: left out 6 messages of other kinds; at most 1000 kinds are listed"
+    first = "bufr-lacks: left out 6 messages; at most 1000 combinations of centre and table versions are listed"
     holds("the notes on kinds", (errors.splitlines()[0], errors.count("\n")), (first, 1001))
     # Two kinds whose missing set is the same.
     _, output, errors = script("bufr-lacks", made(12, 1, 7, "063255", b"") + made(13, 1, 7, "063255", b""))
@@ -205,7 +205,7 @@ def main() -> None:
         )
         errors = f"{cut}bufr-lacks: there is no wmo-13+98-102; {made_by}\n{other_notes}"
         holds("bufr-lacks", script("bufr-lacks", stream), (1, lines + other_lines, errors))
-        note = f"bufr-auto: 1 message, at offset 0: local table 102 of centre 98: there is no wmo-13+98-102; {made_by}\n"
+        note = f"bufr-auto: 1 message, at offset 0: there is no wmo-13+98-102 for local table 102 of centre 98; {made_by}\n"
         refused = "offset 0: 21 unknown sequence 301250\n"
         holds("bufr-auto before", script("bufr-auto", message), (1, "", refused + note))
         of_definitions(place, script, holds)
@@ -234,6 +234,13 @@ def main() -> None:
                 done = subprocess.run(words, stdin=stream, capture_output=True, env=environment)
             told = (done.returncode, done.stdout.decode(), done.stderr.decode()[:6])
             holds(f"{name} from octet 4 on", told, (1, output, errors))
+        (place / "text").write_bytes(message + b"text")
+        with open(place / "text", "rb", buffering=0) as stream:
+            stream.seek(len(message))
+            words = [sys.executable, TOP / "scripts/bufr-lacks"]
+            done = subprocess.run(words, stdin=stream, capture_output=True, env=environment)
+        told = b"bufr-lacks: standard input has no message: it looks like text\n"
+        holds("bufr-lacks behind a message", (done.returncode, done.stdout, done.stderr), (0, b"", told))
         nearest_own_set(place / "tables", script, message_9, holds)
         versions_and_editions(script, holds)
         in_packages(holds)

@@ -65,7 +65,7 @@ end
 """
 # behind two passes come an item that is not asked for, and one that is
 BEHIND = b"message\nsubset 1\n031001 2\n007004 1\n012101 1.0\n007004 2\n012103 2.0\n002001 1\n012101 3.0\nend\n"
-WORDS = ["airTemperature", "01210", "0121011", "412101", "064001", "001256", "012101,x", "012101,", "local1", "optiona"]
+WORDS = ["airTemperature", "01210", "0121011", "412101", "064001", "001256", "012101,x", "012101,", "local1", "optiona", "file"]
 
 
 def run(awk: list, text: bytes, **variables) -> tuple:
@@ -81,17 +81,18 @@ def run(awk: list, text: bytes, **variables) -> tuple:
 
 
 def tries_wide(awk: list, text: bytes) -> None:
-    head = "message,subset,001002,012101:2,012104\n"
-    told = "table.awk: no row has 012101:2\ntable.awk: no row has 012104\n"
+    head = "message,subset,001002,012101:10,012104\n"
+    told = "table.awk: no row has 012101:10\ntable.awk: no row has 012104\n"
     wanted = (0, head + "1,1,836,,\n1,2,772,,\n1,3,680,,\n", told)
     want(
-        run(awk, text, columns="001002,012101:2,012104") == wanted,
+        run(awk, text, columns="001002,012101:10,012104") == wanted,
         f"{awk}: empty columns have no note",
     )
     status, output, errors = run(awk, ODD, columns="centre,012101,012101:2,001015,001015:2,001015:3")
     rows = list(csv.reader(output.splitlines()))[1:]
     wanted = ["1", "1", "74", "28.5", "", 'A \\"B\\\\', '\\\\\\\\\\" # \\\\\\"', ""]
     want((status, rows, errors) == (0, [wanted], ""), f"{awk}: of odd texts there are {rows}: {errors}")
+    want(run(awk, b"", columns="012101") == (0, "message,subset,012101\n", ""), f"{awk}: of no message something is told")
     head = re.findall(rb"^(\w+) (\d+)$", text, re.M)[:20]
     status, output, errors = run(awk, text, columns=",".join(key.decode() for key, _ in head))
     row = output.splitlines()[-1].split(",")
@@ -122,8 +123,8 @@ class Stream:
             done = subprocess.run(
                 [lib.program(), *words, folder / "stream"], stdout=subprocess.PIPE, stderr=subprocess.PIPE
             )
-            path.write_bytes(done.stdout if output == 1 else done.stderr)
-        self.text, self.places = done.stdout, []
+            path.write_bytes(done.stdout if output == 1 else b"note 99999999: of another program\n" + done.stderr)
+        self.text, self.places = done.stdout.replace(b"\nedition", b"\n# a note\nedition"), []
         # which messages are dumped, by a run for each alone
         for offset, length in re.findall(rb"^offset=(\d+) length=(\d+) ", self.listing.read_bytes(), re.M):
             one = octets[int(offset) : int(offset) + int(length)]
@@ -153,7 +154,8 @@ def tries_offsets(awk: list, stream: Stream) -> None:
             ({"listing": stream.listing, "faults": "nosuch"}, "cannot read nosuch"),
         ]:
             status, _, errors = run(awk, stream.text, **columns, **given)
-            want(status == 2 and told in errors, f"{awk}: {columns} with {given} ends with {status}: {errors}")
+            is_so = status == 2 and told in errors and errors.count("\n") == 1
+            want(is_so, f"{awk}: {columns} with {given} ends with {status}: {errors}")
 
 
 def seconds(words: list, path: pathlib.Path) -> float:
@@ -229,8 +231,22 @@ def tries_levels(awk: list, sounding: bytes, synop: bytes) -> None:
     behind = run(awk, BEHIND, levels="1", columns="007004,012101,012103")
     wanted = (0, "message,subset,007004,012101,012103\n1,1,1,1.0,\n1,1,2,,2.0\n", "")
     want(behind == wanted, f"{awk}: an item behind two passes is in a row: {behind}")
+    # of subsets without a level no item counts, nor does a factor behind which nothing comes
+    bare = "table.awk: skipped subsets without a level: {}, the first is message 1 subset 1\n"
+    status, _, errors = run(awk, ODD + BEHIND, levels="1", keep="001015", columns="007004,012101")
+    told = "table.awk: no row has 001015\n" + bare.format(1)
+    want((status, errors) == (0, told), f"{awk}: a column of a subset without a level is told as {errors}")
+    empty = run(awk, b"message\nsubset 1\n031001 2\nsubset 2\n012101 1.0\nend\n", levels="1", columns="012101")
+    wanted = (0, "message,subset,012101\n", "table.awk: no row has 012101\n" + bare.format(2))
+    want(empty == wanted, f"{awk}: passes without items give {empty}")
+    # a descriptor that begins a pass comes again before a group inside it
+    again = b"message\nsubset 1\n031001 3\n" + b"007004 1\n007004 2\n031001 1\n011001 3\n" * 3 + b"end\n"
+    status, output, errors = run(awk, again, levels="1", columns="007004")
+    is_so = (status, output.count("\n")) == (1, 1) and "told apart: 1, the first is message 1 subset 1: 007004\n" in errors
+    want(is_so, f"{awk}: a descriptor that comes again gives {status}, {output}, {errors}")
     # passes that cannot be told apart, between others: the rest is given
-    both = BEHIND[:-4] + b"".join((ENCLOSED % 3).splitlines(True)[2:])
+    good = BEHIND.splitlines(True)
+    both = b"".join([*good[:-1], *(ENCLOSED % 3).splitlines(True)[2:-1], *good[2:]])
     between = both + NESTED + ENCLOSED % 2 + ODD + NESTED
     status, output, errors = run(awk, between, levels="1", columns="007004,012101")
     told = "table.awk: skipped subsets without a level: 1, the first is message 4 subset 1\n"
@@ -238,6 +254,10 @@ def tries_levels(awk: list, sounding: bytes, synop: bytes) -> None:
     want((status, errors) == (1, told), f"{awk}: passes that cannot be told apart give {status}, {errors}")
     rows = [line.split(",")[0] for line in output.splitlines()[1:]]
     want(rows == ["2"] * 5 + ["5"] * 5, f"{awk}: beside passes that cannot be told apart there are {output}")
+    after = ENCLOSED % 3 + b"message\nsubset 1\n031001 1\n008002 9\n020011 5\nend\n"
+    status, output, _ = run(awk, after, levels="1", columns="008002,020011")
+    wanted = (1, "message,subset,008002,020011\n2,1,9,5\n")
+    want((status, output) == wanted, f"{awk}: behind passes that cannot be told apart come {output}")
     # three passes, of which the second has lines that are no items
     head, one, rest = (b"".join(ODD.splitlines(True)[part]) for part in (slice(6), slice(6, 10), slice(10, None)))
     odd = head + b"031001 3\n" + one + b"\n# a note\n" + one + one + rest
@@ -248,7 +268,7 @@ def tries_levels(awk: list, sounding: bytes, synop: bytes) -> None:
     status, _, errors = run(awk, NESTED[:-4], levels="1", columns="007004")
     want((status, errors) == (2, "table.awk: the dump ends inside a message, so it is incomplete\n"), f"{awk}: a cut text gives {errors}")
     for word in WORDS:
-        for names in ({"columns": word}, {"keep": word, "columns": "007004"}):
+        for names in ({"columns": word}, {"columns": "007004:2"}, {"keep": word, "columns": "007004"}):
             status, output, errors = run(awk, sounding, levels="1", **names)
             want(
                 status == 2 and not output and "expected a descriptor of six digits" in errors,

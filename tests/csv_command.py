@@ -41,7 +41,7 @@ def holds(what: str, is_so: bool, told: object = "") -> None:
 
 def run(*words, awk=None, environment=None, **streams):
     """A run of bufr-csv: its status, output and errors."""
-    more = {"BUFR": program(), **({"AWK": " ".join(awk)} if awk else {}), **(environment or {})}
+    more = {"BUFR": program(), "LC_ALL": "C.UTF-8", **({"AWK": " ".join(awk)} if awk else {}), **(environment or {})}
     known = {name: value for name, value in os.environ.items() if name not in ("AWK", "BUFR_TABLES", "BUFR_CSV_LABELS")}
     if "input" not in streams:
         streams.setdefault("stdin", subprocess.DEVNULL)
@@ -330,7 +330,7 @@ def several_files(folder: pathlib.Path) -> None:
         holds(f"{file.name} as JSON", (done.returncode, done.stdout) == (0, b""), done)
 
 
-def notes(_folder: pathlib.Path) -> None:
+def notes(folder: pathlib.Path) -> None:
     """Columns without a value, subsets without levels, and those whose levels cannot be told apart."""
     done = run("-c", "012101,012104", SYNOP)
     holds("an empty column", (done.returncode, done.stderr) == (0, b"bufr-csv: no row has 012104\n"), done)
@@ -344,7 +344,13 @@ def notes(_folder: pathlib.Path) -> None:
             bits.put(value, width)
     twice = lib.message(bits.octets(), lib.words("103000 031001 008002 020011 008002"))
     done = run("--levels", "-c", "020011", input=twice)
-    holds("levels that cannot be told apart", done.returncode == 1 and b"levels cannot be told apart: 1" in done.stderr, done)
+    (folder / "twice").write_bytes(twice)
+    told = b"bufr-csv: skipped subsets whose levels cannot be told apart%s, the first is message 1 subset 1: 008002\n"
+    of_file = run("--levels", "-c", "020011", folder / "twice")
+    for what, done, count in (("a file", of_file, b": 1"), ("a pipe", done, b"")):
+        holds(f"levels of {what} that cannot be told apart", (done.returncode, done.stderr) == (1, told % count), done)
+    done = run("--levels", "-c", "020011", folder / "nosuch", folder / "twice")
+    holds("levels that cannot be told apart after a missing file", done.returncode == 2, done)
     later = lib.asking(lib.message(b"\x14"), 45)
     done = run("-c", "001001", input=later)
     holds("a note on tables", done.returncode == 0 and b"bufr-csv: 1 message, at offset 0: version 45" in done.stderr, done)
@@ -356,7 +362,7 @@ def refusals(_folder: pathlib.Path) -> None:
     for words, told in [
         (["-x"], b"unknown option -x"),
         (["--column", "001001"], b"unknown option --column"),
-        (["-c=001001"], b"not '=001001'"),
+        (["-c=001001"], b"found '=001001'"),
         (["-c", ""], b"empty column"),
         (["-c", "001001,"], b"empty column"),
         (["-c", "AIR TEMPERATURE"], b"names of 012001, 012101, 012004, 012104"),
@@ -374,6 +380,7 @@ def refusals(_folder: pathlib.Path) -> None:
         (["-c", "012101:0"], b"a count from 1"),
         (["-c", "012101:"], b"a count from 1"),
         (["-c", "012101:x"], b"a count from 1"),
+        (["-c", "012101:\u0662"], b"a count from 1"),
         (["-c", "message"], keys),
         (["-c", "time"], b"use year,month,day,hour,minute"),
         (["-c", "001001,tables"], b"use master,masterversion,localversion"),
@@ -382,7 +389,8 @@ def refusals(_folder: pathlib.Path) -> None:
         (["--levels", "-c", "year"], b"use --keep"),
         (["--levels", "-c", "012101:2"], b"use --keep"),
         (["--keep", "012101"], b"without -c, use only header keys"),
-        (["--keep", "year", "-c", "012101"], b"--keep works with --levels"),
+        (["--keep", "012101:2"], b"without -c, use only header keys"),
+        (["--keep", "year", "-c", "012101"], b"--keep works only with --levels"),
         (["--names"], b"--names needs -c"),
         (["--json", "-c", "012101,012101"], b"012101 is given twice"),
         (["--json", "--levels", "-c", "012101", "--keep", "012101"], b"012101 is given twice"),
@@ -394,7 +402,7 @@ def refusals(_folder: pathlib.Path) -> None:
         lines = done.stderr.splitlines()
         is_so = (done.returncode, done.stdout, len(lines)) == (2, b"", 1) and told in lines[0]
         holds(f"refuses {words}", is_so and lines[0].startswith(b"bufr-csv: ") and b"--help" in lines[0], done)
-    done = run("-c", "012101", "-c", "001015,012101", SYNOP)
+    done = run("-c", "012101", "-c", "001015, 012101", SYNOP)
     holds("-c twice", done.stdout.startswith(b"message,subset,012101,001015,012101\n"), done)
 
 
@@ -429,17 +437,21 @@ def failures(folder: pathlib.Path) -> None:
     killed = script("killed", "head -c 5000 > /dev/null; kill -9 $$")
     for words in ([], ["-c", "001015,file"], ["--json"]):
         done = run(*words, large, awk=[killed])
-        lines = done.stderr.splitlines()
-        is_so = done.returncode == 2 and len(lines) == 1 and b"killed" in lines[0] and b"bufr-csv: " in lines[0]
-        holds(f"{words}: awk is killed", is_so, done)
+        told = f"bufr-csv: {killed} was killed (signal 9); output is incomplete\n".encode()
+        holds(f"{words}: awk is killed", (done.returncode, done.stderr) == (2, told), done)
     killed = script("killed_at_end", "awk \"$@\"; kill -9 $$")
     done = run("-c", "001015", SYNOP, awk=[killed])
     holds("awk is killed at its end", done.returncode == 2 and b"killed_at_end" in done.stderr, done)
     done = run("-c", "001015", large, awk=[script("gone", "head -c 5000 > /dev/null")])
     lines = done.stderr.splitlines()
     holds("awk ends early", done.returncode == 2 and len(lines) == 1 and lines[0].endswith(b"gone stopped before the end of its input; output is incomplete"), done)
+    silent = script("silent", "cat > /dev/null; exit 2")
+    done = run("-c", "001015", SYNOP, awk=[silent])
+    told = f"bufr-csv: {silent} exited with status 2; output is incomplete\n".encode()
+    holds("awk fails without a word", (done.returncode, done.stderr) == (2, told), done)
     done = run("-c", "001015", SYNOP, awk=["/nosuch/awk"])
-    holds("there is no awk", done.returncode == 2 and b"cannot run /nosuch/awk" in done.stderr, done)
+    told = b"bufr-csv: cannot run /nosuch/awk: No such file or directory\n"
+    holds("there is no awk", (done.returncode, done.stderr) == (2, told), done)
     for words in ([], ["-c", "001015,file"]):
         part = f"'{program()}' \"$@\" > '{folder}/text'; head -c 3000 '{folder}/text'; kill -9 $$"
         other = script("bufr", f"[ \"$1\" = dump ] || exec '{program()}' \"$@\"\n{part}")
@@ -467,7 +479,7 @@ def failures(folder: pathlib.Path) -> None:
 
 def feed(awk: list, _folder: pathlib.Path) -> None:
     """The rows of a message are written before more input comes, by itself and with the columns of its place."""
-    for words in (["-c", "001015"], ["-c", "offset,001015", "--json"], []):
+    for words in (["-c", "001015"], ["-c", "offset,001015", "--json"], [], ["-c", "001015", SYNOP, "-"]):
         command = [sys.executable, TOP / "scripts/bufr-csv", *words]
         environment = {**os.environ, "BUFR": program(), "AWK": " ".join(awk)}
         pipe = subprocess.PIPE
@@ -486,6 +498,21 @@ def feed(awk: list, _folder: pathlib.Path) -> None:
             process.stdout.read()
         if complaints:
             return  # each wait for rows that do not come is long
+    # Notes come in a pause: on the tables from bufr-auto, on a subset without a level from awk.
+    environment, told = {**os.environ, "BUFR": program(), "AWK": " ".join(awk)}, b""
+    command = [sys.executable, TOP / "scripts/bufr-csv", "--levels", "-c", "020011"]
+    with subprocess.Popen(command, stdin=pipe, stdout=subprocess.DEVNULL, stderr=pipe, env=environment) as process:
+        process.stdin.write(lib.asking(lib.message(b"\x14"), 45))
+        process.stdin.flush()
+        while told.count(b"\n") < 2 and select.select([process.stderr], [], [], 20)[0]:
+            told += os.read(process.stderr.fileno(), 1 << 16)
+        is_right = told.startswith(b"bufr-csv: 1 message so far, at offset 0: version 45 ") and told.endswith(
+            b"\nbufr-csv: skipped subsets without a level, the first is message 1 subset 1\n"
+        )
+        holds(f"{awk}: the notes of a live feed", is_right, told)
+        process.stdin.close()
+        told = process.stderr.read()
+        holds(f"{awk}: the notes of a live feed at its end", told == b"bufr-csv: no row has 020011\n", told)
 
 
 def seconds(folder: pathlib.Path) -> None:

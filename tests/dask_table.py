@@ -121,13 +121,13 @@ def tries(trial: Trial) -> None:
     fails(done, b"small.bufr from offset 0: ")
     for script, told in [
         ('[ "$1" = ls ] && exec "$REAL" "$@"; exit 7', b"small.bufr from offset 0: "),
-        ("exit 7", b"stopped with status 7"),
+        ("exit 7", b"exited with status 7"),
     ]:
         fails(trial.run("2", COLUMNS, "small.bufr", program=trial.program(script)), told)
     for words, told in [
         (["2", COLUMNS, "small.bufr", "nosuch"], b"nosuch"),
         (["2", "offset,place", "small.bufr"], b"the header has no key 'place'"),
-        (["2", "012", "small.bufr"], b"a column is a descriptor such as 012101, not '012'"),
+        (["2", "012", "small.bufr"], b"expected a descriptor such as 012101, found '012'"),
         (["2", COLUMNS], b"expected CLUSTER, COLUMNS and at least one FILE; see bufr-dask --help"),
         (["tcp://127.0.0.1:9", COLUMNS, "small.bufr"], b"127.0.0.1:9"),
     ]:

@@ -131,17 +131,23 @@ def refuses_what_it_cannot(path: pathlib.Path) -> None:
             ("a pipe", run(["--awk", condition], input=path.read_bytes(), timeout=60)),
         ):
             lines = done.stderr.decode().splitlines()
-            told = "a line of the listing is longer than 1 MB" if "while" in condition else "--awk may only select lines, but printed or changed one"
+            told = "a line in the listing is longer than 1 MB" if "while" in condition else "--awk may only select lines, but it printed or changed this line"
             is_refused = done.returncode == 2 and done.stdout in (b"", made(1)) and len(lines) == 1 and told in lines[0]
             want(is_refused, f"--awk '{condition}' over {name}: {done}")
     done = run(["--awk", 'NR == 2 { print last } { last = $0; next }', path])
     want((done.returncode, done.stdout) == (0, made(1)), f"a line that awk selects later is refused: {done}")
     done = run(["--awk", "NR == 2 { exit 2 } 1", path])
     want((done.returncode, done.stdout) == (2, made(1)), f"an awk that fails is no failure: {done}")
+    done = run(["--awk", 'NR == 2 { system("kill -9 $PPID") } 1', path])
+    told = b"bufr-extract: awk was killed (signal 9); output is incomplete\n"
+    want((done.returncode, done.stderr) == (2, told), f"of an awk that is killed: {done}")
     # More lines than a pipe holds: `bufr ls` does not wait for an awk that has ended.
     path.write_bytes(made(1) * 4000)
     done = run(["--awk", "NR == 2 { exit 2 } 1", path], timeout=60)
     want((done.returncode, done.stdout) == (2, made(1)), f"of an awk that ends early: {done}")
+    # A line that comes once more, after more lines than are read at once.
+    done = run(["--awk", "NR == 1 { first = $0 } 1; END { print first }", path])
+    want(done.returncode == 2 and b"--awk may only select lines" in done.stderr, f"a line that comes twice: {done.stderr}")
     killed = path.with_name("killed")
     killed.write_text('#!/bin/sh\nprintf "offset=0 length=5"\nkill -9 $$\n')
     killed.chmod(0o755)
@@ -157,9 +163,10 @@ def refuses_what_it_cannot(path: pathlib.Path) -> None:
     want(run([path, "category=9"]).returncode == 0, "no message to take is a fault")
 
 
-    path.with_name("time").write_bytes(made(1))
-    want(run(["time"], cwd=path.parent).stdout == made(1), "a file with the name of a key is not read")
-    path.with_name("time").unlink()
+    for name in ("time", "A=1", "a1=1", "\u00e9=1"):
+        path.with_name(name).write_bytes(made(1))
+        want(run([name], cwd=path.parent).stdout == made(1), f"a file with the name {name} is not read")
+        path.with_name(name).unlink()
     words = ["--max-length", "12", "--max-length", str(len(made(1))), path.name]
     want(run(words, cwd=path.parent).stdout == made(1), "the last of two options does not count")
 
@@ -179,10 +186,15 @@ def tells_years_of_the_century(folder: pathlib.Path) -> None:
     path = folder / "years.bufr"
     path.write_bytes(b"".join(messages.values()))
     first, second, next_year, whole, of_14, whole_next = dates
-    two_digits = "whose years have two digits"
+    two_digits = "because of two-digit years"
     for words, taken, told in (
-        (["time=2014"], [whole], f"2 edition 3 messages, {two_digits}: time=2014,0014 selects both editions"),
-        (["time=2014-06"], [], f"1 edition 3 message, {two_digits}: time=2014-06,0014-06 selects both editions"),
+        (["time=2014"], [whole], f"2 edition 3 messages {two_digits}; time=2014,0014 selects both editions"),
+        (["time=2014-06"], [], f"1 edition 3 message {two_digits}; time=2014-06,0014-06 selects both editions"),
+        (
+            ["time=2014-05-02T03"],
+            [whole],
+            f"1 edition 3 message {two_digits}; time=2014-05-02T03,0014-05-02T03 selects both editions",
+        ),
         (["time=2014,0014"], [first, second, whole, of_14], ""),
         (["time=2014,0014-05"], [first, whole, of_14], ""),
         (["time=2015", "edition=4"], [whole_next], ""),
@@ -192,7 +204,7 @@ def tells_years_of_the_century(folder: pathlib.Path) -> None:
         (
             ["time=2014,0015", "time=2015,0014"],
             [],
-            f"3 edition 3 messages, {two_digits}: time=2014,0015,0014,0015 selects both editions",
+            f"3 edition 3 messages {two_digits}; time=2014,0015,0014,0015 selects both editions",
         ),
         (["time!=2014,0014"], [next_year, whole_next], ""),
     ):
@@ -219,6 +231,16 @@ def tells_that_there_is_no_message(path: pathlib.Path) -> None:
                 lines = done.stderr.decode().splitlines()
                 wanted = [] if told is None else [f"bufr-extract: {name} has no message{told}"]
                 want((done.returncode, lines[status:]) == (status, wanted), f"{words} of {octets[:9]}: {done}")
+
+
+def begins_behind_a_message(path: pathlib.Path) -> None:
+    """Standard input may begin behind a message, in front of other bytes."""
+    path.write_bytes(made(1) + b"\ntext\n")
+    with path.open("rb", buffering=0) as stream:
+        stream.seek(len(made(1)))
+        done = run([], stdin=stream)
+    told = b"bufr-extract: standard input has no message: it looks like text\n"
+    want((done.returncode, done.stdout, done.stderr) == (0, b"", told), f"behind a message: {done}")
 
 
 def ignores_the_locale(folder: pathlib.Path) -> None:
@@ -252,6 +274,10 @@ def skips_what_is_too_long(folder: pathlib.Path) -> None:
         for name, done in (("a file", run([*words, path])), ("a pipe", run(words, input=octets))):
             want(done.stdout == b"".join(map(made, taken)), f"{words} of {name}: other messages")
             want((done.returncode, done.stderr.decode().splitlines()) == (1, told), f"{words} of {name}: {done}")
+    before = made(1) * 40_000  # more than is buffered
+    done = run(["--max-length", str(limit)], input=before + longer)
+    note = f"bufr-extract: offset {len(before)}: skipped a message that declares {len(longer)} bytes\n"
+    want(done.stderr.decode() == note, f"after {len(before)} bytes, --max-length reports {done.stderr}")
     whole = run(["--max-length", "16777215", path])
     want(whole.stdout == run([path]).stdout != b"", "a high limit changes what is taken")
     want(run([f"--max-length={len(made(1))}", "-"], input=made(1)).returncode == 0, "a message as long as the limit is skipped")
@@ -271,6 +297,34 @@ def skips_what_is_too_long(folder: pathlib.Path) -> None:
         want(is_there and feed.stdout.read(1 << 16) == made(1), "a stray delays a live feed")
         feed.stdin.close()
         want(feed.wait() == 1, "a live feed with a stray ends otherwise")
+
+
+def tells_a_feed() -> None:
+    """The note on messages that are left out comes in a pause of a feed, or after a minute, and once."""
+    message = lib.message(b"\x14", edition=3)
+    year = 2000 + message[8 + 12]
+    rest = f" because of two-digit years; time={year},00{year - 2000:02} selects both editions\n"
+    note = f"bufr-extract: left out 2 edition 3 messages so far{rest}".encode()
+    with subprocess.Popen([sys.executable, EXTRACT, f"time={year}"], stdin=subprocess.PIPE, stderr=subprocess.PIPE, bufsize=0) as feed:
+        feed.stdin.write(message * 2)
+        is_there = select.select([feed.stderr], [], [], 20)[0]
+        told = feed.stderr.read(1 << 16) if is_there else b""
+        want(told == note, f"a live feed's note on years is {told}")
+        feed.stdin.write(message)
+        feed.stdin.close()
+        want(feed.wait() == 0 and not feed.stderr.read(), "a live feed's note on years comes again")
+    # This feed does not pause, and its minutes are short.
+    script = """if True:
+        import os, runpy, sys
+        sys.argv.pop(0)
+        sys.path.insert(0, os.path.dirname(sys.argv[0]))
+        import bufr_guard
+        bufr_guard.INTERVAL = 0
+        runpy.run_path(sys.argv[0])
+    """
+    words = [sys.executable, "-c", script, str(EXTRACT), f"time={year}"]
+    done = subprocess.run(words, input=message * 20_000, stdout=subprocess.PIPE, stderr=subprocess.PIPE)
+    want(b" so far " in done.stderr, f"a feed without a pause: {done.stderr}")
 
 
 def serves_a_feed(folder: pathlib.Path) -> None:
@@ -331,8 +385,10 @@ def main() -> None:
         refuses_what_it_cannot(folder / "one.bufr")
         tells_years_of_the_century(folder)
         tells_that_there_is_no_message(folder / "none")
+        begins_behind_a_message(folder / "behind")
         ignores_the_locale(folder)
         skips_what_is_too_long(folder)
+        tells_a_feed()
         serves_a_feed(folder)
         takes_at_most_three_times_as_long(program, folder)
 

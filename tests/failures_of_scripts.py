@@ -8,9 +8,11 @@ fault, and programs are killed. Then come the options that all scripts have, and
 """
 import contextlib
 import functools
+import hashlib
 import os
 import pathlib
 import pty
+import re
 import resource
 import shutil
 import signal
@@ -64,7 +66,7 @@ class Trial:
         done = subprocess.run(
             [*self.words, *map(str, words)], capture_output=True, env=environment, preexec_fn=prepare, timeout=120, **more
         )
-        for text in (b"Traceback", b"Exception ignored"):
+        for text in (b"Traceback", b"Exception ignored", b"internal error"):
             holds(f"{self.name} {words}: what Python prints", text not in done.stderr, done.stderr)
         return done
 
@@ -122,6 +124,26 @@ runpy.run_path(sys.argv[0], run_name="__main__")
 """
 
 
+# A script whose threads ask for more stack than there is memory.
+THREADLESS = """
+import runpy, sys, threading
+sys.path[0], sys.argv = "{}", sys.argv[1:]
+threading.stack_size(1 << 46)
+runpy.run_path(sys.argv[0], run_name="__main__")
+"""
+
+
+# A script that takes half a second to kill its programs.
+SLOW_TO_STOP = """
+import runpy, sys, time
+sys.path[0], sys.argv = "{}", sys.argv[1:]
+import bufr_guard
+stop = bufr_guard.stop
+bufr_guard.stop = lambda: stop() or time.sleep(0.5)
+runpy.run_path(sys.argv[0], run_name="__main__")
+"""
+
+
 # A script whose programs start a moment later.
 LATE = """
 import runpy, sys, time
@@ -154,6 +176,10 @@ def memory(trial: Trial) -> None:
         holds(f"{trial.name} in {megabytes} MB: a prefix", whole.stdout.startswith(done.stdout), done.stdout[-300:])
     trial.words[1:1] = ["-c", REFUSED.format(TOP / "scripts")]
     trial.fails("want of memory", trial.run([stream]), f"{trial.name}: out of memory")
+    if trial.name in ("bufr-csv", "bufr-extract", "bufr-parallel"):
+        trial.words[2] = THREADLESS.format(TOP / "scripts")
+        done = trial.run(input=SYNOP.read_bytes())
+        trial.fails("no thread", done, "cannot start a thread; free memory, or raise the limit on processes (ulimit -u)")
 
 
 def least_memory(words: list, most: int):
@@ -187,15 +213,15 @@ def room(trial: Trial) -> None:
     if trial.name in ("bufr-extract", "bufr-parallel", "bufr-lacks"):
         for folder in (str(trial.place), ""):
             done = trial.run(input=octets, limits={resource.RLIMIT_FSIZE: 4096}, environment={"TMPDIR": folder})
-            told = f"{trial.name}: no room in {folder or '/tmp'}; set TMPDIR to another directory\n"
-            holds(f"{trial.name}: no room in {folder!r}", done.stderr.decode() == told, done)
+            told = f"{trial.name}: no space left in {folder or '/tmp'}; set TMPDIR to another directory\n"
+            holds(f"{trial.name}: no space left in {folder!r}", done.stderr.decode() == told, done)
     if trial.name == "bufr-extract":
         # `bufr ls` gets a part of the stream, and starts late or at once: the cut is no fault of the stream.
         octets *= 20
         for begin in (trial.words[:1], [*trial.words[:1], "-c", LATE.format(TOP / "scripts")]):
             trial.words[:1] = begin
             done = trial.run(input=octets, limits={resource.RLIMIT_FSIZE: 100_000})
-            trial.fails("room for a part", done, f"no room in {trial.place}; set TMPDIR to another directory")
+            trial.fails("room for a part", done, f"no space left in {trial.place}; set TMPDIR to another directory")
             holds("bufr-extract, room for a part: fault lines", b"offset" not in done.stderr, done.stderr)
 
 
@@ -222,14 +248,14 @@ def shorter(trial: Trial) -> None:
             is_same = (done.returncode, done.stdout, done.stderr) == (1, wanted.stdout, wanted.stderr)
             holds(f"{trial.name}: a file that is shorter when it is read", is_same, done.stderr)
             continue
-        trial.fails(f"a file that becomes shorter {what} `bufr ls`", done, "shorter")
+        trial.fails(f"a file that becomes shorter {what} `bufr ls`", done, "truncated")
         holds(f"{trial.name}, {what} `bufr ls`: a prefix", whole.startswith(done.stdout), len(done.stdout))
 
 
 def killed(trial: Trial) -> None:
     """A program that is killed, ends otherwise than `bufr`, or with 2 and no word."""
     for command in ("ls", "dump"):
-        stopped = "bufr stopped with status {}; output is incomplete".format
+        stopped = "bufr exited with status {}; output is incomplete".format
         killed = "bufr was killed (signal 9); output is incomplete"
         for how, told in (
             ("kill -9 $$", killed), ("exit 3", stopped(3)), ("exit 127", stopped(127)), ("exit 2", stopped(2))
@@ -247,7 +273,7 @@ def killed(trial: Trial) -> None:
                     holds(f"{trial.name}: {command} and {how}", trial.name in ("bufr-extract", "bufr-lacks"), done)
     if trial.name == "bufr-parallel":  # its fault lines wait in a file, where there may be no room for the last one
         done = trial.run([SYNOP], environment=trial.program('if [ "$1" = ls ]; then printf "offset 2" >&2; exit 2; fi'))
-        told = "bufr-parallel: bufr stopped with status 2; output is incomplete\n"
+        told = "bufr-parallel: bufr exited with status 2; output is incomplete\n"
         holds("bufr-parallel, a fault line that is cut", (done.returncode, done.stderr.decode()) == (2, told), done)
     done = trial.run([SYNOP], environment={"BUFR": "/nosuch"})
     trial.fails("no program", done, "cannot run /nosuch: No such file or directory")
@@ -258,7 +284,9 @@ def killed(trial: Trial) -> None:
     (trial.place / "third/bufr").symlink_to(program())
     path = f"{trial.place}/path:{trial.place}/third:{os.environ['PATH']}"
     whole, trial.words[1] = trial.run([SYNOP]).stdout, str(trial.place / "bin" / trial.name)
-    done = trial.run([SYNOP], environment={"BUFR": "", "BUFR_TABLES": str(TOP / "tables"), "PATH": path})
+    (trial.place / "share/bufr").mkdir(parents=True)
+    (trial.place / "share/bufr/tables").symlink_to(TOP / "tables")
+    done = trial.run([SYNOP], environment={"BUFR": "", "PATH": path})
     holds(f"{trial.name} beside a folder", done.stdout == whole and done.returncode == 0, done)
     # The one on the path comes before the one that the repository built, which is better than none.
     built = trial.place / "crates/bufr/out/bufr"
@@ -296,6 +324,16 @@ def signals(trial: Trial) -> None:
         holds(f"{trial.name} at {name.name}", is_begun and (run.returncode, told) == (-name, b""), (run.returncode, told))
         started = int(number.read_text())
         holds(f"{trial.name} at {name.name}: what still runs", wait_until(lambda: not lib.runs(started)))
+    if trial.name == "bufr-csv":  # its awk, which it kills, has not failed
+        words = [sys.executable, "-c", SLOW_TO_STOP.format(TOP / "scripts"), *trial.words[1:]]
+        number.unlink()
+        run = subprocess.Popen(
+            [*words, SYNOP], stdout=subprocess.DEVNULL, stderr=subprocess.PIPE, env={**trial.environment, **slow}
+        )
+        wait_until(number.exists)
+        run.terminate()
+        _, told = run.communicate(timeout=60)
+        holds("bufr-csv that is slow to stop", (run.returncode, told) == (-signal.SIGTERM, b""), (run.returncode, told))
     number.unlink()
     waiting = trial.program(f"echo $$ > {number}; while [ -e {number} ]; do sleep 0.05; done")
     run = subprocess.Popen(
@@ -377,6 +415,8 @@ def options(trial: Trial) -> None:
         holds(f"{trial.name} {words}", done.returncode == 0 and trial.name in done.stdout.decode(), done)
         other = trial.run(words, environment={"PYTHONIOENCODING": "utf-16"})
         holds(f"{trial.name} {words} with another encoding", other.stdout == done.stdout, other)
+    killed = trial.run(["--version"], environment=trial.program("kill -9 $$"))
+    trial.fails("a version of a killed program", killed, "bufr was killed (signal 9)")
     trial.words = [kept[0], "-I", *kept[1:2]]
     done = trial.run(["--version"], cwd=trial.place)
     holds(f"{trial.name} in an isolated Python", done.returncode == 0, done)
@@ -393,6 +433,11 @@ def options(trial: Trial) -> None:
         (installed / "doc/bufr/BUILD").write_bytes(octets)
         done = trial.run(["--version"])
         holds(f"{trial.name} by a BUILD {octets}", done.stdout.endswith(b", unknown build\n") and not done.returncode, done)
+    (trial.place / "named").symlink_to(program())
+    known = f"program: {hashlib.sha256(pathlib.Path(program()).read_bytes()).hexdigest()}\ncommit: {'0123456789' * 4}\nproof: proved\n"
+    (installed / "doc/bufr/BUILD").write_text(known)
+    done = trial.run(["--version"], environment={"BUFR": "named", "PATH": f"{trial.place}:{os.environ['PATH']}"})
+    holds(f"{trial.name} by a good BUILD", done.stdout.endswith(b", commit 012345678901, proved\n"), done)
     trial.words = kept
     done = trial.run(["--nonsense"])
     holds(f"{trial.name} --nonsense", done.returncode == 2 and b"\n" == done.stderr[-1:], done)
@@ -409,6 +454,8 @@ def options(trial: Trial) -> None:
         octets = b"" if "./-" in words else SYNOP.read_bytes()
         done = trial.run(words, cwd=trial.place, input=octets)
         holds(f"{trial.name} of {words}", done.stdout == trial.run([SYNOP]).stdout and not done.returncode, done)
+    where = "the input" if trial.name == "bufr-extract" else "/"
+    trial.fails("a folder", trial.run(["/"]), f"{trial.name}: cannot read {where}: Is a directory")
     done = trial.run(["no\x1b[31m\nsuch\udcff"])
     trial.fails("a name that is not there", done, r"no\x1B[31m\x0Asuch\xFF")
 
@@ -434,9 +481,23 @@ def progress(trial: Trial) -> None:
     lines = told.count(b" of 12 MB")
     holds(f"{trial.name}: progress", status == 0 and 1 <= lines <= seconds + 1, (status, told, seconds))
     holds(f"{trial.name}: progress that stays", told.endswith(b"\r\x1b[K") and b"\n" not in told, told)
+    if trial.name not in ("bufr-extract", "bufr-lacks"):  # whose output comes at once behind the pause of `bufr ls`
+        holds(f"{trial.name}: progress by parts", re.search(rb"\x1b\[K[1-9]\d* of 12 MB", told), told)
     if trial.name == "bufr-lacks":
         done = trial.run([trial.place / "long"], environment=slow)
         holds(f"{trial.name}: progress to a pipe", done.stderr == b"", done.stderr)
+        # Of a pipe the total is unknown.
+        main, terminal = pty.openpty()
+        run = subprocess.Popen(trial.words, stdin=subprocess.PIPE, stdout=subprocess.DEVNULL, stderr=terminal, env=trial.environment)
+        os.close(terminal)
+        for pause in (1.2, 0):
+            run.stdin.write(SYNOP.read_bytes() * 4000)
+            run.stdin.flush()
+            time.sleep(pause)
+        run.communicate(timeout=60)
+        told = os.read(main, 4096)
+        os.close(main)
+        holds("bufr-lacks: progress of a pipe", re.match(rb"\r\x1b\[K[2-4] MB\r\r\x1b\[K", told), told)
     if trial.name == "bufr-extract":  # whose output comes from messages, as a terminal shows
         main, terminal = pty.openpty()
         subprocess.run([*words, "category=9"], stdout=terminal, stderr=terminal, env={**trial.environment, **slow})
@@ -450,23 +511,36 @@ def progress(trial: Trial) -> None:
 def guard() -> None:
     """How a script ends that raises something, in its work or before it."""
     few = "import resource; resource.setrlimit(resource.RLIMIT_NOFILE, (3, 3)); "
+    small = few.replace("NOFILE, (3, 3)", "FSIZE, (0, 0)")
+    shows = "import os; bufr_guard.Progress.is_shown = True; "
     full = "import tempfile\ndef full(): raise OSError(28, 'No space left on device')\ntempfile.TemporaryFile = full; "
     work = "bufr_guard.run(lambda _: {}, '')"
     for code, status, told in (
         (few + work.format("bufr_guard.temporary()"), 2, "too many open files; raise the limit (ulimit -n)"),
-        (full + work.format("bufr_guard.temporary()"), 2, "cannot make a temporary file: No space left on device; set TMPDIR to another directory"),
+        (full + work.format("bufr_guard.temporary()"), 2, "cannot create a temporary file: No space left on device; set TMPDIR to another directory"),
         (work.format("1 // 0"), 2, "internal error: ZeroDivisionError: integer division or modulo by zero (<string>, line 1)"),
         (work.format("open('/nosuch')"), 2, "/nosuch: No such file or directory"),
+        (small + work.format("bufr_guard.write_all(bufr_guard.temporary(), b'x')"), 2, "write failed: File too large"),
+        (work.format("bufr_guard.checked(129)"), 2, "bufr was killed (signal 1); output is incomplete"),
+        (shows + work.format("0"), 0, "\r\x1b[K"),
+        (shows + work.format("1 // 0"), 2, "\r\x1b[K-c: internal error: ZeroDivisionError: integer division or modulo by zero (<string>, line 1)\n"),
+        (shows + work.format("os.kill(os.getpid(), 15)"), -signal.SIGTERM, "\r\x1b[K"),
+        (shows + work.format("os.close(2) or 0"), 0, ""),
         (work.format("0") + "; print('more')", 0, ""),
         ("sys.excepthook = bufr_guard.hook; raise KeyboardInterrupt", -signal.SIGINT, ""),
         ("sys.excepthook = bufr_guard.hook; raise MemoryError", 2, "out of memory"),
         ("sys.excepthook = bufr_guard.hook; import nosuch", 2, f"nosuch is not installed for {sys.executable} (for Debian's /usr/bin/python3: apt-get install python3-nosuch)"),
     ):
         words, environment = [sys.executable, "-c", "import bufr_guard, sys; " + code], {**os.environ, "TMPDIR": "/nosuch"}
-        environment = os.environ if code.startswith(few) else environment
+        environment = os.environ if code.startswith((few, small)) else environment
         done = subprocess.run(words, cwd=TOP / "scripts", capture_output=True, env=environment)
-        wanted = (status, b"", f"-c: {told}\n".encode() if told else b"")
+        wanted = (status, b"", (told if told[:1] in ("", "\r") else f"-c: {told}\n").encode())
         holds(f"{code}", (done.returncode, done.stdout, done.stderr) == wanted, done)
+    # What is buffered for standard error follows what is buffered for standard output.
+    code = "import bufr_guard; bufr_guard.run(lambda _: bufr_guard.say(b'2') or bufr_guard.output().write(b'1') or 0, '')"
+    words = [sys.executable, "-c", code]
+    done = subprocess.run(words, cwd=TOP / "scripts", stdout=subprocess.PIPE, stderr=subprocess.STDOUT)
+    holds("output and errors in one file", (done.returncode, done.stdout) == (0, b"12"), done)
 
 
 def main() -> None:

@@ -50,6 +50,7 @@ TMPDIR=$work/temporary DESTDIR=$work/stage "$top/install.sh" --uninstall /usr
 [ -z "$(ls -A "$work/temporary")" ] || fail "install.sh leaves temporary files"
 [ ! -e "$work/stage/usr" ] || fail "--uninstall with DESTDIR leaves $(find "$work/stage/usr")"
 (cd "$prefix" && sha256sum --quiet -c share/doc/bufr/SHA256SUMS) || fail "SHA256SUMS has other sums"
+grep -qx 'logic: none' "$doc/BUILD" || fail "BUILD gives an unproved program a logic: $(< "$doc/BUILD")"
 grep -qx 'commit: unknown' "$doc/BUILD" || fail "BUILD ties a program of --program to a commit: $(< "$doc/BUILD")"
 
 # Wrong words.
@@ -138,11 +139,13 @@ bufr-extract category=0 "$examples/synop.bufr" | cmp - "$examples/synop.bufr" ||
 bufr-parallel dump -B "$set/B.csv" -D "$set/D.csv" "$examples/synop.bufr" | cmp - "$examples/synop.txt" ||
     fail "bufr-parallel: another dump of examples/synop.bufr"
 count='import bufr_text, sys; print(len(list(bufr_text.dump(sys.argv[1]))))'
+named='import bufr_text; bufr_text.rows([], ["AIR TEMPERATURE"])'
 (
     unset PYTHONPATH
     eval "$(sed -n 's/^To import bufr_text in Python.*: export/export/p' told)"
     python3 -c "$count" "$examples/synop.bufr" | grep -qx 1
-) || fail "bufr_text.py: no message of examples/synop.bufr by what install.sh prints"
+    ! python3 -c "$named" 2> errors && grep -q ' 012001, 012101,' errors
+) || fail "bufr_text.py: no message of examples/synop.bufr, or no names, by what install.sh prints"
 for script in "$prefix"/bin/bufr-* "$prefix/share/bufr/tables/convert.py" "$prefix/share/bufr/tables/changes.py"; do
     "$script" --help > help 2> errors && test -s help && test ! -s errors || fail "$script --help"
     name=${script##*/}
@@ -181,8 +184,7 @@ if python3 -c 'import pip, venv' 2> errors; then
         rm -r "$prefix"/bin/bufr-* "$prefix/share/bufr"
         environment/bin/bufr-auto "$examples/synop.bufr" | cmp - "$examples/synop.txt" || fail "bufr-auto of the package"
         environment/bin/python -c "$count" "$examples/synop.bufr" | grep -qx 1 || fail "bufr_text of the package"
-        ! environment/bin/python -c 'import bufr_text; bufr_text.rows([], ["AIR TEMPERATURE"])' 2> errors &&
-            grep -q ' 012001, 012101,' errors || fail "bufr_text of the package finds no tables: $(< errors)"
+        ! environment/bin/python -c "$named" 2> errors && grep -q ' 012001, 012101,' errors || fail "bufr_text of the package finds no tables: $(< errors)"
         for script in "$top"/scripts/bufr-*; do
             "environment/bin/${script##*/}" --help > help || fail "${script##*/} of the package"
         done

@@ -1,16 +1,14 @@
 #!/usr/bin/env python3
-"""Breaks the scripts on purpose, one change at a time, and wants the test that stands beside it to fail.
+"""Breaks the scripts on purpose, one change at a time: the test that is named beside each change must fail.
 
-    tests/mutations.py [--all | --only WORD] [PROGRAM]
-
-Each change is made in a copy of this tree. Without --all only the first is tried, and of the others it is looked at
-whether their text is still there. --only tries those whose file, text or test has this word.
+Each change is made in a copy of this tree. Without an option, only the first one is tried. In any case, the text that a
+change replaces must still be in its file.
 """
+import argparse
 import os
 import pathlib
 import shutil
 import subprocess
-import sys
 import tempfile
 
 from lib import BUILT, TOP, finish
@@ -84,7 +82,7 @@ MUTATIONS = [
     ),
     (
         "scripts/bufr_guard.py",
-        "raise Failed(\"the input became shorter while it was read\")",
+        "raise Failed(\"the input was truncated while it was read\")",
         "break",
         "tests/failures_of_scripts.py bufr-parallel",
     ),
@@ -146,8 +144,9 @@ MUTATIONS = [
     ("release.sh", "| sort | xargs", "| xargs", "tests/release.sh"),
     ("build_wheel.py", "sorted([*contents, *about])", "[*contents, *about]", "tests/release.sh"),
     ("release.sh", "export GIT_CONFIG_GLOBAL=/dev/null GIT_CONFIG_SYSTEM=/dev/null\n", "", "tests/release.sh"),
-    ("release.sh", "git clone -q --no-checkout . \"$work/clone\"", "cp -r . \"$work/clone\"", "tests/release.sh"),
-    ("release.sh", "rm -rf \"$work\"; ", "", "tests/release.sh"),
+    ("release.sh", "git clone -q --no-checkout . \"$clone\"", "cp -r . \"$clone\"", "tests/release.sh"),
+    ("release.sh", "    rm -rf \"$clone\" \"$work\" 2> /dev/null || rm -rf \"$clone\" \"$work\"\n", "", "tests/release.sh"),
+    ("release.sh", "kill \"$running\" 2> /dev/null && wait || true", ":", "tests/release.sh"),
     ("release.sh", "setpriv --pdeathsig TERM ", "", "tests/release.sh"),
     ("install.sh", "trap 'echo \"$0: interrupted\" >&2; exit 1' HUP INT TERM\n", "", "tests/installation.sh"),
     ("install.sh", "is_marked \"$program\" || logic=none\n", "", "tests/proved_installation.sh"),
@@ -250,7 +249,7 @@ MUTATIONS = [
     ("scripts/table.awk", "items += /^[0-3]/", "items++", "tests/csv_by_awk.py"),
     ("scripts/table.awk", "(left || opened < 2 || pass_inner || items != pass_items)", "1", "tests/csv_by_awk.py"),
     ("scripts/table.awk", "open = left = row_count = 0", "open = left = 0", "tests/csv_by_awk.py"),
-    ("scripts/table.awk", 'fail("keep works with levels=1 or without columns")', "0", "tests/csv_by_awk.py"),
+    ("scripts/table.awk", 'fail("keep works only with levels=1 or without columns")', "0", "tests/csv_by_awk.py"),
     ("scripts/table.awk", 'if (feed != "0")', "if (0)", "tests/csv_command.py"),
     ("scripts/table.awk", 'header["offset"] = words[3]', 'header["offset"] = words[5]', "tests/csv_command.py"),
     ("scripts/bufr-csv", "if self.is_whole:\n                return\n", "return\n", "tests/csv_command.py"),
@@ -267,7 +266,15 @@ MUTATIONS = [
     ("scripts/bufr-csv", 'sorted((asked not in name.split("/"), fxy)', "sorted((0, fxy)", "tests/csv_command.py"),
     ("scripts/bufr-csv", "return any(word in PLACES for word in self.all)", 'return "offset" in self.all', "tests/csv_command.py"),
     ("scripts/bufr-csv", "    except OSError:\n        return True\n", "    except ValueError:\n        return True\n", "tests/csv_command.py"),
-    ("scripts/bufr-csv", "bufr_guard.say(notes)", "pass", "tests/csv_command.py"),
+    ("scripts/bufr-csv", "bufr_guard.say(self.notes())", "pass", "tests/csv_command.py"),
+    ("scripts/bufr-csv", "self.told += len(notes)", "pass", "tests/csv_command.py"),
+    ("scripts/bufr-csv", "more_notes=rows.notes", "more_notes=bytes", "tests/csv_command.py"),
+    ("scripts/bufr_auto.py", "                self.report()\n                self.poll", "                self.poll", "tests/bufr_auto.py"),
+    ("scripts/bufr_auto.py", "reason.is_told = True", "pass", "tests/bufr_auto.py"),
+    ("scripts/bufr_auto.py", "time.monotonic() >= self.next_notes", "False", "tests/bufr_auto.py"),
+    ("scripts/bufr_conditions.py", "self.is_told = self.left_out > 0", "pass", "tests/extract_messages.py"),
+    ("scripts/bufr_guard.py", "if report and time.monotonic() >= due:", "if False:", "tests/extract_messages.py"),
+    ("scripts/bufr-extract", '(lambda: tell(" so far")) if is_feed else None', "None", "tests/extract_messages.py"),
     ("scripts/bufr-csv", "not all(map(is_regular, files))", "False", "tests/csv_command.py"),
     ("scripts/bufr-csv", "raise bufr_options.misused(f\"{option} '{','.join(asked.all(option))}' has an empty column\")", "pass", "tests/csv_command.py"),
     ("completions/bufr-scripts.bash", "--where) options='' words=$keys ;;", "--where) return ;;", "tests/completions.sh"),
@@ -309,7 +316,7 @@ MUTATIONS = [
     ("scripts/bufr_guard.py", "        write_all(2, os.fsencode(", "        Output(2).write(os.fsencode(", "tests/failures_of_scripts.py bufr-csv"),
     ("scripts/bufr_guard.py", "\nBLOCK = 1 << 20", "\n BLOCK = 1 << 20", "tests/failures_of_scripts.py bufr-lacks"),
     ("scripts/bufr_sets.py", "if len(cache) > CACHED:", "if False:", "tests/memory_of_scripts.py bufr-lacks"),
-    ("scripts/table.awk", "if (++name_count > 10000) {", "if (0) {", "tests/csv_by_awk.py"),
+    ("scripts/table.awk", "if (++name_count % 10000 == 0)", "if (0)", "tests/csv_by_awk.py"),
     ("scripts/bufr-plot", "(bytes, type(None))) and not item.reference", "(bytes, type(None)))", "tests/pictures.py"),
     ("scripts/bufr-extract", "            os.close(source)\n", "            pass\n", "tests/extract_messages.py"),
     ("scripts/bufr-extract", "            bufr_guard.stop()  # otherwise", "            pass  # otherwise", "tests/failures_of_scripts.py bufr-extract"),
@@ -318,6 +325,25 @@ MUTATIONS = [
         "self.thread = threading.Thread(target=self.feed, daemon=True)",
         "self.thread = threading.Thread(target=int)\n        threading.Thread(target=self.feed, daemon=True).start()",
         "tests/failures_of_scripts.py bufr-extract",
+    ),
+    ("scripts/bufr-csv", "not all(map(is_regular, files))", "not any(map(is_regular, files))", "tests/csv_command.py"),
+    ("scripts/bufr-csv", "return max(status, rows.end())", "return rows.end() or status", "tests/csv_command.py"),
+    ("scripts/bufr-plot", "if self.values <= MOST_LABELS:", "if self.values < MOST_LABELS:", "tests/pictures.py"),
+    ("scripts/bufr_auto.py", "stray_line(finder.passed + begin, fault)", "stray_line(begin, fault)", "tests/extract_messages.py"),
+    (
+        "scripts/bufr_text.py",
+        'warnings.warn(line.decode(errors="replace"), DumpWarning, stacklevel=2)',
+        "pass",
+        "tests/python_module.py",
+    ),
+    ("scripts/table.awk", "    if (twice)\n", "    if (twice > 1)\n", "tests/csv_by_awk.py"),
+    ("tables/changes.py", '"common code table", ', "", "tests/table_converter.py"),
+    ("install.sh", "is_marked \"$program\" || logic=none\n", "", "tests/installation.sh"),
+    (
+        "scripts/bufr_guard.py",
+        'isinstance(error, RuntimeError) and str(error) == "can\'t start new thread"',
+        "False",
+        "tests/failures_of_scripts.py bufr-parallel",
     ),
 ]
 
@@ -353,14 +379,18 @@ def told_of(top: pathlib.Path, mutation: tuple, program: str) -> tuple:
 
 
 def main() -> None:
-    words = sys.argv[1:]
-    asked = MUTATIONS[:1]
-    if words[:1] == ["--all"]:
-        asked, words = MUTATIONS, words[1:]
-    elif words[:1] == ["--only"]:
-        asked, words = [mutation for mutation in MUTATIONS if words[1] in " ".join(mutation)], words[2:]
-    program = os.path.abspath(words[0] if words else BUILT)
-    wrongs = []
+    asker = argparse.ArgumentParser(description=__doc__, formatter_class=argparse.RawDescriptionHelpFormatter)
+    which = asker.add_mutually_exclusive_group()
+    which.add_argument("--all", action="store_true", help="try all changes")
+    which.add_argument("--only", metavar="WORD", help="try the changes whose file, text or test has WORD")
+    asker.add_argument("program", nargs="?", default=BUILT, help="the program for the tests")
+    words = asker.parse_args()
+    asked = MUTATIONS if words.all else MUTATIONS[:1]
+    if words.only:
+        asked = [mutation for mutation in MUTATIONS if words.only in " ".join(mutation)]
+    if not asked:
+        asker.error(f"no change has {words.only}")
+    program, wrongs = os.path.abspath(words.program), []
     for file, old, *_ in MUTATIONS:
         count = (TOP / file).read_text(encoding="utf-8").count(old)
         wrongs += [f"{file} has {count} times {old!r}"] * (count == 0)

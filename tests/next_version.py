@@ -30,11 +30,11 @@ HEADER_D = (
 TOLD = """\
 wmo-39 to wmo-99
   elements changed: 1: 015083
-  elements gone: 0
-  elements new: 1
+  elements removed: 0
+  elements added: 1
   sequences changed: 0
-  sequences gone: 0
-  sequences new: 1
+  sequences removed: 0
+  sequences added: 1
 """
 
 

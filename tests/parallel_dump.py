@@ -151,7 +151,7 @@ def leaves_no_process(program: str, folder: pathlib.Path) -> None:
     (folder / "two.bufr").write_bytes(lib.message(b"FIRST" + bytes(70_000)) + lib.message(bytes(70_000)))
     environment = {**os.environ, "BUFR": str(folder / "lasting")}
     status, _, errors = run([*PARALLEL, "-P", "2", "dump", *TABLES, "two.bufr"], cwd=folder, env=environment, timeout=50)
-    told = b"bufr-parallel: bufr stopped with status 3; output is incomplete\n"
+    told = b"bufr-parallel: bufr exited with status 3; output is incomplete\n"
     want((status, errors) == (2, told), f"a dump that fails ends with {status}: {errors}")
     number = int((folder / "number").read_text())
     end = time.monotonic() + 5

@@ -39,7 +39,7 @@ def stations(count: int, latitude: str = "50.5", longitude: str = "10.25", name:
     for number in range(1, count + 1):
         place = ("10.5", "20.5") if number == 1 else (latitude, longitude)
         text += b"subset %d\n005001 %s\n006001 %s\n" % (number, place[0].encode(), place[1].encode())
-        text += b'001015 "%s"  # N\xdf$x^{$ [$y$]\n012101 28%d.5\n' % (name, number)
+        text += b'001015 "%s"  # N\xdf\xe6\xb8\xa9$x^{$ [$y$]\n012101 28%d.5\n' % (name, number)
     return text + b"end\n"
 
 
@@ -65,13 +65,17 @@ def strange(python: str, folder: pathlib.Path) -> None:
     want(draw(referred) == plain, "a reference value is taken for a latitude")
     want(draw(stations(3, longitude="180.0")) != draw(stations(3, longitude="-180.0")), "180 degrees are wrapped")
     for latitude, pole in (("91.5", "90.0"), ("-100.0", "-90.0")):
-        told = (draw(stations(3, pole))[0], "bufr-plot: 2 latitudes are beyond a pole and drawn at the pole\n")
+        told = (draw(stations(3, pole))[0], "bufr-plot: 2 latitudes are beyond a pole; their points are drawn at the pole\n")
         want(draw(stations(3, latitude)) == told, f"latitude {latitude} is not clipped, or not told")
-    for place in ({"longitude": "-165.0"}, {"latitude": "-85.0"}):
+    # half of the world, from 10.5 north and 20.5 east, and a little more
+    for place, is_whole in (
+        ({"longitude": "-159.5"}, False), ({"latitude": "-79.5"}, False), ({"longitude": "-160.0"}, True), ({"latitude": "-80.0"}, True)
+    ):
         drawn, _ = draw(stations(3, **place))
         ticks = re.findall(r">(\u2212?\d+)</text>", drawn)
         edges = [float(tick.replace("\u2212", "-")) for tick in ticks]
-        want(ticks and (min(edges), max(edges)) == (-150, 150), f"the map of the world has {ticks}")
+        want(((min(edges), max(edges)) == (-150, 150)) == is_whole, f"the map to {place} has {ticks}")
+    want("2 places: 012101 []" in draw(stations(2).replace(b"\n012101 282.5", b""), "--value", "012101")[0], "a last subset without the value hides its name")
     # Two levels at 0 degrees Celsius: the axis of temperatures is the same on both sides of 0.
     head = stations(1).partition(b"subset 1\n")[0]
     level = b"007004 %d00\n012101 273.15\n"
@@ -81,7 +85,11 @@ def strange(python: str, folder: pathlib.Path) -> None:
     ticks = re.findall(r">(\u2212?0\.\d+)</text>", (folder / "picture.svg").read_text(encoding="utf-8"))
     values = sorted(float(tick.replace("\u2212", "-")) for tick in ticks)
     want(len(values) > 2 and values == [-value for value in reversed(values)], f"0 degrees Celsius have {ticks}")
-    want("281.5" in draw(stations(100), "--value", "012101")[0], "100 values have no labels")
+    drawn, _ = draw(stations(100), "--value", "012101")
+    labels = re.findall(r">28\d+\.5<", drawn)
+    want(len(labels) == 100 and ">100 places: 012101 []<" in drawn, f"100 values have {len(labels)} labels")
+    radius = f"M 0 {30**0.5 / 2:.6f} "
+    want(radius in drawn and radius not in draw(stations(101))[0], "101 points are as large as 100")
     drawn, told = draw(stations(101), "--value", "012101")
     want("281.5" not in drawn, "101 values have labels")
     want(told == "bufr-plot: drew no values: there are 101, and the limit is 100\n", f"of 101 values it tells {told}")
@@ -102,7 +110,15 @@ def first_of_a_level(python: str, folder: pathlib.Path, text: bytes) -> None:
         return (folder / "picture.svg").read_text(encoding="utf-8")
 
     twice = re.sub(rb"\n(01210[13]) ([\d.]+)([^\n]*)", rb"\g<0>\n\1 300\3", text)
-    want(twice.count(b" 300 ") > 40 and draw(twice) == draw(text), "the last temperature of a level counts")
+    whole = draw(text)
+    want(twice.count(b" 300 ") > 40 and draw(twice) == whole, "the last temperature of a level counts")
+    others = re.sub(rb"\n0121(0[13])", rb"\n0120\1", text)
+    want(others != text and draw(others) == whole, "0 12 001 and 0 12 003 count otherwise")
+    # no levels: a temperature before all pressures, wrong pressures, and a pressure without a temperature
+    odd = b"subset 1\n012101 250\n007004 MISSING\n012101 250\n007004 0\n012101 250\n007004 -100\n012101 250\n007004 2000\n"
+    want(draw(text.replace(b"subset 1\n", odd)) == whole, "what is no level is drawn")
+    one = text.partition(b"subset 1\n")[0] + b"subset 1\n007004 50000\n012101 250\nend\n"
+    want(run(python, ["sounding", folder / "picture.svg"], one, cwd=folder).returncode == 1, "one level is drawn")
 
 
 def memory_of_points(python: str, folder: pathlib.Path) -> None:
@@ -165,7 +181,7 @@ def draws(python: str, program: str, folder: pathlib.Path) -> None:
     for words, name, told in [
         (["map"], "synop", ["3 places"]),
         (["map", "--value", "012101"], "buoys", ["8 places", "281.85", "287.35"]),
-        (["map", "--value", "001015"], "synop", ["SODANKYLA", "HEATHROW", "SAENTIS"]),
+        (["map", "--value", "001015"], "synop", [">SODANKYLA<", ">HEATHROW<", ">SAENTIS<"]),
         (["sounding"], "sounding", ["temperature", "dew point", "2023-03-14 23:31", ">850</text>", ">30</text>"]),
         (["sounding", "--message", "1", "--subset", "1"], "sounding", ["pressure"]),
     ]:
@@ -177,18 +193,22 @@ def draws(python: str, program: str, folder: pathlib.Path) -> None:
         drawn = picture.read_text(encoding="utf-8")
         for text in told:
             want(text in drawn, f"{words} of {name} does not have {text}")
+        want(words[0] == "map" or ">20</text>" not in drawn, "a sounding has a tick beyond its levels")
         picture.unlink()
-    want(run(python, ["map", folder / "a.png"], texts["synop"]).returncode == 0, "no PNG is drawn")
+    coarse = texts["synop"].replace(b"\n005001", b"\n005002").replace(b"\n006001", b"\n006002")
+    want(run(python, ["map", folder / "a.png"], coarse).returncode == 0, "no PNG is drawn")
     want((folder / "a.png").read_bytes().startswith(b"\x89PNG"), "a PNG is none")
     for words, text, status, told in [
         (["map", folder / "b.png"], texts["one_block_number"], 1, "no subset has a latitude and a longitude"),
         (["map", "--value", "012104", folder / "b.png"], texts["synop"], 1, "no subset has 012104"),
         (["sounding", folder / "b.png"], texts["synop"], 1, "the chosen subsets have no levels"),
         (["sounding", "--subset", "2", folder / "b.png"], texts["sounding"], 1, "the chosen subsets have no levels"),
+        (["sounding", "--message", "2", folder / "b.png"], texts["sounding"], 1, "the chosen subsets have no levels"),
+        (["map", "--value", "012101:2", folder / "b.png"], texts["synop"], 1, "no subset has 012101:2"),
         (["map", folder / "b.png"], b"", 1, "bufr-plot: the input has no message"),
         (["sounding", folder / "b.png"], b"# a note\n", 1, "bufr-plot: the input has no message"),
-        (["map", "--value", "", folder / "b.png"], texts["synop"], 2, "--value '': a column is a descriptor such as 012101, not ''"),
-        (["map", "--value", "T", folder / "b.png"], texts["synop"], 2, "--value 'T': a column is a descriptor such as 012101, not 'T'"),
+        (["map", "--value", "", folder / "b.png"], texts["synop"], 2, "--value '': expected a descriptor such as 012101, found ''"),
+        (["map", "--value", "T", folder / "b.png"], texts["synop"], 2, "--value 'T': expected a descriptor such as 012101, found 'T'"),
         (["map", ""], texts["synop"], 2, "PICTURE must end in .png, .svg or .pdf: ''"),
         (["map", folder / "b.png", ""], b"", 2, "cannot open ''"),
         (["sounding", "--message", "x", folder / "b.png"], b"", 2, "--message 'x': expected a whole number, at least 1"),
@@ -197,12 +217,12 @@ def draws(python: str, program: str, folder: pathlib.Path) -> None:
         (["map", "--message", "1", folder / "b.png"], b"", 2, "unknown option --message"),
         (["map"], b"", 2, "expected map PICTURE or map PICTURE DUMP"),
         (["map", folder / "b.png", folder / "c", folder / "d"], b"", 2, "expected map PICTURE or map PICTURE DUMP"),
-        ([], b"", 2, "expected map or sounding first"),
+        ([], b"", 2, "expected map or sounding as the first argument"),
         (["map", folder / "b.png"], b"no dump\n", 2, "line 1: expected message"),
         (["map", folder / "b.png", folder / "nosuch"], b"", 2, "nosuch"),
         (["map", folder / "no" / "b.png"], texts["synop"], 2, f"cannot write {folder / 'no' / 'b.png'}: No such file"),
         (["map", folder / "b.text"], texts["synop"], 2, "text"),
-        (["picture", folder / "b.png"], b"", 2, "expected map or sounding first"),
+        (["picture", folder / "b.png"], b"", 2, "expected map or sounding as the first argument"),
     ]:
         done = run(python, words, text)
         want(

@@ -64,10 +64,10 @@ MISTAKES = [
     (1, b"IUAA01 EGRR 120700\r\r\n", "BUFR instead of a dump; use bufr-auto to dump it"),
     (1, b"\x01\r\r\n", "BUFR instead of a dump; use bufr-auto to dump it"),
     (24, b"001001 10\r\n", "a carriage return at the end"),
-    (24, b"> 001001 10\n", "the > of a quoted mail"),
+    (24, b"> 001001 10\n", "a > from a quoted email"),
     (24, b"001001\t10\n", "a tab instead of a space"),
     (24, b" 001001 10\n", "a space at the beginning"),
-    (25, b"message\n", "message; the document before it has no end"),
+    (25, b"message\n", "message; the previous document has no end line"),
     (24, b"1001 10\n", "a descriptor of fewer than six digits"),
     (2, b"edition  4\n", "two spaces instead of one"),
     (22, b"descriptors  001001\n", "two spaces instead of one"),
@@ -89,10 +89,10 @@ MISTAKES = [
     (2, b"edition 4 # NOTE\n", "a comment; only items may have one"),
     (24, b'001015 "\\xc4"\n', "\\x without two upper-case hexadecimal digits"),
     (24, b'001015 "\\xC"\n', "\\x without two upper-case hexadecimal digits"),
-    (24, b'001015 "B\xc3\x96BLINGEN"\n', "a byte in a text that must be written as \\xHH"),
-    (24, b'001015 "a"b"\n', 'a " or \\ in a text without \\ before it, or no " at the end'),
-    (24, b'001015 "a\n', 'a " or \\ in a text without \\ before it, or no " at the end'),
-    (24, b"001015 HEATHROW\n", "a text without quotes"),
+    (24, b'001015 "B\xc3\x96BLINGEN"\n', "a byte in a string that must be written as \\xHH"),
+    (24, b'001015 "a"b"\n', 'an unescaped " or \\ in a string, or no closing "'),
+    (24, b'001015 "a\n', 'an unescaped " or \\ in a string, or no closing "'),
+    (24, b"001015 HEATHROW\n", "a string without quotes"),
 ]
 # What `read` and `encode` take or refuse alike.
 ALIKE = [
@@ -344,7 +344,7 @@ class Tables(unittest.TestCase):
             bufr_text.levels([], ["012101"], keep=["012101:2"])
 
     def test_a_column_by_name_is_answered_with_numbers(self):
-        said = "a column is a descriptor such as 012101, not 'AIR TEMPERATURE', which is in the names of "
+        said = "expected a descriptor such as 012101, found 'AIR TEMPERATURE', which occurs in the names of "
         for call in (bufr_text.rows, bufr_text.levels):
             for word in ("AIR TEMPERATURE", "air temperature"):
                 with self.assertRaises(ValueError) as error:
@@ -353,7 +353,7 @@ class Tables(unittest.TestCase):
         for word in ("airTemperature", "1015", "", "012101:0"):
             with self.assertRaises(ValueError) as error:
                 bufr_text.rows([], [word])
-            self.assertEqual(str(error.exception), f"a column is a descriptor such as 012101, not '{word}'")
+            self.assertEqual(str(error.exception), f"expected a descriptor such as 012101, found '{word}'")
         with self.assertRaisesRegex(ValueError, "the header has no key 'place'; the keys are edition, master,"):
             bufr_text.rows([], [], ["place"])
         self.addCleanup(os.environ.pop, "BUFR_TABLES")
@@ -361,18 +361,18 @@ class Tables(unittest.TestCase):
             pathlib.Path(without_tables, "wmo-39").mkdir()
             for place in ("/nosuch", without_tables):
                 os.environ["BUFR_TABLES"] = place
-                with self.assertRaisesRegex(ValueError, "not 'AIR TEMPERATURE'$"):
+                with self.assertRaisesRegex(ValueError, "found 'AIR TEMPERATURE'$"):
                     bufr_text.rows([], ["AIR TEMPERATURE"])
             # Rows that are too short count as none, and so does a table with another header.
             table = pathlib.Path(without_tables, "wmo-39/B.csv")
             pathlib.Path(without_tables, "wmo-39/D.csv").touch()
             for text, told in (
-                ("fxy,name,unit\nshort\n012101,AIR TEMPERATURE,K\n", ", which is in the names of 012101"),
+                ("fxy,name,unit\nshort\n012101,AIR TEMPERATURE,K\n", ", which occurs in the names of 012101"),
                 ("fxy,unit\n012101,K\n", ""),
                 ("", ""),
             ):
                 table.write_text(text)
-                with self.assertRaisesRegex(ValueError, f"not 'AIR TEMPERATURE'{told}$"):
+                with self.assertRaisesRegex(ValueError, f"found 'AIR TEMPERATURE'{told}$"):
                     bufr_text.rows([], ["AIR TEMPERATURE"])
 
     def test_levels_are_those_of_table_awk(self):
@@ -382,6 +382,7 @@ class Tables(unittest.TestCase):
         # passes that begin and end with the same descriptor, two and three of them
         enclosed = b"031001 %d\n" + b"008002 1\n020011 2\n008002 MISSING\n" * 3
         texts += [with_line(24, enclosed % passes) for passes in (2, 3)]
+        texts.append(with_line(24, b"031001 3\n" + b"007004 1\n007004 2\n031001 1\n011001 3\n" * 3))
         lists = [("001015", "007004,012101,012103"), ("001001", "007004"), ("007004", "012101,007004"), ("", "020012,020011"), ("", "008002")]
         unclear, count = 0, 0
         for keep, columns in lists:
@@ -397,6 +398,7 @@ class Tables(unittest.TestCase):
             count += len(rows)
             lines = [line for line in done.stderr.decode().splitlines() if "told apart" in line]
             self.assertEqual([f"table.awk: {one.message}" for one in told], lines)
+            self.assertEqual({one.filename for one in told}, {__file__})
             unclear += done.returncode
         self.assertGreater(count, 100)
         self.assertGreater(unclear, 0)
@@ -544,7 +546,7 @@ class Runs(unittest.TestCase):
         self.assertEqual(levels, list(bufr_text.levels(bufr_text.dump(self.stream, faults=[]), ["007004"], ["offset"])))
         for call in (bufr_text.rows, bufr_text.levels):
             for given in ({"faults": []}, {"where": ["category=0"]}):
-                with self.assertRaisesRegex(TypeError, "pass them to dump"):
+                with self.assertRaisesRegex(TypeError, "pass faults and where to dump"):
                     call([land], ["012101"], **given)
 
     def test_messages_left_out_by_their_year_are_warned_of(self):
@@ -603,6 +605,9 @@ class Runs(unittest.TestCase):
     def test_notes_of_tables_are_warnings(self):
         text = (TOP / "examples/synop.txt").read_bytes().replace(b"masterversion 39", b"masterversion 45")
         later = bufr_text.encode(bufr_text.read(io.BytesIO(text)), *TABLES)
+        with self.assertWarnsRegex(bufr_text.DumpWarning, "version 45 is later than wmo-39") as warned:
+            self.assertEqual(bufr_text.encode(bufr_text.read(io.BytesIO(text))), later)
+        self.assertEqual(warned.filename, __file__)
         self.stream.write_bytes(self.octets + later * 2)
         with self.assertWarns(bufr_text.DumpWarning) as warned:
             list(bufr_text.dump(self.stream, faults=[]))
@@ -610,12 +615,12 @@ class Runs(unittest.TestCase):
         self.assertEqual(str(warned.warning).partition(";")[0], wanted)
 
     def test_what_a_program_tells_beside_faults_is_a_warning(self):
-        self.use_program('[ "$1" = ls ] || { echo $$ >&2; echo strange >&2; }; exec "$REAL" "$@"')
+        self.use_program('[ "$1" = ls ] || { echo $$ >&2; printf "strange\\377\\n" >&2; }; exec "$REAL" "$@"')
         self.stream.write_bytes((TOP / "examples/synop.bufr").read_bytes())
         with warnings.catch_warnings(record=True) as told:
             warnings.simplefilter("always")
             self.assertEqual(len(list(bufr_text.dump(self.stream, *TABLES))), 1)
-        self.assertEqual(str(told[1].message), f"{self.stream}: messages: 1, the first at offset 0: strange")
+        self.assertEqual(str(told[1].message), f"{self.stream}: messages: 1, the first at offset 0: strange\ufffd")
         # their kinds are bounded, as what is held is
         seen = bufr_text._Told(self.stream, None)
         for number in range(5000):
@@ -654,9 +659,9 @@ class Runs(unittest.TestCase):
         for script, told, status in [
             ("kill -9 $$", "was killed .signal 9.", -9),
             ('[ "$1" = ls ] || exec > /dev/full; exec "$REAL" "$@"', "71 write failed$", 2),
-            ("exit 7", "stopped with status 7", 7),
-            ("exit 1", "stopped with status 1", 1),
-            ('[ "$1" = ls ] && exec "$REAL" "$@"; exit 1', "stopped with status 1", 1),
+            ("exit 7", "exited with status 7", 7),
+            ("exit 1", "exited with status 1", 1),
+            ('[ "$1" = ls ] && exec "$REAL" "$@"; exit 1', "exited with status 1", 1),
             ("echo nonsense", "and bufr_text have different versions", 2),
             ('[ "$1" = ls ] && exec "$REAL" "$@" | sed "s/ .*/ /"', "and bufr_text have different versions", 2),
             ('[ "$1" = dump ] || exec "$REAL" "$@"', "wrote nothing for the message at offset 0", 2),
@@ -668,11 +673,19 @@ class Runs(unittest.TestCase):
                 list(bufr_text.dump(self.stream, *TABLES, []))
             self.assertEqual(error.exception.status, status)
 
+    def test_a_folder_is_no_program(self):
+        shutil.copy(TOP / "scripts/bufr_text.py", self.folder)
+        (self.folder / "bufr").mkdir()
+        code = "import bufr_text; print(bufr_text._bufr())"
+        environment = {name: value for name, value in os.environ.items() if name != "BUFR"}
+        done = run(sys.executable, "-c", code, cwd=self.folder, env=environment)
+        self.assertEqual(done.stdout, b"bufr\n", done.stderr)
+
     def test_a_full_disk_is_named(self):
         self.use_program("exit 2")
         with unittest.mock.patch("shutil.disk_usage") as usage:
             usage.return_value.free = 0
-            with self.assertRaisesRegex(bufr_text.RunError, f"stopped with status 2: {tempfile.gettempdir()} is full$"):
+            with self.assertRaisesRegex(bufr_text.RunError, f"exited with status 2: {tempfile.gettempdir()} is full$"):
                 list(bufr_text.dump(self.stream, *TABLES, []))
 
     def test_errors_go_from_one_process_to_another(self):

@@ -36,6 +36,12 @@ done
 (cd "$work/first" && sha256sum --quiet -c SHA256SUMS) || fail "the sums are not those of the files"
 archive=$(echo "$work"/first/*.tar.gz)
 
+# The pages of a release lead to what is there: it has each file of the repository, and its own test follows the links.
+mkdir "$work/read"
+tar -xzf "$archive" -C "$work/read" --strip-components 1
+git -C "$work/one" ls-files | (cd "$work/read" && xargs ls -d) > "$work/told" || fail "files of the repository are not in the release"
+"$work/read/tests/docs_names.py" "$work/read/bin/bufr" > "$work/told" || fail "the pages of the release: $(< "$work/told")"
+
 # refuses STATUS TEXT WORD..: these words fail with this status, say why, and leave the first release as it was.
 refuses() {
     local wanted=$1 text=$2
@@ -59,24 +65,83 @@ refuses 1 'does not run' "$make" --unproved /bin/false "$work/first"
 mkdir "$work/alone" "$work/fake"
 cp "$make" "$work/alone"
 refuses 1 'not a clone of the repository' "$work/alone/release.sh" --unproved "$bufr" "$work/first"
-# A toolchain with another logic, whose gate fails, or that takes so long that the run is interrupted.
+# A toolchain that is imitated: `rt ci` leaves a program, and `rt run` its stamp.
 logic=$(sed -n 's/.*`logic \([0-9a-f]\{16\}\)`.*/\1/p' README.md | head -n 1)
+printf '#!/bin/sh\n# rattle logic=%s\necho bufr 0.1.0\n' "$logic" > "$work/marked"
+printf '#!/bin/sh\necho bufr 0.1.0\n' > "$work/unmarked"
+chmod +x "$work/marked" "$work/unmarked"
+count=$(ls -d crates/*/src crates/*/must-fail/*.edit | wc -l)
+# fake LOGIC [CI [RUN]]: a toolchain with this logic. `rt ci` runs CI before its last line, and `rt run` runs RUN at its end.
 fake() {
-    printf '#!/bin/sh\n[ "$1" != version ] || exec echo kit logic %s\n%s\n' "$1" "$2" > "$work/fake/rt"
+    cat > "$work/fake/rt" << END
+#!/bin/sh
+case \$* in
+    version) echo kit logic $1 ;;
+    'ci --anew')
+        mkdir crates/bufr/out && cp '$work/marked' crates/bufr/out/bufr || exit
+        count=$count
+        ${2-}
+        echo "\$count passed, 0 failed"
+        ;;
+    'run -- --version')
+        [ -z "\${RT_BACKEND-}" ] || exit
+        { echo $(printf %064d 7) && sha256sum < out/bufr | cut -c 1-64; } | tr -d '\n' > out/bufr.stamp
+        ${3-}
+        ;;
+    *) exit 3 ;;
+esac
+END
     chmod +x "$work/fake/rt"
 }
 PATH=$work/fake:$PATH
 refuses 1 'not on PATH' env PATH=/usr/bin:/bin "$make" "$work/first"
-fake 0123456789abcdef 'exit 0'
+fake 0123456789abcdef
 refuses 1 "README.md names logic $logic" "$make" "$work/first"
 fake "$logic" 'echo low: not proved; exit 1'
 refuses 1 'the proofs or the tests failed' "$make" "$work/first"
 grep -q 'low: not proved' "$work/told" || fail "release.sh hides what the gate said: $(< "$work/told")"
-# This gate ends the script alone, as `kill` does.
-fake "$logic" "echo \$\$ > '$work/pid'; kill -TERM \$PPID; exec sleep 60"
-refuses $((128 + $(kill -l TERM))) 'no release was made' "$make" "$work/first"
-sleep 0.1
-! grep -qs '^State:.[^Z]' "/proc/$(< "$work/pid")/status" || fail "the gate goes on after the script"
+fake "$logic" 'echo BAD EDIT; count=$((count - 1))'
+refuses 1 "there are $count crates and must-fail edits, but rt ci says: $((count - 1)) passed" "$make" "$work/first"
+fake "$logic" '' 'exit 1'
+refuses 1 'the second build failed' "$make" "$work/first"
+fake "$logic" '' 'echo "# other" >> out/bufr'
+refuses 1 'another program\|a different program' "$make" "$work/first"
+fake "$logic" "cp '$work/unmarked' crates/bufr/out/bufr"
+refuses 1 'built with logic none' "$make" "$work/first"
+# A gate that takes so long that the run is interrupted: its script alone, as by `kill`, or all, as by Ctrl-C. Until it
+# ends, it makes the folders that the script removes.
+slow="at=\$PWD; while mkdir -p \"\$at/crates/bufr/out\"; do :; done"
+ends_it() { # ends_it SIGNAL: the script ended by this signal leaves nothing
+    refuses $((128 + $(kill -l "$1"))) 'no release was made' env TMPDIR="$work/temporary" "$make" "$work/first"
+    [ -z "$(ls -A "$work/temporary")" ] || fail "after $1 remains $(ls -A "$work/temporary")"
+}
+is_over() { # is_over: the toolchain ended with the script
+    sleep 0.2
+    ! grep -qs '^State:.[^Z]' "/proc/$(< "$work/pid")/status" || fail "the toolchain goes on after the script"
+}
+mkdir "$work/temporary"
+for number in TERM INT HUP; do
+    fake "$logic" "echo \$\$ > '$work/pid'; kill -$number \$PPID; $slow"
+    ends_it $number
+    is_over
+done
+fake "$logic" '' "echo \$\$ > '$work/pid'; kill -TERM \$PPID; $slow"
+ends_it TERM
+is_over
+fake "$logic" "echo \$\$ > '$work/pid'; kill -KILL \$PPID; exec sleep 60"
+! TMPDIR=$work/temporary "$make" "$work/fourth" > "$work/told" 2>&1 || fail "a killed script succeeds"
+is_over
+# All is proved.
+fake "$logic"
+RT_BACKEND=rattle RT_JOBS=2 "$make" "$work/proved" > "$work/told" || fail "release.sh: $(< "$work/told")"
+grep -q "^$count passed, 0 failed$" "$work/told" || fail "release.sh hides what the gate said: $(< "$work/told")"
+mkdir "$work/unpacked"
+tar -xzf "$work"/proved/*.tar.gz -C "$work/unpacked" --strip-components 1
+for line in 'proof: proved' "kit: kit logic $logic" "gate: $count passed, 0 failed" "sources: $(printf %064d 7)" \
+    "program: $(sha256sum < "$work/marked" | cut -c 1-64)"; do
+    grep -qx "$line" "$work/unpacked/BUILD" || fail "BUILD: no line $line"
+done
+"$work/unpacked/install.sh" "$work/installed" > "$work/told" || fail "a proved release: $(< "$work/told")"
 PATH=${PATH#*:}
 # A full disk: at the archive, which is the largest file, and at once.
 refuses $((128 + $(kill -l XFSZ))) 'no release was made' bash -c 'ulimit -f "$0" && exec "$@"' \
@@ -109,11 +174,13 @@ refuses_damaged './tables/wmo-99;' 'ln -s wmo-39 tables/wmo-99'
 refuses_damaged './tables/wmo-99;' 'mkdir tables/wmo-99'
 refuses_damaged './man/bufr.1;' 'echo x >> man/bufr.1; sed -i /man.bufr.1/d SHA256SUMS'
 refuses_damaged './docs/guide.md: ' 'rm docs/guide.md'
-# What Python caches beside the scripts is none of them.
+# What Python caches beside the scripts is none of them, nor what the toolchain builds.
+mkdir -p "$work/damaged/crates/bufr/out"
+touch "$work/damaged/crates/bufr/out/bufr"
 tar -xzf "$archive" -C "$work/damaged" --strip-components 1
 BUFR=$bufr "$work/damaged/scripts/bufr-auto" --version > "$work/told"
 [ -d "$work/damaged/scripts/__pycache__" ] || mkdir "$work/damaged/scripts/__pycache__"
-"$work/damaged/install.sh" --unproved "$work/prefix" > "$work/told" || fail "what Python cached: $(< "$work/told")"
+"$work/damaged/install.sh" --unproved "$work/prefix" > "$work/told" || fail "what was cached or built: $(< "$work/told")"
 
 # The clean machine.
 unshare -mnpf true 2> "$work/errors" || { echo "$0: unshare is not allowed here, so no clean machine was tried" && exit; }
@@ -232,7 +299,7 @@ echo 'offset 1: 1 cut' > log
 types block3
 [ ! -s told ] || fail "the hourly commands print $(cat told)"
 types block4
-grep -q 'elements new: 0' told && [ -s /home/day.before ] && cmp /home/day.before /home/day.after || fail "changes.py says $(cat told)"
+grep -q 'elements added: 0' told && [ -s /home/day.before ] && cmp /home/day.before /home/day.after || fail "changes.py says $(cat told)"
 types block5
 tar -xzf *.tar.gz
 types block6

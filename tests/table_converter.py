@@ -17,30 +17,30 @@ from lib import TOP, finish, program
 
 AS_IT_IS = {"encoding": "utf-8", "errors": "surrogateescape"}
 HEADERS = {"B": "fxy,name,unit,scale,reference,width", "D": "fxy,member"}
-WIDE, WHOLE = "the width must be from 1 to 63 bits", "the width of a text must be a multiple of 8 from 8 to 2040 bits"
+WIDE, WHOLE = "the width must be from 1 to 63 bits", "the width of a string must be a multiple of 8 from 8 to 2040 bits"
 SCALE, REFERENCE = "the scale must be a whole number from -127 to 127", "the reference must be a signed 64-bit number"
 FACTOR = "a replication factor must be a number with scale 0, reference 0 and width 8"
 
 # fxy,name,unit,scale,reference,width | the reason
 ELEMENTS = f"""
 063255,NAME,K,2,-7,16 |
-064000,NAME,K,2,0,16 | X over 63
-012256,NAME,K,2,0,16 | Y over 255
-112101,NAME,K,2,0,16 | expected six digits, the first one 0
-12101,NAME,K,2,0,16 | expected six digits, the first one 0
-0121010,NAME,K,2,0,16 | expected six digits, the first one 0
-01210\u0661,NAME,K,2,0,16 | expected six digits, the first one 0
+064000,NAME,K,2,0,16 | X is over 63
+012256,NAME,K,2,0,16 | Y is over 255
+112101,NAME,K,2,0,16 | expected six digits, beginning with 0
+12101,NAME,K,2,0,16 | expected six digits, beginning with 0
+0121010,NAME,K,2,0,16 | expected six digits, beginning with 0
+01210\u0661,NAME,K,2,0,16 | expected six digits, beginning with 0
 012101,{'n' * 512},K,2,0,16 |
 012101,{'n' * 513},K,2,0,16 | the name is longer than 512 bytes
 012101,{'°' * 256},K,2,0,16 |
 012101,{'°' * 257},K,2,0,16 | the name is longer than 512 bytes
 012101,\udcb0\udcff,\udcb0C,2,0,16 |
-012101,A\x01B,K,2,0,16 | a control character in the name
-012101,A\x1bB,K,2,0,16 | a control character in the name
-012101,A\x7fB,K,2,0,16 | a control character in the name
+012101,A\x01B,K,2,0,16 | the name contains a control character
+012101,A\x1bB,K,2,0,16 | the name contains a control character
+012101,A\x7fB,K,2,0,16 | the name contains a control character
 012101,NAME,{'u' * 512},2,0,16 |
 012101,NAME,{'u' * 513},2,0,16 | the unit is longer than 512 bytes
-012101,NAME,A\x08B,2,0,16 | a control character in the unit
+012101,NAME,A\x08B,2,0,16 | the unit contains a control character
 012101,,,-127,0,16 |
 012101,NAME,K,127,0,16 |
 012101,NAME,K,128,0,16 | {SCALE}
@@ -80,16 +80,16 @@ ELEMENTS = f"""
 # fxy,member | the reason
 SEQUENCES = """
 363255,363254 |
-364000,001001 | X over 63
-307256,001001 | Y over 255
-207060,001001 | expected six digits, the first one 3
-30706,001001 | expected six digits, the first one 3
+364000,001001 | X is over 63
+307256,001001 | Y is over 255
+207060,001001 | expected six digits, beginning with 3
+30706,001001 | expected six digits, beginning with 3
 307060,263255 |
 307060,163255 |
-307060,064000 | member '064000': X over 63
-307060,107256 | member '107256': Y over 255
-307060,400000 | member '400000': expected six digits, the first one 0-3
-307060, | member '': expected six digits, the first one 0-3
+307060,064000 | member '064000': X is over 63
+307060,107256 | member '107256': Y is over 255
+307060,400000 | member '400000': expected six digits, beginning with 0-3
+307060, | member '': expected six digits, beginning with 0-3
 """.strip("\n")
 
 
@@ -103,9 +103,44 @@ def wreport_row(fxy: str, name: str, unit: str, scale: str, reference: str, widt
 ELEMENT = "012101,NAME,K,2,0,16\n"
 # The elements that version 14 defines otherwise than version 13, on the first of two lines.
 CHANGED = "  elements changed: 13: 014001 014002 014003 014004 014011 014012 014013 014014 014017 014018 014028"
-TWICE = "left out of source: %s: the source has different rows for it\n"
+# Two small sets, and what has changed from one to the other.
+ONE = """\
+001033,A \udcff,CODE TABLE,0,0,8
+001034,B,Numeric,0,0,8
+001035,C,K,0,0,8
+001036,D,CCITT IA5,0,0,8
+001037,E,FLAG TABLE,0,0,8
+001038,F
+""", "301001,001033\n301002,001033\n"
+OTHER = """\
+001033,A,COMMON CODE TABLE C-1,0,0,8
+001035,C,M,0,0,9
+001036,D,Numeric,0,0,8
+001037,E,Code table,0,0,8
+001038,F
+001039,G,K,0,0,8
+""", "301001,001034\n"
+TOLD = """\
+one to other
+  elements changed: 2: 001035 001036
+  elements removed: 1: 001034
+  elements added: 1
+  sequences changed: 1: 301001
+  sequences removed: 1: 301002
+  sequences added: 0
+"""
+TWICE = "left out of source: %s: the source has conflicting rows for it\n"
 SOURCES = [
-    ("B.csv", f"{HEADERS['B']}\n{ELEMENT}{ELEMENT}", 0, "", ELEMENT),
+    ("B.csv", f"{HEADERS['B']}\n{ELEMENT}\n{ELEMENT}", 0, "", ELEMENT),
+    ("B.csv", "", 2, "source/B.csv has no column fxy\n", None),
+    (
+        "B.csv",
+        f"{HEADERS['B']}\n064000,{'N' * 64},K,2,0,16\n064001,{'N' * 65},K,2,0,16\n",
+        1,
+        f"left out of source: 064000 {'N' * 64} K 2 0 16: X is over 63\nleft out of source: 064001 {'N' * 65} K 2 0..: X is over 63\n",
+        "",
+    ),
+    ("BUFR_TableD_en_01.csv", "FXY1,FXY2\n301001,001001\n", 0, "", "301001,001001\n"),
     (
         "B.csv",
         f"{HEADERS['B']}\n{ELEMENT}012101,NAME,K,1,0,12\n012103,NAME,K,2,0,16\n",
@@ -124,7 +159,7 @@ SOURCES = [
         "sequence.def",
         '"307060" = [ 001001, 12101, 001002 ]\n"307061" = [ ]\n"307062" = [ 001001 , 001002, ] # a comment\n',
         1,
-        "left out of source: 307060 001001 12101 001002: member '12101': expected six digits, the first one 0-3\n"
+        "left out of source: 307060 001001 12101 001002: member '12101': expected six digits, beginning with 0-3\n"
         "left out of source: 307061: no members\n",
         "307062,001001\n307062,001002\n",
     ),
@@ -135,7 +170,7 @@ SOURCES = [
         "left out of source: 012101 A NAME K 2 0: the scale must be a whole number from -127 to 127\n",
         "",
     ),
-    ("element.table", "012101|a|long|NAME|K|2\n", 2, "source/element.table, line 1: expected at least eight fields\n", None),
+    ("element.table", "012101|a|long|NAME|K|2|0\n", 2, "source/element.table, line 1: expected at least eight fields\n", None),
     ("sequence.def", '"307060" = 001001\n', 2, 'source/sequence.def: expected "FXY" = [ MEMBER, .. ], found "307060" = 001001\n', None),
     (
         "B.csv",
@@ -180,7 +215,7 @@ SOURCES = [
     ("Dmade.txt", " D07210  1 B01210\n", 2, "source/Dmade.txt, line 1: expected a sequence or one of its members\n", None),
     (
         "Bmade.txt",
-        " 012101 NAME K 2 0 16\n",
+        wreport_row("012101", "NAME", "K", "2", "0", ""),
         2,
         "source/Bmade.txt, line 1: expected a scale, a reference and a width in columns 98 to 118\n",
         None,
@@ -245,11 +280,17 @@ def failures(place: pathlib.Path) -> list:
         holds(f"files of {limit} octets", done, (2, "", "convert.py: cannot write out/B.csv: File too large\n"))
         holds(f"the set behind files of {limit} octets", behind_headers(place), before)
         holds(f"what is left behind files of {limit} octets", len(list((place / "out").iterdir())), 2)
-    holds("a whole set", run("convert.py", "out", TOP / "tables/wmo-39"), (0, "", ""))
+    for out in ("out", "new/out"):
+        holds("a whole set", run("convert.py", out, TOP / "tables/wmo-39"), (0, "", ""))
+    for name in ("Bone.txt", "Dother.txt"):
+        (place / "several").mkdir(exist_ok=True)
+        (place / "several" / name).touch()
     holds("what is left", len(list((place / "out").iterdir())), 2)
     for told, words in (
         ("expected OUT and at least one SOURCE; see convert.py --help", ["out"]),
         (r"no\x1Bsuch has no tables in a known format; see convert.py --help", ["out", "no\x1bsuch"]),
+        ("Bnosuch.txt has no tables in a known format; see convert.py --help", ["out", "Bnosuch.txt"]),
+        ("several has several wreport tables; give one of its B*.txt files as SOURCE", ["out", "several"]),
         ("long/B.csv, line 2: field larger than field limit (131072)", ["out", "long"]),
     ):
         (place / "long").mkdir(exist_ok=True)
@@ -266,6 +307,11 @@ def failures(place: pathlib.Path) -> list:
         holds(f"changes.py {words}", run("changes.py", *words), (2, "", f"changes.py: {told}\n"))
     status, told, _ = run("changes.py", TOP / "tables/wmo-13", TOP / "tables/wmo-14")
     holds("changes.py", (status, told.splitlines()[:2]), (0, ["wmo-13 to wmo-14", CHANGED]))
+    for name, elements, sequences in (("one", *ONE), ("other", *OTHER)):
+        (place / name).mkdir()
+        (place / name / "B.csv").write_text(f"\ufeff{HEADERS['B']}\n{elements}", **AS_IT_IS)
+        (place / name / "D.csv").write_text(f"{HEADERS['D']}\n{sequences}")
+    holds("changes.py of two small sets", run("changes.py", "one", "other"), (0, TOLD, ""))
     for name in ("convert.py", "changes.py"):
         holds(f"{name} --help", run(name, "--help")[0], 0)
     return wrongs

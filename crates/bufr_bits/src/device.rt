@@ -194,7 +194,9 @@ impl<T: Read> Source for BufferedDevice<T> {
 
     ghost waits = { λ d. nat_eq (length (reader_buffer d.device.inner)) 0 };
 
-    fn may_wait(&self) -> bool {
+    fn may_wait(&self) -> bool
+        ensures { result ≡ nat_eq (length (reader_buffer self.now.device.inner)) 0 }
+    {
         self.device.inner.buffer().is_empty()
     }
 

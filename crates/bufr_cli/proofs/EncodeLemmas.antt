@@ -14,7 +14,7 @@ use Rattle.bufr_text.specs.declared.fault.ReadFault.{ReadFault}
 use Rattle.bufr_text.specs.declared.encode.Form.{Form}
 use Rattle.bufr_text.specs.declared.fault.ReadFault.TheVariants.{Line, Run}
 use Rattle.bufr_cli.specs.declared.run_pieces.RunStep.{RunStep}
-use Rattle.bufr_cli.specs.Prelude.{BlamesWriter, CountsRead, EncodesDocuments, IsCut, IsDone, IsOpen, LeavesPiece, NeedsText, OnErrors, OnOutput, Piece, Progress, Verdict, Writers, WritesDocuments, WritesPrefixes, counted_refused, document_pieces, encode_pieces, is_refused, no_progress, read_pieces, result_piece, up_to_refused, with_octets, with_piece}
+use Rattle.bufr_cli.specs.Prelude.{BlamesWriter, CountsRead, EncodesDocuments, IsCut, IsDone, IsOpen, LeavesPiece, NeedsText, OnErrors, OnOutput, Piece, Progress, ReadsOctets, Verdict, Writers, WritesDocuments, WritesPrefixes, counted_refused, document_pieces, encode_pieces, is_refused, no_progress, read_pieces, result_piece, up_to_refused, with_octets, with_piece}
 use Rattle.bufr_cli.specs.declared.outcome.Verdict.TheVariants as verdict
 use Rattle.bufr_text.proofs.CallLemmas.{call-none, call-then, fill-call, reported-first, reported-first-openly, reported-at-end, reported-at-fault}
 use Rattle.bufr_cli.proofs.RunLemmas.{count-append, map-append, prefixes-nil}
@@ -110,7 +110,18 @@ no-documents piece left s is =
       accepted = refl;
       sound = refl;
       most = omega arith;
+      each = λ going. omega arith;
     })
+
+-- what is not at its end was not there before
+going-before : (before after : Bool) → (before ≡ true → after ≡ true) → after ≡ false → before ≡ false
+going-before false after kept going = refl
+going-before true after kept going = absurd (false≢true (sym going ∙ kept refl))
+
+-- a read that gave some octets
+more-octets : (bs : List ℕ) (reads reads' : ℕ) (octets : List ℕ) → reads ≤ length octets → reads' ≡ reads + 1 → (bs ≡ [] → ⊥) → reads' ≤ length (octets ++ bs)
+more-octets [] reads reads' octets each made some = absurd (some refl)
+more-octets (c ∷ bs) reads reads' octets each made some = omega (arith, each, made, length-append octets (c ∷ bs))
 
 none-read : (bs : List ℕ) (before after : ℕ) → length bs ≤ 4096 * (after - before) → after ≡ before → bs ≡ []
 none-read [] before after few same = refl
@@ -139,7 +150,15 @@ module _ (form : Form) (b : List Row) (d : List Sequence) (s : ReaderModel) (so 
     held = rw (append-nil wrote.results) at (lines-taken s1 [] [] (needs.passes so.left) refl)
 
     pub text-held : WritesDocuments piece s1 so
-    text-held = record { results = wrote.results; reads = held; pieces = wrote.pieces; accepted = wrote.accepted; sound = needs.sound; most = omega (arith, wrote.most, same) }
+    text-held = record {
+      results = wrote.results;
+      reads = held;
+      pieces = wrote.pieces;
+      accepted = wrote.accepted;
+      sound = needs.sound;
+      most = omega (arith, wrote.most, same);
+      each = λ open'. omega (arith, same, wrote.each (going-before s.ended s1.ended (λ ended. ((needs.passes so.left).kept ended).0) open'));
+    }
 
     pub text-open : IsOpen (document_pieces form b d) so
     text-open =
@@ -211,6 +230,16 @@ module _ (form : Form) (b : List Row) (d : List Sequence) (s : ReaderModel) (so 
           by (Err (Line line why)) is bs reads = taken bs _ is reads
           by (Err (Run run)) is bs reads = absurd (omega (arith, ap length is))
 
+      -- the end was not reached before either
+      going : s'.ended ≡ false → s.ended ≡ false
+      going open' = by next is given.octets given.reads
+        where
+          by : (next : Result (Option Document) ReadFault) → parse_results next ≡ x ∷ [] → (bs : List ℕ) → ReadsDocument so.left so.left s s' next bs → s.ended ≡ false
+          by (Ok None) is bs reads = absurd (omega (arith, ap length is))
+          by (Ok (Some document)) is bs reads = going-before s.ended s'.ended (λ ended. (reads.0.kept ended).0) open'
+          by (Err (Line line why)) is bs reads = going-before s.ended s'.ended (λ ended. (reads.kept ended).0) open'
+          by (Err (Run run)) is bs reads = absurd (omega (arith, ap length is))
+
       abbrev pub p : Piece
       p = piece x
 
@@ -248,6 +277,7 @@ module _ (form : Form) (b : List Row) (d : List Sequence) (s : ReaderModel) (so 
         accepted = omega (arith, count-append is_refused so.pieces (p ∷ []), wrote.accepted, none);
         sound = sound;
         most = omega (arith, wrote.most, same);
+        each = λ open'. omega (arith, same, wrote.each (going open'));
       }
 
       -- it was refused, which ends the run
@@ -300,7 +330,19 @@ module _ (form : Form) (b : List Row) (d : List Sequence) (s : ReaderModel) (so 
         accepted = wrote.accepted;
         sound = filled.0.fault;
         most = most;
+        each = λ open'. more-octets bs s.reads s'.reads so.octets (wrote.each needs.going) filled.0.fills.ends.0 (λ none. false≢true (sym open' ∙ filled.0.fills.ends.2 none));
       }
+
+  -- no octets came by a fault
+  pub text-unread : (s' : ReaderModel) (left' : Option (List ℕ)) (f : RunFault) (bs : List ℕ) → NeedsText verdict.Accepted s → FillsBuffer so.left left' s s' (Err (Run f)) bs
+      → ReadsOctets (λ _. ⊥) so left' (Err f)
+  text-unread s' left' f bs needs (x, reads, is, short) = (subst (λ octets. Consumes so.left left' octets) reads.fills.ends.0 reads.fills.read, by f reads.fills.ends)
+    where
+      by : (g : RunFault) → FillEnds (s.reads ≡ 0) (text_input s s.held) (text_input x (s.held ++ bs)) bs (Err g) → g ≡ InputTooLong → max_reads ≤ length so.octets
+      by Read ends long = cc
+      by Write ends long = cc
+      by InputTooLong ends long = omega (arith, wrote.each needs.going, ends.2.0, ends.2.1)
+      by Memory ends long = cc
 
 -- what is not refused is accepted
 pub accepted-else : (v : Verdict) → (v ≡ verdict.Refused → ⊥) → v ≡ verdict.Accepted
@@ -319,10 +361,6 @@ blames-none w Read none = ((refl, refl), (refl, refl))
 blames-none w Write none = absurd (none refl)
 blames-none w InputTooLong none = ((refl, refl), (refl, refl))
 blames-none w Memory none = ((refl, refl), (refl, refl))
-
--- no octets came by a fault
-pub text-unread : (left left' : Option (List ℕ)) (s s' : ReaderModel) (f : RunFault) (bs : List ℕ) → FillsBuffer left left' s s' (Err (Run f)) bs → Consumes left left' []
-text-unread left left' s s' f bs (x, reads, is, short) = subst (λ octets. Consumes left left' octets) reads.fills.ends.0 reads.fills.read
 
 -- how many reads were made by one
 pub text-counted : (left left' : Option (List ℕ)) (s s' : ReaderModel) (f : RunFault) (bs : List ℕ) → FillsBuffer left left' s s' (Err (Run f)) bs → CountsRead s.reads s'.reads (Err f)

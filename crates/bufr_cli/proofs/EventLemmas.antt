@@ -1,6 +1,6 @@
 -- What a run over the events of a stream has written, and what comes next.
 use Rattle.bufr_frame.specs.Prelude.{Advances, FinderModel, NeedsRead, ReadsAndPasses, ReadsMore, ReturnsNextEvent, StreamEvent, events_of, new_finder, open_scan, scan, scan_from}
-use Rattle.std.proofs.Common.{◌≡◌, ◌∙◌, ◌≤◌, ◌<◌, ◌^◌, ℕ, ◌+◌, ◌-◌, Bool, true, false, List, [], ◌∷◌, ◌++◌, length, length-append, refl, sym, ap, subst, arith, Option, Some, None, Result, Ok, Err, append-nil, append_assoc, map}
+use Rattle.std.proofs.Common.{◌≡◌, ◌∙◌, ◌≤◌, ◌<◌, ◌^◌, ℕ, ◌+◌, ◌-◌, Bool, true, false, List, [], ◌∷◌, ◌++◌, length, length-append, length-drop, refl, sym, ap, subst, arith, Option, Some, None, Result, Ok, Err, append-nil, append_assoc, map}
 use Rattle.std.specs.List.{concat}
 use Rattle.std.specs.Io.KnownBytes.{Consumes, IsAtEnd}
 use Rattle.std.proofs.KnownBytes.{Consumes-nil}
@@ -178,7 +178,23 @@ module _ (piece : StreamEvent → Piece) (s : FinderModel) (so : Progress) (wrot
       near = omega (arith, wrote.near, more.at);
     },
   )
-  events-read s' left' (Err fault) bs needs more = subst (λ octets. Consumes so.left left' octets) more.fills.ends.0 more.fills.read
+  events-read s' left' (Err fault) bs needs more = (
+    subst (λ octets. Consumes so.left left' octets) more.fills.ends.0 more.fills.read,
+    λ long.
+        let follows = wrote.passes.follows in
+        omega (
+          arith,
+          more.long (ap Err long),
+          more.at,
+          ap length more.fills.held,
+          length-append s.rest bs,
+          ap length more.fills.ends.0,
+          follows.offset,
+          follows.within,
+          ap length follows.left,
+          length-drop follows.passed so.octets,
+        ),
+  )
 
 -- how many reads were made by one
 pub read-counted : (s s' : FinderModel) (left left' : Option (List ℕ)) (r : Result (Unit {0}) RunFault) (bs : List ℕ) → ReadsMore left left' s s' r bs → CountsRead s.reads s'.reads r

@@ -380,7 +380,7 @@ module _ (reaches : Progress → Type 0) (from to : Input) (before mid : Writers
         octets = ran.octets;
         ended = false;
         read = subst (λ bs. Consumes from.left to'.left bs) (append-nil ran.octets)
-            (Consumes-trans from.left to.left to'.left ran.octets [] open'.read (rw is at reads so refl ran.reached));
+            (Consumes-trans from.left to.left to'.left ran.octets [] open'.read (rw is at reads so refl ran.reached).0);
         at_end = λ end. absurd (false≢true end);
         written = all-written before mid after _ ran.pieces open'.certain hands.output hands.errors ran.written;
       }
@@ -401,7 +401,7 @@ module _ (reaches : Progress → Type 0) (from to : Input) (before mid : Writers
       by : (g : RunFault) → r ≡ Err g → CountsRead n n' (Err g) → to'.failures ≡ read_failures_after {X = Unit {0}} to.failures (Err g) → LeavesDevices pieces from to' before after (Err g)
       by Read is' made' failures' = record {
         ran = all;
-        ends = (refl, (refl, refl), open'.accepted);
+        ends = (refl, (refl, refl), open'.accepted, λ long. cc);
         whole = tt;
         order = λ fails. absurd (fails none.1);
         flushed = on-hand is';
@@ -412,7 +412,7 @@ module _ (reaches : Progress → Type 0) (from to : Input) (before mid : Writers
       by Write is' made' failures' = absurd made'
       by InputTooLong is' made' failures' = record {
         ran = all;
-        ends = (refl, (refl, refl), open'.accepted);
+        ends = (refl, (refl, refl), open'.accepted, (rw is' at reads so refl ran.reached).1);
         whole = tt;
         order = λ fails. absurd (fails none.1);
         flushed = tt;

@@ -1,7 +1,10 @@
 -- What a buffered writer took and handed on, by what its sink did. (a choice of this project)
 -- Cited by public contracts.
-use Rattle.std.specs.Prelude.{Bool, ℕ, List, length, Option, nat_eq, ◌&&◌}
+use Rattle.std.specs.Prelude.{◌≡◌, ◌≤◌, Bool, ℕ, List, length, max, Option, Result, Ok, Err, nat_eq, vec_len, vec_capacity, ◌&&◌}
 use Rattle.std.specs.Io.KnownBytes.{append_known}
+use Rattle.bufr_bits.specs.declared.device.Failed.{Failed}
+use Rattle.bufr_bits.specs.declared.device.Sink as sink
+use Rattle.bufr_text.specs.Prelude.{Fails, Stays}
 use Rattle.bufr_cli.specs.declared.buffered.Buffered.{Buffered}
 
 -- the octets that it took: those that its sink took, and after them those that are held
@@ -11,3 +14,19 @@ taken_by taken b = append_known (taken b.sink) b.held.items
 -- whether all of them were handed on: none is held, and the sink handed on all
 abbrev pub flushed_by : {S : Type 0} → (S → Bool) → Buffered S → Bool
 flushed_by flushed b = nat_eq (length b.held.items) 0 && flushed b.sink
+
+-- a success means that no call of the sink failed, and a failure that one did
+abbrev pub CountsCall : {S X : Type 0} → sink.Ghosts S → (before after : S) → Result X Failed
+    → Type 0
+CountsCall ghosts before after (Ok x) =
+    Stays (ghosts.failures before) (ghosts.failures after) (ghosts.empty_writes before)
+    (ghosts.empty_writes after)
+CountsCall ghosts before after (Err failed) =
+    Fails (ghosts.failures before) (ghosts.failures after) (ghosts.empty_writes before)
+    (ghosts.empty_writes after)
+
+-- The capacity does not change, no more than that is buffered, and the buffer does not shrink.
+pub record StaysBounded {S : Type 0} (before after : Buffered S) : Type 0 where
+  pub capacity : after.capacity ≡ before.capacity
+  pub held : vec_len after.held ≤ max (vec_len before.held) before.capacity
+  pub room : vec_capacity before.held ≤ vec_capacity after.held

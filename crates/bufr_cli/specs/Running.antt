@@ -1,7 +1,7 @@
 -- What a run leaves: its reads, its writes, its counts, and the devices that a fault is of.
 -- (A choice of this project)
 -- Cited by public contracts.
-use Rattle.std.specs.Prelude.{ℕ, Bool, true, OnOk, IfErr, IfOk, ◌≢◌, List, Option, ◌≡◌, ◌⊎◌, Result, Ok, Err, ◌<◌, ◌≤◌, false, ◌++◌, None, flat_map, count_by, option_to_list, map, [], IfSome, Vec}
+use Rattle.std.specs.Prelude.{ℕ, Bool, true, OnOk, IfErr, IfOk, ◌≢◌, List, Option, ◌≡◌, ◌⊎◌, Result, Ok, Err, ◌<◌, ◌≤◌, false, ◌++◌, None, flat_map, count_by, option_to_list, map, [], IfSome, Vec, length}
 use Rattle.bufr_frame.specs.declared.fault.RunFault.{RunFault}
 use Rattle.bufr_frame.specs.declared.fault.RunFault.TheVariants.{Read, Write, InputTooLong, Memory}
 use Rattle.bufr_text.specs.Prelude.{Stays, Fails, CountsWrites, GrowsByPrefix, documents_of, open_documents_of}
@@ -281,8 +281,8 @@ NoFlushFails before after =
 -- How a run ended that read and wrote so much. At its end the pieces of the whole input were
 -- written and counted, whatever may follow what was read. Nothing follows the end, and after a
 -- refusal that ends the run nothing counts. A read that failed, or was not made, came after all
--- that is certain. A flush that failed came after all. Memory was wanted where a piece was to be
--- written, or before all of the reads were made.
+-- that is certain. An input is too long only if 2^32 octets of it were read. A flush that
+-- failed came after all. Memory was wanted where a piece was to be written, or before all of the reads were made.
 -- rule: input-not-read, fault-line-not-written, reader-gone, fault-70
 abbrev pub RunEnds : {pieces : RunPieces} → {from to : Input} → {before after : Writers}
     → ReadsAndWrites pieces from to before after → Result Tally RunFault → Type 0
@@ -297,6 +297,7 @@ RunEnds {pieces} {from} {to} {before} {after} so (Err Memory) =
     × (pieces.stops ≡ false → so.written.next ≡ None → ReadsFewer from.reads to.reads)
 RunEnds {pieces} {from} {to} {before} {after} so (Err fault) =
     (so.ended ≡ false) × IsAllWritten so.written × IsUnrefused pieces so.written.given
+    × (fault ≡ InputTooLong → max_reads ≤ length so.octets)
 
 -- What a run with these pieces leaves of its devices. At its end all is handed on, and where a read
 -- failed all that the run wrote, the errors only after the output. The input counts a read fault, a

@@ -120,11 +120,12 @@ TakesStep pieces reaches p before after (Ok step.Read) =
 TakesStep pieces reaches p before after (Ok step.End) = (after ≡ before) × IsDone pieces p
 TakesStep pieces reaches p before after (Err fault) = IsCut pieces p before after
 
--- octets came; or none did, by a fault
+-- octets came; or none did, by a fault: an input is too long only after 2^32 octets
 abbrev pub ReadsOctets : (reaches : Progress → Type 0) → Progress → (left : Option (List ℕ))
     → Result (Unit {0}) RunFault → Type 0
 ReadsOctets reaches p left (Ok u) = (bs : List ℕ) × reaches (with_octets p bs left)
-ReadsOctets reaches p left (Err fault) = Consumes p.left left []
+ReadsOctets reaches p left (Err fault) =
+    Consumes p.left left [] × (fault ≡ InputTooLong → max_reads ≤ length p.octets)
 
 -- one more read was made; or it failed, or all were made, or memory was wanted before
 abbrev pub CountsRead : (before after : ℕ) → Result (Unit {0}) RunFault → Type 0
@@ -153,7 +154,8 @@ pub record NeedsOctets (s : FinderModel) : Type 0 where
   pub few : length s.rest < max 4096 s.longest
   pub none : (at : ℕ) → NoEventCertain at s.rest
 
--- The pieces of the documents that a reader gave were written, and none was refused.
+-- The pieces of the documents that a reader gave were written, and none was refused. Before the end
+-- each read gave an octet.
 pub record WritesDocuments (piece : ParseResult → Piece) (s : ReaderModel) (so : Progress) : Type 0
   where
     pub results : List ParseResult
@@ -162,6 +164,7 @@ pub record WritesDocuments (piece : ParseResult → Piece) (s : ReaderModel) (so
     pub accepted : count_by is_refused so.pieces ≡ 0
     pub sound : s.fault ≡ None
     pub most : s.reads ≤ max_reads
+    pub each : s.ended ≡ false → s.reads ≤ length so.octets
 
 -- the documents were written so far; or the last one was refused, and the run is done
 abbrev pub EncodesDocuments : Form → List Row → List Sequence → (last : Verdict) → ReaderModel

@@ -1,9 +1,9 @@
 //! A buffered writer that tries nothing again.
-ghost use Rattle.std.specs.Prelude.{◌≡◌, ◌≤◌, ◌<◌, ◌+◌, ◌-◌, ℕ, List, [], length, drop, false, Ok, IfOk, IsErr, OnOk, OnErr, vec_len, vec_capacity};
+ghost use Rattle.std.specs.Prelude.{◌≡◌, ◌≤◌, ◌<◌, ◌+◌, ◌-◌, min, ℕ, List, [], length, drop, false, Ok, IfOk, IsErr, OnOk, vec_len, vec_capacity};
 ghost use Rattle.std.specs.Io.KnownBytes.{Keeps, WriteAppends};
 ghost use Rattle.bufr_bits.specs.Device.{all_flushed_after_flush, all_flushed_after_write, empty_writes_after, failures_after};
 ghost use Rattle.bufr_text.specs.Prelude.{Fails, MovesPrefix, Stays};
-ghost use Rattle.bufr_cli.specs.Prelude.{flushed_by, taken_by};
+ghost use Rattle.bufr_cli.specs.Prelude.{CountsCall, StaysBounded, flushed_by, taken_by};
 
 use bufr_bits::{Failed, Sink};
 use std::alloc::{AllocError, Global};
@@ -24,6 +24,7 @@ pub const BUFFERED: usize = 65_536;
 pub struct Buffered<S: Sink> {
     sink: S,
     held: Vec<u8>,
+    capacity: usize,
     failures: u64,
     failed_flushes: u64,
 }
@@ -40,12 +41,14 @@ impl<S: Sink> Buffered<S> {
         ensures sink { IfOk result (λ b. b.sink ≡ sink) }
         ensures none { IfOk result (λ b. b.held.items ≡ []) }
         ensures room { IfOk result (λ b. capacity ≤ vec_capacity b.held) }
+        ensures capacity { IfOk result (λ b. b.capacity ≡ capacity) }
         ensures failures { IfOk result (λ b. b.failures ≡ 0) }
         ensures failed_flushes { IfOk result (λ b. b.failed_flushes ≡ 0) }
     {
         Ok(Buffered {
             sink,
             held: Vec::with_capacity(alloc, capacity)?,
+            capacity,
             failures: 0,
             failed_flushes: 0,
         })
@@ -94,10 +97,8 @@ impl<S: Sink> Buffered<S> {
         ensures none { OnOk result (self.new.held.items ≡ []) }
         ensures flushed { flushed_by S.all_flushed self.new
             ≡ flushed_by S.all_flushed self.old }
-        ensures cause { OnErr result (Fails (S.failures self.old.sink) (S.failures self.new.sink)
-            (S.empty_writes self.old.sink) (S.empty_writes self.new.sink)) }
-        ensures stays { OnOk result (Stays (S.failures self.old.sink) (S.failures self.new.sink)
-            (S.empty_writes self.old.sink) (S.empty_writes self.new.sink)) }
+        ensures bounded { StaysBounded self.old self.new }
+        ensures counts { CountsCall S.Sink self.old.sink self.new.sink result }
         ensures failures { self.new.failures ≡ self.old.failures }
         ensures failed_flushes { self.new.failed_flushes ≡ self.old.failed_flushes }
     {
@@ -117,13 +118,13 @@ impl<S: Sink> Buffered<S> {
         ensures some { IfOk result (λ n. 0 < length buf.now → 0 < n) }
         ensures flushed { flushed_by S.all_flushed self.new
             ≡ all_flushed_after_write (flushed_by S.all_flushed self.old) result }
-        ensures cause { OnErr result (Fails (S.failures self.old.sink) (S.failures self.new.sink)
-            (S.empty_writes self.old.sink) (S.empty_writes self.new.sink)) }
+        ensures bounded { StaysBounded self.old self.new }
+        ensures counts { CountsCall S.Sink self.old.sink self.new.sink result }
         ensures failures { self.new.failures ≡ self.old.failures }
         ensures failed_flushes { self.new.failed_flushes ≡ self.old.failed_flushes }
     {
         self.hand_on()?;
-        if buf.len() <= self.held.capacity() && self.held.extend_from_slice(buf).is_ok() {
+        if buf.len() <= self.capacity && self.held.extend_from_slice(buf).is_ok() {
             return Ok(buf.len());
         }
         let n = self.sink.write(buf)?;
@@ -138,8 +139,8 @@ impl<S: Sink> Buffered<S> {
         ensures octets { Keeps (taken_by S.taken self.old) (taken_by S.taken self.new) }
         ensures flushed { flushed_by S.all_flushed self.new
             ≡ all_flushed_after_flush (flushed_by S.all_flushed self.old) result }
-        ensures cause { OnErr result (Fails (S.failures self.old.sink) (S.failures self.new.sink)
-            (S.empty_writes self.old.sink) (S.empty_writes self.new.sink)) }
+        ensures bounded { StaysBounded self.old self.new }
+        ensures counts { CountsCall S.Sink self.old.sink self.new.sink result }
         ensures failures { self.new.failures ≡ self.old.failures }
         ensures failed_flushes { self.new.failed_flushes ≡ self.old.failed_flushes }
     {
@@ -158,9 +159,9 @@ impl<S: Sink> Buffered<S> {
         ensures flushes { self.new.failed_flushes ≡ self.old.failed_flushes }
         ensures flushed { flushed_by S.all_flushed self.new
             ≡ all_flushed_after_write (flushed_by S.all_flushed self.old) result }
-        ensures cause { self.old.failures ≡ 0 → OnErr result (Fails (S.failures self.old.sink)
-            (S.failures self.new.sink) (S.empty_writes self.old.sink)
-            (S.empty_writes self.new.sink)) }
+        ensures bounded { StaysBounded self.old self.new }
+        ensures counts { self.old.failures ≡ 0
+            → CountsCall S.Sink self.old.sink self.new.sink result }
         ensures again { 0 < self.old.failures → IsErr result × (self.new.sink ≡ self.old.sink)
             × (self.new.held ≡ self.old.held) }
     {
@@ -193,21 +194,22 @@ impl<S: Sink> Sink for Buffered<S> {
         ensures failed { self.new.failures ≡ failures_after self.old.failures result }
         // Octets that fit are held. A write of some octets takes some, or fails.
         ensures takes { self.old.failures ≡ 0
-            → vec_len self.old.held + length buf.now ≤ vec_capacity self.old.held
-            → result ≡ Ok (length buf.now) }
+            → vec_len self.old.held + length buf.now
+            ≤ min self.old.capacity (vec_capacity self.old.held) → result ≡ Ok (length buf.now) }
         ensures empty { 0 ≡ empty_writes_after 0 buf.now result }
         ensures flushed { self.new.failed_flushes ≡ self.old.failed_flushes }
         ensures handed { flushed_by S.all_flushed self.new
             ≡ all_flushed_after_write (flushed_by S.all_flushed self.old) result }
-        // The first failure is one of the sink, and after it nothing is tried.
-        ensures cause { self.old.failures ≡ 0 → OnErr result (Fails (S.failures self.old.sink)
-            (S.failures self.new.sink) (S.empty_writes self.old.sink)
-            (S.empty_writes self.new.sink)) }
+        ensures bounded { StaysBounded self.old self.new }
+        // Until the first failure, a call fails if and only if a call of the sink does. After it,
+        // nothing is tried.
+        ensures counts { self.old.failures ≡ 0
+            → CountsCall S.Sink self.old.sink self.new.sink result }
         ensures again { 0 < self.old.failures → IsErr result × (self.new.sink ≡ self.old.sink)
             × (self.new.held ≡ self.old.held) }
     {
         if self.failures == 0
-            && buf.len() <= self.held.capacity() - self.held.len()
+            && buf.len() <= self.capacity.saturating_sub(self.held.len())
             && self.held.extend_from_slice(buf).is_ok()
         {
             return Ok(buf.len());
@@ -223,10 +225,11 @@ impl<S: Sink> Sink for Buffered<S> {
             ≡ failures_after self.old.failed_flushes result }
         ensures handed { flushed_by S.all_flushed self.new
             ≡ all_flushed_after_flush (flushed_by S.all_flushed self.old) result }
-        // The first failure is one of the sink, and after it nothing is tried.
-        ensures cause { self.old.failures ≡ 0 → OnErr result (Fails (S.failures self.old.sink)
-            (S.failures self.new.sink) (S.empty_writes self.old.sink)
-            (S.empty_writes self.new.sink)) }
+        ensures bounded { StaysBounded self.old self.new }
+        // Until the first failure, a call fails if and only if a call of the sink does. After it,
+        // nothing is tried.
+        ensures counts { self.old.failures ≡ 0
+            → CountsCall S.Sink self.old.sink self.new.sink result }
         ensures again { 0 < self.old.failures → IsErr result × (self.new.sink ≡ self.old.sink)
             × (self.new.held ≡ self.old.held) }
     {

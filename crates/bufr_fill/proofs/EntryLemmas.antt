@@ -2,11 +2,12 @@
 use Rattle.std.proofs.lemmas.Grind.{common_steps}
 use Rattle.std.proofs.Common.{◌≡◌, ℕ, zero, suc, ◌+◌, ◌-◌, ◌≤◌, ◌<◌, Bool, List, [], ◌∷◌, ◌++◌, true, false, length, drop, get_or, min, Option, Some, None, refl, sym, ◌∙◌, ap, arith, add-one, map, length-append, ◌/◌, Result, Ok, Err, subst, slice_get, option_map, ◌==◌, slice_range, IfSome}
 use Rattle.bufr_tables.proofs.TableBLemmas.{range-append}
+use Rattle.std.proofs.lemmas.List.Sums.{sum_by-append}
 use Rattle.std.proofs.Math.Seq.{drop-cons, drop-append_seam}
 use Rattle.std.proofs.lemmas.List.{append-nil, append_assoc, map-append, take_all, drop_all}
 use Rattle.std.proofs.lemmas.Option.{none-some, slice_get-get_or, slice_get_within, get_or_from_slice_get}
 use Rattle.std.proofs.lemmas.Bool.Decides.{nat_tests}
-use Rattle.bufr_fill.specs.Prelude.{ValueKind, Taken, Draft, DraftEntry, Holds, Ends, Subset, subset, prepend_to_subset, subsets_of, ItemFault, DraftFault, at_line, item_too_many, RowCell, cells_at, at_line_if_fault, entry_or_end, ends_of, entry_here, is_end, value_by, entry_by, entry_with, entries_stored, AreOctetsInside, draft, number_token, text_form, reference_token, IsEntryInside, AreInside, line_at, PlainOutModel, plain_out_model, IsFilled, IsFaultOf, IfDraftFault, after_end, FieldContent, content_of, padded_content}
+use Rattle.bufr_fill.specs.Prelude.{ValueKind, Taken, Draft, DraftEntry, Holds, Ends, Subset, subset, prepend_to_subset, subsets_of, ItemFault, DraftFault, at_line, item_too_many, RowCell, cells_at, at_line_if_fault, entry_or_end, ends_of, entry_here, is_end, value_by, entry_by, entry_with, entries_stored, AreOctetsInside, draft, number_token, text_form, reference_token, IsEntryInside, AreInside, octets_stored, line_at, PlainOutModel, plain_out_model, IsFilled, IsFaultOf, IfDraftFault, after_end, FieldContent, content_of, padded_content}
 use Rattle.bufr_fill.specs.declared.draft.StoredEntry.{StoredEntry}
 use Rattle.bufr_walk.specs.Prelude.{FieldSpec, Content, answer_of, bits_for}
 use Rattle.bufr_fill.specs.declared.fault.DraftFault.TheVariants as draft_fault
@@ -252,10 +253,26 @@ pub entries-push : (octets more new : List ℕ) (cells : List StoredEntry) (one 
     → entries_stored new (cells ++ one ∷ []) ≡ entries_stored octets cells ++ e ∷ []
 entries-push octets more new cells one e all is from at said = grind (arith, common_steps, length-append, slice_range, range-after, map-append, map, entries-append)
 
--- no more entry, though octets were put after the block
-pub entries-same : (octets more new : List ℕ) (cells same : List StoredEntry) → AreInside (length octets) cells → new ≡ octets ++ more → same ≡ cells
-    → entries_stored new same ≡ entries_stored octets cells
-entries-same octets more new cells same all is kept = grind (arith, common_steps, entries-append)
+-- octets that are inside a block are inside a greater one
+inside-greater : (n n' : ℕ) (k : Option ValueKind) (start end : ℕ) → n ≤ n' → IfSome k (λ k. AreOctetsInside k n start end) → IfSome k (λ k. AreOctetsInside k n' start end)
+inside-greater n n' None start end more h = tt
+inside-greater n n' (Some (kind.Decimal places negative)) start end more h = tt
+inside-greater n n' (Some kind.Number) start end more h = (h.0, omega (arith, h.1, more))
+inside-greater n n' (Some kind.Text) start end more h = (h.0, omega (arith, h.1, more))
+inside-greater n n' (Some kind.Missing) start end more h = (h.0, omega (arith, h.1, more))
+inside-greater n n' (Some kind.Reference) start end more h = (h.0, omega (arith, h.1, more))
+
+inside-push : (n n' : ℕ) (cells : List StoredEntry) (one : StoredEntry) → n ≤ n' → AreInside n cells → IsEntryInside n' one → AreInside n' (cells ++ one ∷ [])
+inside-push n n' [] one more all last = (last, tt)
+inside-push n n' (cell ∷ cells) one more (here, all) last = (inside-greater n n' cell.kind cell.start cell.end more here, inside-push n n' cells one more all last)
+
+-- one more stored entry: the octets of all are inside the block, which has no others
+pub stored-push : (n n' : ℕ) (cells kept : List StoredEntry) (one : StoredEntry) → AreInside n cells × (n ≡ octets_stored cells) → kept ≡ cells ++ one ∷ [] → one.start ≡ n → one.end ≡ n' → n ≤ n'
+    → IsEntryInside n' one
+    → AreInside n' kept × (n' ≡ octets_stored kept)
+stored-push n n' cells kept one (all, stored) is from to more last =
+    let S : List StoredEntry → Type 0 = λ l. AreInside n' l × (n' ≡ octets_stored l) in
+    subst S (sym is) (inside-push n n' cells one more all last, omega (arith, stored, from, to, more, sum_by-append (λ e. e.end - e.start) cells (one ∷ [])))
 
 -- the line of an entry is the one that is stored
 pub line-is : (k : StoredEntry) (octets : List ℕ) → entry_line (entry_with k octets) ≡ k.line

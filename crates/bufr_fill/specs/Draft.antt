@@ -12,7 +12,7 @@ use Rattle.bufr_fill.specs.declared.fault.ItemFault.TheVariants as wrong
 pub use Rattle.bufr_fill.specs.declared.fault.WalkRefusal.{WalkRefusal}
 use Rattle.bufr_fill.specs.declared.fault.WalkRefusal.TheVariants as walk
 use Rattle.bufr_walk.specs.declared.spec.TurnRefusal.TheVariants as turn
-use Rattle.std.specs.List.{list_all, AllByRecursion}
+use Rattle.std.specs.List.{list_all, AllByRecursion, sum_by}
 use Rattle.bufr_bits.specs.Prelude.{decimal_text_of, decimal_value_of, short_text}
 use Rattle.bufr_bits.specs.declared.decimal.NumberFault.{NumberFault}
 use Rattle.bufr_bits.specs.declared.decimal.NumberFault.TheVariants.{Large}
@@ -299,6 +299,10 @@ IsEntryInside size e = IfSome e.kind (λ k. AreOctetsInside k size e.start e.end
 -- the octets of all stored entries are inside a block of this size
 abbrev pub AreInside : ℕ → List StoredEntry → Type 0
 AreInside size kept = AllByRecursion (IsEntryInside size) kept
+
+-- how many octets of a block stored entries have
+abbrev pub octets_stored : List StoredEntry → ℕ
+octets_stored kept = sum_by (λ e. e.end - e.start) kept
 
 -- the value of an item
 abbrev pub form_in : given.DraftValue → DraftValue

@@ -103,15 +103,16 @@ pub struct Entries {
 }
 
 impl Model for Entries {
-    ghost use Rattle.std.specs.Prelude.{List, length};
+    ghost use Rattle.std.specs.Prelude.{◌≡◌, List, length};
     ghost use Rattle.bufr_fill.specs.Draft.{DraftEntry};
-    ghost use Rattle.bufr_fill.specs.Draft.{entries_stored, AreInside};
+    ghost use Rattle.bufr_fill.specs.Draft.{entries_stored, AreInside, octets_stored};
 
     ghost Value = { List DraftEntry };
 
     ghost view = { λ e. entries_stored e.octets.items e.kept.items };
 
-    ghost invariant = { λ e. AreInside (length e.octets.items) e.kept.items };
+    ghost invariant = { λ e. AreInside (length e.octets.items) e.kept.items
+        × (length e.octets.items ≡ octets_stored e.kept.items) };
 }
 
 impl Entries {
@@ -144,16 +145,17 @@ impl Entries {
         ensures same { OnErr result (self.new ≡ self.old) }
     {
         let (kind, octets) = parts_of(item.form);
+        self.kept.reserve(1)?;
         let start = self.octets.len();
         self.octets.extend_from_slice(octets)?;
         let end = self.octets.len();
-        self.kept.push(StoredEntry {
+        self.kept.push_reserved(StoredEntry {
             line: item.line,
             start,
             end,
             fxy: item.fxy,
             kind: Some(kind),
-        })?;
+        });
         Ok(())
     }
 

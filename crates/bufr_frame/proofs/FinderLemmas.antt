@@ -661,13 +661,13 @@ module _ (left mid : Option (List ℕ)) (reads reads' : ℕ) (first s : FinderMo
             ((rw fails at more.fault), ends.1, rw rest looks.1.none)
 
         stops : StopsFinder first s2 f
-        stops = by f undecided ends.2
+        stops = by f refl undecided ends.2
           where
-            by : (g : RunFault) → IsUndecided s2 g → FillFails (s1.room < 2 * max 4096 s1.longest) (input_left s1) (input_left s2) g → StopsFinder first s2 g
-            by Read so e = so
-            by Write so e = absurd e
-            by InputTooLong so e = (so, e.1)
-            by Memory so e = (so, e.1, omega (arith, e.2, room, ap (λ x. x.room) is, more.longest))
+            by : (g : RunFault) → f ≡ g → IsUndecided s2 g → FillFails (s1.room < 2 * max 4096 s1.longest) (input_left s1) (input_left s2) g → StopsFinder first s2 g
+            by Read is' so e = so
+            by Write is' so e = absurd e
+            by InputTooLong is' so e = (so, e.1, more.long (fails ∙ ap Err is'))
+            by Memory is' so e = (so, e.1, omega (arith, e.2, room, ap (λ x. x.room) is, more.longest))
 
         open-before : first.ended ≡ false
         open-before = elim (cases_Bool first.ended) [ inl e ↦ absurd (true≢false (sym (on.steps.1.kept e).0 ∙ looks.0)) | inr o ↦ o ]

@@ -91,11 +91,13 @@ IsUndecided s fault = (s.fault ≡ Some fault) × (s.ended ≡ false)
     × ((at : ℕ) → NoEventCertain at s.rest)
 
 -- how a fault leaves a finder: it is never one of a write; an input is too long only after 2^32
--- reads; memory is needed only before, with room for less than twice the octets that may be held
+-- reads, each of which gave an octet; memory is needed only before, with room for less than twice
+-- the octets that may be held
 abbrev pub StopsFinder : (old new : FinderModel) → RunFault → Type 0
 StopsFinder old new Read = IsUndecided new Read
 StopsFinder old new Write = ⊥
-StopsFinder old new InputTooLong = IsUndecided new InputTooLong × (new.reads ≡ max_reads)
+StopsFinder old new InputTooLong =
+    IsUndecided new InputTooLong × (new.reads ≡ max_reads) × (max_reads ≤ new.at + length new.rest)
 StopsFinder old new Memory =
     IsUndecided new Memory × (new.reads < max_reads) × (old.room < 2 * max min_held new.longest)
 
@@ -204,7 +206,8 @@ IsSearchResult ended rest End = (ended ≡ true) × HasNoFurtherEvent rest
 
 -- ---- How a finder keeps its octets: those that were passed, and after them those that are left.
 
--- a finder's counts are small, it holds no more than it needs, and no fault is after the end
+-- a finder's counts are small, it holds no more than it needs, no fault is after the end, and each
+-- read before a fault or the end gave an octet
 abbrev pub IsFinder : Inside → Type 0
 IsFinder f =
     (f.passed ≤ length f.input.held)
@@ -213,6 +216,8 @@ IsFinder f =
     × (f.longest < 2 ^ 24)
     × (f.word ≡ codes "BUFR") × ((f.fault ≡ None) ⊎ (f.input.ended ≡ false))
     × (0 < f.input.reads → 2 * min_held ≤ f.input.room)
+    × (f.fault ≡ None → f.input.ended ≡ false
+    → f.input.reads ≤ f.offset + (length f.input.held - f.passed))
 
 -- ---- What a call of Finder::next returns.
 
@@ -280,6 +285,7 @@ pub record ReadsMore (left left' : Option (List ℕ)) (old new : FinderModel)
       (old.room < 2 * max min_held old.longest) result bs
   pub at : new.at ≡ old.at
   pub fault : MatchResult result (λ _. new.fault ≡ None) (λ fault. new.fault ≡ Some fault)
+  pub long : result ≡ Err InputTooLong → max_reads ≤ new.at + length new.rest
   pub longest : new.longest ≡ old.longest
 
 -- all octets that were read, up to `end`, are held: from a frame on, or after a stray word

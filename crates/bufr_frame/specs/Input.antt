@@ -53,10 +53,11 @@ FillFails refused old new Write = ⊥
 FillFails refused old new InputTooLong = (new.reads ≡ old.reads) × (new.reads ≡ max_reads)
 FillFails refused old new Memory = (new.reads ≡ old.reads) × (new.reads < max_reads) × refused
 
--- how a read ends: octets came, or the end was reached; or there is a fault
+-- how a read ends: octets came, or else the end was reached; or there is a fault
 abbrev pub FillEnds : (refused : Type 0) → InputModel → InputModel → List ℕ
     → Result (Unit {0}) RunFault → Type 0
-FillEnds refused old new bs (Ok u) = (new.reads ≡ old.reads + 1) × (new.ended ≡ true → bs ≡ [])
+FillEnds refused old new bs (Ok u) =
+    (new.reads ≡ old.reads + 1) × (new.ended ≡ true → bs ≡ []) × (bs ≡ [] → new.ended ≡ true)
 FillEnds refused old new bs (Err fault) =
     (bs ≡ []) × (new.ended ≡ false) × FillFails refused old new fault
 

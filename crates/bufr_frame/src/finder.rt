@@ -1,5 +1,5 @@
 //! The finder: the messages of a stream, one after another, and its search for `BUFR`.
-ghost use Rattle.std.specs.Prelude.{◌≡◌, ◌≢◌, ◌≤◌, false, List, ℕ, ◌<◌, ◌+◌, ◌-◌, ◌*◌, ◌^◌, length, take, drop, min, codes, IfSome, Some, None, Option, max, Err};
+ghost use Rattle.std.specs.Prelude.{◌≡◌, ◌≢◌, ◌⊎◌, ◌≤◌, false, List, ℕ, ◌<◌, ◌+◌, ◌-◌, ◌*◌, ◌^◌, length, take, drop, min, codes, IfSome, Some, None, Option, max, Err};
 ghost use Rattle.memchr.specs.Find.{FindsNeedle};
 ghost use Rattle.bufr_frame.specs.Scan.{classify, stated_length};
 ghost use Rattle.bufr_frame.specs.Finder.{IsSearchResult, passed_by, len_at, IsEventAt, GivesHeldEvent, ReadsMore, input_left, gone_to, StartsWithBufr, FinderModel, held, min_held, new_finder, ReturnsNextEvent, IsFinder};
@@ -215,8 +215,10 @@ impl Finder {
         ensures asked { R.asked r.new ≡ counted (R.asked r.old)
             (asked_by (max min_held self.old.longest - length self.old.rest)
             (input_left self.old) (input_left self.new)) }
-        // The room is at least 8,192 octets, and at most doubles what was held.
+        // The room is at least 8,192 octets. If it grows, it becomes twice what was held, or 8,192.
         ensures least { 0 < self.new.reads → 2 * min_held ≤ self.new.room }
+        ensures grows { (self.new.room ≡ self.old.room)
+            ⊎ (2 * length self.old.rest ≤ self.new.room) }
         ensures most { self.new.room
             ≤ max self.old.room (max (2 * min_held) (2 * length self.old.rest)) }
         ensures bound { held self.new ≤ max min_held self.new.longest }

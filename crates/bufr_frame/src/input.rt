@@ -1,5 +1,5 @@
 //! An input, read piece by piece or to its end.
-ghost use Rattle.std.specs.Prelude.{◌≡◌, ◌≢◌, ◌≤◌, ◌<◌, ◌+◌, ◌-◌, ◌*◌, ◌^◌, ℕ, List, ◌++◌, take, length, drop, slice_range, Ok, Err, IsOk, IfOk, IfErr, vec_len, vec_capacity, [], ◌∷◌, true, false, max};
+ghost use Rattle.std.specs.Prelude.{◌≡◌, ◌≢◌, ◌⊎◌, ◌≤◌, ◌<◌, ◌+◌, ◌-◌, ◌*◌, ◌^◌, ℕ, List, ◌++◌, take, length, drop, slice_range, Ok, Err, IsOk, IfOk, IfErr, vec_len, vec_capacity, [], ◌∷◌, true, false, max};
 ghost use Rattle.bufr_bits.specs.Prelude.{counted};
 ghost use Rattle.bufr_frame.specs.Input.{read_failures_after, max_reads, ReadsOnce, ReadsInput, AddsReads, InputModel, FillsInput, asked_by, new_input};
 
@@ -118,6 +118,7 @@ impl InputBuffer {
         ensures fills { (bs : List ℕ) × FillsInput (R.left r.old) (R.left r.new) self.old self.new
             (self.old.room < room) result bs × (length bs ≤ most) }
         ensures grown { self.old.reads ≡ 0 → 0 < self.new.reads → room ≤ self.new.room }
+        ensures grows { (self.new.room ≡ self.old.room) ⊎ (room ≤ self.new.room) }
         ensures most { self.new.room ≤ max self.old.room room }
         ensures free { self.new.ended ≡ true → 0 < self.new.free }
         ensures sure { R.waits r.old ≡ false → result ≢ Err RunFault.Read }
@@ -160,6 +161,8 @@ fn make_room(
         × (vec_capacity octets.old < room) × (octets.new.items ≡ octets.old.items)
         × (vec_len octets.new ≡ vec_len octets.old)) }
     ensures room { vec_capacity octets.old ≤ vec_capacity octets.new }
+    ensures grows { (vec_capacity octets.new ≡ vec_capacity octets.old)
+        ⊎ (room ≤ vec_capacity octets.new) }
     ensures most { vec_capacity octets.new ≤ max (vec_capacity octets.old) room }
 {
     if start > 0 && filled - start <= start {
@@ -227,6 +230,8 @@ pub fn read_to_end<R: Source>(
     ensures failed { R.failures r.new ≡ read_failures_after (R.failures r.old) result }
     ensures made { R.reads r.new ≡ counted (R.reads r.old) (reads.new - reads.old) }
     ensures within { (reads.old ≤ reads.new) × (reads.new ≤ max_reads) }
+    // Each read but the last one gave an octet.
+    ensures each { reads.new - reads.old ≤ length octets.new.items - length octets.old.items + 1 }
     ensures asked { R.asked r.new ≡ counted (R.asked r.old) (65536 * (reads.new - reads.old)) }
 {
     while *reads < MAX_READS {

@@ -3,7 +3,7 @@ use Rattle.std.proofs.Common.{◌-◌, ◌*◌, ◌^◌, min, max, inl, inr, ◌
 use Rattle.std.proofs.Math.Nat.{mul-le-mul_left}
 use Rattle.bufr_bits.specs.Prelude.{counted}
 use Rattle.std.proofs.KnownBytes.{Consumes-trans}
-use Rattle.std.proofs.lemmas.Bool.{true≢false}
+use Rattle.std.proofs.lemmas.Bool.{true≢false, cases_Bool}
 use Rattle.std.proofs.lemmas.List.{nil_from_length}
 use Rattle.bufr_text.specs.Prelude.{NeedsLine, failures_by, Parsing, ParseResult, parse_lines, parse_open_lines, lines_of, split_of, Document, Complete, documents_of, open_documents_of, text_of_lines, has_no_feed, ReaderPosition, ContinuesParse, TakesWholeLines, TakesEndLine, ReaderModel, position_of, position_after, IsMissingFeed, ReadsLines, EndsAtEndLine, parse, parse_open, new_reader, HasNoMoreLines, KeepsUnread, ReadsOnlyIfNoLine, ReturnsNextDocument, HasNoWholeLine, ParsesHeldLines, ReadsMoreText, TakesHeldLines, FillsBuffer, text_input, stopped, IsProper, ReadFault}
 use Rattle.bufr_text.proofs.ReaderLemmas.{goes-further, line-held, one-line, nothing-yet, some-held, call-keeps, keeps-same, passes-none, HandlesEnd}
@@ -213,6 +213,15 @@ call-takes left mid old s s' bs results call reports ended reads =
 pub call-needs : (left mid : Option (List ℕ)) (old s s' : ReaderModel) (bs : List ℕ) → ReadsLines left mid old s [] bs → NeedsLine s s' → ReadsLines left mid old s' [] bs
 call-needs left mid old s s' bs call needs = rw (append-nil bs) at (call-then left mid mid old s s' [] [] bs [] call (needs.passes mid))
 
+-- the end was not reached where a line is needed
+pub needs-going : (old new : ReaderModel) → NeedsLine old new → old.ended ≡ false
+needs-going old new needs = elim (cases_Bool old.ended) [ inl e ↦ absurd (true≢false (sym ((needs.passes None).kept e).0 ∙ needs.going)) | inr going ↦ going ]
+
+-- a read that does not reach the end gives an octet
+pub gives-some : (bs : List ℕ) (ended : Bool) → (bs ≡ [] → ended ≡ true) → ended ≡ false → 0 < length bs
+gives-some [] ended noticed going = absurd (true≢false (sym (noticed refl) ∙ going))
+gives-some (octet ∷ bs) ended noticed going = omega arith
+
 -- without a read none fails
 pub failures-kept : (count : ℕ) (next : Result (Option Document) ReadFault) → (next ≡ Err (Run Read) → ⊥) → failures_by count next ≡ count
 failures-kept count (Ok document) unread = refl
@@ -236,6 +245,7 @@ module _ (left mid : Option (List ℕ)) (old s s' : ReaderModel) (bs : List ℕ)
     keeps = call-keeps left mid old s' (Complete d ∷ []) bs (call-takes left mid old s s' bs (Complete d ∷ []) call went.0 ended reads);
     reads = (call-takes left mid old s s' bs (Complete d ∷ []) call went.0 ended reads, closes-then left mid old s s' [] bs call went.2 ended);
     waits = waits-same left old s s' bs bs waits reads refl;
+    each = λ e. cc;
     ends = went.1;
   }
 
@@ -254,13 +264,15 @@ module _ (left mid : Option (List ℕ)) (old s s' : ReaderModel) (bs : List ℕ)
       inr (went.3.mid, call-takes left mid old s went.3.mid bs [] call went.3.taken went.3.ended went.3.reads, went.3.next),
     );
     waits = waits-same left old s s' bs bs waits reads refl;
+    each = λ e. cc;
     ends = (went.0, inl (ap has_no_feed went.2 ∙ went.1));
   }
-  went-fault f went = record {
+  went-fault (Line line fault) went = record {
     octets = bs;
     reads = call-takes left mid old s s' bs _ call went.0 ended reads;
     keeps = call-keeps left mid old s' _ bs (call-takes left mid old s s' bs _ call went.0 ended reads);
     waits = waits-same left old s s' bs bs waits reads refl;
+    each = λ e. cc;
     ends = went.1;
   }
 
@@ -274,6 +286,7 @@ module _ (left mid : Option (List ℕ)) (old s s' : ReaderModel) (bs : List ℕ)
         reads = subst C (sym so.0) call;
         keeps = keeps-same old s s' bs (call-keeps left mid old s [] bs call) (ap (λ x. x.held) so.0) (ap (λ x. x.ended) so.0);
         waits = waits-same left old s s' bs bs waits (ap (λ x. x.reads) so.0) refl;
+        each = λ e. cc;
         ends = (ap (λ x. x.fault) so.0 ∙ sound, (ap (λ x. x.ended) so.0 ∙ ended, so.1, so.2));
       }
   end-next (Err (Line line fault)) so = record {
@@ -281,6 +294,7 @@ module _ (left mid : Option (List ℕ)) (old s s' : ReaderModel) (bs : List ℕ)
     reads = call-takes left mid old s s' bs _ call so.0 so.2 so.3;
     keeps = call-keeps left mid old s' _ bs (call-takes left mid old s s' bs _ call so.0 so.2 so.3);
     waits = waits-same left old s s' bs bs waits so.3 refl;
+    each = λ e. cc;
     ends = so.1;
   }
   end-next result so = absurd so
@@ -340,8 +354,8 @@ module _ (left mid left' : Option (List ℕ)) (old s s' : ReaderModel) (bs bs' :
   quiet-call x none read at parsing held ended order =
       call-then left mid left' old s x [] [] bs bs' call (open-call mid left' s x [] bs' none read (grind (arith, nat_tests, common_steps)) open' ended order)
 
-  pub fill-fault : (f : ReadFault) → FillsBuffer mid left' s s' (Err f) bs' → ReturnsNextDocument left left' old s' (Err f)
-  fill-fault (Run f) (x, read, is, short) = let N : ReaderModel → Type 0 = λ n. ReturnsNextDocument left left' old n (Err (Run f)) in subst N (sym is) (by f read.fills.ends)
+  pub fill-fault : (f : ReadFault) → s.reads ≤ old.reads + length bs → FillsBuffer mid left' s s' (Err f) bs' → ReturnsNextDocument left left' old s' (Err f)
+  fill-fault (Run f) some (x, read, is, short) = let N : ReaderModel → Type 0 = λ n. ReturnsNextDocument left left' old n (Err (Run f)) in subst N (sym is) (by f read.fills.ends)
     where
       by : (f : RunFault) → FillEnds (s.reads ≡ 0) (text_input s s.held) (text_input x (s.held ++ bs')) bs' (Err f) → ReturnsNextDocument left left' old (stopped x (Run f)) (Err (Run f))
       by f (none, unended, fails) = ends f fails
@@ -364,6 +378,7 @@ module _ (left mid left' : Option (List ℕ)) (old s s' : ReaderModel) (bs bs' :
             reads = quiet Read (omega (arith, made));
             keeps = keeps Read (omega (arith, made));
             waits = inr (waited x.reads made short read.few);
+            each = λ e. cc;
             ends = (refl, still-open x unended held short);
           }
           ends Write fails = absurd fails
@@ -372,6 +387,7 @@ module _ (left mid left' : Option (List ℕ)) (old s s' : ReaderModel) (bs bs' :
             reads = quiet InputTooLong (omega (arith, fails.0));
             keeps = keeps InputTooLong (omega (arith, fails.0));
             waits = same fails.0;
+            each = λ _. omega (arith, some, fails.0, length-append bs bs');
             ends = (refl, still-open x unended held short, fails.1);
           }
           ends Memory fails =
@@ -385,9 +401,10 @@ module _ (left mid left' : Option (List ℕ)) (old s s' : ReaderModel) (bs bs' :
                 );
                 keeps = keeps Memory (omega (arith, fails.0));
                 waits = same fails.0;
+                each = λ e. cc;
                 ends = (refl, inr first);
               }
-  fill-fault f so = absurd so
+  fill-fault f some so = absurd so
 
 some-none : (x : ParseResult) → x ∷ [] ≡ [] → ⊥
 some-none x e = omega (arith, ap length e)

@@ -222,6 +222,8 @@ pub record ReturnsNextDocument (left left' : Option (List ℕ)) (old new : Reade
   pub reads : ReadsDocument left left' old new result octets
   pub keeps : KeepsUnread old new octets
   pub waits : (new.reads ≡ old.reads) ⊎ ReadsOnlyIfNoLine left old new.reads octets
+  -- an input is too long only if each read gave an octet
+  pub each : result ≡ Err (Run InputTooLong) → new.reads ≤ old.reads + length octets
   pub ends : LeavesReader new result
 
 -- No whole line is held, and none was taken that reports something.

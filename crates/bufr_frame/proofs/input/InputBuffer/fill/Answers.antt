@@ -68,7 +68,7 @@ returns-clause-fills g c =
             ∙ ap (λ l. l ++ once.0) (c.in_ok-slid.ensures.held ∙ ap (λ s. s.held) c.self.view_is));
         end = λ ended. out.1 (zero ended);
         room = omega (arith, c.make_room.ensures.room, c.read_after.ensures.room, ap (λ s. s.room) c.self.view_is);
-        ends = (ap (λ s. s.reads + 1) c.self.view_is, λ ended. empty-of once.0 (sym out.0 ∙ zero ended));
+        ends = (ap (λ s. s.reads + 1) c.self.view_is, (λ ended. empty-of once.0 (sym out.0 ∙ zero ended)), (λ none. rw (out.0 ∙ ap length none) refl));
       },
       omega (arith, out.0, c.in_ok-n.ensures.fits, c.min-to.ensures),
     )

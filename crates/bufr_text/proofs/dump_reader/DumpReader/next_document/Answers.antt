@@ -1,8 +1,8 @@
-use Rattle.std.proofs.Common.{inl, ◌∙◌, ◌++◌, [], ap, sym, subst, arith, refl, Err, Some, Result, Option}
+use Rattle.std.proofs.Common.{inl, ◌∙◌, ◌<◌, ◌++◌, [], length, length-append, ap, sym, subst, arith, refl, Err, Some, Result, Option}
 use Rattle.std.proofs.lemmas.Result.{err_from_is_err_and}
 use Rattle.bufr_frame.proofs.FinderLemmas.{adds-none, adds-same, adds-then, none-unless}
 use Rattle.bufr_text.specs.Prelude.{Document, ReturnsNextDocument, ReadFault}
-use Rattle.bufr_text.proofs.CallLemmas.{asks-exactly, asks-nothing, asks-then, call-none, call-needs, failures-kept, fill-call, fill-waits, fill-fault, waits-same}
+use Rattle.bufr_text.proofs.CallLemmas.{asks-exactly, asks-nothing, asks-then, call-none, call-needs, failures-kept, fill-call, fill-waits, fill-fault, gives-some, needs-going, waits-same}
 use Rattle.bufr_text.proofs.dump_reader.DumpReader.next_document.Goals as goal
 
 pub loop-next-init : goal.loop-next-init
@@ -10,6 +10,7 @@ loop-next-init g c = record {
   octets = [];
   call = call-none _ c.args.self.now;
   waits = inl refl;
+  each = λ _. omega arith;
   counts = adds-none _ _ (omega (arith, c.self.invariant, ap (λ s. s.reads) c.self.view_is));
   asked = asks-nothing _ _;
   failed = refl;
@@ -38,6 +39,9 @@ loop-next-preserved g c =
       octets = before.octets ++ read.0;
       call = fill-call _ _ _ c.args.self.now s c.read_more.new.self before.octets read.0 call waits needs.going needs.none filled;
       waits = fill-waits _ _ _ c.args.self.now s c.read_more.new.self before.octets read.0 call waits needs.going needs.none filled;
+      each = λ going.
+          let some : 0 < length read.0 = gives-some read.0 c.read_more.new.self.ended filled.0.fills.ends.2 going in
+          omega (arith, before.each (needs-going c.loop-next.self s needs), c.next_held.ensures.reads, filled.0.fills.ends.0, some, length-append before.octets read.0);
       counts = adds-then _ _ _ _ _ _ (adds-same _ _ _ _ _ before.counts c.next_held.ensures.reads) c.read_more.ensures.counts;
       asked = asks-then _ _ _ _ _ _ _ before.counts.order c.read_more.ensures.counts.order c.next_held.ensures.reads before.asked (asks-exactly _ _ _ _ c.read_more.ensures.asked);
       failed = (rw c.in_ok-read_more-in-None.was at c.read_more.ensures.failed needs.sound) ∙ before.failed;
@@ -54,4 +58,5 @@ returns-in_err-read_more-in-None-clause-next g c = λ sound.
     let read = c.read_more.ensures.read needs.sound in
     let p = err_from_is_err_and c.from_residual.result c.from_residual.ensures.1 in
     let N : Result (Option Document) ReadFault → Type 0 = λ r. ReturnsNextDocument (g.R.Source.left c.args.r.now) (g.R.Source.left c.read_more.new.r) c.args.self.now c.read_more.new.self r in
-    subst N (sym (p.1 ∙ ap Err p.2)) (fill-fault _ _ _ c.args.self.now s c.read_more.new.self before.octets read.0 call waits needs.going needs.none _ (rw c.in_err-read_more-in-None.was at read.1))
+    subst N (sym (p.1 ∙ ap Err p.2)) (fill-fault _ _ _ c.args.self.now s c.read_more.new.self before.octets read.0 call waits needs.going needs.none _
+    (omega (arith, before.each (needs-going c.loop-next.self s needs), c.next_held.ensures.reads)) (rw c.in_err-read_more-in-None.was at read.1))
