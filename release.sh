@@ -1,8 +1,7 @@
 #!/usr/bin/env bash
 # Makes a release of the current commit: an archive that installs without the toolchain, the wheel, and their checksums.
 #
-#     ./release.sh [DIST]                         proves everything from scratch, and then the program again, which takes
-#                                                 up to three hours
+#     ./release.sh [DIST]                         proves everything from scratch, which takes one to two hours
 #     ./release.sh --unproved PROGRAM [DIST]      packs this program, and records in BUILD that it is unproved
 #
 # The files are written to the directory DIST, by default dist. If a step fails or is interrupted, the files there are
@@ -70,20 +69,13 @@ if [ $proof = proved ]; then
     program=crates/bufr/out/bufr
     kit=$(rt version) || die 'the toolchain (rt) is not on PATH; use --unproved PROGRAM to release a program without a proof'
     [ "${kit##* }" = "$logic" ] || die "the toolchain is $kit, but README.md names logic $logic"
-    unset RT_BACKEND # `rt ci` ignores it, but `rt run` does not
     shopt -s nullglob
     proved=(crates/*/src crates/*/must-fail/*.edit)
     prove rt ci --anew || die 'the proofs or the tests failed (rt ci); see the output above'
     gate=$(tail -n 1 "$work/log")
     # `rt ci` does not count an invalid must-fail edit, but succeeds anyway.
     [ "$gate" = "${#proved[@]} passed, 0 failed" ] || die "there are ${#proved[@]} crates and must-fail edits, but rt ci says: $gate"
-    of_gate=$(sum_of $program)
-    # A second build writes the stamp, which `rt ci` does not: the checksum of all sources, followed by that of the program.
-    prove env -C crates/bufr rt run -- --version || die 'the second build failed (rt run); see the output above'
-    [ "$(sum_of $program)" = "$of_gate" ] || die 'a second build produced a different program'
-    stamp=$(< $program.stamp)
-    [ "${stamp:64}" = "$of_gate" ] || die 'the stamp belongs to a different program'
-    sources=${stamp:0:64}
+    sources=$(find HANDLES crates.txt crates -name out -prune -o -type f -print | sort | xargs sha256sum | sha256sum | cut -c 1-64)
 fi
 mark=$(grep -aom 1 'rattle logic=[0-9a-f]\{16\}' "$program" | cut -d = -f 2) || mark=none
 [ $proof = unproved ] || [ "$mark" = "$logic" ] || die "the program was built with logic $mark, but README.md names logic $logic"

@@ -134,7 +134,7 @@ class Trial:
         tables = self.place / "tables"
         shutil.copytree(TABLES, tables)
         for name in ("wmo-x", "wmo-13+98", "wmo-13+98-1-2", "wmo-\u0661\u0663", "wmo-1234567890", "own-39"):
-            (tables / name).mkdir()  # no names of sets
+            (tables / name).mkdir()  # not names of sets
         with open(tables / "wmo-17/D.csv", "a") as file:
             file.write("no row\n")
         (self.place / "17").write_bytes(made(17, LISTS[1], b"\1" * 3))
@@ -347,7 +347,7 @@ class Trial:
         code += "bufr_guard.run(work, '')"
         seven, both = made(13, LISTS[1], b"\1\1\0", 7), made(39, LISTS[1], b"\1\1\0", 98, section_2=bytes(5_000_000))
         stream = seven + b"BUFR" + both + made(13, "063255", b"", 98) + seven[:-30] + both + made(39, "063255", b"", 7)
-        stream += b"BUFR\0\0\x0c\x047777"  # shorter than what is read of a message
+        stream += b"BUFR\0\0\x0c\x047777"  # shorter than the bytes that are read in advance
         (self.place / "a file").write_bytes(stream)
         texts = {centre: self.one_by_one(message)[0] for centre, message in ((7, seven), (98, both))}
         comment = "# offset={} length={} file={}\n"
@@ -617,13 +617,13 @@ class Trial:
         told = b"bufr-auto: 1 message, at offset 0: version 41 is later than wmo-39" + NEWER.encode()
         told += b"\nbufr-auto: bufr stopped early; output is incomplete\n"
         self.holds("a text that is cut", (done.returncode, done.stderr) == (2, told), done)
-        # A long document is cut while it is encoded.
+        # A long document becomes shorter while it is encoded.
         other.write_text(f'#!/bin/sh\nhead -c 5000000 "$STREAM" > "$STREAM.1"\ncat "$STREAM.1" > "$STREAM"\nexec "{self.program}" "$@"\n')
         (self.place / "stream").write_bytes(b"message\n" + b"# A comment in a document.\n" * 1_000_000)
         done = self.auto("--encode", str(self.place / "stream"), **words)
         told = f"bufr-auto: {self.place}/stream was truncated while it was read\n".encode()
         self.holds("a document that becomes shorter", (done.returncode, done.stderr) == (2, told), done)
-        # Standard input whose reads do not wait.
+        # Standard input that does not block.
         given, pipe = os.pipe()
         os.set_blocking(given, False)
         with subprocess.Popen(AUTO, stdin=given, stdout=subprocess.PIPE, stderr=subprocess.PIPE, env=self.environment) as child:
@@ -632,7 +632,7 @@ class Trial:
             os.write(pipe, made(39, LISTS[1], b"\1\1\0"))
             os.close(pipe)
             told = child.communicate()
-        self.holds("an input that does not wait", (child.returncode, told[0][-4:], told[1]) == (0, b"end\n", b""), told)
+        self.holds("an input that does not block", (child.returncode, told[0][-4:], told[1]) == (0, b"end\n", b""), told)
         ignoring = "import os, signal, sys; signal.signal(signal.SIGCHLD, signal.SIG_IGN); os.execv(sys.argv[1], sys.argv[1:])"
         words = [sys.executable, "-c", ignoring, *AUTO, str(TOP / "examples/synop.bufr")]
         done = subprocess.run(words, env=self.environment, capture_output=True)

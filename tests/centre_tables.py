@@ -240,7 +240,7 @@ def main() -> None:
             words = [sys.executable, TOP / "scripts/bufr-lacks"]
             done = subprocess.run(words, stdin=stream, capture_output=True, env=environment)
         told = b"bufr-lacks: standard input has no message: it looks like text\n"
-        holds("bufr-lacks behind a message", (done.returncode, done.stdout, done.stderr), (0, b"", told))
+        holds("bufr-lacks after a message", (done.returncode, done.stdout, done.stderr), (0, b"", told))
         nearest_own_set(place / "tables", script, message_9, holds)
         versions_and_editions(script, holds)
         in_packages(holds)

@@ -92,7 +92,7 @@ def tries_wide(awk: list, text: bytes) -> None:
     rows = list(csv.reader(output.splitlines()))[1:]
     wanted = ["1", "1", "74", "28.5", "", 'A \\"B\\\\', '\\\\\\\\\\" # \\\\\\"', ""]
     want((status, rows, errors) == (0, [wanted], ""), f"{awk}: of odd texts there are {rows}: {errors}")
-    want(run(awk, b"", columns="012101") == (0, "message,subset,012101\n", ""), f"{awk}: of no message something is told")
+    want(run(awk, b"", columns="012101") == (0, "message,subset,012101\n", ""), f"{awk}: without a message, something is reported")
     head = re.findall(rb"^(\w+) (\d+)$", text, re.M)[:20]
     status, output, errors = run(awk, text, columns=",".join(key.decode() for key, _ in head))
     row = output.splitlines()[-1].split(",")
@@ -231,7 +231,7 @@ def tries_levels(awk: list, sounding: bytes, synop: bytes) -> None:
     behind = run(awk, BEHIND, levels="1", columns="007004,012101,012103")
     wanted = (0, "message,subset,007004,012101,012103\n1,1,1,1.0,\n1,1,2,,2.0\n", "")
     want(behind == wanted, f"{awk}: an item behind two passes is in a row: {behind}")
-    # of subsets without a level no item counts, nor does a factor behind which nothing comes
+    # items of a subset without a level do not count, and no item may follow a factor
     bare = "table.awk: skipped subsets without a level: {}, the first is message 1 subset 1\n"
     status, _, errors = run(awk, ODD + BEHIND, levels="1", keep="001015", columns="007004,012101")
     told = "table.awk: no row has 001015\n" + bare.format(1)
@@ -239,7 +239,7 @@ def tries_levels(awk: list, sounding: bytes, synop: bytes) -> None:
     empty = run(awk, b"message\nsubset 1\n031001 2\nsubset 2\n012101 1.0\nend\n", levels="1", columns="012101")
     wanted = (0, "message,subset,012101\n", "table.awk: no row has 012101\n" + bare.format(2))
     want(empty == wanted, f"{awk}: passes without items give {empty}")
-    # a descriptor that begins a pass comes again before a group inside it
+    # the descriptor that begins a pass comes twice before an inner group
     again = b"message\nsubset 1\n031001 3\n" + b"007004 1\n007004 2\n031001 1\n011001 3\n" * 3 + b"end\n"
     status, output, errors = run(awk, again, levels="1", columns="007004")
     is_so = (status, output.count("\n")) == (1, 1) and "told apart: 1, the first is message 1 subset 1: 007004\n" in errors
@@ -257,7 +257,7 @@ def tries_levels(awk: list, sounding: bytes, synop: bytes) -> None:
     after = ENCLOSED % 3 + b"message\nsubset 1\n031001 1\n008002 9\n020011 5\nend\n"
     status, output, _ = run(awk, after, levels="1", columns="008002,020011")
     wanted = (1, "message,subset,008002,020011\n2,1,9,5\n")
-    want((status, output) == wanted, f"{awk}: behind passes that cannot be told apart come {output}")
+    want((status, output) == wanted, f"{awk}: after passes that cannot be told apart, the rows are {output}")
     # three passes, of which the second has lines that are no items
     head, one, rest = (b"".join(ODD.splitlines(True)[part]) for part in (slice(6), slice(6, 10), slice(10, None)))
     odd = head + b"031001 3\n" + one + b"\n# a note\n" + one + one + rest

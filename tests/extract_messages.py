@@ -145,7 +145,7 @@ def refuses_what_it_cannot(path: pathlib.Path) -> None:
     path.write_bytes(made(1) * 4000)
     done = run(["--awk", "NR == 2 { exit 2 } 1", path], timeout=60)
     want((done.returncode, done.stdout) == (2, made(1)), f"of an awk that ends early: {done}")
-    # A line that comes once more, after more lines than are read at once.
+    # A line is repeated after more lines than one read returns.
     done = run(["--awk", "NR == 1 { first = $0 } 1; END { print first }", path])
     want(done.returncode == 2 and b"--awk may only select lines" in done.stderr, f"a line that comes twice: {done.stderr}")
     killed = path.with_name("killed")
@@ -233,14 +233,14 @@ def tells_that_there_is_no_message(path: pathlib.Path) -> None:
                 want((done.returncode, lines[status:]) == (status, wanted), f"{words} of {octets[:9]}: {done}")
 
 
-def begins_behind_a_message(path: pathlib.Path) -> None:
-    """Standard input may begin behind a message, in front of other bytes."""
+def begins_after_a_message(path: pathlib.Path) -> None:
+    """Standard input may begin after the only message of a file."""
     path.write_bytes(made(1) + b"\ntext\n")
     with path.open("rb", buffering=0) as stream:
         stream.seek(len(made(1)))
         done = run([], stdin=stream)
     told = b"bufr-extract: standard input has no message: it looks like text\n"
-    want((done.returncode, done.stdout, done.stderr) == (0, b"", told), f"behind a message: {done}")
+    want((done.returncode, done.stdout, done.stderr) == (0, b"", told), f"after a message: {done}")
 
 
 def ignores_the_locale(folder: pathlib.Path) -> None:
@@ -385,7 +385,7 @@ def main() -> None:
         refuses_what_it_cannot(folder / "one.bufr")
         tells_years_of_the_century(folder)
         tells_that_there_is_no_message(folder / "none")
-        begins_behind_a_message(folder / "behind")
+        begins_after_a_message(folder / "after")
         ignores_the_locale(folder)
         skips_what_is_too_long(folder)
         tells_a_feed()

@@ -324,7 +324,7 @@ def signals(trial: Trial) -> None:
         holds(f"{trial.name} at {name.name}", is_begun and (run.returncode, told) == (-name, b""), (run.returncode, told))
         started = int(number.read_text())
         holds(f"{trial.name} at {name.name}: what still runs", wait_until(lambda: not lib.runs(started)))
-    if trial.name == "bufr-csv":  # its awk, which it kills, has not failed
+    if trial.name == "bufr-csv":  # the end of awk, which it kills itself, is no failure
         words = [sys.executable, "-c", SLOW_TO_STOP.format(TOP / "scripts"), *trial.words[1:]]
         number.unlink()
         run = subprocess.Popen(
@@ -481,12 +481,12 @@ def progress(trial: Trial) -> None:
     lines = told.count(b" of 12 MB")
     holds(f"{trial.name}: progress", status == 0 and 1 <= lines <= seconds + 1, (status, told, seconds))
     holds(f"{trial.name}: progress that stays", told.endswith(b"\r\x1b[K") and b"\n" not in told, told)
-    if trial.name not in ("bufr-extract", "bufr-lacks"):  # whose output comes at once behind the pause of `bufr ls`
+    if trial.name not in ("bufr-extract", "bufr-lacks"):  # which write everything soon after `bufr ls`
         holds(f"{trial.name}: progress by parts", re.search(rb"\x1b\[K[1-9]\d* of 12 MB", told), told)
     if trial.name == "bufr-lacks":
         done = trial.run([trial.place / "long"], environment=slow)
         holds(f"{trial.name}: progress to a pipe", done.stderr == b"", done.stderr)
-        # Of a pipe the total is unknown.
+        # The total of a pipe is unknown.
         main, terminal = pty.openpty()
         run = subprocess.Popen(trial.words, stdin=subprocess.PIPE, stdout=subprocess.DEVNULL, stderr=terminal, env=trial.environment)
         os.close(terminal)
@@ -536,7 +536,7 @@ def guard() -> None:
         done = subprocess.run(words, cwd=TOP / "scripts", capture_output=True, env=environment)
         wanted = (status, b"", (told if told[:1] in ("", "\r") else f"-c: {told}\n").encode())
         holds(f"{code}", (done.returncode, done.stdout, done.stderr) == wanted, done)
-    # What is buffered for standard error follows what is buffered for standard output.
+    # Standard output is flushed before standard error.
     code = "import bufr_guard; bufr_guard.run(lambda _: bufr_guard.say(b'2') or bufr_guard.output().write(b'1') or 0, '')"
     words = [sys.executable, "-c", code]
     done = subprocess.run(words, cwd=TOP / "scripts", stdout=subprocess.PIPE, stderr=subprocess.STDOUT)

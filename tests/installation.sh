@@ -6,6 +6,7 @@ set -eu
 top=$PWD prefix=$work/here/prefix
 mkdir -p "$work/here" "$work/other"/{prefix,source}
 ln -s "$top" "$work/here/source"
+ln -s "$bufr" "$work/here/program"
 # A set of tables, links and bytecode that the versions without a MANIFEST installed, and a set of the user's own.
 older=$prefix/share/bufr/tables doc=$prefix/share/doc/bufr
 mkdir -p "$older"/{wmo-38,wmo-39,own} "$doc/tables" "$prefix/share/bufr/__pycache__"
@@ -16,7 +17,7 @@ for set in wmo-38 wmo-39; do ln -s "../../../bufr/tables/$set" "$doc/tables"; do
 (
     cd "$work/here"
     umask 077
-    CDPATH=$work/other source/install.sh --program "$bufr" --unproved prefix
+    CDPATH=$work/other source/install.sh --program program --unproved prefix
 ) > "$work/told" 2> "$work/errors" || fail "install.sh fails: $(< "$work/errors")"
 [ ! -s "$work/errors" ] || fail "install.sh prints $(< "$work/errors")"
 [ ! -e "$older/wmo-38" ] && [ ! -e "$prefix/share/bufr/__pycache__" ] || fail "install.sh leaves files of an older version"
@@ -28,7 +29,11 @@ rm -r "$older/own"
 mkfifo "$work/feed"
 "$prefix/bin/bufr" ls < "$work/feed" &
 exec 3> "$work/feed"
-(umask 077 && "$top/install.sh" --program "$bufr" --unproved "$prefix") > "$work/again" || fail "install.sh fails where it installed before"
+(
+    umask 077
+    PATH=$prefix/bin:$PATH PYTHONPATH=$prefix/share/bufr:$work "$top/install.sh" --program "$bufr" --unproved "$prefix"
+) > "$work/again" || fail "install.sh fails where it installed before"
+[ "$(grep -c '^To ' "$work/told")" -eq 2 ] && ! grep '^To ' "$work/again" || fail "install.sh prints other lines for a shell profile"
 exec 3>&-
 wait $!
 (cd "$prefix" && find . | sort) | diff "$work/once" - || fail "a second installation has other files"
@@ -59,6 +64,8 @@ for words in '' '--wrong p' 'p q' '--program' '--uninstall'; do
     "$top/install.sh" $words > "$work/output" 2> "$work/errors" && status=0 || status=$?
     [ "$status" -eq 2 ] && [ -s "$work/errors" ] || fail "install.sh $words: status $status"
 done
+! "$top/install.sh" '' 2> "$work/errors" && grep -q 'one PREFIX' "$work/errors" || fail "install.sh installs to '': $(< "$work/errors")"
+"$top/install.sh" --help | grep -q '^usage: ' || fail 'install.sh --help'
 ! "$top/install.sh" --uninstall "$work/nothing" 2> "$work/errors" && grep -q MANIFEST "$work/errors" ||
     fail "install.sh uninstalls what is not installed: $(< "$work/errors")"
 ! "$top/install.sh" --program "$bufr" --unproved /dev/null/prefix > "$work/output" 2>&1 || fail "install.sh installs below a file"
@@ -121,8 +128,11 @@ stops_in_the_middle
 stops_in_the_middle
 "$top/install.sh" --program "$bufr" --unproved "$work/full" > "$work/output" || fail "a part of an installation is not repaired"
 cmp "$bufr" "$work/full/bin/bufr"
-! "$top/install.sh" --program /bin/true --unproved "$work/full" 2> "$work/errors" && grep -q 'not bufr' "$work/errors" ||
-    fail "install.sh installs /bin/true: $(< "$work/errors")"
+printf '#!/bin/sh\necho bufr one\n' > "$work/tiny"
+for program in /bin/true "$work/tiny"; do
+    ! "$top/install.sh" --program "$program" --unproved "$work/full" 2> "$work/errors" && grep -q 'not bufr' "$work/errors" ||
+        fail "install.sh installs $program: $(< "$work/errors")"
+done
 unset BUFR BUFR_TABLES
 PATH=$prefix/bin:/usr/bin:/bin:$(dirname "$(command -v python3)"):$PATH
 examples=$prefix/share/doc/bufr/examples

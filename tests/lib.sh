@@ -14,6 +14,12 @@ fail() {
     exit 1
 }
 
+# sources_of FOLDER: the checksum of the sources that BUILD has.
+sources_of() {
+    (cd "$1" && find HANDLES crates.txt crates -name out -prune -o -type f -print | LC_ALL=C sort | xargs sha256sum) | sha256sum |
+        cut -c 1-64
+}
+
 # run WORD..: the program's output and errors are in $work, its status is $status.
 run() {
     status=0

@@ -67,7 +67,7 @@ def strange(python: str, folder: pathlib.Path) -> None:
     for latitude, pole in (("91.5", "90.0"), ("-100.0", "-90.0")):
         told = (draw(stations(3, pole))[0], "bufr-plot: 2 latitudes are beyond a pole; their points are drawn at the pole\n")
         want(draw(stations(3, latitude)) == told, f"latitude {latitude} is not clipped, or not told")
-    # half of the world, from 10.5 north and 20.5 east, and a little more
+    # half of the world from 10.5 north and 20.5 east, and slightly more than half
     for place, is_whole in (
         ({"longitude": "-159.5"}, False), ({"latitude": "-79.5"}, False), ({"longitude": "-160.0"}, True), ({"latitude": "-80.0"}, True)
     ):
@@ -114,7 +114,7 @@ def first_of_a_level(python: str, folder: pathlib.Path, text: bytes) -> None:
     want(twice.count(b" 300 ") > 40 and draw(twice) == whole, "the last temperature of a level counts")
     others = re.sub(rb"\n0121(0[13])", rb"\n0120\1", text)
     want(others != text and draw(others) == whole, "0 12 001 and 0 12 003 count otherwise")
-    # no levels: a temperature before all pressures, wrong pressures, and a pressure without a temperature
+    # these are no levels: a temperature before all pressures, invalid pressures, and a pressure without a temperature
     odd = b"subset 1\n012101 250\n007004 MISSING\n012101 250\n007004 0\n012101 250\n007004 -100\n012101 250\n007004 2000\n"
     want(draw(text.replace(b"subset 1\n", odd)) == whole, "what is no level is drawn")
     one = text.partition(b"subset 1\n")[0] + b"subset 1\n007004 50000\n012101 250\nend\n"

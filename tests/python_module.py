@@ -382,6 +382,7 @@ class Tables(unittest.TestCase):
         # passes that begin and end with the same descriptor, two and three of them
         enclosed = b"031001 %d\n" + b"008002 1\n020011 2\n008002 MISSING\n" * 3
         texts += [with_line(24, enclosed % passes) for passes in (2, 3)]
+        texts.append(with_line(24, b"031001 MISSING\n007004 1\n"))
         texts.append(with_line(24, b"031001 3\n" + b"007004 1\n007004 2\n031001 1\n011001 3\n" * 3))
         lists = [("001015", "007004,012101,012103"), ("001001", "007004"), ("007004", "012101,007004"), ("", "020012,020011"), ("", "008002")]
         unclear, count = 0, 0
