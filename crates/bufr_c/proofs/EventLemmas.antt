@@ -447,10 +447,10 @@ so-far-ended piece octets from output errors texts texts' so none within at outp
 
 -- ---- A call that reads no stream.
 
-pub nothing-passed : (piece : StreamEvent → Piece) (octets : List ℕ) (from : ℕ) (output errors : List ℕ) (texts : Texts) (status : ℤ) → texts.at ≡ from → texts.output_length ≡ 0
+pub nothing_passed : (piece : StreamEvent → Piece) (octets : List ℕ) (from : ℕ) (output errors : List ℕ) (texts : Texts) (status : ℤ) → texts.at ≡ from → texts.output_length ≡ 0
     → texts.errors_length ≡ 0 → texts.accepted ≡ 0
     → texts.refused ≡ 0 → ¬ HasRun status → Passes piece octets from output errors texts status
-nothing-passed piece octets from output errors texts status at output_length errors_length accepted refused stopped =
+nothing_passed piece octets from output errors texts status at output_length errors_length accepted refused stopped =
     subst (λ n. Passes piece octets n output errors texts status) at
     (let so = so-far-none piece octets output errors texts output_length errors_length accepted refused in
     record { passed = so.passed; events = so.events; leaves = so.leaves; done = λ is. absurd (stopped (inl is)); stops = λ is. absurd (stopped (inr is)) })
@@ -462,19 +462,19 @@ unless-read (Ok a) (Err fault) P all = tt
 unless-read (Err fault) s P all = tt
 
 -- what holds by all tables
-pub by-any-tables : (table_b table_d : List ℕ) (Holds : List Row → List Sequence → Type 0) → ((b : List Row) (d : List Sequence) → Holds b d) → ByTables table_b table_d Holds
-by-any-tables table_b table_d Holds all = unless-read (table_b_of (records_of table_b)) (table_d_of (records_of table_d)) Holds all
+pub by_any_tables : (table_b table_d : List ℕ) (Holds : List Row → List Sequence → Type 0) → ((b : List Row) (d : List Sequence) → Holds b d) → ByTables table_b table_d Holds
+by_any_tables table_b table_d Holds all = unless-read (table_b_of (records_of table_b)) (table_d_of (records_of table_d)) Holds all
 
 -- what holds by the tables that were read
-pub by-these-tables : (table_b table_d : List ℕ) (b : List Row) (d : List Sequence) (Holds : List Row → List Sequence → Type 0) → table_b_of (records_of table_b) ≡ Ok b
+pub by_these_tables : (table_b table_d : List ℕ) (b : List Row) (d : List Sequence) (Holds : List Row → List Sequence → Type 0) → table_b_of (records_of table_b) ≡ Ok b
     → table_d_of (records_of table_d) ≡ Ok d → Holds b d → ByTables table_b table_d Holds
-by-these-tables table_b table_d b d Holds is_b is_d holds = rw (is_b, is_d) holds
+by_these_tables table_b table_d b d Holds is_b is_d holds = rw (is_b, is_d) holds
 
 -- the status of a call that read its tables
-pub ran-status : (table_b table_d : List ℕ) (b : List Row) (d : List Sequence) (status : ℤ) → table_b_of (records_of table_b) ≡ Ok b → table_d_of (records_of table_d) ≡ Ok d
+pub ran_status : (table_b table_d : List ℕ) (b : List Row) (d : List Sequence) (status : ℤ) → table_b_of (records_of table_b) ≡ Ok b → table_d_of (records_of table_d) ≡ Ok d
     → IsRunStatus status → CallStatus table_b table_d status
-ran-status table_b table_d b d status is_b is_d ran = record {
-  read = by-these-tables table_b table_d b d (λ b' d'. IsRunStatus status ⊎ IsCycleStatus d' status) is_b is_d (inl ran);
+ran_status table_b table_d b d status is_b is_d ran = record {
+  read = by_these_tables table_b table_d b d (λ b' d'. IsRunStatus status ⊎ IsCycleStatus d' status) is_b is_d (inl ran);
   no_table_b = rw is_b tt;
   no_table_d = rw (is_b, is_d) tt;
 }
@@ -488,9 +488,9 @@ all-values (Ok a) P all = all a
 all-values (Err fault) P all = tt
 
 -- memory ran out before the tables were read
-pub memory-status : (table_b table_d : List ℕ) → CallStatus table_b table_d (pos 73)
-memory-status table_b table_d = record {
-  read = by-any-tables table_b table_d (λ b d. IsRunStatus (pos 73) ⊎ IsCycleStatus d (pos 73)) (λ b d. inl (inr (inl refl)));
+pub memory_status : (table_b table_d : List ℕ) → CallStatus table_b table_d (pos 73)
+memory_status table_b table_d = record {
+  read = by_any_tables table_b table_d (λ b d. IsRunStatus (pos 73) ⊎ IsCycleStatus d (pos 73)) (λ b d. inl (inr (inl refl)));
   no_table_b = all-faults (table_b_of (records_of table_b)) (λ fault. IsTableStatus 0 fault (pos 73)) (λ fault. inr refl);
   no_table_d = all-values (table_b_of (records_of table_b)) (λ b. IfErr (table_d_of (records_of table_d)) (λ fault. IsTableStatus 100 fault (pos 73)))
       (λ b. all-faults (table_d_of (records_of table_d)) (λ fault. IsTableStatus 100 fault (pos 73)) (λ fault. inr refl));
@@ -500,9 +500,9 @@ zero-first : (n : ℕ) → n ≡ 0 + n
 zero-first n = omega arith
 
 -- Table B cannot be read
-pub table-b-status : (table_b table_d : List ℕ) (fault : TableFault) (status : ℤ) → table_b_of (records_of table_b) ≡ Err fault → status ≡ pos (table_report fault).0
+pub table_b_status : (table_b table_d : List ℕ) (fault : TableFault) (status : ℤ) → table_b_of (records_of table_b) ≡ Err fault → status ≡ pos (table_report fault).0
     → CallStatus table_b table_d status
-table-b-status table_b table_d fault status is number =
+table_b_status table_b table_d fault status is number =
     record { read = rw is tt; no_table_b = rw is (inl (number ∙ ap pos (zero-first (table_report fault).0))); no_table_d = rw is tt }
 
 -- the numbers of the faults of tables
@@ -519,16 +519,16 @@ stopped-at : (n : ℕ) → (n ≡ 0 → ⊥) → (n ≡ 74 → ⊥) → ¬ HasRu
 stopped-at n some other (inl is) = some (same-numbers n 0 is)
 stopped-at n some other (inr is) = other (same-numbers n 74 is)
 
-pub stopped-73 : ¬ HasRun (pos 73)
-stopped-73 = stopped-at 73 (λ is. omega (arith, is)) (λ is. omega (arith, is))
+pub stopped_73 : ¬ HasRun (pos 73)
+stopped_73 = stopped-at 73 (λ is. omega (arith, is)) (λ is. omega (arith, is))
 
-pub stopped-by-b : (fault : TableFault) → ¬ HasRun (pos (table_report fault).0)
-stopped-by-b fault =
+pub stopped_by_b : (fault : TableFault) → ¬ HasRun (pos (table_report fault).0)
+stopped_by_b fault =
     let (least, most) = number-bounds fault in
     stopped-at (table_report fault).0 (λ is. omega (arith, is, least)) (λ is. omega (arith, is, most))
 
-pub stopped-by-d : (fault : TableFault) → ¬ HasRun (pos (100 + (table_report fault).0))
-stopped-by-d fault = stopped-at (100 + (table_report fault).0) (λ is. omega (arith, is)) (λ is. omega (arith, is))
+pub stopped_by_d : (fault : TableFault) → ¬ HasRun (pos (100 + (table_report fault).0))
+stopped_by_d fault = stopped-at (100 + (table_report fault).0) (λ is. omega (arith, is)) (λ is. omega (arith, is))
 
 -- the status of a call whose Table D cannot be read
 table-d-fault : (records : List Record) (fault : TableFault) (status : ℤ) → ReadsTableD records (Err fault) → fault ≢ tables.Memory → status ≡ pos (100 + (table_report fault).0)
@@ -541,18 +541,18 @@ table-d-fault records tables.TableSize status reads some is = rw (reads some) (i
 table-d-fault records tables.Csv status reads some is = rw (reads some) (inl is, tt)
 table-d-fault records tables.Memory status reads some is = absurd (some refl)
 
-pub table-d-status : (table_b table_d : List ℕ) (b : List Row) (fault : TableFault) (status : ℤ) → table_b_of (records_of table_b) ≡ Ok b → ReadsTableD (records_of table_d) (Err fault)
+pub table_d_status : (table_b table_d : List ℕ) (b : List Row) (fault : TableFault) (status : ℤ) → table_b_of (records_of table_b) ≡ Ok b → ReadsTableD (records_of table_d) (Err fault)
     → fault ≢ tables.Memory → status ≡ pos (100 + (table_report fault).0) → CallStatus table_b table_d status
-table-d-status table_b table_d b fault status is reads some number =
+table_d_status table_b table_d b fault status is reads some number =
     let found = table-d-fault (records_of table_d) fault status reads some number in
     record { read = rw is found.1; no_table_b = rw is tt; no_table_d = rw is found.0 }
 
 -- ---- The text of all documents.
 
-pub all-encoded : (pieces : List Piece) (before after : Writers) (text : EventText) (tally : Tally) → WritesPieces before after pieces × Tallies tally pieces
+pub all_encoded : (pieces : List Piece) (before after : Writers) (text : EventText) (tally : Tally) → WritesPieces before after pieces × Tallies tally pieces
     → before.output.taken ≡ Some [] → before.errors.taken ≡ Some [] → after.output.taken ≡ Some text.output.octets.items → after.errors.taken ≡ Some text.errors.octets.items
     → IsTextOfAll pieces text tally
-all-encoded pieces before after text tally (writes, tallies) b_output b_errors a_output a_errors =
+all_encoded pieces before after text tally (writes, tallies) b_output b_errors a_output a_errors =
     record { output = rw (b_output, a_output) at writes.output; errors = rw (b_errors, a_errors) at writes.errors; tallies = tallies }
 
 no-start : (n : ℕ) (l : List ℕ) → n ≡ 0 → take n l ≡ []
@@ -561,9 +561,9 @@ no-start n l is = ap (λ k. take k l) is
 module _ (form : Form) (b : List Row) (d : List Sequence) (octets : List ℕ) (from : ℕ) (output errors output' errors' : List ℕ) (old mid texts : Texts) (text : EventText) (tally : Tally)
     (is : IsTextOfAll (encode_pieces form b d (documents_of (drop from octets))) text tally) (no_output : old.output_length ≡ 0) (no_errors : old.errors_length ≡ 0) where
   -- there is room
-  pub encodes-all : HasPut text old output errors mid output' errors' → texts.output_length ≡ mid.output_length → texts.errors_length ≡ mid.errors_length → texts.at ≡ length octets
+  pub encodes_all : HasPut text old output errors mid output' errors' → texts.output_length ≡ mid.output_length → texts.errors_length ≡ mid.errors_length → texts.at ≡ length octets
       → texts.accepted ≡ tally.accepted → texts.refused ≡ tally.refused → Encodes form b d octets from output' errors' texts (pos 0)
-  encodes-all put output_length errors_length at accepted refused = record {
+  encodes_all put output_length errors_length at accepted refused = record {
     done = λ _. (record {
       written = ap (λ n. take n output') output_length ∙ put.written ∙ ap (λ l. l ++ text.output.octets.items) (no-start old.output_length output no_output) ∙ is.output;
       blamed = ap (λ n. take n errors') errors_length ∙ put.blamed ∙ ap (λ l. l ++ text.errors.octets.items) (no-start old.errors_length errors no_errors) ∙ is.errors;
@@ -576,13 +576,13 @@ module _ (form : Form) (b : List Row) (d : List Sequence) (octets : List ℕ) (f
   }
 
   -- there is none
-  pub encodes-none : HasNoRoom text old output errors texts output' errors' → old.at ≡ from → Encodes form b d octets from output' errors' texts (pos 74)
-  encodes-none none at = record {
+  pub encodes_none : HasNoRoom text old output errors texts output' errors' → old.at ≡ from → Encodes form b d octets from output' errors' texts (pos 74)
+  encodes_none none at = record {
     done = λ no. absurd (apart-74-0 no);
     stops = λ _. (record { output_needed = none.output_needed ∙ ap length is.output; errors_needed = none.errors_needed ∙ ap length is.errors; lacks = rw (none.same_output, none.same_errors) none.lacks }, none.at ∙ at);
   }
 
 -- a call that stopped before
-pub encodes-nothing : (form : Form) (b : List Row) (d : List Sequence) (octets : List ℕ) (from : ℕ) (output errors : List ℕ) (texts : Texts) (status : ℤ) → ¬ HasRun status
+pub encodes_nothing : (form : Form) (b : List Row) (d : List Sequence) (octets : List ℕ) (from : ℕ) (output errors : List ℕ) (texts : Texts) (status : ℤ) → ¬ HasRun status
     → Encodes form b d octets from output errors texts status
-encodes-nothing form b d octets from output errors texts status stopped = record { done = λ is. absurd (stopped (inl is)); stops = λ is. absurd (stopped (inr is)) }
+encodes_nothing form b d octets from output errors texts status stopped = record { done = λ is. absurd (stopped (inl is)); stops = λ is. absurd (stopped (inr is)) }

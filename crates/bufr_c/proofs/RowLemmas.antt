@@ -7,11 +7,11 @@ use Rattle.bufr_tables.specs.declared.fault.TemplateFault.{TemplateFault}
 use Rattle.bufr_walk.specs.Prelude.{Timed, Shows, Read, Data, AnswersReading, ReadsData, DataReading, calls_of, turns_shown, data_of, data_report, read_by, fault_of, reading_of, next_item, fault_at}
 use Rattle.bufr_walk.specs.declared.fault.WalkFault.{WalkFault}
 use Rattle.bufr_walk.specs.declared.fault.WalkFault.TheVariants as fault
-use Rattle.bufr_c.specs.declared.rows.Item.{Item}
+use Rattle.bufr_c.specs.declared.rows.ItemRow.{ItemRow}
 use Rattle.bufr_c.specs.declared.rows.MessageRow.{MessageRow}
 use Rattle.bufr_c.specs.declared.rows.Counts.{Counts}
 use Rattle.bufr_c.specs.Leaving.{FindsEvent, HasRun, events_from}
-use Rattle.bufr_c.specs.Rows.{HasNoRowRoom, HasPutRows, LacksRowRoom, LeavesRows, PassesRows, Put, PutsCall, RowPlace, Rows, StopsBeforeRows, data_fault, data_put, join_rows, message_fault, message_put, no_rows, place_after, place_of, rows_after, rows_in, rows_of, template_fault, template_put, three, with_call, with_calls}
+use Rattle.bufr_c.specs.Rows.{HasNoRowRoom, HasPutRows, LacksRowRoom, LeavesRows, PassesRows, Put, PutsCall, RowPlace, Rows, StopsBeforeRows, data_fault, data_put, join_rows, message_fault, message_put, no_rows, place_after, row_place, rows_after, rows_in, rows_of, template_fault, template_put, three, with_call, with_calls}
 use Rattle.bufr_c.proofs.EventLemmas.{apart-0-74, apart-73-0, apart-73-74, apart-74-0, events-end}
 
 -- ---- The calls of a showing.
@@ -83,7 +83,7 @@ after-next b d wanted before [] event = refl
 after-next b d wanted before (first ∷ events) event = after-next b d wanted (join_rows before (rows_of b d wanted (place_after before) first)) events event
 
 -- where the next rows go, by the rows that the buffers begin with
-place-left : (room : Rows) (counts : Counts) (rows : Rows) → LeavesRows room counts rows → place_after rows ≡ place_of counts
+place-left : (room : Rows) (counts : Counts) (rows : Rows) → LeavesRows room counts rows → place_after rows ≡ row_place counts
 place-left room counts rows left =
     let m : length rows.messages ≡ counts.messages = sym (ap length left.messages) ∙ length-take-le counts.messages room.messages left.messages_fit in
     let o : length rows.octets ≡ counts.octets = sym (ap length left.octets) ∙ length-take-le counts.octets room.octets left.octets_fit in
@@ -105,7 +105,7 @@ module _ (b : List Row) (d : List Sequence) (wanted octets : List ℕ) (from : �
 
   -- the rows of the next event were put
   pub rows-put : (event : StreamEvent) (made : Rows) (mid counts' : Counts) (room' : Rows) → events_from counts.at octets ≡ event ∷ events_from counts'.at octets
-      → made ≡ rows_of b d wanted (place_of counts) event → HasPutRows made counts room mid room'
+      → made ≡ rows_of b d wanted (row_place counts) event → HasPutRows made counts room mid room'
       → counts'.items ≡ mid.items → counts'.octets ≡ mid.octets → counts'.messages ≡ mid.messages → RowsSoFar b d wanted octets from room' counts'
   rows-put event made mid counts' room' next is put items octets' messages =
       let now = rows_after b d wanted no_rows (so.passed ++ event ∷ []) in
@@ -156,11 +156,11 @@ module _ (b : List Row) (d : List Sequence) (wanted octets : List ℕ) (from : �
 
   -- there is no room for the next event
   pub rows-full : (event : StreamEvent) (more : List StreamEvent) (made : Rows) (counts' : Counts) (room' : Rows) → events_from counts.at octets ≡ event ∷ more
-      → made ≡ rows_of b d wanted (place_of counts) event → HasNoRowRoom made counts room counts' room' → PassesRows b d wanted octets from room' counts' (pos 74)
+      → made ≡ rows_of b d wanted (row_place counts) event → HasNoRowRoom made counts room counts' room' → PassesRows b d wanted octets from room' counts' (pos 74)
   rows-full event more made counts' room' next is none =
       let there : events_from counts'.at octets ≡ event ∷ more = ap (λ n. events_from n octets) none.at ∙ next in
-      let place : place_of counts ≡ place_of counts' = rw (none.messages, none.octets, none.items) refl in
-      let lacks : LacksRowRoom room' counts' (rows_of b d wanted (place_of counts') event) =
+      let place : row_place counts ≡ row_place counts' = rw (none.messages, none.octets, none.items) refl in
+      let lacks : LacksRowRoom room' counts' (rows_of b d wanted (row_place counts') event) =
           subst (λ r. LacksRowRoom room' counts' r) (is ∙ ap (λ p. rows_of b d wanted p event) place) none.lacks in
       rw none.same (record {
         passed = so.passed;
@@ -194,9 +194,9 @@ rows-none b d wanted octets room counts items octets' messages = record {
 }
 
 -- a call that read no stream
-pub no-rows-passed : (b : List Row) (d : List Sequence) (wanted octets : List ℕ) (from : ℕ) (room : Rows) (counts : Counts) (status : ℤ) → counts.at ≡ from → counts.items ≡ 0 → counts.octets ≡ 0
+pub no_rows_passed : (b : List Row) (d : List Sequence) (wanted octets : List ℕ) (from : ℕ) (room : Rows) (counts : Counts) (status : ℤ) → counts.at ≡ from → counts.items ≡ 0 → counts.octets ≡ 0
     → counts.messages ≡ 0 → ¬ HasRun status → PassesRows b d wanted octets from room counts status
-no-rows-passed b d wanted octets from room counts status at items octets' messages stopped =
+no_rows_passed b d wanted octets from room counts status at items octets' messages stopped =
     subst (λ n. PassesRows b d wanted octets n room counts status) at
     (let so = rows-none b d wanted octets room counts items octets' messages in
     record { passed = so.passed; events = so.events; leaves = so.leaves; done = λ is. absurd (stopped (inl is)); stops = λ is. absurd (stopped (inr is)) })

@@ -9,7 +9,7 @@ use Rattle.bufr_tables.specs.Prelude.{Row, Sequence, Tree, tree_of, tables_of, t
 use Rattle.bufr_tables.specs.declared.fault.TemplateFault.{TemplateFault}
 use Rattle.bufr_walk.specs.Prelude.{ShownValue, shown_number, shown_text, shown_missing, shown_reference, Call, subset_call, item_call, Timed, data_of, data_report, read_by, calls_of, reading_of, fault_of, next_item}
 use Rattle.bufr_walk.specs.declared.fault.WalkFault.{WalkFault}
-use Rattle.bufr_c.specs.declared.rows.Item.{Item}
+use Rattle.bufr_c.specs.declared.rows.ItemRow.{ItemRow}
 use Rattle.bufr_c.specs.declared.rows.MessageRow.{MessageRow}
 use Rattle.bufr_c.specs.declared.rows.Counts.{Counts}
 use Rattle.bufr_c.specs.Leaving.{events_from}
@@ -23,7 +23,7 @@ pub record Put : Type 0 where
   pub message : ℕ
   pub base : ℕ
   pub subset : ℕ
-  pub items : List Item
+  pub items : List ItemRow
   pub octets : List ℕ
 
 -- no rows of a message yet
@@ -39,8 +39,8 @@ no_items wanted message base =
     }
 
 -- a row from its parts
-abbrev pub item_row : Put → (fxy kind : ℕ) → (scale value : ℤ) → (length : ℕ) → Item
-item_row p fxy kind scale value length =
+abbrev pub item_by : Put → (fxy kind : ℕ) → (scale value : ℤ) → (length : ℕ) → ItemRow
+item_by p fxy kind scale value length =
     record {
       value = value;
       message = p.message;
@@ -52,16 +52,16 @@ item_row p fxy kind scale value length =
     }
 
 -- one more row
-abbrev pub with_row : Put → (fxy kind : ℕ) → (scale value : ℤ) → (length : ℕ) → Put
-with_row p fxy kind scale value length =
-    record p { items = p.items ++ item_row p fxy kind scale value length ∷ [] }
+abbrev pub with_item : Put → (fxy kind : ℕ) → (scale value : ℤ) → (length : ℕ) → Put
+with_item p fxy kind scale value length =
+    record p { items = p.items ++ item_by p fxy kind scale value length ∷ [] }
 
 -- one more row, and its octets; its value is the index of the first one
 abbrev pub with_text : Put → (fxy kind : ℕ) → (scale : ℤ) → List ℕ → Put
 with_text p fxy kind scale octets =
     record p {
       items = p.items
-          ++ item_row p fxy kind scale (pos (p.base + length p.octets)) (length octets) ∷ [];
+          ++ item_by p fxy kind scale (pos (p.base + length p.octets)) (length octets) ∷ [];
       octets = p.octets ++ octets;
     }
 
@@ -74,14 +74,14 @@ abbrev pub with_number : Put → (fxy : ℕ) → (scale value : ℤ) → Put
 with_number p fxy scale n =
     if int_lt n (neg_ℤ (pos (2 ^ 63))) then with_wide p fxy scale n
     else (if int_lt (pos (2 ^ 63 - 1)) n then with_wide p fxy scale n
-    else with_row p fxy 1 scale n 0)
+    else with_item p fxy 1 scale n 0)
 
 -- an item by its value
 abbrev pub with_value : Put → (fxy : ℕ) → ShownValue → Put
 with_value p fxy (shown_number n scale) = with_number p fxy scale n
 with_value p fxy (shown_text octets) = with_text p fxy 2 (pos 0) octets
-with_value p fxy shown_missing = with_row p fxy 0 (pos 0) (pos 0) 0
-with_value p fxy (shown_reference n) = with_row p fxy 3 (pos 0) n 0
+with_value p fxy shown_missing = with_item p fxy 0 (pos 0) (pos 0) 0
+with_value p fxy (shown_reference n) = with_item p fxy 3 (pos 0) n 0
 
 -- whether a descriptor is wanted: one of the list, or any if the list is empty
 abbrev pub is_wanted : List ℕ → (fxy : ℕ) → Bool
@@ -200,7 +200,7 @@ head_row s offset first items fault =
 
 -- Rows of items, the octets of their texts, and rows of messages.
 pub record Rows : Type 0 where
-  pub items : List Item
+  pub items : List ItemRow
   pub octets : List ℕ
   pub messages : List MessageRow
 
@@ -273,7 +273,7 @@ rows_after b d wanted before (event ∷ events) =
 -- ---- What a call leaves in the caller's buffers.
 
 -- rows from their parts
-abbrev pub three : List Item → List ℕ → List MessageRow → Rows
+abbrev pub three : List ItemRow → List ℕ → List MessageRow → Rows
 three items octets messages = record { items = items; octets = octets; messages = messages }
 
 -- the rows of one event as they were made
@@ -281,8 +281,8 @@ abbrev pub rows_in : Put → MessageRow → Rows
 rows_in p row = three p.items p.octets (row ∷ [])
 
 -- where the next rows go
-abbrev pub place_of : Counts → RowPlace
-place_of counts =
+abbrev pub row_place : Counts → RowPlace
+row_place counts =
     record { message = counts.messages; base = counts.octets; first = counts.items }
 
 -- The buffers begin with these rows, and `counts` has their numbers.
@@ -329,7 +329,7 @@ abbrev pub StopsBeforeRows : List Row → List Sequence → (wanted : List ℕ) 
     → Counts → List StreamEvent → Type 0
 StopsBeforeRows b d wanted room counts [] = ⊥
 StopsBeforeRows b d wanted room counts (next ∷ more) =
-    LacksRowRoom room counts (rows_of b d wanted (place_of counts) next)
+    LacksRowRoom room counts (rows_of b d wanted (row_place counts) next)
 
 -- A call wrote the rows of the events from `from` up to `counts.at`, where the next call continues.
 -- Status 0 says that no event is left, 74 that there is no room for the next one.

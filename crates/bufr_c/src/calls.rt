@@ -9,9 +9,9 @@ use crate::command::{Command, EventText, Run};
 use crate::events::{write_events, write_text};
 use crate::items::EventRows;
 use crate::row_events::write_rows;
-use crate::rows::{Counts, Item, MessageRow};
+use crate::rows::{Counts, ItemRow, MessageRow};
 use crate::tables::read_tables;
-use crate::texts::{DONE, Input, NO_ROOM, OUT_OF_MEMORY, Texts, UNKNOWN_FORM, form_by};
+use crate::texts::{DONE, CallInput, NO_ROOM, OUT_OF_MEMORY, Texts, UNKNOWN_FORM, form_by};
 use std::alloc::Global;
 
 /// The version of the library: 1,000,000 times the first number, 1,000 times the second, and the
@@ -51,7 +51,7 @@ pub extern "C" fn bufr_list(
 #[unsafe(no_mangle)]
 pub extern "C" fn bufr_dump(
     alloc: Global,
-    input: &Input<'_>,
+    input: &CallInput<'_>,
     text: &mut [u8],
     faults: &mut [u8],
     texts: &mut Texts,
@@ -80,7 +80,7 @@ pub extern "C" fn bufr_dump(
 #[unsafe(no_mangle)]
 pub extern "C" fn bufr_encode(
     alloc: Global,
-    input: &Input<'_>,
+    input: &CallInput<'_>,
     messages: &mut [u8],
     faults: &mut [u8],
     texts: &mut Texts,
@@ -122,8 +122,8 @@ pub extern "C" fn bufr_encode(
 #[unsafe(no_mangle)]
 pub extern "C" fn bufr_items(
     alloc: Global,
-    input: &Input<'_>,
-    items: &mut [Item],
+    input: &CallInput<'_>,
+    items: &mut [ItemRow],
     texts: &mut [u8],
     messages: &mut [MessageRow],
     counts: &mut Counts,

@@ -2,10 +2,10 @@
 ghost use Rattle.std.specs.Prelude.{◌≡◌, ◌≤◌, length, OnOk, IfOk, [], pos};
 ghost use Rattle.bufr_frame.specs.Prelude.{sections_of, FrameAt, StartsWithBufr};
 ghost use Rattle.bufr_c.specs.Leaving.{FindsEvent};
-ghost use Rattle.bufr_c.specs.Rows.{PutsCall, is_wanted, message_fault, message_put, no_items, place_of, rows_in, rows_of, with_number, with_row, with_text, with_wide};
+ghost use Rattle.bufr_c.specs.Rows.{PutsCall, is_wanted, message_fault, message_put, no_items, row_place, rows_in, rows_of, with_number, with_item, with_text, with_wide};
 
 use crate::events::{Candidate, classify};
-use crate::rows::{Counts, Item, MISSING, MessageRow, NUMBER, REFERENCE, TEXT, WIDE};
+use crate::rows::{Counts, ItemRow, MISSING, MessageRow, NUMBER, REFERENCE, TEXT, WIDE};
 use crate::tables::Tables;
 use bufr_frame::Message;
 use bufr_tables::{Fxy, Template};
@@ -24,7 +24,7 @@ pub(crate) struct ItemsOut<'w> {
     /// The index of the first octet of its texts.
     base: usize,
     subset: u16,
-    pub(crate) items: Vec<Item>,
+    pub(crate) items: Vec<ItemRow>,
     pub(crate) octets: Vec<u8>,
 }
 
@@ -83,9 +83,9 @@ impl<'w> ItemsOut<'w> {
         scale: i16,
         value: i64,
     ) -> Result<(), AllocError>
-        ensures { OnOk result (self.new ≡ with_row self.old fxy kind scale value 0) }
+        ensures { OnOk result (self.new ≡ with_item self.old fxy kind scale value 0) }
     {
-        self.items.push(Item {
+        self.items.push(ItemRow {
             value,
             message: self.message,
             length: 0,
@@ -114,7 +114,7 @@ impl<'w> ItemsOut<'w> {
             return Err(AllocError);
         };
         self.octets.extend_from_slice(octets)?;
-        self.items.push(Item {
+        self.items.push(ItemRow {
             value,
             message: self.message,
             length,
@@ -263,7 +263,7 @@ impl<'t> EventRows<'t> {
         ensures wanted { self.new.out.wanted ≡ self.old.out.wanted }
         ensures rows { OnOk result (rows_in self.new.out self.new.row
             ≡ rows_of self.old.templates.table_b self.old.templates.table_d self.old.out.wanted
-            (place_of counts.now) (FrameAt offset octets.now)) }
+            (row_place counts.now) (FrameAt offset octets.now)) }
     {
         let Ok(index) = u32::try_from(counts.messages) else {
             return Err(AllocError);
@@ -302,7 +302,7 @@ impl<'t> EventRows<'t> {
         ensures wanted { self.new.out.wanted ≡ self.old.out.wanted }
         ensures rows { IfOk result (λ moves. FindsEvent (λ event. rows_in self.new.out self.new.row
             ≡ rows_of self.old.templates.table_b self.old.templates.table_d self.old.out.wanted
-            (place_of counts.now) event) offset m.now moves) }
+            (row_place counts.now) event) offset m.now moves) }
     {
         match classify(m) {
             Candidate::Stray(cause) => {

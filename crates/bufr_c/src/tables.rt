@@ -3,7 +3,7 @@ ghost use Rattle.std.specs.Prelude.{◌≡◌, ◌+◌, IfErr, IfOk, Ok, pos};
 ghost use Rattle.bufr_tables.specs.Prelude.{records_of, table_b_of, table_d_of, table_report};
 ghost use Rattle.bufr_c.specs.Leaving.{CallStatus, HasRun};
 
-use crate::texts::{Input, OUT_OF_MEMORY};
+use crate::texts::{CallInput, OUT_OF_MEMORY};
 use bufr_tables::{TableB, TableD, TableFault};
 use std::alloc::Global;
 
@@ -22,7 +22,8 @@ fn table_d_status(fault: TableFault) -> i32
 }
 
 /// Reads both tables, or returns the status of the call.
-pub(crate) fn read_tables(alloc: Global, input: &Input<'_>) -> Result<Tables, i32>
+#[tactic(auto, using(crate::proofs::EventLemmas::memory_status, crate::proofs::EventLemmas::table_b_status, crate::proofs::EventLemmas::table_d_status, crate::proofs::EventLemmas::stopped_73, crate::proofs::EventLemmas::stopped_by_b, crate::proofs::EventLemmas::stopped_by_d))]
+pub(crate) fn read_tables(alloc: Global, input: &CallInput<'_>) -> Result<Tables, i32>
     ensures b { IfOk result (λ t. table_b_of (records_of input.now.table_b.now) ≡ Ok t.b) }
     ensures d { IfOk result (λ t. table_d_of (records_of input.now.table_d.now) ≡ Ok t.d) }
     ensures status { IfErr result (λ status.

@@ -1,8 +1,8 @@
 //! The calls, called as by a program in C.
 
 use crate::calls::{bufr_dump, bufr_encode, bufr_items, bufr_list, bufr_version};
-use crate::rows::{Counts, Item, MessageRow};
-use crate::texts::{Input, Texts};
+use crate::rows::{Counts, ItemRow, MessageRow};
+use crate::texts::{CallInput, Texts};
 
 const NONE: Texts = Texts {
     at: 0,
@@ -54,7 +54,7 @@ const TABLE_B: &[u8] =
 
 const TABLE_D: &[u8] = b"fxy,member\n";
 
-const BLOCK_INPUT: Input<'static> = Input {
+const BLOCK_INPUT: CallInput<'static> = CallInput {
     octets: &BLOCK,
     table_b: TABLE_B,
     table_d: TABLE_D,
@@ -75,7 +75,7 @@ fn dumps_a_message_and_encodes_its_text(rt: HostRuntime) {
     assert_eq!(rt; written.starts_with(b"message\nedition 4\n"), true);
     let last = b"subset 1\n001001 10  # WMO BLOCK NUMBER [Numeric]\nend\n";
     assert_eq!(rt; written.ends_with(last), true);
-    let input = Input {
+    let input = CallInput {
         octets: written,
         ..BLOCK_INPUT
     };
@@ -95,7 +95,7 @@ fn dumps_a_message_and_encodes_its_text(rt: HostRuntime) {
 
 #[test]
 fn says_how_much_room_documents_need(rt: HostRuntime) {
-    let input = Input {
+    let input = CallInput {
         octets: b"subset 1\n",
         ..BLOCK_INPUT
     };
@@ -109,7 +109,7 @@ fn says_how_much_room_documents_need(rt: HostRuntime) {
 
 #[test]
 fn knows_three_forms(rt: HostRuntime) {
-    let input = Input {
+    let input = CallInput {
         form: 3,
         ..BLOCK_INPUT
     };
@@ -118,7 +118,7 @@ fn knows_three_forms(rt: HostRuntime) {
     assert_eq!(rt; status, 75);
 }
 
-const NO_ITEM: Item = Item {
+const NO_ITEM: ItemRow = ItemRow {
     value: 9,
     message: 9,
     length: 9,
@@ -156,7 +156,7 @@ fn reads_an_item(rt: HostRuntime) {
     );
     assert_eq!(rt; (status, counts.at, counts.items), (0, 48, 1));
     assert_eq!(rt; (counts.octets, counts.messages), (0, 1));
-    let item = Item {
+    let item = ItemRow {
         value: 10,
         message: 0,
         length: 0,
@@ -178,7 +178,7 @@ fn reads_a_stray_and_stops_before_an_item_without_room(rt: HostRuntime) {
     let mut octets = [0; 52];
     octets[..4].copy_from_slice(b"BUFR");
     octets[4..].copy_from_slice(&BLOCK);
-    let input = Input {
+    let input = CallInput {
         octets: &octets,
         ..BLOCK_INPUT
     };
@@ -200,7 +200,7 @@ fn reads_a_stray_and_stops_before_an_item_without_room(rt: HostRuntime) {
 
 #[test]
 fn reads_only_wanted_items(rt: HostRuntime) {
-    let input = Input {
+    let input = CallInput {
         wanted: &[258],
         ..BLOCK_INPUT
     };
@@ -242,13 +242,13 @@ fn lists_a_message_after_other_octets(rt: HostRuntime) {
 fn names_the_fault_of_a_table(rt: HostRuntime) {
     let (mut text, mut faults) = ([0; 8], [0; 8]);
     let mut texts = NONE;
-    let input = Input {
+    let input = CallInput {
         table_b: b"",
         ..BLOCK_INPUT
     };
     let status = bufr_dump(rt.alloc(), &input, &mut text, &mut faults, &mut texts);
     assert_eq!(rt; (status, texts.output_length), (40, 0));
-    let input = Input {
+    let input = CallInput {
         table_d: b"fxy,member\nx\n",
         ..BLOCK_INPUT
     };

@@ -16,7 +16,7 @@ pub(crate) const UNKNOWN_FORM: i32 = 75;
 /// What a call reads.
 #[repr(C)]
 #[derive(Clone, Copy, Debug)]
-pub struct Input<'a> {
+pub struct CallInput<'a> {
     /// The stream; for [`crate::bufr_encode`], the text.
     pub octets: &'a [u8],
     /// The contents of the file of Table B.
