@@ -9,7 +9,7 @@ use Rattle.bufr_tables.specs.Prelude.{Row, Sequence, Tree, tree_of, tables_of, t
 use Rattle.bufr_tables.specs.declared.fault.TemplateFault.{TemplateFault}
 use Rattle.bufr_walk.specs.Prelude.{ShownValue, shown_number, shown_text, shown_missing, shown_reference, Call, subset_call, item_call, Timed, data_of, data_report, read_by, calls_of, reading_of, fault_of, next_item}
 use Rattle.bufr_walk.specs.declared.fault.WalkFault.{WalkFault}
-use Rattle.bufr_c.specs.declared.rows.ItemRow.{ItemRow}
+use Rattle.bufr_c.specs.declared.rows.ValueRow.{ValueRow}
 use Rattle.bufr_c.specs.declared.rows.MessageRow.{MessageRow}
 use Rattle.bufr_c.specs.declared.rows.Counts.{Counts}
 use Rattle.bufr_c.specs.Leaving.{events_from}
@@ -23,7 +23,7 @@ pub record Put : Type 0 where
   pub message : ℕ
   pub base : ℕ
   pub subset : ℕ
-  pub items : List ItemRow
+  pub items : List ValueRow
   pub octets : List ℕ
 
 -- no rows of a message yet
@@ -39,7 +39,7 @@ no_items wanted message base =
     }
 
 -- a row from its parts
-abbrev pub item_by : Put → (fxy kind : ℕ) → (scale value : ℤ) → (length : ℕ) → ItemRow
+abbrev pub item_by : Put → (fxy kind : ℕ) → (scale value : ℤ) → (length : ℕ) → ValueRow
 item_by p fxy kind scale value length =
     record {
       value = value;
@@ -200,7 +200,7 @@ head_row s offset first items fault =
 
 -- Rows of items, the octets of their texts, and rows of messages.
 pub record Rows : Type 0 where
-  pub items : List ItemRow
+  pub items : List ValueRow
   pub octets : List ℕ
   pub messages : List MessageRow
 
@@ -273,7 +273,7 @@ rows_after b d wanted before (event ∷ events) =
 -- ---- What a call leaves in the caller's buffers.
 
 -- rows from their parts
-abbrev pub three : List ItemRow → List ℕ → List MessageRow → Rows
+abbrev pub three : List ValueRow → List ℕ → List MessageRow → Rows
 three items octets messages = record { items = items; octets = octets; messages = messages }
 
 -- the rows of one event as they were made

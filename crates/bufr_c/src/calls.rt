@@ -9,7 +9,7 @@ use crate::command::{Command, EventText, Run};
 use crate::events::{write_events, write_text};
 use crate::items::EventRows;
 use crate::row_events::write_rows;
-use crate::rows::{Counts, ItemRow, MessageRow};
+use crate::rows::{Counts, ValueRow, MessageRow};
 use crate::tables::read_tables;
 use crate::texts::{DONE, CallInput, NO_ROOM, OUT_OF_MEMORY, Texts, UNKNOWN_FORM, form_by};
 use std::alloc::Global;
@@ -123,7 +123,7 @@ pub extern "C" fn bufr_encode(
 pub extern "C" fn bufr_items(
     alloc: Global,
     input: &CallInput<'_>,
-    items: &mut [ItemRow],
+    items: &mut [ValueRow],
     texts: &mut [u8],
     messages: &mut [MessageRow],
     counts: &mut Counts,

@@ -5,7 +5,7 @@ ghost use Rattle.bufr_c.specs.Leaving.{FindsEvent};
 ghost use Rattle.bufr_c.specs.Rows.{PutsCall, is_wanted, message_fault, message_put, no_items, row_place, rows_in, rows_of, with_number, with_item, with_text, with_wide};
 
 use crate::events::{Candidate, classify};
-use crate::rows::{Counts, ItemRow, MISSING, MessageRow, NUMBER, REFERENCE, TEXT, WIDE};
+use crate::rows::{Counts, ValueRow, MISSING, MessageRow, NUMBER, REFERENCE, TEXT, WIDE};
 use crate::tables::Tables;
 use bufr_frame::Message;
 use bufr_tables::{Fxy, Template};
@@ -24,7 +24,7 @@ pub(crate) struct ItemsOut<'w> {
     /// The index of the first octet of its texts.
     base: usize,
     subset: u16,
-    pub(crate) items: Vec<ItemRow>,
+    pub(crate) items: Vec<ValueRow>,
     pub(crate) octets: Vec<u8>,
 }
 
@@ -85,7 +85,7 @@ impl<'w> ItemsOut<'w> {
     ) -> Result<(), AllocError>
         ensures { OnOk result (self.new ≡ with_item self.old fxy kind scale value 0) }
     {
-        self.items.push(ItemRow {
+        self.items.push(ValueRow {
             value,
             message: self.message,
             length: 0,
@@ -114,7 +114,7 @@ impl<'w> ItemsOut<'w> {
             return Err(AllocError);
         };
         self.octets.extend_from_slice(octets)?;
-        self.items.push(ItemRow {
+        self.items.push(ValueRow {
             value,
             message: self.message,
             length,

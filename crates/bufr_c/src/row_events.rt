@@ -5,7 +5,7 @@ ghost use Rattle.bufr_c.specs.Rows.{PassesRows, PutsRows, rows_in, three};
 
 use crate::events::put;
 use crate::items::EventRows;
-use crate::rows::{Counts, ItemRow, MessageRow};
+use crate::rows::{Counts, ValueRow, MessageRow};
 use crate::texts::{DONE, NO_ROOM, OUT_OF_MEMORY};
 use memchr::memmem;
 
@@ -13,7 +13,7 @@ use memchr::memmem;
 /// If not, `counts` says how much room the event needs.
 fn put_rows(
     event: &EventRows<'_>,
-    items: &mut [ItemRow],
+    items: &mut [ValueRow],
     texts: &mut [u8],
     messages: &mut [MessageRow],
     counts: &mut Counts,
@@ -45,7 +45,7 @@ fn put_rows(
 pub(crate) fn write_rows(
     event: &mut EventRows<'_>,
     octets: &[u8],
-    items: &mut [ItemRow],
+    items: &mut [ValueRow],
     texts: &mut [u8],
     messages: &mut [MessageRow],
     counts: &mut Counts,

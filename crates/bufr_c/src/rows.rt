@@ -18,7 +18,7 @@ pub const WIDE: u8 = 4;
 /// An item.
 #[repr(C)]
 #[derive(Clone, Copy, Debug, PartialEq, Eq)]
-pub struct ItemRow {
+pub struct ValueRow {
     /// The number or the reference value; for a text or a wide number, the index of its first octet
     /// in the texts.
     pub value: i64,

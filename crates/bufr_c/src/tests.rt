@@ -1,7 +1,7 @@
 //! The calls, called as by a program in C.
 
 use crate::calls::{bufr_dump, bufr_encode, bufr_items, bufr_list, bufr_version};
-use crate::rows::{Counts, ItemRow, MessageRow};
+use crate::rows::{Counts, ValueRow, MessageRow};
 use crate::texts::{CallInput, Texts};
 
 const NONE: Texts = Texts {
@@ -118,7 +118,7 @@ fn knows_three_forms(rt: HostRuntime) {
     assert_eq!(rt; status, 75);
 }
 
-const NO_ITEM: ItemRow = ItemRow {
+const NO_ITEM: ValueRow = ValueRow {
     value: 9,
     message: 9,
     length: 9,
@@ -156,7 +156,7 @@ fn reads_an_item(rt: HostRuntime) {
     );
     assert_eq!(rt; (status, counts.at, counts.items), (0, 48, 1));
     assert_eq!(rt; (counts.octets, counts.messages), (0, 1));
-    let item = ItemRow {
+    let item = ValueRow {
         value: 10,
         message: 0,
         length: 0,
