@@ -564,14 +564,17 @@ module _ (form : Form) (b : List Row) (d : List Sequence) (octets : List ℕ) (f
   pub encodes_all : HasPut text old output errors mid output' errors' → texts.output_length ≡ mid.output_length → texts.errors_length ≡ mid.errors_length → texts.at ≡ length octets
       → texts.accepted ≡ tally.accepted → texts.refused ≡ tally.refused → Encodes form b d octets from output' errors' texts (pos 0)
   encodes_all put output_length errors_length at accepted refused = record {
-    done = λ _. (record {
-      written = ap (λ n. take n output') output_length ∙ put.written ∙ ap (λ l. l ++ text.output.octets.items) (no-start old.output_length output no_output) ∙ is.output;
-      blamed = ap (λ n. take n errors') errors_length ∙ put.blamed ∙ ap (λ l. l ++ text.errors.octets.items) (no-start old.errors_length errors no_errors) ∙ is.errors;
-      output_fits = omega (arith, output_length, put.output_fits);
-      errors_fits = omega (arith, errors_length, put.errors_fits);
-      accepted = accepted ∙ is.tallies.accepted;
-      refused = refused ∙ is.tallies.refused;
-    }, at);
+    done = λ _. (
+      record {
+        written = ap (λ n. take n output') output_length ∙ put.written ∙ ap (λ l. l ++ text.output.octets.items) (no-start old.output_length output no_output) ∙ is.output;
+        blamed = ap (λ n. take n errors') errors_length ∙ put.blamed ∙ ap (λ l. l ++ text.errors.octets.items) (no-start old.errors_length errors no_errors) ∙ is.errors;
+        output_fits = omega (arith, output_length, put.output_fits);
+        errors_fits = omega (arith, errors_length, put.errors_fits);
+        accepted = accepted ∙ is.tallies.accepted;
+        refused = refused ∙ is.tallies.refused;
+      },
+      at,
+    );
     stops = λ no. absurd (apart-0-74 no);
   }
 

@@ -110,9 +110,9 @@ module _ (b : List Row) (d : List Sequence) (wanted octets : List ℕ) (from : �
   rows-put event made mid counts' room' next is put items octets' messages =
       let now = rows_after b d wanted no_rows (so.passed ++ event ∷ []) in
       let same : join_rows (three (take counts.items room.items) (take counts.octets room.octets) (take counts.messages room.messages)) made ≡ now =
-          ap (λ r. join_rows r made) before-is
-          ∙ ap (λ r. join_rows rows r) (is ∙ ap (λ place. rows_of b d wanted place event) (sym (place-left room counts rows so.leaves)))
-          ∙ sym (after-next b d wanted no_rows so.passed event) in
+      ap (λ r. join_rows r made) before-is
+      ∙ ap (λ r. join_rows rows r) (is ∙ ap (λ place. rows_of b d wanted place event) (sym (place-left room counts rows so.leaves)))
+      ∙ sym (after-next b d wanted no_rows so.passed event) in
       let left : LeavesRows room' mid now = subst (λ r. LeavesRows room' mid r) same put.leaves in
       record {
         passed = so.passed ++ event ∷ [];
@@ -161,7 +161,7 @@ module _ (b : List Row) (d : List Sequence) (wanted octets : List ℕ) (from : �
       let there : events_from counts'.at octets ≡ event ∷ more = ap (λ n. events_from n octets) none.at ∙ next in
       let place : row_place counts ≡ row_place counts' = rw (none.messages, none.octets, none.items) refl in
       let lacks : LacksRowRoom room' counts' (rows_of b d wanted (row_place counts') event) =
-          subst (λ r. LacksRowRoom room' counts' r) (is ∙ ap (λ p. rows_of b d wanted p event) place) none.lacks in
+      subst (λ r. LacksRowRoom room' counts' r) (is ∙ ap (λ p. rows_of b d wanted p event) place) none.lacks in
       rw none.same (record {
         passed = so.passed;
         events = so.events ∙ ap (λ n. so.passed ++ events_from n octets) (sym none.at);

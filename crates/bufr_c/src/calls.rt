@@ -9,9 +9,9 @@ use crate::command::{Command, EventText, Run};
 use crate::events::{write_events, write_text};
 use crate::items::EventRows;
 use crate::row_events::write_rows;
-use crate::rows::{Counts, ValueRow, MessageRow};
+use crate::rows::{Counts, MessageRow, ValueRow};
 use crate::tables::read_tables;
-use crate::texts::{DONE, CallInput, NO_ROOM, OUT_OF_MEMORY, Texts, UNKNOWN_FORM, form_by};
+use crate::texts::{CallInput, DONE, NO_ROOM, OUT_OF_MEMORY, Texts, UNKNOWN_FORM, form_by};
 use std::alloc::Global;
 
 /// The version of the library: 1,000,000 times the first number, 1,000 times the second, and the
@@ -139,12 +139,5 @@ pub extern "C" fn bufr_items(
         Err(status) => return status,
     };
     let mut event = EventRows::new(alloc, &tables, input.wanted);
-    write_rows(
-        &mut event,
-        input.octets,
-        items,
-        texts,
-        messages,
-        counts,
-    )
+    write_rows(&mut event, input.octets, items, texts, messages, counts)
 }

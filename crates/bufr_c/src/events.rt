@@ -77,7 +77,12 @@ pub(crate) fn put<T: Copy>(values: &[T], at: usize, to: &mut [T]) -> usize
 
 /// Appends the text of an event to the earlier texts if there is room, and returns whether there
 /// is. If not, `texts` says how much room the event needs.
-pub(crate) fn write_text(text: &EventText, output: &mut [u8], errors: &mut [u8], texts: &mut Texts) -> bool
+pub(crate) fn write_text(
+    text: &EventText,
+    output: &mut [u8],
+    errors: &mut [u8],
+    texts: &mut Texts,
+) -> bool
     requires output { texts.old.output_length ≤ length output.old }
     requires errors { texts.old.errors_length ≤ length errors.old }
     ensures { PutsText text.now texts.old output.old errors.old texts.new output.new errors.new

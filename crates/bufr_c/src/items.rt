@@ -5,13 +5,11 @@ ghost use Rattle.bufr_c.specs.Leaving.{FindsEvent};
 ghost use Rattle.bufr_c.specs.Rows.{PutsCall, is_wanted, message_fault, message_put, no_items, row_place, rows_in, rows_of, with_number, with_item, with_text, with_wide};
 
 use crate::events::{Candidate, classify};
-use crate::rows::{Counts, ValueRow, MISSING, MessageRow, NUMBER, REFERENCE, TEXT, WIDE};
+use crate::rows::{Counts, MISSING, MessageRow, NUMBER, REFERENCE, TEXT, ValueRow, WIDE};
 use crate::tables::Tables;
 use bufr_frame::Message;
 use bufr_tables::{Fxy, Template};
-use bufr_walk::{
-    ItemView, SpecCache, Steps, TemplateCache, Value, Visitor, WalkFault, read_by,
-};
+use bufr_walk::{ItemView, SpecCache, Steps, TemplateCache, Value, Visitor, WalkFault, read_by};
 use std::alloc::{AllocError, Global};
 use std::marker::Model;
 
@@ -76,13 +74,7 @@ impl<'w> ItemsOut<'w> {
     }
 
     /// Adds a row.
-    fn put_row(
-        &mut self,
-        fxy: u16,
-        kind: u8,
-        scale: i16,
-        value: i64,
-    ) -> Result<(), AllocError>
+    fn put_row(&mut self, fxy: u16, kind: u8, scale: i16, value: i64) -> Result<(), AllocError>
         ensures { OnOk result (self.new ≡ with_item self.old fxy kind scale value 0) }
     {
         self.items.push(ValueRow {
@@ -98,13 +90,7 @@ impl<'w> ItemsOut<'w> {
     }
 
     /// Adds octets, and a row for them.
-    fn put_text(
-        &mut self,
-        fxy: u16,
-        kind: u8,
-        scale: i16,
-        octets: &[u8],
-    ) -> Result<(), AllocError>
+    fn put_text(&mut self, fxy: u16, kind: u8, scale: i16, octets: &[u8]) -> Result<(), AllocError>
         ensures { OnOk result (self.new ≡ with_text self.old fxy kind scale octets.now) }
     {
         let Ok(length) = u32::try_from(octets.len()) else {
@@ -251,12 +237,7 @@ impl<'t> EventRows<'t> {
     }
 
     /// Makes the rows of a message, which go where `counts` says.
-    fn set_message(
-        &mut self,
-        offset: u64,
-        octets: &[u8],
-        counts: &Counts,
-    ) -> Result<(), AllocError>
+    fn set_message(&mut self, offset: u64, octets: &[u8], counts: &Counts) -> Result<(), AllocError>
         requires { 12 ≤ length octets.now }
         ensures table_b { self.new.templates.table_b ≡ self.old.templates.table_b }
         ensures table_d { self.new.templates.table_d ≡ self.old.templates.table_d }

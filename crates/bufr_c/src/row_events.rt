@@ -5,7 +5,7 @@ ghost use Rattle.bufr_c.specs.Rows.{PassesRows, PutsRows, rows_in, three};
 
 use crate::events::put;
 use crate::items::EventRows;
-use crate::rows::{Counts, ValueRow, MessageRow};
+use crate::rows::{Counts, MessageRow, ValueRow};
 use crate::texts::{DONE, NO_ROOM, OUT_OF_MEMORY};
 use memchr::memmem;
 

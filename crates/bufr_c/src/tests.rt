@@ -1,7 +1,7 @@
 //! The calls, called as by a program in C.
 
 use crate::calls::{bufr_dump, bufr_encode, bufr_items, bufr_list, bufr_version};
-use crate::rows::{Counts, ValueRow, MessageRow};
+use crate::rows::{Counts, MessageRow, ValueRow};
 use crate::texts::{CallInput, Texts};
 
 const NONE: Texts = Texts {
@@ -185,14 +185,7 @@ fn reads_a_stray_and_stops_before_an_item_without_room(rt: HostRuntime) {
     let mut messages = [no_message(); 2];
     let mut counts = NO_COUNTS;
     let alloc = rt.alloc();
-    let status = bufr_items(
-        alloc,
-        &input,
-        &mut [],
-        &mut [],
-        &mut messages,
-        &mut counts,
-    );
+    let status = bufr_items(alloc, &input, &mut [], &mut [], &mut messages, &mut counts);
     assert_eq!(rt; (status, counts.at, counts.messages), (74, 4, 1));
     assert_eq!(rt; (counts.items_needed, counts.octets_needed), (1, 0));
     assert_eq!(rt; messages[0], MessageRow::plain(0, 4, 0, 1));
@@ -207,14 +200,7 @@ fn reads_only_wanted_items(rt: HostRuntime) {
     let mut messages = [no_message(); 1];
     let mut counts = NO_COUNTS;
     let alloc = rt.alloc();
-    let status = bufr_items(
-        alloc,
-        &input,
-        &mut [],
-        &mut [],
-        &mut messages,
-        &mut counts,
-    );
+    let status = bufr_items(alloc, &input, &mut [], &mut [], &mut messages, &mut counts);
     assert_eq!(rt; (status, counts.at, counts.items), (0, 48, 0));
     assert_eq!(rt; (messages[0].items, messages[0].fault), (0, 0));
 }
