@@ -1,12 +1,12 @@
 -- The events of a stream in memory, and their texts.
-use Rattle.std.proofs.Common.{rules, eqb, ◌≡◌, ◌≢◌, ◌⊎◌, inl, inr, ◌∙◌, ◌<◌, ◌≤◌, ◌+◌, ◌-◌, ℕ, Bool, true, false, List, [], ◌∷◌, ◌++◌, length, take, drop, map, flat_map, count_by, codes, decimal, refl, sym, ap, subst, arith, Option, Some, None, Result, Ok, Err, IfErr, IfOk, OnOk, ℤ, pos, append-nil, append_assoc, length-take, length-drop, length-append, nat_lt, not, if◌then◌else◌}
+use Rattle.std.proofs.Common.{rules, min, eqb, ◌≡◌, ◌≢◌, ◌⊎◌, inl, inr, ◌∙◌, ◌<◌, ◌≤◌, ◌+◌, ◌-◌, ℕ, Bool, true, false, List, [], ◌∷◌, ◌++◌, length, take, drop, map, flat_map, count_by, codes, decimal, refl, sym, ap, subst, arith, Option, Some, None, Result, Ok, Err, IfErr, IfNone, IfOk, IfSome, OnOk, ℤ, pos, append-nil, append_assoc, length-take, length-drop, length-append, nat_lt, not, if◌then◌else◌}
 use Rattle.std.specs.Int.{from_bool}
 use Rattle.std.proofs.lemmas.Bool.Decides.{nat_tests}
 use Rattle.std.proofs.lemmas.Slice.Eq.{bytes_eq-Decides}
 use Rattle.std.specs.List.{starts_with}
 use Rattle.std.proofs.lemmas.Fmt.{decimal_digit}
 use Rattle.std.proofs.lemmas.Grind.{common_steps}
-use Rattle.std.proofs.lemmas.List.{length-take-le, take-append-drop, take_rest}
+use Rattle.std.proofs.lemmas.List.{drop_min, length-take-le, take-append-drop, take_rest}
 use Rattle.std.proofs.Math.Seq.{take-length, drop-length}
 use Rattle.std.proofs.Math.ListN.{drop_of_length-le}
 use Rattle.memchr.specs.Find.{FindsNeedle}
@@ -29,7 +29,7 @@ use Rattle.bufr_cli.specs.declared.outcome.Tally.{Tally}
 use Rattle.bufr_c.specs.Moving.{moved}
 use Rattle.bufr_frame.specs.declared.fault.Cause.TheVariants.{Cut, ShortLength, NoEnd}
 use Rattle.bufr_c.specs.Leaving.{HasNoRoom, HasPut, IsCycleStatus, IsMessage, IsRunStatus, IsStray, IsTableStatus, LacksRoom, Leaves, Passes, StopsBefore, WritesEvent, FindsEvent, ByTables, CallStatus, HasRun, Encodes, events_from}
-use Rattle.bufr_c.specs.Commands.{IsTextOf, IsTextOfAll, piece_by}
+use Rattle.bufr_c.specs.Commands.{IsTextOf, IsTextOfAll, form_by, piece_by}
 use Rattle.bufr_c.specs.declared.command.Command.{Command}
 use Rattle.bufr_c.specs.declared.command.Command.TheVariants as commands
 use Rattle.bufr_c.specs.declared.command.EventText.{EventText}
@@ -549,6 +549,10 @@ table_d_status table_b table_d b fault status is reads some number =
 
 -- ---- The text of all documents.
 
+-- the slice of the code
+pub rest_from : (octets : List ℕ) (at from : ℕ) → from ≡ min at (length octets) → take (length octets - from) (drop from octets) ≡ drop at octets
+rest_from octets at from is = take_rest octets from ∙ (ap (λ n. drop n octets) is ∙ drop_min at octets)
+
 pub all_encoded : (pieces : List Piece) (before after : Writers) (text : EventText) (tally : Tally) → WritesPieces before after pieces × Tallies tally pieces
     → before.output.taken ≡ Some [] → before.errors.taken ≡ Some [] → after.output.taken ≡ Some text.output.octets.items → after.errors.taken ≡ Some text.errors.octets.items
     → IsTextOfAll pieces text tally
@@ -558,8 +562,11 @@ all_encoded pieces before after text tally (writes, tallies) b_output b_errors a
 no-start : (n : ℕ) (l : List ℕ) → n ≡ 0 → take n l ≡ []
 no-start n l is = ap (λ k. take k l) is
 
-module _ (form : Form) (b : List Row) (d : List Sequence) (octets : List ℕ) (from : ℕ) (output errors output' errors' : List ℕ) (old mid texts : Texts) (text : EventText) (tally : Tally)
-    (is : IsTextOfAll (encode_pieces form b d (documents_of (drop from octets))) text tally) (no_output : old.output_length ≡ 0) (no_errors : old.errors_length ≡ 0) where
+module _ (form : Form) (b : List Row) (d : List Sequence) (octets rest : List ℕ) (from : ℕ) (output errors output' errors' : List ℕ) (old mid texts : Texts) (text : EventText) (tally : Tally)
+    (rest_is : rest ≡ drop from octets) (made : IsTextOfAll (encode_pieces form b d (documents_of rest)) text tally) (no_output : old.output_length ≡ 0) (no_errors : old.errors_length ≡ 0) where
+  is : IsTextOfAll (encode_pieces form b d (documents_of (drop from octets))) text tally
+  is = subst (λ l. IsTextOfAll (encode_pieces form b d (documents_of l)) text tally) rest_is made
+
   -- there is room
   pub encodes_all : HasPut text old output errors mid output' errors' → texts.output_length ≡ mid.output_length → texts.errors_length ≡ mid.errors_length → texts.at ≡ length octets
       → texts.accepted ≡ tally.accepted → texts.refused ≡ tally.refused → Encodes form b d octets from output' errors' texts (pos 0)
@@ -589,3 +596,48 @@ module _ (form : Form) (b : List Row) (d : List Sequence) (octets : List ℕ) (f
 pub encodes_nothing : (form : Form) (b : List Row) (d : List Sequence) (octets : List ℕ) (from : ℕ) (output errors : List ℕ) (texts : Texts) (status : ℤ) → ¬ HasRun status
     → Encodes form b d octets from output errors texts status
 encodes_nothing form b d octets from output errors texts status stopped = record { done = λ is. absurd (stopped (inl is)); stops = λ is. absurd (stopped (inr is)) }
+
+-- ---- The clauses of the calls.
+
+-- a call that stopped before it read its stream
+pub dump_unread : (table_b table_d octets : List ℕ) (from : ℕ) (output errors : List ℕ) (texts : Texts) (status : ℤ) → texts.at ≡ from → texts.output_length ≡ 0 → texts.errors_length ≡ 0
+    → texts.accepted ≡ 0 → texts.refused ≡ 0 → ¬ HasRun status → ByTables table_b table_d (λ b d. Passes (dump_piece b d) octets from output errors texts status)
+dump_unread table_b table_d octets from output errors texts status at output_length errors_length accepted refused stopped =
+    by_any_tables table_b table_d (λ b d. Passes (dump_piece b d) octets from output errors texts status)
+    (λ b d. nothing_passed (dump_piece b d) octets from output errors texts status at output_length errors_length accepted refused stopped)
+
+-- a call that read its stream by these tables
+pub dump_read : (table_b table_d : List ℕ) (b : List Row) (d : List Sequence) (octets : List ℕ) (from from' : ℕ) (output errors : List ℕ) (texts : Texts) (status : ℤ)
+    → table_b_of (records_of table_b) ≡ Ok b → table_d_of (records_of table_d) ≡ Ok d → from' ≡ from → Passes (dump_piece b d) octets from' output errors texts status
+    → ByTables table_b table_d (λ b d. Passes (dump_piece b d) octets from output errors texts status)
+dump_read table_b table_d b d octets from from' output errors texts status is_b is_d at passes =
+    by_these_tables table_b table_d b d (λ b d. Passes (dump_piece b d) octets from output errors texts status) is_b is_d
+    (subst (λ n. Passes (dump_piece b d) octets n output errors texts status) at passes)
+
+-- what holds of a form that is known
+if-known : {X : Type 0} (o : Option X) (x : X) (Holds : X → Type 0) → Some x ≡ o → Holds x → IfSome o Holds
+if-known o x Holds is holds = subst (λ o'. IfSome o' Holds) is holds
+
+-- the status of a call whose form is known
+pub known_status : (number : ℕ) (form : Form) (table_b table_d : List ℕ) (status : ℤ) → Some form ≡ form_by number → CallStatus table_b table_d status
+    → IfSome (form_by number) (λ form'. CallStatus table_b table_d status)
+known_status number form table_b table_d status known is = if-known (form_by number) form (λ form'. CallStatus table_b table_d status) known is
+
+pub known_form : (number : ℕ) (form : Form) (status : ℤ) → Some form ≡ form_by number → IfNone (form_by number) (status ≡ pos 75)
+known_form number form status known = subst (λ o. IfNone o (status ≡ pos 75)) known tt
+
+-- a call that stopped before it read its text
+pub encode_unread : (number : ℕ) (form : Form) (table_b table_d octets : List ℕ) (from : ℕ) (output errors : List ℕ) (texts : Texts) (status : ℤ) → Some form ≡ form_by number → ¬ HasRun status
+    → IfSome (form_by number) (λ form. ByTables table_b table_d (λ b d. Encodes form b d octets from output errors texts status))
+encode_unread number form table_b table_d octets from output errors texts status known stopped =
+    if-known (form_by number) form (λ form. ByTables table_b table_d (λ b d. Encodes form b d octets from output errors texts status)) known
+    (by_any_tables table_b table_d (λ b d. Encodes form b d octets from output errors texts status)
+    (λ b d. encodes_nothing form b d octets from output errors texts status stopped))
+
+-- a call that read its text by these tables
+pub encode_read : (number : ℕ) (form : Form) (table_b table_d : List ℕ) (b : List Row) (d : List Sequence) (octets : List ℕ) (from : ℕ) (output errors : List ℕ) (texts : Texts) (status : ℤ)
+    → Some form ≡ form_by number → table_b_of (records_of table_b) ≡ Ok b → table_d_of (records_of table_d) ≡ Ok d → Encodes form b d octets from output errors texts status
+    → IfSome (form_by number) (λ form. ByTables table_b table_d (λ b d. Encodes form b d octets from output errors texts status))
+encode_read number form table_b table_d b d octets from output errors texts status known is_b is_d encodes =
+    if-known (form_by number) form (λ form. ByTables table_b table_d (λ b d. Encodes form b d octets from output errors texts status)) known
+    (by_these_tables table_b table_d b d (λ b d. Encodes form b d octets from output errors texts status) is_b is_d encodes)

@@ -2,7 +2,7 @@
 use Rattle.std.proofs.Common.{rules, ℕ, ◌≡◌, ◌≢◌, ◌⊎◌, inl, inr, ◌∙◌, ◌+◌, ◌-◌, ◌<◌, ◌≤◌, List, [], ◌∷◌, ◌++◌, length, take, drop, codes, sym, ap, subst, refl, arith, Result, Ok, Err, None, Some, option_map, ℤ, pos, append_assoc, Bool, true, false}
 use Rattle.std.proofs.lemmas.List.{length-take-le}
 use Rattle.bufr_frame.specs.Prelude.{Sections, StreamEvent}
-use Rattle.bufr_tables.specs.Prelude.{Row, Sequence, Tree, tree_of, tables_of, template_report}
+use Rattle.bufr_tables.specs.Prelude.{Row, Sequence, Tree, records_of, table_b_of, table_d_of, tree_of, tables_of, template_report}
 use Rattle.bufr_tables.specs.declared.fault.TemplateFault.{TemplateFault}
 use Rattle.bufr_walk.specs.Prelude.{Timed, Shows, Read, Data, AnswersReading, ReadsData, DataReading, calls_of, turns_shown, data_of, data_report, read_by, fault_of, reading_of, next_item, fault_at}
 use Rattle.bufr_walk.specs.declared.fault.WalkFault.{WalkFault}
@@ -10,9 +10,9 @@ use Rattle.bufr_walk.specs.declared.fault.WalkFault.TheVariants as fault
 use Rattle.bufr_c.specs.declared.rows.ValueRow.{ValueRow}
 use Rattle.bufr_c.specs.declared.rows.MessageRow.{MessageRow}
 use Rattle.bufr_c.specs.declared.rows.Counts.{Counts}
-use Rattle.bufr_c.specs.Leaving.{FindsEvent, HasRun, events_from}
+use Rattle.bufr_c.specs.Leaving.{ByTables, FindsEvent, HasRun, events_from}
 use Rattle.bufr_c.specs.Rows.{HasNoRowRoom, HasPutRows, LacksRowRoom, LeavesRows, PassesRows, Put, PutsCall, RowPlace, Rows, StopsBeforeRows, data_fault, data_put, join_rows, message_fault, message_put, no_rows, place_after, row_place, rows_after, rows_in, rows_of, template_fault, template_put, three, with_call, with_calls}
-use Rattle.bufr_c.proofs.EventLemmas.{apart-0-74, apart-73-0, apart-73-74, apart-74-0, events-end}
+use Rattle.bufr_c.proofs.EventLemmas.{apart-0-74, apart-73-0, apart-73-74, apart-74-0, by_any_tables, by_these_tables, events-end}
 
 -- ---- The calls of a showing.
 
@@ -212,3 +212,23 @@ pub made-by-same : (b b' : List Row) (d d' : List Sequence) (wanted wanted' : Li
     → made ≡ rows_of b' d' wanted' place event → made ≡ rows_of b d wanted place event
 made-by-same b b' d d' wanted wanted' place event made table_b table_d same is =
     is ∙ (ap (λ x. rows_of x d' wanted' place event) table_b ∙ (ap (λ x. rows_of b x wanted' place event) table_d ∙ ap (λ x. rows_of b d x place event) same))
+
+-- ---- The clause of the call.
+
+-- a call that stopped before it read its stream
+pub items_unread : (table_b table_d wanted octets : List ℕ) (from : ℕ) (room : Rows) (counts : Counts) (status : ℤ) → counts.at ≡ from → counts.items ≡ 0 → counts.octets ≡ 0
+    → counts.messages ≡ 0 → ¬ HasRun status → ByTables table_b table_d (λ b d. PassesRows b d wanted octets from room counts status)
+items_unread table_b table_d wanted octets from room counts status at items octets' messages stopped =
+    by_any_tables table_b table_d (λ b d. PassesRows b d wanted octets from room counts status)
+    (λ b d. no_rows_passed b d wanted octets from room counts status at items octets' messages stopped)
+
+-- a call that read its stream by these tables
+pub items_read : (table_b table_d : List ℕ) (b b' : List Row) (d d' : List Sequence) (wanted wanted' octets : List ℕ) (from from' : ℕ) (room : Rows) (counts : Counts) (status : ℤ)
+    → table_b_of (records_of table_b) ≡ Ok b → table_d_of (records_of table_d) ≡ Ok d → b' ≡ b → d' ≡ d → wanted' ≡ wanted → from' ≡ from
+    → PassesRows b' d' wanted' octets from' room counts status → ByTables table_b table_d (λ b d. PassesRows b d wanted octets from room counts status)
+items_read table_b table_d b b' d d' wanted wanted' octets from from' room counts status is_b is_d same_b same_d same at passes =
+    by_these_tables table_b table_d b d (λ b d. PassesRows b d wanted octets from room counts status) is_b is_d
+    (subst (λ x. PassesRows x d wanted octets from room counts status) same_b
+    (subst (λ x. PassesRows b' x wanted octets from room counts status) same_d
+    (subst (λ x. PassesRows b' d' x octets from room counts status) same
+    (subst (λ x. PassesRows b' d' wanted' octets x room counts status) at passes))))

@@ -11,7 +11,9 @@ use crate::items::EventRows;
 use crate::row_events::write_rows;
 use crate::rows::{Counts, MessageRow, ValueRow};
 use crate::tables::read_tables;
-use crate::texts::{CallInput, DONE, NO_ROOM, OUT_OF_MEMORY, Texts, UNKNOWN_FORM, form_by};
+use crate::texts::{
+    CallInput, DONE, NO_ROOM, OUT_OF_MEMORY, Texts, UNKNOWN_FORM, form_by, rest_of,
+};
 use std::alloc::Global;
 
 /// The version of the library: 1,000,000 times the first number, 1,000 times the second, and the
@@ -48,6 +50,7 @@ pub extern "C" fn bufr_list(
 /// that is refused in `faults`. Returns 0 at the end, 73 if memory ran out, and 74 before the first
 /// message whose text does not fit. If a table cannot be read, returns its fault: that of Table B,
 /// or 100 more for Table D.
+#[tactic(auto, using(crate::proofs::EventLemmas::dump_unread, crate::proofs::EventLemmas::dump_read, crate::proofs::EventLemmas::ran_status))]
 #[unsafe(no_mangle)]
 pub extern "C" fn bufr_dump(
     alloc: Global,
@@ -77,6 +80,7 @@ pub extern "C" fn bufr_dump(
 /// messages in `messages`, the line of the refused document in `faults`. Returns 0 at the end. If
 /// either has no room, returns 74, says how much is needed and writes nothing. Returns 75 if there
 /// is no such form, and otherwise the statuses of [`bufr_dump`].
+#[tactic(auto, using(crate::proofs::EventLemmas::encode_unread, crate::proofs::EventLemmas::encode_read, crate::proofs::EventLemmas::known_status, crate::proofs::EventLemmas::known_form, crate::proofs::EventLemmas::ran_status, crate::proofs::EventLemmas::memory_status, crate::proofs::EventLemmas::encodes_none, crate::proofs::EventLemmas::encodes_all, crate::proofs::EventLemmas::encodes_nothing, crate::proofs::EventLemmas::stopped_73))]
 #[unsafe(no_mangle)]
 pub extern "C" fn bufr_encode(
     alloc: Global,
@@ -101,9 +105,9 @@ pub extern "C" fn bufr_encode(
         Ok(tables) => tables,
         Err(status) => return status,
     };
-    let from = texts.at.min(input.octets.len());
+    let octets = rest_of(input.octets, texts.at);
     let mut text = EventText::new(alloc);
-    let Ok(tally) = text.set_encoded(&input.octets[from..], &tables, form) else {
+    let Ok(tally) = text.set_encoded(octets, &tables, form) else {
         return OUT_OF_MEMORY;
     };
     if !write_text(&text, messages, faults, texts) {
@@ -119,6 +123,7 @@ pub extern "C" fn bufr_encode(
 /// `items`, the octets of their texts in `texts`, and a row for each message or stray `BUFR` in
 /// `messages`. Returns 0 at the end, 73 if memory ran out, and 74 before the first message that
 /// does not fit. If a table cannot be read, returns its fault as [`bufr_dump`] does.
+#[tactic(auto, using(crate::proofs::RowLemmas::items_unread, crate::proofs::RowLemmas::items_read, crate::proofs::EventLemmas::ran_status))]
 #[unsafe(no_mangle)]
 pub extern "C" fn bufr_items(
     alloc: Global,

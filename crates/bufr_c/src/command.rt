@@ -143,6 +143,7 @@ impl EventText {
     }
 
     /// Makes the text that `bufr encode` writes for all documents of a text.
+    #[tactic(auto, using(crate::proofs::EventLemmas::all_encoded))]
     pub(crate) fn set_encoded(
         &mut self,
         octets: &[u8],

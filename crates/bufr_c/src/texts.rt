@@ -1,5 +1,5 @@
 //! What a call reads, and what it reports to its caller.
-ghost use Rattle.std.specs.Prelude.{◌≡◌};
+ghost use Rattle.std.specs.Prelude.{◌≡◌, drop};
 ghost use Rattle.bufr_c.specs.Commands.{form_by};
 
 use bufr_text::Form;
@@ -41,6 +41,14 @@ pub(crate) fn form_by(form: u8) -> Option<Form>
         2 => Some(Form::Compressed),
         _ => None,
     }
+}
+
+/// The octets from an index on: none past the end.
+#[tactic(auto, using(crate::proofs::EventLemmas::rest_from))]
+pub(crate) fn rest_of(octets: &[u8], at: usize) -> &[u8]
+    ensures { result.now ≡ drop at octets.now }
+{
+    &octets[at.min(octets.len())..]
 }
 
 /// How far a call came, and what it wrote.
