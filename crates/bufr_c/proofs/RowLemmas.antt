@@ -1,17 +1,17 @@
 -- The rows of a message, call by call, and the rows of events.
-use Rattle.std.proofs.Common.{rules, ℕ, ◌≡◌, ◌≢◌, ◌⊎◌, inl, inr, ◌∙◌, ◌+◌, ◌-◌, ◌<◌, ◌≤◌, List, [], ◌∷◌, ◌++◌, length, take, drop, codes, sym, ap, subst, refl, arith, Result, Ok, Err, None, Some, option_map, ℤ, pos, append_assoc, Bool, true, false}
+use Rattle.std.proofs.Common.{rules, ℕ, ◌≡◌, ◌≢◌, ◌⊎◌, inl, inr, ◌∙◌, ◌+◌, ◌-◌, ◌<◌, ◌≤◌, List, [], ◌∷◌, ◌++◌, length, take, drop, codes, sym, ap, subst, refl, arith, Result, Ok, Err, OnOk, None, Some, option_map, ℤ, pos, append_assoc, Bool, true, false}
 use Rattle.std.proofs.lemmas.List.{length-take-le}
 use Rattle.bufr_frame.specs.Prelude.{Sections, StreamEvent}
 use Rattle.bufr_tables.specs.Prelude.{Row, Sequence, Tree, records_of, table_b_of, table_d_of, tree_of, tables_of, template_report}
 use Rattle.bufr_tables.specs.declared.fault.TemplateFault.{TemplateFault}
-use Rattle.bufr_walk.specs.Prelude.{Timed, Shows, Read, Data, AnswersReading, ReadsData, DataReading, calls_of, turns_shown, data_of, data_report, read_by, fault_of, reading_of, next_item, fault_at}
+use Rattle.bufr_walk.specs.Prelude.{View, item_call, shown_number, Timed, Shows, Read, Data, AnswersReading, ReadsData, DataReading, calls_of, turns_shown, data_of, data_report, read_by, fault_of, reading_of, next_item, fault_at}
 use Rattle.bufr_walk.specs.declared.fault.WalkFault.{WalkFault}
 use Rattle.bufr_walk.specs.declared.fault.WalkFault.TheVariants as fault
 use Rattle.bufr_c.specs.declared.rows.ValueRow.{ValueRow}
 use Rattle.bufr_c.specs.declared.rows.MessageRow.{MessageRow}
 use Rattle.bufr_c.specs.declared.rows.Counts.{Counts}
 use Rattle.bufr_c.specs.Leaving.{ByTables, FindsEvent, HasRun, events_from}
-use Rattle.bufr_c.specs.Rows.{HasNoRowRoom, HasPutRows, LacksRowRoom, LeavesRows, PassesRows, Put, PutsCall, RowPlace, Rows, StopsBeforeRows, data_fault, data_put, join_rows, message_fault, message_put, no_rows, place_after, row_place, rows_after, rows_in, rows_of, template_fault, template_put, three, with_call, with_calls}
+use Rattle.bufr_c.specs.Rows.{HasNoRowRoom, HasPutRows, LacksRowRoom, LeavesRows, PassesRows, Put, PutsCall, RowPlace, Rows, StopsBeforeRows, data_fault, data_put, is_wanted, join_rows, message_fault, message_put, no_rows, place_after, row_place, rows_after, rows_in, rows_of, template_fault, template_put, three, with_call, with_calls, with_number, with_value}
 use Rattle.bufr_c.proofs.EventLemmas.{apart-0-74, apart-73-0, apart-73-74, apart-74-0, by_any_tables, by_these_tables, events-end}
 
 -- ---- The calls of a showing.
@@ -19,6 +19,14 @@ use Rattle.bufr_c.proofs.EventLemmas.{apart-0-74, apart-73-0, apart-73-74, apart
 calls_put : (E : Type 0) (p : Put) (calls : List Timed) (turns : ℕ) (q : Put) (steps : ℕ) → Shows {E = E} PutsCall p calls turns (Ok tt) q steps → q ≡ with_calls p calls
 calls_put E p [] turns q steps (same, made) = same
 calls_put E p (t ∷ calls) turns q steps (mid, one, more) = calls_put E mid calls turns q steps more ∙ ap (λ m. with_calls m calls) one
+
+-- a number was added
+pub number-put : (E : Type 0) (r : Result (Unit {0}) E) (p q : Put) (v : View) (fxy : ℕ) (n scale : ℤ) → fxy ≡ v.fxy → v.value ≡ shown_number n scale → is_wanted p.wanted fxy ≡ true
+    → OnOk r (q ≡ with_number p fxy scale n) → PutsCall p (item_call v) r q
+number-put E (Ok u) p q v fxy n scale same value wanted is =
+    is ∙ (ap (λ f. with_number p f scale n) same
+    ∙ sym (ap (λ b. if b then with_value p v.fxy v.value else p) (ap (λ f. is_wanted p.wanted f) (sym same) ∙ wanted) ∙ ap (λ x. with_value p v.fxy x) value))
+number-put E (Err fault) p q v fxy n scale same value wanted is = tt
 
 abbrev calls_by : List Row → Tree → Data → List Timed
 calls_by table template source = calls_of (read_by table template source 0 0)

@@ -56,9 +56,10 @@ impl<'w> ItemsOut<'w> {
     }
 
     /// Clears all rows and retains their memory.
-    fn restart(&mut self, message: u32, base: usize)
-        ensures { self.new ≡ no_items self.old.wanted message base }
+    fn restart(&mut self, wanted: &'w [u16], message: u32, base: usize)
+        ensures { self.new ≡ no_items wanted.now message base }
     {
+        self.wanted = wanted;
         self.items.clear();
         self.octets.clear();
         self.message = message;
@@ -216,6 +217,7 @@ fn put_selected(
 pub(crate) struct EventRows<'t> {
     templates: TemplateCache<'t>,
     descriptors: Vec<Fxy>,
+    wanted: &'t [u16],
     /// The rows of its items.
     pub(crate) out: ItemsOut<'t>,
     /// Its own row.
@@ -226,11 +228,12 @@ impl<'t> EventRows<'t> {
     pub(crate) fn new(alloc: Global, tables: &'t Tables, wanted: &'t [u16]) -> EventRows<'t>
         ensures table_b { result.templates.table_b ≡ tables.now.b }
         ensures table_d { result.templates.table_d ≡ tables.now.d }
-        ensures wanted { result.out.wanted ≡ wanted.now }
+        ensures wanted { result.wanted.now ≡ wanted.now }
     {
         EventRows {
             templates: TemplateCache::new(alloc, &tables.b, &tables.d),
             descriptors: Vec::new(alloc),
+            wanted,
             out: ItemsOut::new(alloc, wanted),
             row: MessageRow::plain(0, 0, 0, 0),
         }
@@ -241,15 +244,15 @@ impl<'t> EventRows<'t> {
         requires { 12 ≤ length octets.now }
         ensures table_b { self.new.templates.table_b ≡ self.old.templates.table_b }
         ensures table_d { self.new.templates.table_d ≡ self.old.templates.table_d }
-        ensures wanted { self.new.out.wanted ≡ self.old.out.wanted }
+        ensures wanted { self.new.wanted.now ≡ self.old.wanted.now }
         ensures rows { OnOk result (rows_in self.new.out self.new.row
-            ≡ rows_of self.old.templates.table_b self.old.templates.table_d self.old.out.wanted
+            ≡ rows_of self.old.templates.table_b self.old.templates.table_d self.old.wanted.now
             (row_place counts.now) (FrameAt offset octets.now)) }
     {
         let Ok(index) = u32::try_from(counts.messages) else {
             return Err(AllocError);
         };
-        self.out.restart(index, counts.octets);
+        self.out.restart(self.wanted, index, counts.octets);
         match Message::parse(octets) {
             Ok(message) => {
                 set_descriptors(&mut self.descriptors, &message)?;
@@ -280,14 +283,14 @@ impl<'t> EventRows<'t> {
         requires { StartsWithBufr m.now }
         ensures table_b { self.new.templates.table_b ≡ self.old.templates.table_b }
         ensures table_d { self.new.templates.table_d ≡ self.old.templates.table_d }
-        ensures wanted { self.new.out.wanted ≡ self.old.out.wanted }
+        ensures wanted { self.new.wanted.now ≡ self.old.wanted.now }
         ensures rows { IfOk result (λ moves. FindsEvent (λ event. rows_in self.new.out self.new.row
-            ≡ rows_of self.old.templates.table_b self.old.templates.table_d self.old.out.wanted
+            ≡ rows_of self.old.templates.table_b self.old.templates.table_d self.old.wanted.now
             (row_place counts.now) event) offset m.now moves) }
     {
         match classify(m) {
             Candidate::Stray(cause) => {
-                self.out.restart(0, 0);
+                self.out.restart(self.wanted, 0, 0);
                 self.row = MessageRow::plain(offset, 4, counts.items, cause.number());
                 Ok(4)
             }

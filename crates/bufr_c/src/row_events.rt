@@ -54,7 +54,7 @@ pub(crate) fn write_rows(
     requires octets { counts.old.octets ≡ 0 }
     requires messages { counts.old.messages ≡ 0 }
     ensures rows { PassesRows event.old.templates.table_b event.old.templates.table_d
-        event.old.out.wanted octets.now counts.old.at (three items.new texts.new messages.new)
+        event.old.wanted.now octets.now counts.old.at (three items.new texts.new messages.new)
         counts.new result }
     ensures status { IsRunStatus result }
 {

@@ -25,14 +25,14 @@ set_event-requires c =
     let at = c.loop-counts.counts.at in
     starts-there octets _ _ _ at c.in-Some.place (take_rest octets at) (take_rest octets (at + c.in-Some.place)) c.new-word.ensures c.in-Some.ensures
 
-pub put_rows-requires-items : goal.put_rows-requires-items
-put_rows-requires-items c = c.loop-counts.invariant.so.leaves.items_fit
+pub put_rows-requires-clause-items : goal.put_rows-requires-clause-items
+put_rows-requires-clause-items c = c.loop-counts.invariant.so.leaves.items_fit
 
-pub put_rows-requires-texts : goal.put_rows-requires-texts
-put_rows-requires-texts c = c.loop-counts.invariant.so.leaves.octets_fit
+pub put_rows-requires-clause-texts : goal.put_rows-requires-clause-texts
+put_rows-requires-clause-texts c = c.loop-counts.invariant.so.leaves.octets_fit
 
-pub put_rows-requires-messages : goal.put_rows-requires-messages
-put_rows-requires-messages c = c.loop-counts.invariant.so.leaves.messages_fit
+pub put_rows-requires-clause-messages : goal.put_rows-requires-clause-messages
+put_rows-requires-clause-messages c = c.loop-counts.invariant.so.leaves.messages_fit
 
 pub returns-then-not-put_rows-clause-rows : goal.returns-then-not-put_rows-clause-rows
 returns-then-not-put_rows-clause-rows c =

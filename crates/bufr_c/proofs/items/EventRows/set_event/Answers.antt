@@ -1,4 +1,4 @@
-use Rattle.std.proofs.Common.{◌∙◌, ◌∷◌, [], ap, arith, sym, take}
+use Rattle.std.proofs.Common.{◌∙◌, ◌∷◌, [], ap, arith, refl, sym, take}
 use Rattle.bufr_frame.specs.Prelude.{FrameAt, StrayAt}
 use Rattle.bufr_c.proofs.EventLemmas.{message-here, message-moves}
 use Rattle.bufr_c.proofs.items.EventRows.set_event.Goals as goal
@@ -12,7 +12,7 @@ returns-in-Stray-clause-rows c =
       moves = sym stray.moves;
       some = omega arith;
       within = stray.within;
-      is = ?;
+      is = rw (c.restart.ensures, c.plain-self.ensures, c.number.ensures) refl;
     }
 
 pub returns-in_ok-set_message-in-Frame-clause-rows : goal.returns-in_ok-set_message-in-Frame-clause-rows
@@ -25,5 +25,5 @@ returns-in_ok-set_message-in-Frame-clause-rows c =
       moves = is.states ∙ sym (message-moves m c.in-Frame.len is);
       some = omega (arith, is.least);
       within = is.within;
-      is = c.set_message.ensures.rows;
+      is = c.in_ok-set_message-in-Frame.ensures.rows;
     }
