@@ -1,5 +1,5 @@
 -- The rows of a message, call by call, and the rows of events.
-use Rattle.std.proofs.Common.{rules, ℕ, ◌≡◌, ◌≢◌, ◌⊎◌, inl, inr, ◌∙◌, ◌+◌, ◌-◌, ◌<◌, ◌≤◌, List, [], ◌∷◌, ◌++◌, length, take, drop, codes, sym, ap, subst, refl, arith, Result, Ok, Err, OnOk, None, Some, option_map, ℤ, pos, append_assoc, Bool, true, false}
+use Rattle.std.proofs.Common.{rules, ℕ, ◌≡◌, ◌≢◌, ◌⊎◌, inl, inr, ◌∙◌, ◌+◌, ◌-◌, ◌<◌, ◌≤◌, List, [], ◌∷◌, ◌++◌, length, take, drop, codes, sym, ap, subst, refl, arith, Result, Ok, Err, OnOk, None, Some, option_map, if◌then◌else◌, ℤ, pos, append_assoc, Bool, true, false}
 use Rattle.std.proofs.lemmas.List.{length-take-le}
 use Rattle.bufr_frame.specs.Prelude.{Sections, StreamEvent}
 use Rattle.bufr_tables.specs.Prelude.{Row, Sequence, Tree, records_of, table_b_of, table_d_of, tree_of, tables_of, template_report}
