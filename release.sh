@@ -17,6 +17,9 @@ die() {
 usage() { die 'usage: release.sh [--unproved PROGRAM] [DIST]' 2; }
 sum_of() { sha256sum < "$1" | cut -c 1-64; }
 
+case ${1-} in
+    -h | --help) sed -n '2,/^set /s/^# \{0,1\}//p' "$0" && exit ;;
+esac
 program='' proof=proved
 if [ "${1-}" = --unproved ]; then
     [ $# -gt 1 ] || usage
@@ -74,7 +77,7 @@ if [ $proof = proved ]; then
     prove rt ci --anew || die 'the proofs or the tests failed (rt ci); see the output above'
     gate=$(tail -n 1 "$work/log")
     # `rt ci` does not count an invalid must-fail edit, but succeeds anyway.
-    [ "$gate" = "${#proved[@]} passed, 0 failed" ] || die "there are ${#proved[@]} crates and must-fail edits, but rt ci says: $gate"
+    [ "$gate" = "${#proved[@]} passed, 0 failed" ] || die "there are ${#proved[@]} crates and must-fail edits, but rt ci reports: $gate"
     sources=$(find HANDLES crates.txt crates -name out -prune -o -type f -print | sort | xargs sha256sum | sha256sum | cut -c 1-64)
 fi
 mark=$(grep -aom 1 'rattle logic=[0-9a-f]\{16\}' "$program" | cut -d = -f 2) || mark=none

@@ -52,7 +52,7 @@ class Unread(Exception):
 
 
 class Feed:
-    """Reads a file or standard input as its bytes arrive. If the input pauses, it calls `report` once."""
+    """Reads a file or standard input as its bytes arrive. If the input pauses for a second, calls `report` once."""
 
     def __init__(self, file: Optional[str], report: Callable[[], None]) -> None:
         self.file, self.name, self.begin, self.taken = file, bufr_guard.named(file), b"", 0
@@ -84,7 +84,7 @@ class Feed:
         except OSError as error:
             raise Unread(f"cannot read {self.name}: {error.strerror}") from None
         if not octets and self.taken < self.length:
-            raise Unread(f"{self.name} was truncated while it was read")
+            raise Unread(f"{self.name} was truncated while it was being read")
         self.taken += len(octets)
         self.begin += octets[: 256 - len(self.begin)]
         return octets
@@ -95,7 +95,7 @@ class Feed:
 
 
 class Finder:
-    """Finds the messages in a stream, block by block. It buffers the current message and one block.
+    """Finds the messages in a stream, block by block. Buffers only the current message and one block.
 
     If a message declares more than `longest` bytes, the finder skips it: the search continues after its first four bytes.
     """
@@ -143,7 +143,7 @@ class Finder:
 
 
 def is_stray(fault: bytes) -> bool:
-    """Returns whether a fault is that of a stray, and not a report of a skipped message."""
+    """Returns whether a fault is a stray's, and not the report of a skipped message."""
     return fault[:1].isdigit()
 
 
@@ -156,14 +156,14 @@ def stray_line(offset: int, fault: bytes, prefix: bytes = b"") -> bytes:
 class Masker:
     """Hides messages that declare more than `longest` bytes from the program that reads the stream.
 
-    The masker replaces their first four bytes with zeros, so that offsets do not change, and reports each message.
+    It replaces their first four bytes with zeros, so that offsets do not change, and reports each of these messages.
     """
 
     def __init__(self, longest: int) -> None:
         self.finder, self.count = Finder(longest), 0
 
     def take(self, octets: bytes) -> Iterator[bytes]:
-        """Adds the next block, which is empty at the end, and yields the bytes that the program can now read."""
+        """Adds the next block (empty at the end of the stream), and yields the bytes that the program can now read."""
         finder = self.finder
         finder.put(octets)
         first = finder.at
@@ -181,8 +181,8 @@ class Masker:
 class Source:
     """The pieces of a file, in order. Each piece is valid until the next one is requested.
 
-    The iterator yields None before a read that may block. If `is_long` is true, the last piece is only the beginning of
-    a long piece. `rest` then yields the whole piece, block by block, and sets `lines` to its size.
+    The iterator yields None before a read that may block. If `is_long` is true, the piece just yielded is only the
+    beginning of a long piece. `rest` then yields the whole piece, block by block, and sets `lines` to its number of lines.
     """
 
     is_long = False
@@ -219,7 +219,10 @@ class Messages(Source):
 
 
 class Documents(Source):
-    """The documents in a dump, with their line numbers. Each includes the lines before it; trailing lines are one more."""
+    """The documents in a dump, with their line numbers.
+
+    Each piece includes the lines before its document. Any lines after the last document are a piece of their own.
+    """
 
     def __init__(self, feed: Feed, _longest: Optional[int]) -> None:
         self.feed, self.held, self.has_ended = feed, bytearray(b"\n"), False
@@ -284,7 +287,7 @@ def begin_of(text: bytearray) -> int:
 
 
 def may_begin(text: bytearray) -> bool:
-    """Returns whether a document may begin like this. If not, as in a file of messages, nothing more is read."""
+    """Returns whether `text` may be the beginning of a document. If not, for example if it is BUFR, reading stops."""
     at = begin_of(text)
     end = text.find(b"\n", at)
     return len(text) - at <= LINE if end < 0 else text[at:end] == b"message"
@@ -310,7 +313,7 @@ class Store:
         self.block.clear()
 
     def descriptor(self) -> int:
-        """Returns the descriptor of the file, positioned at the start."""
+        """Returns the file's descriptor, positioned at the start of the file."""
         self.flush()
         os.lseek(self.file, 0, os.SEEK_SET)
         return self.file
@@ -350,12 +353,12 @@ class Run:
 
     @staticmethod
     def words_of(piece: Bytes) -> bytes:
-        """Returns the descriptor list of a piece, in the form that the piece contains."""
+        """Returns the descriptor list of a piece, in the form in which the piece contains it."""
         raise NotImplementedError
 
     @staticmethod
     def descriptors(words: bytes) -> Tuple[str, ...]:
-        """Returns the descriptors in a list from `words_of`, as six digits each."""
+        """Returns the descriptors from a list that `words_of` returned, each as six digits."""
         raise NotImplementedError
 
     def copy_piece(self) -> bool:
@@ -363,7 +366,7 @@ class Run:
         raise NotImplementedError
 
     def start(self, output: Optional[int]) -> None:
-        """Starts the run. The output goes to a descriptor, or to a file that is later copied piece by piece."""
+        """Starts the run. If `output` is None, the output goes to a file that is later copied piece by piece."""
         self.start_on(self.pieces.descriptor(), output)
 
     def start_on(self, given: int, output: Optional[int]) -> None:
@@ -457,7 +460,7 @@ class Encode(Run):
 
     @staticmethod
     def size_of(octets: Octets) -> int:
-        """Returns the number of lines. If there is no `end` line, counts the line at which `bufr` reports this fault."""
+        """Returns the number of lines. If there is no `end` line, counts up to the line at which `bufr` reports that."""
         text = bytes(octets)
         return text.count(b"\n") + 2 * (not text.endswith(END))
 
@@ -499,7 +502,7 @@ class Encode(Run):
 
 
 class Part:
-    """Consecutive pieces, and a run for each set. For each piece, there is a place, a size, and a run or a fault.
+    """Consecutive pieces, and a run for each set. Each piece has a place, a size, a run or a fault, and reasons for notes.
 
     If there are conditions, the pieces are first added to `candidates`, without a run.
     """
@@ -594,7 +597,7 @@ class Work:
         bufr_guard.say(b"".join(self.last))
 
     def report(self) -> None:
-        """Prints the notes on a feed so far."""
+        """Prints the notes on the messages in a feed so far."""
         self.say_notes(" so far")
         bufr_guard.say(self.more_notes())
         bufr_guard.output(2).flush()
@@ -609,7 +612,7 @@ class Work:
         bufr_guard.say(b"".join([*self.notes.lines(self.kind.PIECE, so_far), *told]))
 
     def fail(self, unread: Unread) -> None:
-        """Records why a file could not be read. The work continues with the next file."""
+        """Records why a file could not be read. Processing continues with the next file."""
         self.last.append(os.fsencode(f"{bufr_guard.name()}: {unread}\n"))
         self.status = 2
 
@@ -642,8 +645,8 @@ class Work:
     def parts(self, feed: Feed) -> Iterator[Optional[Part]]:
         """Yields the parts of a file, and None when they must be written: before a read that may block, and at the end.
 
-        This function is short because Python 3.11 cannot leave a `try` block that ends after more than 256 instructions
-        if it cannot allocate a number over 256.
+        This function is short: to leave a `try` block that ends more than 256 instructions into a function, Python 3.11
+        must allocate an integer, and that fails if memory has run out.
         """
         source = self.kind.SOURCE(feed, self.longest)
         pieces = iter(source)  # freed after the part, because Python may otherwise report that it cannot close the iterator
@@ -690,7 +693,7 @@ class Work:
             part.pieces.append((place, self.kind.size_of(octets), run, notes, b""))
 
     def feed(self, part: Part, source: Source, feed: Feed, piece: Piece) -> None:
-        """Passes a long piece to a separate run, block by block as it arrives."""
+        """Passes a long piece to a separate run, block by block as the blocks arrive."""
         place, begin, _ = piece
         run, notes = self.assigned(part, lambda at, length: bytes(begin[at : at + length]))
         os.close(run.pieces.descriptor())
@@ -708,7 +711,7 @@ class Work:
             part.pieces.append((place, source.lines, run, notes, b""))
 
     def selected(self, part: Part) -> Part:
-        """Returns the part with only the candidates that meet the conditions or that `bufr ls` does not list."""
+        """Returns a part with only those candidates that meet the conditions or that `bufr ls` does not list."""
         if part.candidates is None:
             return part
         candidates, chosen, begin = part.candidates.descriptor(), Part(), 0
@@ -760,7 +763,7 @@ class Work:
         return part.runs[tables], notes
 
     def is_concerned(self, tables: bufr_sets.TableSet, reason: Reason, words: bytes) -> bool:
-        """Returns whether a reason concerns a descriptor that this list uses."""
+        """Returns whether a reason concerns a descriptor that a descriptor list uses."""
         key = tables, reason.concerns, words
         if key in self.remembered:
             return self.remembered[key]
@@ -809,7 +812,7 @@ class Work:
             self.end(worst, is_whole)
 
     def end(self, run: Run, is_whole: bool) -> None:
-        """Combines the status of a run with the status of the work."""
+        """Adds a run's status and its error lines to those of the work."""
         self.last += run.others
         for line in run.others:
             if line.startswith((b"table B: ", b"table D: ")):
@@ -830,12 +833,12 @@ def dump(
     has_places: bool = False,
     more_notes: Callable[[], bytes] = bytes,
 ) -> int:
-    """Writes the dump of these files to a descriptor, and returns the status. None is standard input.
+    """Dumps these files to a descriptor, and returns the exit status. None stands for standard input.
 
     Fault lines, notes and progress go to standard error, as in bufr-auto. Messages are skipped if they declare more than
-    `longest` bytes, or if they do not meet the conditions. With `has_places`, a comment before each document gives its
-    place: `# offset=595 length=422 file=NAME`. Whenever the notes on a feed are printed, `more_notes` returns further
-    lines.
+    `longest` bytes, or if they do not meet the conditions. With `has_places`, a comment before each document gives the
+    place of its message: `# offset=595 length=422 file=NAME`. `more_notes` is called whenever the notes on a feed are
+    printed, and returns more lines to print.
     """
     work = Work(Dump, files, output)
     work.more_notes = more_notes

@@ -1,4 +1,4 @@
-"""Conditions KEY=VALUE and KEY!=VALUE on the lines of `bufr ls`, for bufr-extract, bufr-csv and bufr_text.
+"""Conditions KEY=VALUE and KEY!=VALUE on lines from `bufr ls`, for bufr-extract, bufr-csv and bufr_text.
 
     conditions = bufr_conditions.Conditions(["category=0", "time=2024-01-02"])
     for line in listing:        # a line as bytes
@@ -7,8 +7,8 @@
     note = conditions.note()    # says how many edition 3 messages were left out, or is empty
 
 KEY is the name of a field. VALUE is the whole value of the field or its first parts: category=0 matches 0/2/0, and
-time=2024-01-02 matches all times of that day. To match one of several values, separate them with commas. A line must meet
-all conditions. A word that is not a condition raises `ValueError`.
+time=2024-01-02 matches all times on that day. To match any of several values, separate them with commas. A line must meet
+all conditions. An invalid condition raises `ValueError`.
 """
 from __future__ import annotations
 
@@ -18,13 +18,15 @@ from typing import Iterable, List, Tuple
 KEYS = (
     "offset length edition centre update category tables time subsets observed compressed optional descriptors".split()
 )
+# A time, or its first parts.
+TIME = re.compile(r"\d{4,}(-\d{2,}(-\d{2,}(T\d{2,}(:\d{2,}(:\d{2,})?)?)?)?)?").fullmatch
 
 
 class Conditions:
-    """Conditions on a line. `patterns` has a pattern for each, for grep -E and `re`, and whether it must not match.
+    """Conditions on a line. `patterns` contains a pattern for each (for grep -E and `re`), and whether it must not match.
 
-    Edition 3 messages have only the year of the century, so time=2024 does not match 0024. Such messages are left out and
-    counted.
+    Edition 3 messages contain only the year of the century, so time=2024 does not match 0024. Such messages are left out
+    and counted.
     """
 
     def __init__(self, words: Iterable[str]) -> None:
@@ -48,10 +50,11 @@ class Conditions:
         if not re.fullmatch(r"[0-9T:/-]+(,[0-9T:/-]+)*", text):
             raise ValueError(f"the value in '{word}' cannot match: use only digits, T, colons, slashes and hyphens")
         values = text.split(",")
+        if key == "time" and not all(map(TIME, values)):
+            raise ValueError(f"the value in '{word}' cannot match: write times as in time=2023-03-14T18")
         pattern = f"(^| ){key}=({'|'.join(values)})([ T:/-]|$)"
         if key == "time" and not negated:
-            years = [value for value in values if re.match("[0-9]{4}", value)]
-            of_century = [f"00{year[2:]}" for year in years if f"00{year[2:4]}" not in {value[:4] for value in values}]
+            of_century = [f"00{year[2:]}" for year in values if f"00{year[2:4]}" not in {value[:4] for value in values}]
             if of_century:
                 # The pattern also matches edition 3 lines, so that they can be counted before they are left out.
                 self.asked = self.asked or word
@@ -81,7 +84,7 @@ class Conditions:
         return f"left out {messages}{so_far} because of two-digit years; {both} selects both editions"
 
     def new_note(self, so_far: str) -> List[str]:
-        """Returns the note, if there is one and it has not been returned before."""
+        """Returns a list with the note, or an empty list if there is none or it has been returned before."""
         notes = [self.note(so_far)] * (self.left_out > 0 and not self.is_told)
         self.is_told = self.left_out > 0
         return notes

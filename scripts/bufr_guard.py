@@ -1,4 +1,4 @@
-"""Code that the scripts share: for errors and signals, for running programs, and for output.
+"""Code that the scripts share: error and signal handling, running programs, and output.
 
 A script passes its work to `run`, as a function that takes the command-line arguments and returns the exit status. The
 function raises `Failed` if it cannot continue.
@@ -17,9 +17,9 @@ function raises `Failed` if it cannot continue.
 - `start` and `wait` run a program. A signal that ends the script also ends the program. `checked` raises `Failed` if the
   program crashed.
 - `opened`, `temporary` and `copied` return file descriptors. They raise `Failed` if there is no space for temporary
-  files. `output` buffers what is written to a descriptor, by default standard output, in large blocks.
+  files. `output` returns an object that writes to a descriptor, by default standard output, in large blocks.
 - `say` writes lines to standard error, and `Progress` displays a temporary progress line. `bare` returns the note on a
-  file that has no message.
+  file that contains no message.
 
 Every script loads this module, so it imports as few modules as possible.
 """
@@ -75,10 +75,10 @@ class Question(Exception):
 
 
 def run(work: Callable[[List[str]], int], text: Optional[str], ends_by_pipe: bool = False) -> NoReturn:
-    """Runs the work of a script on its command-line arguments, and exits. `text` is the help of the script.
+    """Runs the work of a script on its command-line arguments, and exits. `text` is the script's help text.
 
-    A signal ends the script and the programs that it runs. If the reader of its output exits, the script reports a
-    failed write or, with `ends_by_pipe`, exits silently.
+    A signal ends the script and the programs that it runs. If the program that reads its output exits, the
+    script reports a failed write or, with `ends_by_pipe`, exits silently.
     """
     status = 2
     try:
@@ -96,7 +96,7 @@ def run(work: Callable[[List[str]], int], text: Optional[str], ends_by_pipe: boo
 
 
 def take_descriptors() -> None:
-    """Opens any of the descriptors 0 to 2 that is closed, so that no file gets its number. Using it still fails."""
+    """Opens any of the descriptors 0 to 2 that is closed, so that no other file gets its number. Using it still fails."""
     for number, mode in ((0, os.O_WRONLY), (1, os.O_RDONLY), (2, os.O_RDONLY)):
         try:
             os.fstat(number)
@@ -113,7 +113,7 @@ def guarded(work: Callable[[List[str]], int], text: str) -> int:
     """Returns the status of the work. If the work raises an exception, reports the exception and returns 2."""
     try:
         if sys.version_info < (3, 9):
-            raise Failed(f"{sys.executable} is too old; Python 3.9 or later is needed")
+            raise Failed(f"{sys.executable} is too old; Python 3.9 or later is required")
         try:
             status = work(sys.argv[1:])
         except Question as question:
@@ -131,7 +131,7 @@ def guarded(work: Callable[[List[str]], int], text: str) -> int:
 
 
 def end_badly(told: str) -> None:
-    """Flushes the output, and then reports why the script stops. Ignores failures of either step."""
+    """Flushes the output, and then reports why the script stops. Ignores failures in either step."""
     Progress.clear()
     for file in written():
         try:
@@ -169,7 +169,7 @@ def answer(question: str, text: str) -> int:
 
 
 def build() -> str:
-    """Returns the commit of the program, and whether the program is proved.
+    """Returns the commit from which the program was built, and whether the program is proved.
 
     install.sh records both, and the SHA-256 of the program, in a file next to the documentation.
     """
@@ -193,7 +193,7 @@ def reason(error: BaseException) -> str:
     if isinstance(error, Failed):
         return str(error)
     if isinstance(error, ModuleNotFoundError):
-        debian = f"for Debian's /usr/bin/python3: apt-get install python3-{error.name}"
+        debian = f"on Debian: apt-get install python3-{error.name}, then /usr/bin/python3 {sys.argv[0]} .."
         return f"{error.name} is not installed for {sys.executable} ({debian})"
     if isinstance(error, OSError) and error.strerror:
         is_named = isinstance(error.filename, (str, bytes))
@@ -281,7 +281,7 @@ def say(lines: bytes) -> None:
 
 
 def bare(file: Optional[str], begin: bytes, piece: str = "message") -> bytes:
-    """Returns the note that a file or standard input has no message. It guesses the file type from the first bytes."""
+    """Returns the note that a file contains no message, with the file type that its first bytes suggest."""
     head = begin.lstrip()
     if head[:1] == b"<":
         head = head.lower()
@@ -289,14 +289,14 @@ def bare(file: Optional[str], begin: bytes, piece: str = "message") -> bytes:
     if kind is None and all(octet >= 32 or octet in b"\1\3\t\n\r" for octet in head):
         kind = "text"
     looks = ": it is empty" if not begin else f": it looks like {kind}" if kind else ""
-    return f"{name()}: {shown(file or 'standard input')} has no {piece}{looks}\n".encode()
+    return f"{name()}: {shown(file or 'standard input')} contains no {piece}{looks}\n".encode()
 
 
 class Progress:
     """A progress line on standard error, if that is a terminal. It is updated at most once a second.
 
-    The next output replaces the line. If standard output is also a terminal, its text already shows the progress;
-    `has_texts` says whether there is any text.
+    The next output replaces the line. If standard output is also a terminal, and text is written to it
+    (`has_texts`), there is no progress line, because the text already shows the progress.
     """
 
     is_shown: bool = False
@@ -332,7 +332,7 @@ class Progress:
 
 
 def program() -> str:
-    """Returns the path of `bufr`: BUFR, or next to the script, or the first on PATH, or as built in the repository."""
+    """Returns the path of `bufr`: BUFR or else, in this order, next to the script, on PATH, or in the repository."""
     named = os.environ.get("BUFR")
     if named:
         return named
@@ -364,7 +364,7 @@ def start(words: Sequence[str], given: int = 0, output: int = 1, errors: int = 2
 
 
 def wait(process: int) -> int:
-    """Waits for a program to exit, and returns its exit status, like a shell."""
+    """Waits for a program to exit, and returns its exit status, or 128 plus the number of the signal that killed it."""
     os.waitid(os.P_PID, process, os.WEXITED | os.WNOWAIT)
     RUNNING.remove([process])
     status = os.waitstatus_to_exitcode(os.waitpid(process, 0)[1])
@@ -376,8 +376,7 @@ def lines_from(
 ) -> Iterator[bytes]:
     """Yields blocks of whole lines from a pipe and, at the end, the incomplete last line, if any.
 
-    While waiting, it displays `place()` as the progress. It calls `report()` in each second without a block, and every
-    minute.
+    While waiting, displays `place()` as the progress. Calls `report()` after each second without a block, and every minute.
     """
     rest, block, due = b"", b" ", time.monotonic() + INTERVAL
     while block:
@@ -399,7 +398,7 @@ def lines_from(
 
 
 def checked(status: int, has_told: bool = True, what: str = "bufr") -> int:
-    """Returns the status of a program, if it is 0 or 1, or 2 with a reported reason. Otherwise raises `Failed`."""
+    """Returns a program's status if it is 0 or 1, or if it is 2 and the reason was reported. Otherwise, raises `Failed`."""
     if status > 128:
         raise Failed(f"{what} was killed (signal {status - 128}); output is incomplete")
     if status not in (0, 1, 2) or (status == 2 and not has_told):
@@ -429,7 +428,7 @@ def leave(number: int, _frame: Optional[FrameType]) -> None:
 
 
 def opened(file: Optional[str]) -> int:
-    """Opens a file for reading at any offset. If this is not possible, returns the descriptor of a temporary copy."""
+    """Opens a file for reading at any offset. If it is not a regular file, returns the descriptor of a temporary copy."""
     descriptor = to_read(file)
     return descriptor if is_regular(descriptor) else copied(descriptor, named(file))
 
@@ -485,7 +484,7 @@ def no_room() -> Failed:
 
 
 def copied(source: int, name: str) -> int:
-    """Copies everything from a descriptor to a temporary file, and returns its descriptor, positioned at the start."""
+    """Copies everything from a descriptor to a temporary file. Returns the file's descriptor, positioned at its start."""
     descriptor, octets, progress, size = temporary(), b" ", Progress(has_texts=False), 0
     while octets:
         try:
@@ -501,7 +500,7 @@ def copied(source: int, name: str) -> int:
 
 
 def read_at(descriptor: int, offset: int, length: int) -> bytes:
-    """Reads bytes of a message that was found in a file."""
+    """Reads part of a message that was found in a file. Raises `Failed` if the file is now too short."""
     pieces, end = [], offset + length
     while offset < end:
         try:
@@ -509,13 +508,13 @@ def read_at(descriptor: int, offset: int, length: int) -> bytes:
         except OSError as error:
             raise Failed(f"cannot read the input: {error.strerror}") from None
         if not pieces[-1]:
-            raise Failed("the input was truncated while it was read")
+            raise Failed("the input was truncated while it was being read")
         offset += len(pieces[-1])
     return b"".join(pieces)
 
 
 def fault_lines(errors: int) -> Iterator[tuple[float, bytes]]:
-    """Yields each line that a run of `bufr` wrote to a file, with its offset.
+    """Yields each line that a run of `bufr` wrote to a file, with the offset that the line reports.
 
     Lines that do not report faults in messages come last, with the offset `NOWHERE`.
     """
@@ -529,7 +528,7 @@ def fault_lines(errors: int) -> Iterator[tuple[float, bytes]]:
 
 
 class Faults:
-    """The fault lines of a listing, which can be printed in order with the output for its messages.
+    """The fault lines from a listing, which can be printed in order with the output for its messages.
 
     Other lines are printed at the end. `has_told` says whether there were any other lines.
     """
@@ -539,7 +538,7 @@ class Faults:
         self.next = next(self.lines, (NOWHERE, b""))
 
     def tell_before(self, offset: float) -> None:
-        """Prints the remaining fault lines before an offset."""
+        """Prints the remaining fault lines whose offsets are less than `offset`."""
         while self.next[0] < offset:
             say(self.next[1])
             self.next = next(self.lines, (NOWHERE, b""))

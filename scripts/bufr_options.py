@@ -29,7 +29,7 @@ ANSWERS = {"-h": "--help", "--help": "--help", "-V": "--version", "--version": "
 
 
 class Asked:
-    """The options and operands of a command line.
+    """The options and operands on a command line.
 
     With `takes_conditions`, operands such as `category=0` are treated as values of --where.
     """
@@ -73,7 +73,7 @@ class Asked:
             raise misused(f"{name} '{value}': {error}") from None
 
     def has(self, name: str) -> bool:
-        """Returns whether an option is given."""
+        """Returns whether an option was given."""
         return name in self.given
 
     def all(self, name: str) -> list[Any]:
@@ -81,11 +81,11 @@ class Asked:
         return self.given.get(name, [])
 
     def last(self, name: str, default: Any = None) -> Any:
-        """Returns the value of an option, or its last value if the option is given several times."""
+        """Returns the last value of an option, or `default` if the option was not given."""
         return [default, *self.all(name)][-1]
 
     def files(self, skipped: int = 0) -> list[Optional[str]]:
-        """Returns the operands after the first `skipped` as file names. None is standard input, which is the default."""
+        """Returns the operands after the first `skipped` as file names. None, the default, stands for standard input."""
         return [None if file == "-" else file for file in self.operands[skipped:]] or [None]
 
     def conditions(self) -> Optional[Conditions]:
@@ -108,7 +108,7 @@ def is_condition(word: str) -> bool:
 
 
 def parts(word: str) -> tuple[str, Optional[str]]:
-    """Splits a word into the name of an option and the value that is joined to it, or None."""
+    """Splits a word into the name of an option and the value that is joined to it, which is None if there is none."""
     if word.startswith("--"):
         name, equals, value = word.partition("=")
         return name, value if equals else None

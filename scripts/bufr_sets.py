@@ -20,7 +20,7 @@ CACHED = 8
 
 
 class TableSet:
-    """A directory with the tables of a WMO version. `own` is the centre and local version of its local rows, if any."""
+    """A directory with the tables for a WMO version. `own` is the centre and local version of its local rows, if any."""
 
     def __init__(self, folder: str, version: int, own: Optional[Tuple[int, int]]) -> None:
         self.folder, self.name, self.version, self.own = folder, os.path.basename(folder), version, own
@@ -31,7 +31,7 @@ class TableSet:
         return os.path.join(self.folder, name)
 
     def rows(self, name: str, *columns: str) -> Iterator[List[str]]:
-        """Yields these columns of each row of a table. Skips invalid rows, because `bufr` reports them."""
+        """Yields these columns of each row in a table. Skips invalid rows, because `bufr` reports them."""
         import csv
 
         csv.field_size_limit(1 << 30)
@@ -66,7 +66,7 @@ class TableSet:
         return self.sequences
 
     def cached(self) -> None:
-        """Records that the set is cached. If too many sets are cached, drops the tables of another one."""
+        """Records that the set is cached. If too many sets are cached, drops the tables that were cached first."""
         if self not in cache:
             cache.append(self)
         if len(cache) > CACHED:
@@ -77,7 +77,7 @@ class TableSet:
         """Yields the elements and sequences that a descriptor list uses, directly or through sequences.
 
         An element after 2 06 Y needs no row. The tables are read only if the list contains a sequence, and only after
-        its own descriptors have been yielded.
+        the list's own descriptors have been yielded.
         """
         found = set()
         sequences = [""]
@@ -95,9 +95,9 @@ cache: List[TableSet] = []
 
 
 class TableSets:
-    """All table sets in a directory: `wmo-13`, or `wmo-13+98-102` with local rows (centre 98, local version 102).
+    """All table sets in a directory, such as `wmo-13`, or `wmo-13+98-102` with local rows (centre 98, local version 102).
 
-    A set without one of its tables is ignored, and `notes` has a line about it.
+    A set that lacks one of its tables is ignored, and `notes` contains a line about it.
     """
 
     def __init__(self) -> None:
@@ -116,7 +116,7 @@ class TableSets:
                 else:
                     self.sets.setdefault(key, {})[tables.version] = tables
         if None not in self.sets:
-            raise bufr_guard.Failed("; ".join([f"{self.folder} has no table set such as wmo-39", *self.notes]))
+            raise bufr_guard.Failed("; ".join([f"{self.folder} contains no table set such as wmo-39", *self.notes]))
 
     def latest(self) -> TableSet:
         """Returns WMO's latest set."""
@@ -125,8 +125,9 @@ class TableSets:
     def asked(self, centre: int, version: int, local: int) -> TableSet:
         """Returns the set for a centre, a version and a local version.
 
-        This is the set for the version or for the next later version, or else the latest set. A set with the centre's
-        local rows takes precedence, unless its version would change how WMO's rows are read.
+        This is WMO's set for the version; failing that, the set for the next later version; and failing that, the latest
+        set. A set with the centre's local rows takes precedence if its version is in the range from `version` to that of
+        WMO's set.
         """
         of_wmo = self.sets[None]
         nearest = min((number for number in of_wmo if number >= version), default=max(of_wmo))
@@ -140,7 +141,7 @@ def is_number(word: str) -> bool:
 
 
 def folder_of_sets() -> str:
-    """Returns the directory of the table sets: BUFR_TABLES, or that of this installation, of Python or the repository."""
+    """Returns the directory that contains the table sets: BUFR_TABLES, or one in the installation or repository."""
     named = os.environ.get("BUFR_TABLES")
     if named:
         places = [named]
@@ -152,11 +153,11 @@ def folder_of_sets() -> str:
             return os.path.abspath(place)
     if named:
         raise bufr_guard.Failed(f"BUFR_TABLES is {named}, which is not a directory")
-    raise bufr_guard.Failed(f"there is no directory {places[0]}; set BUFR_TABLES to the directory of the table sets")
+    raise bufr_guard.Failed(f"there is no directory {places[0]}; set BUFR_TABLES to the directory with the table sets")
 
 
 def words_of(message: Bytes) -> bytes:
-    """Returns the descriptors in section 3 of a message, two bytes each, up to the length of the longest template."""
+    """Returns the descriptors in section 3 of a message, as two bytes each, but no more than a template can contain."""
     begin = message(0, 26)
     at, flags = 8, begin[17 if begin[7:8] == b"\4" else 15 :][:1]
     for _ in range(2 if flags >= b"\x80" else 1):
@@ -166,7 +167,7 @@ def words_of(message: Bytes) -> bytes:
 
 
 def descriptors(words: bytes) -> Tuple[str, ...]:
-    """Returns the descriptors in a list that has two bytes for each, as six digits each."""
+    """Returns the descriptors from a list of two-byte descriptors, each as six digits."""
     pairs = (words[at] << 8 | words[at + 1] for at in range(0, len(words) - 1, 2))
     return tuple(f"{word >> 14}{word >> 8 & 63:02}{word & 255:03}" for word in pairs)
 

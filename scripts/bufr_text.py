@@ -13,7 +13,7 @@ and `encode` converts messages to BUFR. These functions run `bufr`. `read` and `
 without running it.
 
 Messages are read one at a time, so memory use depends on the longest message in a file, not on the length of the file:
-48 MB including Python, 1 KB for each item of that message, and twice the length of its dump. The faults in your list and
+48 MB including Python, 1 KB for each item in that message, and twice the length of its dump. The faults in your list and
 the result of `encode` need additional memory.
 """
 from __future__ import annotations
@@ -103,7 +103,7 @@ _CAUSES = [
 
 
 class TextError(ValueError):
-    """An invalid line. `line` is its number, counted from 1. The message says what was expected, and the likely cause."""
+    """Reports an invalid line in a dump, what was expected, and the likely cause. `line` is its number, counted from 1."""
 
     def __init__(self, line: int, expected: str, cause: str = "") -> None:
         super().__init__(line, expected, cause)
@@ -115,7 +115,7 @@ class TextError(ValueError):
 
 
 class RunError(RuntimeError):
-    """The program failed or refused a dump. `status` is its exit status, which is negative if a signal killed it."""
+    """Reports that a program failed or refused a dump. `status` is its exit status, or minus the signal number."""
 
     def __init__(self, status: int, reason: str) -> None:
         super().__init__(status, reason)
@@ -126,7 +126,7 @@ class RunError(RuntimeError):
 
 
 class DumpWarning(UserWarning):
-    """Warns that a file has no message, that messages were refused or left out, or that levels cannot be told apart."""
+    """Warns of a file without messages, messages that were refused or left out, or levels that cannot be told apart."""
 
 
 class Fault(NamedTuple):
@@ -175,7 +175,7 @@ class Listed(NamedTuple):
 class Item:
     """One item in a subset: its descriptor as six digits, its value, and its name and unit from Table B.
 
-    The name and the unit are `None` if the item was read without a row of Table B. `reference` is true for a new
+    The name and the unit are `None` if the item was read without a row in Table B. `reference` is true for a new
     reference value that is defined in the data (a line that begins with `R`).
     """
 
@@ -188,7 +188,7 @@ class Item:
 
 @dataclass
 class Message:
-    """One message: its header as numbers with the keys in `HEADER`, its descriptors, and its subsets.
+    """One message: its header (a number for each key in `HEADER`), its descriptors, and its subsets.
 
     `local1` contains the local-use bytes of section 1. `section2` contains the bytes of section 2, or is `None` if there
     is no section 2. Each subset is a list of items. If `dump` read the message, `offset` and `length` are its place in the
@@ -250,7 +250,7 @@ def read(stream: Iterable[bytes]) -> Iterator[Message]:
     """Yields the messages in a dump. `stream` yields its lines as bytes, like a file opened in mode "rb".
 
     Raises `TextError` at the first invalid line. `bufr encode` also checks the ranges of header values, and whether the
-    items match the descriptors. A number such as `1.` raises `TextError` here, but is fault 52 in `bufr encode`.
+    items match the descriptors. A number such as `1.` raises `TextError` here, but causes fault 52 in `bufr encode`.
     """
     lines = _Lines(stream)
     line = lines.take()
@@ -273,7 +273,7 @@ def _read_message(lines: _Lines) -> Message:
         while line.startswith(word + b" "):
             digits = line[len(word) + 1 :]
             if not _HEX.fullmatch(digits):
-                raise lines.refused("hexadecimal digits of 1 to 32 bytes")
+                raise lines.refused("hexadecimal digits for 1 to 32 bytes")
             octets += bytes.fromhex(digits.decode())
             line = lines.inside("descriptors")
     section2 = bytes(local_use[b"section2"]) if optional else None
@@ -314,7 +314,7 @@ def _read_item(lines: _Lines, line: bytes) -> Item:
 
 
 def write(messages: Iterable[Message], stream: IO[bytes]) -> None:
-    """Writes messages as a dump. `read` followed by `write` does not change a dump.
+    """Writes messages as a dump. `read` followed by `write` reproduces the output of `bufr dump` exactly.
 
     Subsets are renumbered, so you can add and remove subsets. Raises `TypeError` for a value that is not a `Decimal`,
     bytes or `None` (a `float` is not an exact decimal), and `ValueError` for a `Decimal` that is not a number.
@@ -383,12 +383,12 @@ def rows(
     faults: Optional[List[Fault]] = None,
     where: Sequence[str] = (),
 ) -> Iterator[Tuple[Cell, ...]]:
-    """Yields a tuple for each subset, for example for `csv.writer` or a DataFrame: header values, then columns.
+    """Yields a tuple for each subset, for example for `csv.writer` or a DataFrame: header values, then column values.
 
     `messages` is the name of a file, or messages from `dump` or `read`. For a file, `faults` and `where` have the same
-    meaning as in `dump`. A column is a descriptor such as `"012101"`, or `"012101:2"` for the second such item in the
-    subset. `header` can contain keys from `HEADER`, `"optional"`, `"subsets"`, `"offset"` and `"length"`, and the numbers
-    `"message"` and `"subset"`, which are counted from 1.
+    meaning as for `dump`. A column is a descriptor such as `"012101"`, or `"012101:2"` for the second such item in the
+    subset. `header` can contain keys from `HEADER`, `"optional"`, `"subsets"`, `"offset"` and `"length"`, and
+    `"message"` and `"subset"` for the numbers of the message and the subset, counted from 1.
 
     A number is an `int` if its scale allows no decimal places, and otherwise the nearest `float`. A string contains the
     same escapes as in a dump, but no trailing spaces. A value is `None` if it is missing or the subset has no such item.
@@ -411,14 +411,14 @@ def levels(
     faults: Optional[List[Fault]] = None,
     where: Sequence[str] = (),
 ) -> Iterator[Tuple[Cell, ...]]:
-    """Yields a tuple for each level of a sounding: header values, then `keep`, then columns.
+    """Yields a tuple for each level of a sounding: header values, then the values for `keep`, then column values.
 
-    A level is one repetition (pass) of a delayed replication. It has a tuple if it contains an item for the first column
+    A level is one repetition (pass) of a delayed replication. It yields a tuple if it contains an item for the first column
     and, if there are several columns, for at least one other column. Each column selects the first item with that
     descriptor in the level, and each descriptor in `keep` selects the first one in the whole subset. Otherwise, `levels`
     works like `rows`.
 
-    A subset is skipped if its levels cannot be told apart, because the descriptor that begins a level occurs in it twice.
+    A subset is skipped if its levels cannot be told apart, because the descriptor that begins a level occurs in it again.
     A `DumpWarning` at the end says how many subsets were skipped.
     """
     _check([*columns, *keep], re.compile(_FXY.decode()), header)
@@ -507,7 +507,7 @@ def _passes(subset: List[Item]) -> List[List[Item]]:
     """Returns the items in each pass of each delayed replication. Raises `ValueError` if passes cannot be told apart.
 
     `left` passes of the replication have not begun. Each pass begins with the descriptor `opener`. `one` is the current
-    pass. It has had `items` items and `inner` factors so far; the previous pass had `pass_items` and `pass_inner`.
+    pass. So far, it has `items` items and `inner` factors; the previous pass had `pass_items` and `pass_inner`.
     """
     passes: List[List[Item]] = []
     one: Optional[List[Item]] = None
@@ -541,7 +541,7 @@ def _passes(subset: List[Item]) -> List[List[Item]]:
 
 
 def listing(file: _Path, faults: Optional[List[Fault]] = None) -> Iterator[Listed]:
-    """Yields one object for each line from `bufr ls`. `faults` and exceptions are the same as for `dump`."""
+    """Yields a `Listed` for each line that `bufr ls` prints. `faults` and exceptions are the same as for `dump`."""
     told = _Told(file, faults)
     with _opened(file) as stream, tempfile.TemporaryFile() as errors:
         for place in _listed(stream, errors, told):
@@ -698,11 +698,11 @@ def _looks(stream: IO[bytes]) -> str:
     """Returns the likely type of a file without messages, which `bufr-auto` guesses from its first bytes."""
     words, begin = [_program("bufr-auto")], os.pread(stream.fileno(), 256, 0)
     told = subprocess.run(words, input=begin, stdout=subprocess.PIPE, stderr=subprocess.PIPE).stderr
-    return told.decode(errors="replace").rstrip().rpartition("has no message")[2]
+    return told.decode(errors="replace").rstrip().rpartition("contains no message")[2]
 
 
 def _listed(stream: IO[bytes], errors: IO[bytes], told: _Told) -> Iterator[Listed]:
-    """Yields the messages in a stream that meet the conditions. Strays stay in a file until they are reported."""
+    """Yields the places of the messages that meet the conditions. Strays stay in a file until they are reported."""
     with tempfile.TemporaryFile() as lines:
         words = [_bufr(), "ls"]
         status = subprocess.run(words, stdin=stream, stdout=lines, stderr=errors).returncode
@@ -767,7 +767,7 @@ def _run(words: List[str], source: IO[bytes], target: IO[bytes]) -> subprocess.C
 
 
 def _failure(status: int, words: List[str], errors: Iterable[bytes]) -> RunError:
-    """Returns the error for a failed program: its output or else its status, and whether the disk is full."""
+    """Returns the error for a failed program: what it printed or else its status, and whether the disk is full."""
     told = b"".join(line for line in errors if not _FAULT.match(line)).decode(errors="replace").strip()
     told = told or f"{words[0]} " + (f"was killed (signal {-status})" if status < 0 else f"exited with status {status}")
     folder = tempfile.gettempdir()  # all output is in temporary files

@@ -127,7 +127,7 @@ function is_descriptor(word, of_subset) {
 
 # Splits a list of columns and returns their number. `keys` lists the words that are allowed besides descriptors.
 function split_columns(words, list, keys,   count, column, word) {
-    count = split(words, list, ",")
+    count = split(words, list, /[ ,]+/)
     for (column = 1; column <= count; column++) {
         word = list[column]
         if (index(keys, " " word " "))
@@ -217,6 +217,7 @@ function end_subset(   row, column, line) {
 
 # Returns the beginning of a row: message, subset, and the columns for the whole subset.
 function begin_row(   line, column) {
+    has_rows = 1
     line = message_begin message subset_middle subset
     for (column = 1; column <= kept_count; column++) {
         if (item_of[column] in first)
@@ -388,15 +389,15 @@ END {
     if (is_open)
         fail("the dump ends inside a message, so it is incomplete")
     if (is_joined && next_listed())
-        fail("the listing has more messages than the dump and the fault lines; make all three from the same file")
+        fail("the listing has more messages than the dump and the fault lines together; make all three from the same file")
     if (!message)
         exit
     for (column = 1; column <= kept_count; column++)
-        if (!(item_of[column] in had))
-            print name ": no row has " kept[column] | "cat >&2"
+        if (!(item_of[column] in had) && (has_rows || !levels))
+            print name ": no row has an item for " kept[column] | "cat >&2"
     for (column = 1; column <= level_count; column++)
         if (!(level[column] in had))
-            print name ": no row has " level[column] | "cat >&2"
+            print name ": no row has an item for " level[column] | "cat >&2"
     if (bare && feed != 1)
         tell_skipped("without a level: " bare, first_bare)
     if (unclear && feed != 1)

@@ -5,7 +5,7 @@
 
 OLD and NEW are directories that contain B.csv and D.csv. changes.py lists an element as changed if its scale, reference or
 width differs, or if its unit makes it a different kind of value (number, code or string), because these determine how data
-are read. It does not list changed names, because they only affect the comments in a dump.
+are read. It does not list changed names, because they affect only the comments in a dump.
 """
 import os
 import sys

@@ -3,7 +3,7 @@
 
     tables/convert.py OUT SOURCE..
 
-Each SOURCE is a directory. Its format is recognized by its files:
+Each SOURCE is a directory. convert.py recognizes its format by the files in it:
 
     B.csv, D.csv                      a table set, like those in this directory
     BUFRCREX_TableB_en*.csv,          the CSV files that WMO publishes
@@ -11,18 +11,18 @@ Each SOURCE is a directory. Its format is recognized by its files:
     element.table, sequence.def       ecCodes definition files, including those of local tables
     B*.txt, D*.txt                    the fixed-column files of wreport
 
-wreport keeps many tables in one directory. To choose one, name its B*.txt file as SOURCE; convert.py also reads the D*.txt
-file that has the same name after the first letter.
+wreport keeps many tables in one directory. To choose one of them, pass its B*.txt file instead of the directory; convert.py
+also reads the D*.txt file that has the same name after the first letter.
 
-Rows from a later SOURCE replace those from an earlier one, so name master tables before local tables. The new
-tables are OUT/B.csv and OUT/D.csv, sorted by descriptor.
+Rows from a later SOURCE replace those from an earlier one for the same descriptor, so pass master tables before local
+tables. The new tables are OUT/B.csv and OUT/D.csv, sorted by descriptor.
 
 convert.py leaves out elements and sequences that `bufr` would refuse, and prints the reason for each on standard error. If
-one member of a sequence is invalid, the whole sequence is left out. Rows from an earlier SOURCE for the same descriptor
-remain.
+one member of a sequence is invalid, the whole sequence is left out. Any rows from an earlier SOURCE for the same descriptor
+are kept.
 
-The exit status is 0 if no row was left out, and 1 if any was. It is 2 if convert.py wrote nothing, because a SOURCE has no
-tables, a file has an unknown layout, or the output could not be written.
+The exit status is 0 if no row was left out, and 1 if any was. It is 2 if convert.py wrote nothing, for example because a
+SOURCE contains no tables, a file has an unknown layout, or the output could not be written.
 """
 import os
 import sys
@@ -97,7 +97,7 @@ def lines_of(path: pathlib.Path):
 
 
 def of_element_table(path: pathlib.Path):
-    """Yields the rows of ecCodes' element.table: code|abbreviation|type|name|unit|scale|reference|width|.."""
+    """Yields the rows in ecCodes' element.table: code|abbreviation|type|name|unit|scale|reference|width|.."""
     for number, line in lines_of(path):
         if not line.startswith("#"):
             fields = [one_line(field) for field in line.split("|")]
@@ -118,7 +118,7 @@ def of_sequence_def(path: pathlib.Path):
 
 
 def of_wreport_b(path: pathlib.Path):
-    """Yields the rows of wreport's B*.txt."""
+    """Yields the rows in wreport's B*.txt."""
     for number, line in lines_of(path):
         fxy, name, unit, *numbers = (one_line(line[at:end]) for at, end in zip(WREPORT_B, WREPORT_B[1:]))
         if not all(numbers):
@@ -152,7 +152,7 @@ def of_wreport_d(path: pathlib.Path):
 
 
 def of_wreport(path: pathlib.Path):
-    """Returns the rows of wreport's B*.txt and the sequences of the D*.txt beside it. One of the files may be missing."""
+    """Returns the rows in wreport's B*.txt and the sequences in the D*.txt next to it. Either file may be missing."""
     table_b, table_d = (path.with_name(letter + path.name[1:]) for letter in "BD")
     return of_wreport_b(table_b) if table_b.exists() else [], of_wreport_d(table_d) if table_d.exists() else []
 
@@ -172,10 +172,10 @@ def source(folder: pathlib.Path):
         return of_csv(folder, "BUFRCREX_TableB_en*.csv", WMO_B), sequences_of(table_d)
     texts = [folder] if folder.match("[BD]*.txt") else sorted(folder.glob("[BD]*.txt"))
     if len({text.name[1:] for text in texts}) > 1:
-        raise Failed(f"{folder} has several wreport tables; give one of its B*.txt files as SOURCE")
+        raise Failed(f"{folder} contains several wreport tables; pass one of its B*.txt files as SOURCE")
     if texts and texts[0].exists():
         return of_wreport(texts[0])
-    raise Failed(f"{folder} has no tables in a known format; see convert.py --help")
+    raise Failed(f"{folder} contains no tables in a known format; see convert.py --help")
 
 
 def octets(text: str) -> bytes:
@@ -193,7 +193,7 @@ def whole(text: str) -> int:
 
 
 def no_descriptor(fxy: str, first: str) -> str:
-    """Returns why a string is not a descriptor with this first digit, or an empty string if it is."""
+    """Returns why a string is not a descriptor that begins with `first`, or an empty string if it is."""
     if not re.fullmatch(f"[{first}][0-9]{{5}}", fxy):
         return f"expected six digits, beginning with {first}"
     return "X is over 63" if int(fxy[1:3]) > 63 else "Y is over 255" if int(fxy[3:]) > 255 else ""
@@ -207,7 +207,7 @@ def no_text(what: str, text: str) -> str:
 
 
 def no_numbers(is_text: bool, scale: str, reference: str, width: str) -> str:
-    """Returns why `bufr` would refuse the numbers of an element, or an empty string if it would not."""
+    """Returns why `bufr` would refuse an element's numbers, or an empty string if it would not."""
     if not width:
         return "no width"
     if not is_whole(scale, -127, 127):
@@ -220,7 +220,7 @@ def no_numbers(is_text: bool, scale: str, reference: str, width: str) -> str:
 
 
 def no_element(row: list) -> str:
-    """Returns why `bufr` would refuse this row of Table B, or an empty string if it would not."""
+    """Returns why `bufr` would refuse this row in Table B, or an empty string if it would not."""
     fxy, name, unit, *numbers = row
     is_text = octets(unit).upper() == b"CCITT IA5"
     reason = no_descriptor(fxy, "0") or no_text("name", name) or no_text("unit", unit) or no_numbers(is_text, *numbers)
@@ -239,7 +239,7 @@ def no_sequence(sequence: list) -> str:
 
 
 def shown(words: list) -> str:
-    """Joins the words in at most 80 characters, with unprintable characters escaped."""
+    """Joins the words into at most 80 characters, with unprintable characters escaped."""
     text = "".join(sign if sign.isprintable() else ascii(sign)[1:-1] for sign in " ".join(words))
     return text if len(text) <= 80 else text[:78] + ".."
 
@@ -251,7 +251,7 @@ def taken(folder: pathlib.Path, entries, refused) -> tuple:
         found.setdefault(entry[0], []).append(entry)
     for fxy, alike in list(found.items()):
         for entry in alike:
-            reason = refused(entry) or ("the source has conflicting rows for it" if alike.count(entry) < len(alike) else "")
+            reason = refused(entry) or ("its rows in the source conflict" if alike.count(entry) < len(alike) else "")
             if reason:
                 told = f"left out of {bufr_guard.shown(str(folder))}: {shown(entry)}: {reason}\n"
                 bufr_guard.say(told.encode(**AS_IT_IS))
@@ -261,7 +261,7 @@ def taken(folder: pathlib.Path, entries, refused) -> tuple:
 
 
 def write(path: pathlib.Path, aside: pathlib.Path, header: list, rows) -> None:
-    """Writes a table to the temporary file `aside`. Error messages contain `path` instead."""
+    """Writes a table to the temporary file `aside`. Error messages name `path` instead."""
     try:
         with open(aside, "w", newline="", **AS_IT_IS) as file:
             table = csv.writer(file, lineterminator="\n")

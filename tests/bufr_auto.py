@@ -441,12 +441,12 @@ class Trial:
             file = self.place / "other"
             file.write_bytes(begin)
             done = self.auto(str(file))
-            note = f"bufr-auto: {file} has no message{': it ' + kind if kind else ''}\n".encode()
+            note = f"bufr-auto: {file} contains no message{': it ' + kind if kind else ''}\n".encode()
             told = done.stderr.splitlines(True)[-1:] == [note]
             self.holds(f"{kind}", told and (done.stdout, done.returncode) == (b"", status), (done, note))
         file = self.place / "a\x1b[31mb"
         file.write_bytes(b"x" * 300 + b"\0")
-        note = f"bufr-auto: {self.place}/a\\x1B[31mb has no message: it looks like text\n".encode()
+        note = f"bufr-auto: {self.place}/a\\x1B[31mb contains no message: it looks like text\n".encode()
         self.holds("a name with an escape", self.auto(str(file)).stderr == note, self.auto(str(file)))
         # What two reads give is looked at as a whole.
         pipes = dict(stdin=subprocess.PIPE, stdout=subprocess.PIPE, stderr=subprocess.PIPE, bufsize=0)
@@ -454,12 +454,12 @@ class Trial:
             child.stdin.write(b"\x1f")
             self.wait(lambda: fcntl.ioctl(child.stdin, termios.FIONREAD, bytes(4)) == bytes(4))
             _, told = child.communicate(b"\x8b\x08abc")
-        note = b"bufr-auto: standard input has no message: it looks like gzip data (zcat)\n"
+        note = b"bufr-auto: standard input contains no message: it looks like gzip data (zcat)\n"
         self.holds("gzip data in two reads", (child.returncode, told) == (0, note), told)
         done = self.auto(stream=b"")
-        self.holds("an empty input", done.stderr == b"bufr-auto: standard input has no message: it is empty\n", done)
+        self.holds("an empty input", done.stderr == b"bufr-auto: standard input contains no message: it is empty\n", done)
         done = self.auto("--encode", stream=b"")
-        self.holds("no text", done.stderr == b"bufr-auto: standard input has no document: it is empty\n", done)
+        self.holds("no text", done.stderr == b"bufr-auto: standard input contains no document: it is empty\n", done)
 
     def notes(self) -> None:
         """One for each kind, with a count and the first place, and only where such a descriptor is used."""
@@ -547,7 +547,7 @@ class Trial:
         for told, words, environment in (
             ("BUFR_TABLES is /nosuch, which is not a directory", [file], {"BUFR_TABLES": "/nosuch"}),
             (f"BUFR_TABLES is {file}, which is not a directory", [file], {"BUFR_TABLES": file}),
-            (f"{empty} has no table set such as wmo-39", [file], {"BUFR_TABLES": str(empty)}),
+            (f"{empty} contains no table set such as wmo-39", [file], {"BUFR_TABLES": str(empty)}),
             ("cannot open nosuch: No such file or directory", ["nosuch"], {}),
             ("cannot open '': No such file or directory", [""], {}),
             ("cannot run /nosuch: No such file or directory; install bufr, or set BUFR to its path", [file], {"BUFR": "/nosuch"}),
@@ -607,7 +607,7 @@ class Trial:
         (self.place / "stream").write_bytes(many * 80)
         words = {"BUFR": str(other), "STREAM": str(self.place / "stream")}
         done = self.auto(str(self.place / "stream"), **words)
-        told = f"bufr-auto: {self.place}/stream was truncated while it was read\n".encode()
+        told = f"bufr-auto: {self.place}/stream was truncated while it was being read\n".encode()
         whole = self.one_by_one(many)[0] * 80
         is_prefix = whole.startswith(done.stdout) and done.stdout.endswith(b"\nend\n")
         self.holds("a file that becomes shorter", is_prefix and (done.returncode, done.stderr) == (2, told), done.stderr)
@@ -621,18 +621,25 @@ class Trial:
         other.write_text(f'#!/bin/sh\nhead -c 5000000 "$STREAM" > "$STREAM.1"\ncat "$STREAM.1" > "$STREAM"\nexec "{self.program}" "$@"\n')
         (self.place / "stream").write_bytes(b"message\n" + b"# A comment in a document.\n" * 1_000_000)
         done = self.auto("--encode", str(self.place / "stream"), **words)
-        told = f"bufr-auto: {self.place}/stream was truncated while it was read\n".encode()
+        told = f"bufr-auto: {self.place}/stream was truncated while it was being read\n".encode()
         self.holds("a document that becomes shorter", (done.returncode, done.stderr) == (2, told), done)
         # Standard input that does not block.
         given, pipe = os.pipe()
         os.set_blocking(given, False)
         with subprocess.Popen(AUTO, stdin=given, stdout=subprocess.PIPE, stderr=subprocess.PIPE, env=self.environment) as child:
             os.close(given)
-            time.sleep(0.2)
-            os.write(pipe, made(39, LISTS[1], b"\1\1\0"))
+            message, told = made(39, LISTS[1], b"\1\1\0"), b""
+            os.write(pipe, message)
+            while not told.endswith(b"end\n"):
+                told += (more := os.read(child.stdout.fileno(), 1 << 16))
+                if not more:
+                    break
+            time.sleep(0.2)  # the next read begins
+            if more:
+                os.write(pipe, message)
             os.close(pipe)
-            told = child.communicate()
-        self.holds("an input that does not block", (child.returncode, told[0][-4:], told[1]) == (0, b"end\n", b""), told)
+            output, errors = child.communicate()
+        self.holds("an input that does not block", (child.returncode, output, errors) == (0, told, b""), (told, output, errors))
         ignoring = "import os, signal, sys; signal.signal(signal.SIGCHLD, signal.SIG_IGN); os.execv(sys.argv[1], sys.argv[1:])"
         words = [sys.executable, "-c", ignoring, *AUTO, str(TOP / "examples/synop.bufr")]
         done = subprocess.run(words, env=self.environment, capture_output=True)

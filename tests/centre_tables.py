@@ -223,7 +223,7 @@ def main() -> None:
         holds("encode", done.stdout, message)
         holds("bufr-lacks behind", script("bufr-lacks", message + b"".join(others)), (1, other_lines, other_notes))
         holds("nothing lacks", script("bufr-lacks", message), (0, "", ""))
-        told = "bufr-lacks: standard input has no message: it looks like HTML\n"
+        told = "bufr-lacks: standard input contains no message: it looks like HTML\n"
         holds("no message", script("bufr-lacks", b"<HTML>"), (0, "", told))
         holds("a fault alone", script("bufr-lacks", b"BUFR" + message), (1, "", "offset 0: 1 cut\n"))
         (place / "stream").write_bytes(b"BUFR" + message + b"".join(others))
@@ -239,7 +239,7 @@ def main() -> None:
             stream.seek(len(message))
             words = [sys.executable, TOP / "scripts/bufr-lacks"]
             done = subprocess.run(words, stdin=stream, capture_output=True, env=environment)
-        told = b"bufr-lacks: standard input has no message: it looks like text\n"
+        told = b"bufr-lacks: standard input contains no message: it looks like text\n"
         holds("bufr-lacks after a message", (done.returncode, done.stdout, done.stderr), (0, b"", told))
         nearest_own_set(place / "tables", script, message_9, holds)
         versions_and_editions(script, holds)

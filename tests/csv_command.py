@@ -69,6 +69,7 @@ def key_of(key: str, message, file):
     if key == "file":
         return os.fsencode(file)
     known = {**message.header, "offset": message.offset, "length": message.length, "subsets": len(message.subsets)}
+    known["optional"] = int(message.section2 is not None)
     return Number(known[key])
 
 
@@ -333,7 +334,7 @@ def several_files(folder: pathlib.Path) -> None:
 def notes(folder: pathlib.Path) -> None:
     """Columns without a value, subsets without levels, and those whose levels cannot be told apart."""
     done = run("-c", "012101,012104", SYNOP)
-    holds("an empty column", (done.returncode, done.stderr) == (0, b"bufr-csv: no row has 012104\n"), done)
+    holds("an empty column", (done.returncode, done.stderr) == (0, b"bufr-csv: no row has an item for 012104\n"), done)
     done = run("--levels", "-c", "020013,020011", SYNOP)
     told = b"bufr-csv: skipped subsets without a level: 1, the first is message 1 subset 1\n"
     holds("a subset without levels", (done.returncode, done.stderr) == (0, told), done)
@@ -402,6 +403,8 @@ def refusals(_folder: pathlib.Path) -> None:
         lines = done.stderr.splitlines()
         is_so = (done.returncode, done.stdout, len(lines)) == (2, b"", 1) and told in lines[0]
         holds(f"refuses {words}", is_so and lines[0].startswith(b"bufr-csv: ") and b"--help" in lines[0], done)
+    keys = [*bufr_text.HEADER, "optional", "subsets"]
+    alike("all keys", run("-c", ",".join(keys), SYNOP), ["message", "subset", *keys], wanted_rows([SYNOP], keys), False)
     done = run("-c", "012101", "-c", "001015, 012101", SYNOP)
     holds("-c twice", done.stdout.startswith(b"message,subset,012101,001015,012101\n"), done)
 
@@ -469,7 +472,7 @@ def failures(folder: pathlib.Path) -> None:
         holds(f"AWK={word!r}", (done.returncode, done.stdout.count(b"\n")) == (0, 4), done)
     (folder / "no-tables/wmo-39").mkdir(parents=True)
     done = run("-c", "AIR TEMPERATURE", SYNOP, environment={"BUFR_TABLES": str(folder / "no-tables")})
-    told = f"has no table set such as wmo-39; ignored {folder}/no-tables/wmo-39, which has no B.csv".encode()
+    told = f"contains no table set such as wmo-39; ignored {folder}/no-tables/wmo-39, which has no B.csv".encode()
     holds("there is no table", done.returncode == 2 and told in done.stderr, done)
     done = run("-c", "AIR TEMPERATURE", SYNOP, environment={"BUFR_TABLES": "/nosuch"})
     holds("there are no tables", done.returncode == 2 and b"/nosuch" in done.stderr, done)
@@ -512,7 +515,7 @@ def feed(awk: list, _folder: pathlib.Path) -> None:
         holds(f"{awk}: the notes of a live feed", is_right, told)
         process.stdin.close()
         told = process.stderr.read()
-        holds(f"{awk}: the notes of a live feed at its end", told == b"bufr-csv: no row has 020011\n", told)
+        holds(f"{awk}: the notes of a live feed at its end", told == b"bufr-csv: no row has an item for 020011\n", told)
 
 
 def seconds(folder: pathlib.Path) -> None:

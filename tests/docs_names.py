@@ -222,7 +222,7 @@ def check_part(part: str, every: list, defined: set) -> None:
 
     before, _, after = part.partition(": ")
     clauses = re.findall(r"`([\w.]+)`", after)
-    file = re.search(r"`(\w+\.rt)`(?: of `(\w+)`)?", before)
+    file = re.search(r"`(\w+\.rt)`(?: in `(\w+)`)?", before)
     if file:
         there = {call.name for call in every if (call.crate, call.file) == (file[2] or "bufr_cli", file[1])}
         for name in clauses if there else [file[1]]:
@@ -246,8 +246,8 @@ def clauses_of_proof() -> None:
     page, every = read("docs/proof.md"), calls()
     named = re.compile(r"^(?:[a-z]+ )*pub (?:[a-z]+ )*([^\s:]+)", re.M)
     defined = {name for path in TOP.glob("crates/*/specs/*.antt") for name in named.findall(path.read_text(encoding="utf-8"))}
-    tables = re.findall(r"^\| [^|]* \| (?:calls and clauses|where|contract) \|.*\n\|-.*\n((?:\|.*\n)+)", page, re.M)
-    want(len(tables) == 3, "docs/proof.md: not three tables have calls and clauses")
+    tables = re.findall(r"^\| [^|]* \| (?:functions and clauses|where|contract) \|.*\n\|-.*\n((?:\|.*\n)+)", page, re.M)
+    want(len(tables) == 3, "docs/proof.md: not three tables have functions and clauses")
     sources = "\n".join(path.read_text(encoding="utf-8") for path in TOP.glob("crates/*/src/*.rt"))
     for language, block in re.findall(r"^```(\w*)\n(.*?)^```$", page, re.M | re.S):
         want(language != "" or " ".join(block.split()) in " ".join(sources.split()), f"docs/proof.md: in no crate is {block}")

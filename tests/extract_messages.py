@@ -56,12 +56,14 @@ REFUSED = [
     (["categori=0"], "unknown key categori in 'categori=0'"),
     (["category=land"], "the value in 'category=land' cannot match: use only digits"),
     (["category="], "the value in 'category=' cannot match"),
+    (["time=18"], "the value in 'time=18' cannot match: write times as in time=2023-03-14T18"),
+    (["time!=2024,2024-01-02T3"], "the value in 'time!=2024,2024-01-02T3' cannot match"),
     (["category", SYNOP], "category has no value; write category=VALUE"),
     ([SYNOP, "time"], "time has no value; write time=VALUE"),
     (["--awk", "1)"], "awk does not accept the condition 1)"),
-    (["--awk", ""], "the condition of --awk is empty"),
-    (["--awk", " # length"], "the condition of --awk is empty"),
-    (["--awk", ";\n# one\n\n  # other\n"], "the condition of --awk is empty"),
+    (["--awk", ""], "the --awk condition is empty"),
+    (["--awk", " # length"], "the --awk condition is empty"),
+    (["--awk", ";\n# one\n\n  # other\n"], "the --awk condition is empty"),
     (["--awk"], "--awk needs a value"),
     (["--max-length", "11"], "--max-length '11': expected a whole number, at least 12"),
     (["--max-length", "1" * 19], f"--max-length '{'1' * 19}': expected a whole number, at least 12"),
@@ -229,7 +231,7 @@ def tells_that_there_is_no_message(path: pathlib.Path) -> None:
         for words in ([], ["category=9"], ["--awk", "0"]):
             for name, done in ((path, run([*words, path])), ("standard input", run(words, input=octets))):
                 lines = done.stderr.decode().splitlines()
-                wanted = [] if told is None else [f"bufr-extract: {name} has no message{told}"]
+                wanted = [] if told is None else [f"bufr-extract: {name} contains no message{told}"]
                 want((done.returncode, lines[status:]) == (status, wanted), f"{words} of {octets[:9]}: {done}")
 
 
@@ -239,7 +241,7 @@ def begins_after_a_message(path: pathlib.Path) -> None:
     with path.open("rb", buffering=0) as stream:
         stream.seek(len(made(1)))
         done = run([], stdin=stream)
-    told = b"bufr-extract: standard input has no message: it looks like text\n"
+    told = b"bufr-extract: standard input contains no message: it looks like text\n"
     want((done.returncode, done.stdout, done.stderr) == (0, b"", told), f"after a message: {done}")
 
 

@@ -128,7 +128,7 @@ runpy.run_path(sys.argv[0], run_name="__main__")
 THREADLESS = """
 import runpy, sys, threading
 sys.path[0], sys.argv = "{}", sys.argv[1:]
-threading.stack_size(1 << 46)
+threading.stack_size(1 << 47)
 runpy.run_path(sys.argv[0], run_name="__main__")
 """
 
@@ -423,7 +423,7 @@ def options(trial: Trial) -> None:
     trial.words = [kept[0], "-c", REFUSED.format(TOP / "scripts"), kept[1]]
     trial.fails("want of memory for the version", trial.run(["--version"]), f"{trial.name}: out of memory")
     trial.words[2] = trial.words[2].replace("import bufr_guard", "import bufr_guard\nsys.version_info = 3, 8, 18")
-    trial.fails("an old Python", trial.run(["--version"]), f"{trial.name}: {sys.executable} is too old; Python 3.9 or later is needed")
+    trial.fails("an old Python", trial.run(["--version"]), f"{trial.name}: {sys.executable} is too old; Python 3.9 or later is required")
     trial.words = kept
     installed = trial.place / "installed/share"
     shutil.copytree(TOP / "scripts", installed / "bufr")
@@ -497,7 +497,7 @@ def progress(trial: Trial) -> None:
         run.communicate(timeout=60)
         told = os.read(main, 4096)
         os.close(main)
-        holds("bufr-lacks: progress of a pipe", re.match(rb"\r\x1b\[K[2-4] MB\r\r\x1b\[K", told), told)
+        holds("bufr-lacks: progress of a pipe", re.search(rb"\r\x1b\[K[2-4] MB\r\r\x1b\[K$", told), told)
     if trial.name == "bufr-extract":  # whose output comes from messages, as a terminal shows
         main, terminal = pty.openpty()
         subprocess.run([*words, "category=9"], stdout=terminal, stderr=terminal, env={**trial.environment, **slow})
@@ -529,13 +529,20 @@ def guard() -> None:
         (work.format("0") + "; print('more')", 0, ""),
         ("sys.excepthook = bufr_guard.hook; raise KeyboardInterrupt", -signal.SIGINT, ""),
         ("sys.excepthook = bufr_guard.hook; raise MemoryError", 2, "out of memory"),
-        ("sys.excepthook = bufr_guard.hook; import nosuch", 2, f"nosuch is not installed for {sys.executable} (for Debian's /usr/bin/python3: apt-get install python3-nosuch)"),
+        ("sys.excepthook = bufr_guard.hook; import nosuch", 2, f"nosuch is not installed for {sys.executable} (on Debian: apt-get install python3-nosuch, then /usr/bin/python3 -c ..)"),
     ):
         words, environment = [sys.executable, "-c", "import bufr_guard, sys; " + code], {**os.environ, "TMPDIR": "/nosuch"}
         environment = os.environ if code.startswith((few, small)) else environment
         done = subprocess.run(words, cwd=TOP / "scripts", capture_output=True, env=environment)
         wanted = (status, b"", (told if told[:1] in ("", "\r") else f"-c: {told}\n").encode())
         holds(f"{code}", (done.returncode, done.stdout, done.stderr) == wanted, done)
+    # A script whose first import fails, as when memory is short.
+    with tempfile.TemporaryDirectory() as place:
+        (pathlib.Path(place) / "bufr_guard.py").write_text("raise MemoryError\n")
+        for name in [*SCRIPTS, *OTHERS]:
+            shutil.copy(TOP / "scripts" / name, place)
+            done = subprocess.run([sys.executable, str(pathlib.Path(place) / name)], capture_output=True)
+            holds(f"{name} without memory", (done.returncode, done.stdout) == (2, b"") and b"MemoryError" in done.stderr, done)
     # Standard output is flushed before standard error.
     code = "import bufr_guard; bufr_guard.run(lambda _: bufr_guard.say(b'2') or bufr_guard.output().write(b'1') or 0, '')"
     words = [sys.executable, "-c", code]

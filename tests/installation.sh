@@ -51,7 +51,8 @@ DESTDIR=$work/stage "$top/install.sh" --program "$bufr" --unproved /usr > "$work
 ! grep -q stage "$work/staged" || fail "install.sh speaks of DESTDIR: $(< "$work/staged")"
 diff -r -x MANIFEST "$prefix" "$work/stage/usr" || fail "DESTDIR gives other files"
 mkdir "$work/temporary"
-TMPDIR=$work/temporary DESTDIR=$work/stage "$top/install.sh" --uninstall /usr
+TMPDIR=$work/temporary DESTDIR=$work/stage "$top/install.sh" --uninstall /usr > "$work/output"
+grep -qx 'uninstalled bufr from /usr' "$work/output" || fail "--uninstall prints $(< "$work/output")"
 [ -z "$(ls -A "$work/temporary")" ] || fail "install.sh leaves temporary files"
 [ ! -e "$work/stage/usr" ] || fail "--uninstall with DESTDIR leaves $(find "$work/stage/usr")"
 (cd "$prefix" && sha256sum --quiet -c share/doc/bufr/SHA256SUMS) || fail "SHA256SUMS has other sums"
@@ -64,7 +65,8 @@ for words in '' '--wrong p' 'p q' '--program' '--uninstall'; do
     "$top/install.sh" $words > "$work/output" 2> "$work/errors" && status=0 || status=$?
     [ "$status" -eq 2 ] && [ -s "$work/errors" ] || fail "install.sh $words: status $status"
 done
-! "$top/install.sh" '' 2> "$work/errors" && grep -q 'one PREFIX' "$work/errors" || fail "install.sh installs to '': $(< "$work/errors")"
+! (cd "$work/other" && "$top/install.sh" --program "$bufr" --unproved '') > "$work/output" 2> "$work/errors" &&
+    grep -q 'one PREFIX' "$work/errors" || fail "install.sh installs to '': $(< "$work/errors")"
 "$top/install.sh" --help | grep -q '^usage: ' || fail 'install.sh --help'
 ! "$top/install.sh" --uninstall "$work/nothing" 2> "$work/errors" && grep -q MANIFEST "$work/errors" ||
     fail "install.sh uninstalls what is not installed: $(< "$work/errors")"
@@ -114,12 +116,14 @@ chmod +x "$work/slow"
 [ -z "$(ls -A "$work/temporary")" ] || fail "an interrupted install.sh leaves temporary files"
 grep -q interrupted "$work/output" || fail "an interrupted install.sh says: $(< "$work/output")"
 
-# An installation that ends in the middle, as one on a full disk, says what to do: install again, or remove it.
+# An installation that ends in the middle, as one on a full disk, says what to do: install again, or remove it. It has
+# no programs.
 printf '#!/bin/sh\necho bufr 0.1.0\n' > "$work/tiny"
 chmod +x "$work/tiny"
 stops_in_the_middle() {
-    ! (ulimit -f 30 && "$top/install.sh" --program "$work/tiny" --unproved "$work/full") > "$work/output" 2>&1 || fail "no limit"
-    [ -x "$work/full/bin/bufr" ] && [ ! -e "$work/full/share/man" ] || fail "the trial did not end in the middle"
+    ! (ulimit -f 60 && "$top/install.sh" --program "$work/tiny" --unproved "$work/full") > "$work/output" 2>&1 || fail "no limit"
+    [ -s "$work/full/share/bufr/bufr_text.py" ] && [ ! -e "$work/full/share/man" ] || fail "the trial did not end in the middle"
+    [ ! -e "$work/full/bin" ] || fail "a part of an installation has $(ls "$work/full/bin")"
     grep -q 'did not finish; install again' "$work/output" || fail "a part of an installation: $(< "$work/output")"
 }
 stops_in_the_middle
@@ -128,6 +132,20 @@ stops_in_the_middle
 stops_in_the_middle
 "$top/install.sh" --program "$bufr" --unproved "$work/full" > "$work/output" || fail "a part of an installation is not repaired"
 cmp "$bufr" "$work/full/bin/bufr"
+# A full disk that stops it before it changes anything. Then there is nothing to repair.
+ln -s /dev/full "$work/full/share/doc/bufr/MANIFEST.new"
+! "$top/install.sh" --program "$work/tiny" --unproved "$work/full" > "$work/output" 2>&1 || fail "install.sh writes to a full disk"
+grep -q 'cannot write .*/MANIFEST$' "$work/output" && ! grep -q 'did not finish' "$work/output" && cmp "$bufr" "$work/full/bin/bufr" ||
+    fail "on a full disk: $(< "$work/output")"
+if unshare -m true 2> "$work/errors"; then
+    # shellcheck disable=SC2016
+    ! unshare -m bash -c 'mount -t tmpfs -o size=16k none "$1" && TMPDIR=$1 "$2" --program "$3" --unproved "$4"' - \
+        "$work/temporary" "$top/install.sh" "$work/tiny" "$work/none" > "$work/output" 2>&1 &&
+        grep -q "if $work/temporary is full, set TMPDIR" "$work/output" || fail "without temporary files: $(< "$work/output")"
+fi
+# Without a reader of its output, it still removes its temporary files.
+{ TMPDIR=$work/temporary "$top/install.sh" --uninstall "$work/full" || true; } 2> "$work/errors" | true
+[ -z "$(ls -A "$work/temporary")" ] || fail "install.sh without a reader leaves temporary files"
 printf '#!/bin/sh\necho bufr one\n' > "$work/tiny"
 for program in /bin/true "$work/tiny"; do
     ! "$top/install.sh" --program "$program" --unproved "$work/full" 2> "$work/errors" && grep -q 'not bufr' "$work/errors" ||

@@ -56,7 +56,7 @@ def same_as_one_run(program: str, folder: pathlib.Path) -> None:
     most = run([*PARALLEL, "-P", "128", "dump", *TABLES, small])
     want(most == run([program, "dump", *TABLES, small]), "128 processes are refused")
     # refused for their data alone, at which `bufr ls` ends with 0
-    data_faults = lib.message(b"\x14", b"\x01\x01", 3) * 3
+    data_faults = lib.message(b"\x14", b"\x01\x01", 3) * 3 + lib.message(bytes(70_000)) * 2
     one_of_data = run([program, "dump", *TABLES], input=data_faults)
     want(one_of_data[0] == 1 and run([program, "ls"], input=data_faults)[0] == 0, "the data have other faults")
     want(run([*PARALLEL, "dump", *TABLES], input=data_faults) == one_of_data, "faults of data alone are told otherwise")
@@ -84,11 +84,11 @@ def same_as_one_run(program: str, folder: pathlib.Path) -> None:
         subprocess.run([*PARALLEL, "dump", *TABLES, path], stdout=text, stderr=subprocess.DEVNULL)
     want((folder / "text").read_bytes() == one[1], "onto the end of a file something else is written")
     empty = run([*PARALLEL, "dump", *TABLES], stdin=subprocess.DEVNULL)
-    told = b"bufr-parallel: standard input has no message: it is empty\n"
+    told = b"bufr-parallel: standard input contains no message: it is empty\n"
     want(empty == (0, b"", told), f"of nothing comes {empty}")
     small.write_bytes(b"\x1f\x8bBUFR\0\0\0\4")
     status, output, errors = run([*PARALLEL, "dump", *TABLES, small])
-    told = f"offset 2: 2 short length\nbufr-parallel: {small} has no message: it looks like gzip data (zcat)\n"
+    told = f"offset 2: 2 short length\nbufr-parallel: {small} contains no message: it looks like gzip data (zcat)\n"
     want((status, output, errors.decode()) == (1, b"", told), f"of a wrong file it is told {errors}")
 
 

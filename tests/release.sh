@@ -54,6 +54,7 @@ refuses() {
         fail "release.sh leaves $(ls -A "$work/first") after: $(< "$work/told")"
 }
 make=$work/one/release.sh
+"$make" --help | grep -q '^    ./release.sh --unproved PROGRAM ' || fail 'release.sh --help'
 for words in --unproved --wrong 'one two'; do
     # shellcheck disable=SC2086
     refuses 2 usage "$make" $words
@@ -96,7 +97,7 @@ fake "$logic" 'echo low: not proved; exit 1'
 refuses 1 'the proofs or the tests failed' "$make" "$work/first"
 grep -q 'low: not proved' "$work/told" || fail "release.sh hides what the gate said: $(< "$work/told")"
 fake "$logic" 'echo BAD EDIT; count=$((count - 1))'
-refuses 1 "there are $count crates and must-fail edits, but rt ci says: $((count - 1)) passed" "$make" "$work/first"
+refuses 1 "there are $count crates and must-fail edits, but rt ci reports: $((count - 1)) passed" "$make" "$work/first"
 fake "$logic" "cp '$work/unmarked' crates/bufr/out/bufr"
 refuses 1 'built with logic none' "$make" "$work/first"
 # A gate that takes so long that the run is interrupted: its script alone, as by `kill`, or all, as by Ctrl-C. Until it
@@ -251,46 +252,107 @@ mkdir /home/page
 cd /home/page
 cp /tests/*.tar.gz /tests/SHA256SUMS .
 cp -r /tmp/bufr-*/tables/wmo-39 /home/wmo-csv
+sed -i 's/^"\?012101"\?,.*/012101,OWN NAME,K,2,0,16/' /home/wmo-csv/B.csv
 cp $examples/buoys.bufr /home/day.bufr
-awk '/^```$/ { name = "" } name { print > name } /^```sh$/ { name = "block" ++blocks } /^```ini$/ { name = "unit" }
-    /^```dockerfile$/ { name = "steps" }' $page
+awk '/^```$/ { name = "" } name { print > name } /^```sh$/ { name = "block" ++blocks } /^```ini$/ { name = "unit" ++units }
+    /^```crontab$/ { name = "crontab" } /^```dockerfile$/ { name = "steps" }' $page
 sed -i 's,install.sh /,install.sh --unproved /,' block* steps
-[ "$(ls block* | wc -w)" -eq 6 ] || fail "$page has other blocks"
-types() { PATH=/opt/bufr/bin:$PATH bash -eu "$1" > told 2>&1 || fail "$1 of $page: $(cat "$1" told)"; }
+[ "$(ls block* | wc -w)" -eq 9 ] || fail "$page has other blocks"
+# In place of systemd.
+mkdir /home/stubs
+printf '#!/bin/sh\necho "systemctl $*"\n' > /home/stubs/systemctl
+printf '#!/bin/sh\ncat /home/page/log\n' > /home/stubs/journalctl
+chmod +x /home/stubs/*
+types() { PATH=/home/stubs:/opt/bufr/bin:$PATH bash -eu "$1" > told 2>&1 || fail "$1 of $page: $(cat "$1" told)"; }
 types block1
 types block2
+types block3
+printf '%s\n' 'systemctl restart bufr-feed' "$(/opt/bufr/bin/bufr-auto --version)" | cmp - told || fail "after an upgrade: $(cat told)"
+types block4
+# A changed link and an added file are found.
+bash=/opt/bufr-0.1.0/share/bash-completion/completions/bufr-auto
+ln -sfT bufr $bash
+touch /opt/bufr-0.1.0/bin/added
+bash -u block4 > told 2>&1
+[ "$(grep -cE 'bin: added|completions/bufr-auto' told)" -eq 2 ] && [ "$(wc -l < told)" -eq 2 ] || fail "$page finds: $(cat told)"
+rm /opt/bufr-0.1.0/bin/added
+ln -sfT bufr-scripts.bash $bash
 # The hourly commands print each reason to look: refused and skipped messages, a failed run, and no dump.
-sed -n '/cat > check/,/^> END/s/^[$>] //p' $page | bash
-journalctl() { cat log; }
-export -f journalctl
+mkdir -p /var/lib/feed /usr/local/lib/feed
+(cd /usr/local/lib/feed && sed -n '/cat > check/,/^> END/s/^[$>] //p' $page | bash && cp /home/page/block5 hourly-feed)
+# cron COMMAND: runs the line of the crontab that has this command.
+cron() {
+    sed -n "s/^[0-9*]* [0-9*]* \* \* \* root \(.*$1\)/\1/p" crontab > line
+    [ "$(wc -l < line)" -eq 1 ] && PATH=/home/stubs:$(sed -n 's/^PATH=//p' crontab) bash -eu line > told 2>&1 || fail "$1 of the crontab: $(cat line told)"
+}
 {
     yes 'offset 1: 1 cut' | head -n 20
     echo 'bufr-auto: offset 9: skipped a message that declares 900000 bytes'
     echo 'bufr-feed failed: exit-code'
 } > log
-mkdir -p /var/lib/feed
-types block3
-printf '%s\n' '21 messages were refused or skipped' 'bufr-feed failed: exit-code' 'nothing was dumped for an hour' | cmp - told ||
+cron hourly-feed
+printf '%s\n' 'messages refused or skipped: 21' 'bufr-feed failed: exit-code' 'nothing was dumped for an hour' | cmp - told ||
     fail "the hourly commands print $(cat told)"
-exec_of() { sed -n "s/^$1=//p" /home/page/unit | sed 's/%%/%/g'; }
+# A run that was killed.
+(
+    cd /usr/local/lib/feed
+    printf '#!/bin/sh\nkill -KILL $$\n' > bufr-auto
+    chmod +x bufr-auto
+    sed -n '/cat > hourly/,/^> END/s/^[$>] //p' $page | bash
+    PATH=$PWD:$PATH sh hourly one 0 2> told | grep -q '^bufr-auto failed with status 137:'
+) || fail 'hourly does not print the status of a killed run'
+cron 'systemctl.*'
+[ "$(cat told)" = 'systemctl restart bufr-feed' ] || fail "the crontab runs $(cat line)"
+exec_of() { sed -n "s/^$2=//p" "/home/page/unit$1" | sed 's/%%/%/g'; }
+# becomes COUNT: waits until there are so many dumps, each of which is complete.
+becomes() {
+    for _ in $(seq 100); do
+        [ "$(ls dump.* 2> /dev/null | wc -l)" -eq "$1" ] && cat dump.* | cmp -s - expected && return
+        sleep 0.1
+    done
+    fail "the commands of the units: $1 dumps, $(ls -l)"
+}
+# The feed ends and starts again while a writer has the FIFO open.
 (
     cd /var/lib/feed
-    exec_of ExecStartPre | bash
-    exec_of ExecStart | bash &
-    cat $examples/synop.bufr > bufr.fifo
-    wait $!
-    cmp dump.*.txt $examples/synop.txt
-    [ -z "$(exec_of ExecStopPost | SERVICE_RESULT=success bash)" ]
-    [ "$(exec_of ExecStopPost | SERVICE_RESULT=exit-code bash)" = 'bufr-feed failed: exit-code' ]
-) || fail 'the commands of the unit'
+    exec_of 1 ExecStartPre | bash
+    exec_of 1 ExecStart > hold
+    bash hold &
+    holder=$!
+    exec_of 2 ExecStart > feed
+    bash feed &
+    cp $examples/synop.txt expected
+    exec 3> bufr.fifo
+    cat $examples/synop.bufr >&3
+    becomes 1
+    kill $!
+    ! wait $!
+    sleep 1
+    cat $examples/synop.bufr >&3
+    bash feed &
+    cat $examples/synop.txt >> expected
+    becomes 2
+    exec 3>&-
+    kill $! $holder
+    [ -z "$(exec_of 2 ExecStopPost | SERVICE_RESULT=success bash)" ]
+    [ "$(exec_of 2 ExecStopPost | SERVICE_RESULT=exit-code bash)" = 'bufr-feed failed: exit-code' ]
+) || fail 'the commands of the units'
 echo 'offset 1: 1 cut' > log
-types block3
+cron hourly-feed
 [ ! -s told ] || fail "the hourly commands print $(cat told)"
-types block4
-grep -q 'elements added: 0' told && [ -s /home/day.before ] && cmp /home/day.before /home/day.after || fail "changes.py says $(cat told)"
-types block5
-tar -xzf *.tar.gz
+touch -d '40 days ago' /var/lib/feed/dump.old
+cron '-delete'
+[ ! -e /var/lib/feed/dump.old ] && [ "$(ls /var/lib/feed/dump.* | wc -l)" -eq 2 ] || fail "the crontab leaves $(ls /var/lib/feed)"
 types block6
+grep -q 'elements added: 0' told && grep -q '^> .*OWN NAME' told || fail "the trial shows $(cat told)"
+types block7
+[ -s /opt/bufr/share/bufr/tables/wmo-99/B.csv ] && [ "$(cat told)" = 'systemctl restart bufr-feed' ] || fail "a new set: $(cat told)"
+types block8
+[ ! -e /opt/bufr/share/bufr/tables/wmo-99 ] && [ "$(cat told)" = "$(printf 'systemctl %s bufr-feed\n' stop start)" ] ||
+    fail "without the new set: $(cat told)"
+types block7
+tar -xzf *.tar.gz
+types block9
 [ ! -L /opt/bufr ] || fail "$page leaves its link"
 find /opt ! -type d ! -path '/opt/bufr-0.1.0/share/bufr/tables/wmo-99/*' > left
 [ ! -s left ] && [ -s /opt/bufr-0.1.0/share/bufr/tables/wmo-99/B.csv ] || fail "--uninstall of $page leaves $(cat left)"
@@ -303,10 +365,11 @@ setpriv --reuid 65534 --regid 65534 --clear-groups env -i PATH=/usr/local/bin:/u
     cmp - /home/synop.txt || fail 'the program of the Dockerfile'
 echo clean
 END
-# The unit has only words that systemd knows; it says the others on standard error, with status 0.
-awk '/^```$/ { is_unit = 0 } is_unit; /^```ini$/ { is_unit = 1 }' docs/operations.md > "$work/bufr-feed.service"
-! command -v systemd-analyze > "$work/told" || systemd-analyze verify "$work/bufr-feed.service" > "$work/told" 2>&1 && [ ! -s "$work/told" ] ||
-    fail "the unit of operations.md: $(< "$work/told")"
+# The units have only words that systemd knows; it says the others on standard error, with status 0.
+awk -v folder="$work" '/^```$/ { unit = "" } unit { print > unit }
+    /^```ini$/ { unit = folder "/" (++units == 1 ? "bufr-fifo" : "bufr-feed") ".service" }' docs/operations.md
+! command -v systemd-analyze > "$work/told" || systemd-analyze verify "$work"/bufr-*.service > "$work/told" 2>&1 && [ ! -s "$work/told" ] ||
+    fail "the units of operations.md: $(< "$work/told")"
 unshare -mnpf bash "$work/machine" "$work/root" "$archive" "$PWD/tests" "$work/operator" > "$work/told" 2> "$work/errors" ||
     fail "$(cat "$work/told" "$work/errors")"
 grep -qx clean "$work/told" || fail "the clean machine did not get to its end: $(cat "$work/told" "$work/errors")"

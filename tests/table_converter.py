@@ -129,7 +129,7 @@ one to other
   sequences removed: 1: 301002
   sequences added: 0
 """
-TWICE = "left out of source: %s: the source has conflicting rows for it\n"
+TWICE = "left out of source: %s: its rows in the source conflict\n"
 SOURCES = [
     ("B.csv", f"{HEADERS['B']}\n{ELEMENT}\n{ELEMENT}", 0, "", ELEMENT),
     ("B.csv", "", 2, "source/B.csv has no column fxy\n", None),
@@ -180,7 +180,7 @@ SOURCES = [
         None,
     ),
     ("D.csv", "fxy\n307060\n", 2, "source/D.csv has no column member\n", None),
-    ("other.csv", "", 2, "source has no tables in a known format; see convert.py --help\n", None),
+    ("other.csv", "", 2, "source contains no tables in a known format; see convert.py --help\n", None),
     # wreport's layout: units without spaces, a sign apart, a name that fills its columns, letters of two octets.
     (
         "Bmade.txt",
@@ -288,9 +288,9 @@ def failures(place: pathlib.Path) -> list:
     holds("what is left", len(list((place / "out").iterdir())), 2)
     for told, words in (
         ("expected OUT and at least one SOURCE; see convert.py --help", ["out"]),
-        (r"no\x1Bsuch has no tables in a known format; see convert.py --help", ["out", "no\x1bsuch"]),
-        ("Bnosuch.txt has no tables in a known format; see convert.py --help", ["out", "Bnosuch.txt"]),
-        ("several has several wreport tables; give one of its B*.txt files as SOURCE", ["out", "several"]),
+        (r"no\x1Bsuch contains no tables in a known format; see convert.py --help", ["out", "no\x1bsuch"]),
+        ("Bnosuch.txt contains no tables in a known format; see convert.py --help", ["out", "Bnosuch.txt"]),
+        ("several contains several wreport tables; pass one of its B*.txt files as SOURCE", ["out", "several"]),
         ("long/B.csv, line 2: field larger than field limit (131072)", ["out", "long"]),
     ):
         (place / "long").mkdir(exist_ok=True)

@@ -68,8 +68,8 @@ stops early after an empty delayed replication inside two others | 1 | 80 | 1050
 cancels operators at the end of each pass of a replication | 1 | 80 | 103000 031001 012101 201130 012101 | 2:8 2:16 3:18 4:18 5:18
 applies operators inside a replication with factor 0 | 1 | 80 | 102000 031001 201130 012101 012101 012101 | 0:8 1:16 2:16
 refuses a delayed replication of 100 elements | 1 | 80 | 102000 031001 101100 001001 001001 | 0:8 1:7
-computes sums in compressed data with 32 bits | 2 | C0 | 201144 012101 | 3000000000:32 2:6 0:2 1:2
-computes reference values with 32 bits | 1 | 80 | 207003 005001 | 1:35
+uses 32-bit arithmetic for sums in compressed data | 2 | C0 | 201144 012101 | 3000000000:32 2:6 0:2 1:2
+uses 32-bit arithmetic for reference values | 1 | 80 | 207003 005001 | 1:35
 truncates some numbers of more than 57 bits | 1 | 80 | 001001 201170 012101 | 1:7 288230376151711743:58
 """
 
