@@ -589,7 +589,14 @@ module _ (form : Form) (b : List Row) (d : List Sequence) (octets rest : List �
   pub encodes_none : HasNoRoom text old output errors texts output' errors' → old.at ≡ from → Encodes form b d octets from output' errors' texts (pos 74)
   encodes_none none at = record {
     done = λ no. absurd (apart-74-0 no);
-    stops = λ _. (record { output_needed = none.output_needed ∙ ap length is.output; errors_needed = none.errors_needed ∙ ap length is.errors; lacks = rw (none.same_output, none.same_errors) none.lacks }, none.at ∙ at);
+    stops = λ _. (
+      record {
+        output_needed = none.output_needed ∙ ap length is.output;
+        errors_needed = none.errors_needed ∙ ap length is.errors;
+        lacks = rw (none.same_output, none.same_errors) none.lacks;
+      },
+      none.at ∙ at,
+    );
   }
 
 -- a call that stopped before
