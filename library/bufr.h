@@ -54,9 +54,9 @@ enum bufr_form {
 struct bufr_input {
     const uint8_t *octets; /* the stream; for bufr_encode, the text */
     size_t octets_length;
-    const uint8_t *table_b; /* the contents of table_b.csv of a table set */
+    const uint8_t *table_b; /* the contents of B.csv of a table set */
     size_t table_b_length;
-    const uint8_t *table_d; /* the contents of table_d.csv */
+    const uint8_t *table_d; /* the contents of D.csv */
     size_t table_d_length;
     const uint16_t *wanted; /* bufr_items: the descriptors of the wanted items */
     size_t wanted_length;   /* 0: all items */

@@ -1,6 +1,6 @@
 """Calls libbufr.so from Python through ctypes.
 
-    library = Library("libbufr.so", table_b, table_d)     the contents of table_b.csv and table_d.csv, as bytes
+    library = Library("libbufr.so", table_b, table_d)     the contents of B.csv and D.csv, as bytes
     lines, faults = library.list(stream)
     items, texts, messages = library.items(stream)
 
