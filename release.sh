@@ -92,10 +92,6 @@ name=bufr-$version-linux-x86_64
 mkdir "$work/$name"
 git archive HEAD | tar -x -C "$work/$name"
 install -D -m 755 "$program" "$work/$name/bin/bufr"
-if [ $proof = proved ]; then
-    prove library/build.sh "$work/library" || die 'the library for C was not built; see the output above'
-    install -D -m 644 -t "$work/$name/lib" "$work"/library/{libbufr.a,libbufr.so.0,bufr.pc}
-fi
 cat > "$work/$name/BUILD" << END
 version: $version
 commit: $commit

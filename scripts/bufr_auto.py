@@ -358,7 +358,7 @@ class Run:
 
     @staticmethod
     def descriptors(words: bytes) -> Tuple[str, ...]:
-        """Returns the descriptors from a list that `words_of` returned, each as six digits."""
+        """Converts a list that `words_of` returned to six-digit descriptors."""
         raise NotImplementedError
 
     def copy_piece(self) -> bool:
@@ -708,7 +708,7 @@ class Work:
             pass  # the program has refused the piece and reported the fault
         finally:
             os.close(pipe)
-            part.pieces.append((place, source.lines, run, notes, b""))
+        part.pieces.append((place, source.lines, run, notes, b""))
 
     def selected(self, part: Part) -> Part:
         """Returns a part with only those candidates that meet the conditions or that `bufr ls` does not list."""

@@ -349,7 +349,7 @@ def is_program(path: str) -> bool:
 
 
 def start(words: Sequence[str], given: int = 0, output: int = 1, errors: int = 2) -> int:
-    """Starts a program with these descriptors, and returns its process ID."""
+    """Starts a program with the given file descriptors, and returns its process ID."""
     actions = [(os.POSIX_SPAWN_DUP2, source, target) for target, source in enumerate((given, output, errors))]
     spawn = partial(os.posix_spawnp, file_actions=actions, setsigdef=[signal.SIGPIPE])
     process: List[int] = []

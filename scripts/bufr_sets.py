@@ -167,7 +167,7 @@ def words_of(message: Bytes) -> bytes:
 
 
 def descriptors(words: bytes) -> Tuple[str, ...]:
-    """Returns the descriptors from a list of two-byte descriptors, each as six digits."""
+    """Converts a list of two-byte descriptors to six-digit strings."""
     pairs = (words[at] << 8 | words[at + 1] for at in range(0, len(words) - 1, 2))
     return tuple(f"{word >> 14}{word >> 8 & 63:02}{word & 255:03}" for word in pairs)
 

@@ -460,7 +460,7 @@ def _messages(
     if isinstance(messages, (str, os.PathLike)):
         return dump(messages, faults=faults, where=where)
     if faults is not None or where:
-        raise TypeError("faults and where require a file name; if you pass messages, pass faults and where to dump")
+        raise TypeError("the arguments faults= and where= require a file name; to use them with messages, give them to dump()")
     return messages
 
 

@@ -5,6 +5,7 @@
 
 It encodes by the same rule, is quick, and leaves nothing behind. How it fails failures_of_scripts.py has too.
 """
+import contextlib
 import fcntl
 import os
 import pathlib
@@ -409,12 +410,13 @@ class Trial:
         for number, text in enumerate(texts):
             (self.place / f"text {number}").write_bytes(text)
         (self.place / "text 1").write_bytes(texts[1].replace(b"\n012101 ", b"\n012101 x", 1))
-        names = ["text 0", "text 1", "text 0"]
+        names = ["text 0", "text 1", "nosuch"]  # the last one is not opened
         done = subprocess.run([*AUTO, "--encode", *names], cwd=self.place, env=self.environment, capture_output=True)
         line = texts[1][: texts[1].index(b"\n012101 ") + 1].count(b"\n") + 1
         wanted = messages[0] + made(41, LISTS[0], b"\1\1")
         self.holds("texts: the messages", done.stdout == wanted, done)
         self.holds("texts: the fault", done.stderr.startswith(b"text 1:line %d: 50 line\n" % line), (done, line))
+        self.holds("texts: no more files", b"nosuch" not in done.stderr, done)
         self.holds("texts: the status", done.returncode == 1, done)
 
     def no_message(self) -> None:
@@ -635,7 +637,7 @@ class Trial:
                 if not more:
                     break
             time.sleep(0.2)  # the next read begins
-            if more:
+            with contextlib.suppress(BrokenPipeError):
                 os.write(pipe, message)
             os.close(pipe)
             output, errors = child.communicate()

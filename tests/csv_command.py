@@ -11,6 +11,7 @@ import os
 import pathlib
 import random
 import re
+import resource
 import select
 import shutil
 import signal
@@ -41,7 +42,7 @@ def holds(what: str, is_so: bool, told: object = "") -> None:
 
 def run(*words, awk=None, environment=None, **streams):
     """A run of bufr-csv: its status, output and errors."""
-    more = {"BUFR": program(), "LC_ALL": "C.UTF-8", **({"AWK": " ".join(awk)} if awk else {}), **(environment or {})}
+    more = {"BUFR": program(), **({"AWK": " ".join(awk)} if awk else {}), **(environment or {})}
     known = {name: value for name, value in os.environ.items() if name not in ("AWK", "BUFR_TABLES", "BUFR_CSV_LABELS")}
     if "input" not in streams:
         streams.setdefault("stdin", subprocess.DEVNULL)
@@ -518,6 +519,26 @@ def feed(awk: list, _folder: pathlib.Path) -> None:
         holds(f"{awk}: the notes of a live feed at its end", told == b"bufr-csv: no row has an item for 020011\n", told)
 
 
+def few_files(_folder: pathlib.Path) -> None:
+    """A live feed of 40 parts with conditions, with at most 32 open files."""
+    command = [sys.executable, TOP / "scripts/bufr-csv", "--where", "edition=4", "-c", "001015"]
+    limit = lambda: resource.setrlimit(resource.RLIMIT_NOFILE, (32, 32))  # noqa: E731
+    with subprocess.Popen(command, stdin=subprocess.PIPE, stdout=subprocess.PIPE, preexec_fn=limit) as process:
+        for _ in range(40):
+            process.stdin.write(SYNOP.read_bytes())
+            process.stdin.flush()
+            read = b""
+            while b"SAENTIS" not in read and select.select([process.stdout], [], [], 20)[0]:
+                read += (block := os.read(process.stdout.fileno(), 1 << 16))
+                if not block:
+                    break
+            if b"SAENTIS" not in read:
+                break
+        process.stdin.close()
+        process.stdout.read()
+    holds("40 parts of a feed with conditions", process.returncode == 0, process.returncode)
+
+
 def seconds(folder: pathlib.Path) -> None:
     """It takes at most 1.5 times the processor time of a pipeline of bufr-auto and table.awk."""
     words = ["-c", "001015,012101"]
@@ -543,7 +564,7 @@ def main() -> None:
     with tempfile.TemporaryDirectory() as place:
         folder = pathlib.Path(place)
         feeds = [functools.partial(feed, awk) for awk in AWKS if shutil.which(awk[0])]
-        parts = [names, selection, several_files, notes, refusals, failures, against_bufr_text, same_with_each_awk]
+        parts = [names, selection, several_files, notes, refusals, failures, few_files, against_bufr_text, same_with_each_awk]
         for part in [*parts, *feeds, seconds]:
             if not complaints:
                 part(folder)

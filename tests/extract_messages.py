@@ -143,13 +143,13 @@ def refuses_what_it_cannot(path: pathlib.Path) -> None:
     done = run(["--awk", 'NR == 2 { system("kill -9 $PPID") } 1', path])
     told = b"bufr-extract: awk was killed (signal 9); output is incomplete\n"
     want((done.returncode, done.stderr) == (2, told), f"of an awk that is killed: {done}")
+    # A line is repeated after all others were read.
+    done = run(["--awk", 'NR == 1 { first = $0 } 1; END { fflush(); system("sleep 0.2"); print first }', path])
+    want(done.returncode == 2 and b"--awk may only select lines" in done.stderr, f"a line that comes twice: {done.stderr}")
     # More lines than a pipe holds: `bufr ls` does not wait for an awk that has ended.
     path.write_bytes(made(1) * 4000)
     done = run(["--awk", "NR == 2 { exit 2 } 1", path], timeout=60)
     want((done.returncode, done.stdout) == (2, made(1)), f"of an awk that ends early: {done}")
-    # A line is repeated after more lines than one read returns.
-    done = run(["--awk", "NR == 1 { first = $0 } 1; END { print first }", path])
-    want(done.returncode == 2 and b"--awk may only select lines" in done.stderr, f"a line that comes twice: {done.stderr}")
     killed = path.with_name("killed")
     killed.write_text('#!/bin/sh\nprintf "offset=0 length=5"\nkill -9 $$\n')
     killed.chmod(0o755)

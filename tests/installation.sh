@@ -56,7 +56,6 @@ grep -qx 'uninstalled bufr from /usr' "$work/output" || fail "--uninstall prints
 [ -z "$(ls -A "$work/temporary")" ] || fail "install.sh leaves temporary files"
 [ ! -e "$work/stage/usr" ] || fail "--uninstall with DESTDIR leaves $(find "$work/stage/usr")"
 (cd "$prefix" && sha256sum --quiet -c share/doc/bufr/SHA256SUMS) || fail "SHA256SUMS has other sums"
-grep -qx 'logic: none' "$doc/BUILD" || fail "BUILD gives an unproved program a logic: $(< "$doc/BUILD")"
 grep -qx 'commit: unknown' "$doc/BUILD" || fail "BUILD ties a program of --program to a commit: $(< "$doc/BUILD")"
 
 # Wrong words.
@@ -131,6 +130,11 @@ stops_in_the_middle
 [ ! -e "$work/full" ] || fail "of a part of an installation remains $(find "$work/full")"
 stops_in_the_middle
 "$top/install.sh" --program "$bufr" --unproved "$work/full" > "$work/output" || fail "a part of an installation is not repaired"
+cmp "$bufr" "$work/full/bin/bufr"
+# An upgrade that ends in the middle is repaired too.
+! (ulimit -f 60 && "$top/install.sh" --program "$work/tiny" --unproved "$work/full") > "$work/output" 2>&1 || fail "no limit"
+"$top/install.sh" --program "$bufr" --unproved "$work/full" > "$work/output" 2>&1 ||
+    fail "an upgrade that ended in the middle is not repaired: $(< "$work/output")"
 cmp "$bufr" "$work/full/bin/bufr"
 # A full disk that stops it before it changes anything. Then there is nothing to repair.
 ln -s /dev/full "$work/full/share/doc/bufr/MANIFEST.new"

@@ -75,7 +75,7 @@ def strange(python: str, folder: pathlib.Path) -> None:
         ticks = re.findall(r">(\u2212?\d+)</text>", drawn)
         edges = [float(tick.replace("\u2212", "-")) for tick in ticks]
         want(((min(edges), max(edges)) == (-150, 150)) == is_whole, f"the map to {place} has {ticks}")
-    want("2 places: 012101 []" in draw(stations(2).replace(b"\n012101 282.5", b""), "--value", "012101")[0], "a last subset without the value hides its name")
+    want("2 points: 012101 []" in draw(stations(2).replace(b"\n012101 282.5", b""), "--value", "012101")[0], "a last subset without the value hides its name")
     # Two levels at 0 degrees Celsius: the axis of temperatures is the same on both sides of 0.
     head = stations(1).partition(b"subset 1\n")[0]
     level = b"007004 %d00\n012101 273.15\n"
@@ -87,7 +87,7 @@ def strange(python: str, folder: pathlib.Path) -> None:
     want(len(values) > 2 and values == [-value for value in reversed(values)], f"0 degrees Celsius have {ticks}")
     drawn, _ = draw(stations(100), "--value", "012101")
     labels = re.findall(r">28\d+\.5<", drawn)
-    want(len(labels) == 100 and ">100 places: 012101 []<" in drawn, f"100 values have {len(labels)} labels")
+    want(len(labels) == 100 and ">100 points: 012101 []<" in drawn, f"100 values have {len(labels)} labels")
     radius = f"M 0 {30**0.5 / 2:.6f} "
     want(radius in drawn and radius not in draw(stations(101))[0], "101 points are as large as 100")
     drawn, told = draw(stations(101), "--value", "012101")
@@ -97,7 +97,7 @@ def strange(python: str, folder: pathlib.Path) -> None:
     want("$x^{..$ \\$?\ufffd" in drawn and "[$y$]" in drawn, "a text is taken for a formula")
     want(told == "", f"of a text it tells {told}")
     drawn, _ = draw(stations(1) + stations(1).replace(b"006001 20.5", b"006001 " + b"9" * 400), "--value", "012101:1")
-    want("1 places" in drawn, "a longitude without end is drawn")
+    want("1 point<" in drawn, "a longitude without end is drawn")
 
 
 def first_of_a_level(python: str, folder: pathlib.Path, text: bytes) -> None:
@@ -179,7 +179,7 @@ def draws(python: str, program: str, folder: pathlib.Path) -> None:
         if path.stem != "bulletins"
     }
     for words, name, told in [
-        (["map"], "synop", ["3 places"]),
+        (["map"], "synop", ["3 points"]),
         (["map", "--value", "012101"], "buoys", ["8 places", "281.85", "287.35"]),
         (["map", "--value", "001015"], "synop", [">SODANKYLA<", ">HEATHROW<", ">SAENTIS<"]),
         (["sounding"], "sounding", ["temperature", "dew point", "2023-03-14 23:31", ">850</text>", ">30</text>"]),

@@ -248,6 +248,12 @@ class Texts(unittest.TestCase):
         self.assertEqual((item.name, item.unit), ("T\xe9 \udcdf", "\udcb0C"))
         self.assertEqual(written([message]), text)
 
+    def test_an_empty_section_2_is_present(self):
+        [message] = bufr_text.read(lines_of(ONE))
+        for section2, optional in (None, 0), (b"", 1), (b"a", 1):
+            message.section2 = section2
+            self.assertEqual(list(bufr_text.rows([message], [], ["optional"])), [(optional,)])
+
     def test_values_that_cannot_be_written(self):
         [message] = bufr_text.read(lines_of(ONE))
         for value, error in [
