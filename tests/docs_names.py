@@ -195,7 +195,7 @@ def calls() -> list:
             if re.match(r"(?:pub(?:\(\w+\))? )?(?:impl|trait)\b", line):
                 head = re.sub(r"^.*?\b(?:impl|trait)\b(?:<[^>]*>)?", "", line)
                 owner = re.search(r"\w+", head.rpartition(" for ")[2])[0]
-            named = re.match(r"( *)(?:pub(?:\(\w+\))? )?(?:const )?fn (\w+)", line)
+            named = re.match(r'( *)(?:pub(?:\(\w+\))? )?(?:const )?(?:extern "C" )?fn (\w+)', line)
             if named:
                 body = re.compile(rf"{named[1]}(?:\{{\}}?|(?:pub|fn|const|\)).*[{{;]|.*\}};)")
                 end = next(n for n in range(at, len(lines)) if body.fullmatch(lines[n]))

@@ -1,19 +1,19 @@
 -- The events of a stream in memory, and their texts.
-use Rattle.std.proofs.Common.{rules, eqb, ◌≡◌, ◌≢◌, ◌⊎◌, inl, inr, ◌∙◌, ◌<◌, ◌≤◌, ◌+◌, ◌-◌, ℕ, Bool, true, false, List, [], ◌∷◌, ◌++◌, length, take, drop, map, flat_map, count_by, codes, decimal, refl, sym, ap, subst, arith, Option, Some, None, Result, Ok, Err, IfErr, IfOk, OnOk, ℤ, pos, append-nil, append_assoc, length-take, length-drop, length-append, nat_lt, not, if◌then◌else◌}
+use Rattle.std.proofs.Common.{rules, min, eqb, ◌≡◌, ◌≢◌, ◌⊎◌, inl, inr, ◌∙◌, ◌<◌, ◌≤◌, ◌+◌, ◌-◌, ℕ, Bool, true, false, List, [], ◌∷◌, ◌++◌, length, take, drop, map, flat_map, count_by, codes, decimal, refl, sym, ap, subst, arith, Option, Some, None, Result, Ok, Err, IfErr, IfNone, IfOk, IfSome, OnOk, ℤ, pos, append-nil, append_assoc, length-take, length-drop, length-append, nat_lt, not, if◌then◌else◌}
 use Rattle.std.specs.Int.{from_bool}
 use Rattle.std.proofs.lemmas.Bool.Decides.{nat_tests}
 use Rattle.std.proofs.lemmas.Slice.Eq.{bytes_eq-Decides}
 use Rattle.std.specs.List.{starts_with}
 use Rattle.std.proofs.lemmas.Fmt.{decimal_digit}
 use Rattle.std.proofs.lemmas.Grind.{common_steps}
-use Rattle.std.proofs.lemmas.List.{length-take-le, take-append-drop, take_rest}
+use Rattle.std.proofs.lemmas.List.{drop_min, length-take-le, take-append-drop, take_rest}
 use Rattle.std.proofs.Math.Seq.{take-length, drop-length}
 use Rattle.std.proofs.Math.ListN.{drop_of_length-le}
 use Rattle.memchr.specs.Find.{FindsNeedle}
 use Rattle.bufr_frame.specs.Prelude.{Sections, StreamEvent, FrameAt, StrayAt, StartsWithBufr, cause_report, section_report, scan, scan_from, classify, stated_length, stream_event, candidate_len, has_word_at, sections_of}
 use Rattle.bufr_frame.specs.declared.fault.SectionFault.{SectionFault}
 use Rattle.bufr_frame.proofs.ScanLemmas.{holds-prefix, holds-there, stated-prefix, scan_from-here, scan_from-nil, scan_from-found, drop-twice}
-use Rattle.bufr_tables.specs.Prelude.{ReadsTableD, Record, Row, Sequence, Tree, table_d_of, table_report, template_report, tree_of, tables_of}
+use Rattle.bufr_tables.specs.Prelude.{ReadsTableD, Record, Row, Sequence, Tree, records_of, table_b_of, table_d_of, table_report, template_report, tree_of, tables_of}
 use Rattle.bufr_tables.specs.declared.fault.TemplateFault.{TemplateFault}
 use Rattle.bufr_tables.specs.declared.fault.TableFault.{TableFault}
 use Rattle.bufr_tables.specs.declared.fault.TableFault.TheVariants as tables
@@ -22,12 +22,14 @@ use Rattle.bufr_walk.specs.declared.fault.WalkFault.{WalkFault}
 use Rattle.bufr_frame.specs.declared.fault.RunFault.{RunFault}
 use Rattle.bufr_frame.specs.declared.fault.Cause.{Cause}
 use Rattle.bufr_text.specs.Prelude.{Writes, ls_line, dump_text_of, dump_items, joined}
-use Rattle.bufr_cli.specs.Prelude.{Piece, OnOutput, OnErrors, output_of, errors_of, is_accepted, is_refused, fault_line, ls_piece, ls_or_fault, dump_piece, message_piece, template_piece, data_piece, text_or_fault, Writers, WritesWhole, event_pieces}
+use Rattle.bufr_text.specs.Prelude.{documents_of}
+use Rattle.bufr_text.specs.declared.encode.Form.{Form}
+use Rattle.bufr_cli.specs.Prelude.{encode_pieces, WritesPieces, Tallies, Piece, OnOutput, OnErrors, output_of, errors_of, is_accepted, is_refused, fault_line, ls_piece, ls_or_fault, dump_piece, message_piece, template_piece, data_piece, text_or_fault, Writers, WritesWhole, event_pieces}
 use Rattle.bufr_cli.specs.declared.outcome.Tally.{Tally}
 use Rattle.bufr_c.specs.Moving.{moved}
 use Rattle.bufr_frame.specs.declared.fault.Cause.TheVariants.{Cut, ShortLength, NoEnd}
-use Rattle.bufr_c.specs.Leaving.{HasNoRoom, HasPut, IsCycleStatus, IsMessage, IsRunStatus, IsStray, IsTableStatus, LacksRoom, Leaves, Passes, StopsBefore, WritesEvent, events_from}
-use Rattle.bufr_c.specs.Commands.{IsTextOf, piece_by}
+use Rattle.bufr_c.specs.Leaving.{HasNoRoom, HasPut, IsCycleStatus, IsMessage, IsRunStatus, IsStray, IsTableStatus, LacksRoom, Leaves, Passes, StopsBefore, WritesEvent, FindsEvent, ByTables, CallStatus, HasRun, Encodes, events_from}
+use Rattle.bufr_c.specs.Commands.{IsTextOf, IsTextOfAll, form_by, piece_by}
 use Rattle.bufr_c.specs.declared.command.Command.{Command}
 use Rattle.bufr_c.specs.declared.command.Command.TheVariants as commands
 use Rattle.bufr_c.specs.declared.command.EventText.{EventText}
@@ -273,9 +275,9 @@ starts-there octets rest m word at place rest_is m_is word_is finds =
     let here = rw (rest_is, word_is) at finds in
     rw m_is (ap (has_word_at (codes "BUFR") 0) (sym (drop-twice place at octets)) ∙ holds-there (drop at octets) place here.1)
 
-pub event-next : (piece : StreamEvent → Piece) (octets rest m word : List ℕ) (at place moves : ℕ) (text : EventText) → rest ≡ drop at octets → m ≡ drop (at + place) octets → word ≡ codes "BUFR"
-    → FindsNeedle rest word 0 (Some place) → (w : WritesEvent piece (at + place) m moves text) → events_from at octets ≡ w.event ∷ events_from (at + place + moves) octets
-event-next piece octets rest m word at place moves text rest_is m_is word_is finds w =
+pub event-next : (Is : StreamEvent → Type 0) (octets rest m word : List ℕ) (at place moves : ℕ) → rest ≡ drop at octets → m ≡ drop (at + place) octets → word ≡ codes "BUFR"
+    → FindsNeedle rest word 0 (Some place) → (w : FindsEvent Is (at + place) m moves) → events_from at octets ≡ w.event ∷ events_from (at + place + moves) octets
+event-next Is octets rest m word at place moves rest_is m_is word_is finds w =
     let here = rw (rest_is, word_is) at finds in
     let S : List ℕ → Type 0 = λ l. stream_event (at + place) l (classify l) ≡ w.event ∷ [] in
     let M : List ℕ → Type 0 = λ l. moves ≡ candidate_len l (classify l) in
@@ -310,16 +312,16 @@ one-counted false = refl
 same-numbers : (a b : ℕ) → pos a ≡ pos b → a ≡ b
 same-numbers a b is = cc
 
-apart-0-74 : pos 0 ≡ pos 74 → ⊥
+pub apart-0-74 : pos 0 ≡ pos 74 → ⊥
 apart-0-74 is = omega (arith, same-numbers 0 74 is)
 
-apart-74-0 : pos 74 ≡ pos 0 → ⊥
+pub apart-74-0 : pos 74 ≡ pos 0 → ⊥
 apart-74-0 is = omega (arith, same-numbers 74 0 is)
 
-apart-73-0 : pos 73 ≡ pos 0 → ⊥
+pub apart-73-0 : pos 73 ≡ pos 0 → ⊥
 apart-73-0 is = omega (arith, same-numbers 73 0 is)
 
-apart-73-74 : pos 73 ≡ pos 74 → ⊥
+pub apart-73-74 : pos 73 ≡ pos 74 → ⊥
 apart-73-74 is = omega (arith, same-numbers 73 74 is)
 
 module _ (piece : StreamEvent → Piece) (octets : List ℕ) (from : ℕ) (output errors : List ℕ) (texts : Texts) (so : SoFar piece octets from output errors texts) where
@@ -382,7 +384,7 @@ module _ (piece : StreamEvent → Piece) (octets : List ℕ) (from : ℕ) (outpu
   so-far-stopped = record { passed = so.passed; events = so.events; leaves = so.leaves; done = λ is. absurd (apart-73-0 is); stops = λ is. absurd (apart-73-74 is) }
 
   -- there is no room for the next event
-  pub so-far-full : (event : StreamEvent) (more : List StreamEvent) → events_from texts.at octets ≡ event ∷ more → LacksRoom output errors texts (piece event)
+  pub so-far-full : (event : StreamEvent) (more : List StreamEvent) → events_from texts.at octets ≡ event ∷ more → LacksRoom output errors texts (output_of (piece event)) (errors_of (piece event))
       → Passes piece octets from output errors texts (pos 74)
   so-far-full event more next lacks = record {
     passed = so.passed;
@@ -399,7 +401,7 @@ pub so-far-no-room : (piece : StreamEvent → Piece) (octets : List ℕ) (from :
     → HasNoRoom text texts output errors texts' output' errors' → Passes piece octets from output' errors' texts' (pos 74)
 so-far-no-room piece octets from output errors texts texts' place moves m text output' errors' so w next none =
     let so' : SoFar piece octets from output errors texts' = so-far-same piece octets from output errors texts so texts' none.at none.output_length none.errors_length none.accepted none.refused in
-    let lacks : LacksRoom output errors texts' (piece w.event) = record {
+    let lacks : LacksRoom output errors texts' (output_of (piece w.event)) (errors_of (piece w.event)) = record {
       output_needed = none.output_needed ∙ ap length w.is.output;
       errors_needed = none.errors_needed ∙ ap length w.is.errors;
       lacks = none.lacks;
@@ -445,26 +447,204 @@ so-far-ended piece octets from output errors texts texts' so none within at outp
 
 -- ---- A call that reads no stream.
 
-pub nothing-passed : (piece : StreamEvent → Piece) (octets : List ℕ) (from : ℕ) (output errors : List ℕ) (texts : Texts) → texts.at ≡ from → texts.output_length ≡ 0
+pub nothing_passed : (piece : StreamEvent → Piece) (octets : List ℕ) (from : ℕ) (output errors : List ℕ) (texts : Texts) (status : ℤ) → texts.at ≡ from → texts.output_length ≡ 0
     → texts.errors_length ≡ 0 → texts.accepted ≡ 0
-    → texts.refused ≡ 0 → Passes piece octets from output errors texts (pos 73)
-nothing-passed piece octets from output errors texts at output_length errors_length accepted refused =
-    subst (λ n. Passes piece octets n output errors texts (pos 73)) at
-    (so-far-stopped piece octets texts.at output errors texts (so-far-none piece octets output errors texts output_length errors_length accepted refused))
+    → texts.refused ≡ 0 → ¬ HasRun status → Passes piece octets from output errors texts status
+nothing_passed piece octets from output errors texts status at output_length errors_length accepted refused stopped =
+    subst (λ n. Passes piece octets n output errors texts status) at
+    (let so = so-far-none piece octets output errors texts output_length errors_length accepted refused in
+    record { passed = so.passed; events = so.events; leaves = so.leaves; done = λ is. absurd (stopped (inl is)); stops = λ is. absurd (stopped (inr is)) })
 
 -- a fact of two tables that may not be read
-pub unless-read : {A B : Type 0} (r : Result A TableFault) (s : Result B TableFault) (P : A → B → Type 0) → ((a : A) (b : B) → P a b) → IfOk r (λ a. IfOk s (λ b. P a b))
+unless-read : {A B : Type 0} (r : Result A TableFault) (s : Result B TableFault) (P : A → B → Type 0) → ((a : A) (b : B) → P a b) → IfOk r (λ a. IfOk s (λ b. P a b))
 unless-read (Ok a) (Ok b) P all = all a b
 unless-read (Ok a) (Err fault) P all = tt
 unless-read (Err fault) s P all = tt
 
+-- what holds by all tables
+pub by_any_tables : (table_b table_d : List ℕ) (Holds : List Row → List Sequence → Type 0) → ((b : List Row) (d : List Sequence) → Holds b d) → ByTables table_b table_d Holds
+by_any_tables table_b table_d Holds all = unless-read (table_b_of (records_of table_b)) (table_d_of (records_of table_d)) Holds all
+
+-- what holds by the tables that were read
+pub by_these_tables : (table_b table_d : List ℕ) (b : List Row) (d : List Sequence) (Holds : List Row → List Sequence → Type 0) → table_b_of (records_of table_b) ≡ Ok b
+    → table_d_of (records_of table_d) ≡ Ok d → Holds b d → ByTables table_b table_d Holds
+by_these_tables table_b table_d b d Holds is_b is_d holds = rw (is_b, is_d) holds
+
+-- the status of a call that read its tables
+pub ran_status : (table_b table_d : List ℕ) (b : List Row) (d : List Sequence) (status : ℤ) → table_b_of (records_of table_b) ≡ Ok b → table_d_of (records_of table_d) ≡ Ok d
+    → IsRunStatus status → CallStatus table_b table_d status
+ran_status table_b table_d b d status is_b is_d ran = record {
+  read = by_these_tables table_b table_d b d (λ b' d'. IsRunStatus status ⊎ IsCycleStatus d' status) is_b is_d (inl ran);
+  no_table_b = rw is_b tt;
+  no_table_d = rw (is_b, is_d) tt;
+}
+
+all-faults : {A : Type 0} (r : Result A TableFault) (P : TableFault → Type 0) → ((fault : TableFault) → P fault) → IfErr r P
+all-faults (Ok a) P all = tt
+all-faults (Err fault) P all = all fault
+
+all-values : {A : Type 0} (r : Result A TableFault) (P : A → Type 0) → ((a : A) → P a) → IfOk r P
+all-values (Ok a) P all = all a
+all-values (Err fault) P all = tt
+
+-- memory ran out before the tables were read
+pub memory_status : (table_b table_d : List ℕ) → CallStatus table_b table_d (pos 73)
+memory_status table_b table_d = record {
+  read = by_any_tables table_b table_d (λ b d. IsRunStatus (pos 73) ⊎ IsCycleStatus d (pos 73)) (λ b d. inl (inr (inl refl)));
+  no_table_b = all-faults (table_b_of (records_of table_b)) (λ fault. IsTableStatus 0 fault (pos 73)) (λ fault. inr refl);
+  no_table_d = all-values (table_b_of (records_of table_b)) (λ b. IfErr (table_d_of (records_of table_d)) (λ fault. IsTableStatus 100 fault (pos 73)))
+      (λ b. all-faults (table_d_of (records_of table_d)) (λ fault. IsTableStatus 100 fault (pos 73)) (λ fault. inr refl));
+}
+
+zero-first : (n : ℕ) → n ≡ 0 + n
+zero-first n = omega arith
+
+-- Table B cannot be read
+pub table_b_status : (table_b table_d : List ℕ) (fault : TableFault) (status : ℤ) → table_b_of (records_of table_b) ≡ Err fault → status ≡ pos (table_report fault).0
+    → CallStatus table_b table_d status
+table_b_status table_b table_d fault status is number =
+    record { read = rw is tt; no_table_b = rw is (inl (number ∙ ap pos (zero-first (table_report fault).0))); no_table_d = rw is tt }
+
+-- the numbers of the faults of tables
+number-bounds : (fault : TableFault) → (40 ≤ (table_report fault).0) × ((table_report fault).0 ≤ 73)
+number-bounds tables.Header = (omega arith, omega arith)
+number-bounds (tables.Row n) = (omega arith, omega arith)
+number-bounds (tables.Duplicate fxy) = (omega arith, omega arith)
+number-bounds (tables.Cycle fxy) = (omega arith, omega arith)
+number-bounds tables.TableSize = (omega arith, omega arith)
+number-bounds tables.Csv = (omega arith, omega arith)
+number-bounds tables.Memory = (omega arith, omega arith)
+
+stopped-at : (n : ℕ) → (n ≡ 0 → ⊥) → (n ≡ 74 → ⊥) → ¬ HasRun (pos n)
+stopped-at n some other (inl is) = some (same-numbers n 0 is)
+stopped-at n some other (inr is) = other (same-numbers n 74 is)
+
+pub stopped_73 : ¬ HasRun (pos 73)
+stopped_73 = stopped-at 73 (λ is. omega (arith, is)) (λ is. omega (arith, is))
+
+pub stopped_by_b : (fault : TableFault) → ¬ HasRun (pos (table_report fault).0)
+stopped_by_b fault =
+    let (least, most) = number-bounds fault in
+    stopped-at (table_report fault).0 (λ is. omega (arith, is, least)) (λ is. omega (arith, is, most))
+
+pub stopped_by_d : (fault : TableFault) → ¬ HasRun (pos (100 + (table_report fault).0))
+stopped_by_d fault = stopped-at (100 + (table_report fault).0) (λ is. omega (arith, is)) (λ is. omega (arith, is))
+
 -- the status of a call whose Table D cannot be read
-pub table-d-status : (records : List Record) (fault : TableFault) (status : ℤ) → ReadsTableD records (Err fault) → fault ≢ tables.Memory → status ≡ pos (100 + (table_report fault).0)
+table-d-fault : (records : List Record) (fault : TableFault) (status : ℤ) → ReadsTableD records (Err fault) → fault ≢ tables.Memory → status ≡ pos (100 + (table_report fault).0)
     → IfErr (table_d_of records) (λ why. IsTableStatus 100 why status) × IfOk (table_d_of records) (λ d. IsRunStatus status ⊎ IsCycleStatus d status)
-table-d-status records tables.Header status reads some is = rw (reads some) (inl is, tt)
-table-d-status records (tables.Row n) status reads some is = rw (reads some) (inl is, tt)
-table-d-status records (tables.Duplicate fxy) status reads some is = rw (reads some) (inl is, tt)
-table-d-status records (tables.Cycle fxy) status (table, reads, cycle) some is = rw reads (tt, inr (is, (fxy, cycle)))
-table-d-status records tables.TableSize status reads some is = rw (reads some) (inl is, tt)
-table-d-status records tables.Csv status reads some is = rw (reads some) (inl is, tt)
-table-d-status records tables.Memory status reads some is = absurd (some refl)
+table-d-fault records tables.Header status reads some is = rw (reads some) (inl is, tt)
+table-d-fault records (tables.Row n) status reads some is = rw (reads some) (inl is, tt)
+table-d-fault records (tables.Duplicate fxy) status reads some is = rw (reads some) (inl is, tt)
+table-d-fault records (tables.Cycle fxy) status (table, reads, cycle) some is = rw reads (tt, inr (is, (fxy, cycle)))
+table-d-fault records tables.TableSize status reads some is = rw (reads some) (inl is, tt)
+table-d-fault records tables.Csv status reads some is = rw (reads some) (inl is, tt)
+table-d-fault records tables.Memory status reads some is = absurd (some refl)
+
+pub table_d_status : (table_b table_d : List ℕ) (b : List Row) (fault : TableFault) (status : ℤ) → table_b_of (records_of table_b) ≡ Ok b → ReadsTableD (records_of table_d) (Err fault)
+    → fault ≢ tables.Memory → status ≡ pos (100 + (table_report fault).0) → CallStatus table_b table_d status
+table_d_status table_b table_d b fault status is reads some number =
+    let found = table-d-fault (records_of table_d) fault status reads some number in
+    record { read = rw is found.1; no_table_b = rw is tt; no_table_d = rw is found.0 }
+
+-- ---- The text of all documents.
+
+-- the slice of the code
+pub rest_from : (octets : List ℕ) (at from : ℕ) → from ≡ min at (length octets) → take (length octets - from) (drop from octets) ≡ drop at octets
+rest_from octets at from is = take_rest octets from ∙ (ap (λ n. drop n octets) is ∙ drop_min at octets)
+
+pub all_encoded : (pieces : List Piece) (before after : Writers) (text : EventText) (tally : Tally) → WritesPieces before after pieces × Tallies tally pieces
+    → before.output.taken ≡ Some [] → before.errors.taken ≡ Some [] → after.output.taken ≡ Some text.output.octets.items → after.errors.taken ≡ Some text.errors.octets.items
+    → IsTextOfAll pieces text tally
+all_encoded pieces before after text tally (writes, tallies) b_output b_errors a_output a_errors =
+    record { output = rw (b_output, a_output) at writes.output; errors = rw (b_errors, a_errors) at writes.errors; tallies = tallies }
+
+no-start : (n : ℕ) (l : List ℕ) → n ≡ 0 → take n l ≡ []
+no-start n l is = ap (λ k. take k l) is
+
+module _ (form : Form) (b : List Row) (d : List Sequence) (octets rest : List ℕ) (from : ℕ) (output errors output' errors' : List ℕ) (old mid texts : Texts) (text : EventText) (tally : Tally)
+    (rest_is : rest ≡ drop from octets) (made : IsTextOfAll (encode_pieces form b d (documents_of rest)) text tally) (no_output : old.output_length ≡ 0) (no_errors : old.errors_length ≡ 0) where
+  is : IsTextOfAll (encode_pieces form b d (documents_of (drop from octets))) text tally
+  is = subst (λ l. IsTextOfAll (encode_pieces form b d (documents_of l)) text tally) rest_is made
+
+  -- there is room
+  pub encodes_all : HasPut text old output errors mid output' errors' → texts.output_length ≡ mid.output_length → texts.errors_length ≡ mid.errors_length → texts.at ≡ length octets
+      → texts.accepted ≡ tally.accepted → texts.refused ≡ tally.refused → Encodes form b d octets from output' errors' texts (pos 0)
+  encodes_all put output_length errors_length at accepted refused = record {
+    done = λ _. (
+      record {
+        written = ap (λ n. take n output') output_length ∙ put.written ∙ ap (λ l. l ++ text.output.octets.items) (no-start old.output_length output no_output) ∙ is.output;
+        blamed = ap (λ n. take n errors') errors_length ∙ put.blamed ∙ ap (λ l. l ++ text.errors.octets.items) (no-start old.errors_length errors no_errors) ∙ is.errors;
+        output_fits = omega (arith, output_length, put.output_fits);
+        errors_fits = omega (arith, errors_length, put.errors_fits);
+        accepted = accepted ∙ is.tallies.accepted;
+        refused = refused ∙ is.tallies.refused;
+      },
+      at,
+    );
+    stops = λ no. absurd (apart-0-74 no);
+  }
+
+  -- there is none
+  pub encodes_none : HasNoRoom text old output errors texts output' errors' → old.at ≡ from → Encodes form b d octets from output' errors' texts (pos 74)
+  encodes_none none at = record {
+    done = λ no. absurd (apart-74-0 no);
+    stops = λ _. (
+      record {
+        output_needed = none.output_needed ∙ ap length is.output;
+        errors_needed = none.errors_needed ∙ ap length is.errors;
+        lacks = rw (none.same_output, none.same_errors) none.lacks;
+      },
+      none.at ∙ at,
+    );
+  }
+
+-- a call that stopped before
+pub encodes_nothing : (form : Form) (b : List Row) (d : List Sequence) (octets : List ℕ) (from : ℕ) (output errors : List ℕ) (texts : Texts) (status : ℤ) → ¬ HasRun status
+    → Encodes form b d octets from output errors texts status
+encodes_nothing form b d octets from output errors texts status stopped = record { done = λ is. absurd (stopped (inl is)); stops = λ is. absurd (stopped (inr is)) }
+
+-- ---- The clauses of the calls.
+
+-- a call that stopped before it read its stream
+pub dump_unread : (table_b table_d octets : List ℕ) (from : ℕ) (output errors : List ℕ) (texts : Texts) (status : ℤ) → texts.at ≡ from → texts.output_length ≡ 0 → texts.errors_length ≡ 0
+    → texts.accepted ≡ 0 → texts.refused ≡ 0 → ¬ HasRun status → ByTables table_b table_d (λ b d. Passes (dump_piece b d) octets from output errors texts status)
+dump_unread table_b table_d octets from output errors texts status at output_length errors_length accepted refused stopped =
+    by_any_tables table_b table_d (λ b d. Passes (dump_piece b d) octets from output errors texts status)
+    (λ b d. nothing_passed (dump_piece b d) octets from output errors texts status at output_length errors_length accepted refused stopped)
+
+-- a call that read its stream by these tables
+pub dump_read : (table_b table_d : List ℕ) (b : List Row) (d : List Sequence) (octets : List ℕ) (from from' : ℕ) (output errors : List ℕ) (texts : Texts) (status : ℤ)
+    → table_b_of (records_of table_b) ≡ Ok b → table_d_of (records_of table_d) ≡ Ok d → from' ≡ from → Passes (dump_piece b d) octets from' output errors texts status
+    → ByTables table_b table_d (λ b d. Passes (dump_piece b d) octets from output errors texts status)
+dump_read table_b table_d b d octets from from' output errors texts status is_b is_d at passes =
+    by_these_tables table_b table_d b d (λ b d. Passes (dump_piece b d) octets from output errors texts status) is_b is_d
+    (subst (λ n. Passes (dump_piece b d) octets n output errors texts status) at passes)
+
+-- what holds of a form that is known
+if-known : {X : Type 0} (o : Option X) (x : X) (Holds : X → Type 0) → Some x ≡ o → Holds x → IfSome o Holds
+if-known o x Holds is holds = subst (λ o'. IfSome o' Holds) is holds
+
+-- the status of a call whose form is known
+pub known_status : (number : ℕ) (form : Form) (table_b table_d : List ℕ) (status : ℤ) → Some form ≡ form_by number → CallStatus table_b table_d status
+    → IfSome (form_by number) (λ form'. CallStatus table_b table_d status)
+known_status number form table_b table_d status known is = if-known (form_by number) form (λ form'. CallStatus table_b table_d status) known is
+
+pub known_form : (number : ℕ) (form : Form) (status : ℤ) → Some form ≡ form_by number → IfNone (form_by number) (status ≡ pos 75)
+known_form number form status known = subst (λ o. IfNone o (status ≡ pos 75)) known tt
+
+-- a call that stopped before it read its text
+pub encode_unread : (number : ℕ) (form : Form) (table_b table_d octets : List ℕ) (from : ℕ) (output errors : List ℕ) (texts : Texts) (status : ℤ) → Some form ≡ form_by number → ¬ HasRun status
+    → IfSome (form_by number) (λ form. ByTables table_b table_d (λ b d. Encodes form b d octets from output errors texts status))
+encode_unread number form table_b table_d octets from output errors texts status known stopped =
+    if-known (form_by number) form (λ form. ByTables table_b table_d (λ b d. Encodes form b d octets from output errors texts status)) known
+    (by_any_tables table_b table_d (λ b d. Encodes form b d octets from output errors texts status)
+    (λ b d. encodes_nothing form b d octets from output errors texts status stopped))
+
+-- a call that read its text by these tables
+pub encode_read : (number : ℕ) (form : Form) (table_b table_d : List ℕ) (b : List Row) (d : List Sequence) (octets : List ℕ) (from : ℕ) (output errors : List ℕ) (texts : Texts) (status : ℤ)
+    → Some form ≡ form_by number → table_b_of (records_of table_b) ≡ Ok b → table_d_of (records_of table_d) ≡ Ok d → Encodes form b d octets from output errors texts status
+    → IfSome (form_by number) (λ form. ByTables table_b table_d (λ b d. Encodes form b d octets from output errors texts status))
+encode_read number form table_b table_d b d octets from output errors texts status known is_b is_d encodes =
+    if-known (form_by number) form (λ form. ByTables table_b table_d (λ b d. Encodes form b d octets from output errors texts status)) known
+    (by_these_tables table_b table_d b d (λ b d. Encodes form b d octets from output errors texts status) is_b is_d encodes)

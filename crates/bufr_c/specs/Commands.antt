@@ -1,7 +1,10 @@
 -- What a command writes for an event, and the text of an event. (a choice of this project)
-use Rattle.std.specs.Prelude.{ℕ, ◌≡◌}
+use Rattle.std.specs.Prelude.{ℕ, ◌≡◌, ◌==◌, List, flat_map, Option, Some, None, if◌then◌else◌}
 use Rattle.bufr_frame.specs.Prelude.{StreamEvent}
-use Rattle.bufr_cli.specs.Prelude.{Piece, output_of, errors_of, is_accepted, ls_piece, dump_piece}
+use Rattle.bufr_cli.specs.Prelude.{Piece, output_of, errors_of, is_accepted, ls_piece, dump_piece, Tallies}
+use Rattle.bufr_cli.specs.declared.outcome.Tally.{Tally}
+use Rattle.bufr_text.specs.declared.encode.Form.{Form}
+use Rattle.bufr_text.specs.declared.encode.Form.TheVariants.{AsWritten, Plain, Compressed}
 use Rattle.bufr_c.specs.declared.command.Command.{Command}
 use Rattle.bufr_c.specs.declared.command.Command.TheVariants as command
 use Rattle.bufr_c.specs.declared.command.EventText.{EventText}
@@ -16,3 +19,17 @@ pub record IsTextOf (text : EventText) (piece : Piece) : Type 0 where
   pub output : text.output.octets.items ≡ output_of piece
   pub errors : text.errors.octets.items ≡ errors_of piece
   pub accepted : text.accepted ≡ is_accepted piece
+
+-- The text of all these pieces was made, and counted.
+pub record IsTextOfAll (pieces : List Piece) (text : EventText) (tally : Tally) : Type 0 where
+  pub output : text.output.octets.items ≡ flat_map output_of pieces
+  pub errors : text.errors.octets.items ≡ flat_map errors_of pieces
+  pub tallies : Tallies tally pieces
+
+-- the form of a number
+abbrev pub form_by : ℕ → Option Form
+form_by number =
+    if number == 0 then Some AsWritten
+    else if number == 1 then Some Plain
+    else if number == 2 then Some Compressed
+    else None

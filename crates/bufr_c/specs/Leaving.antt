@@ -1,11 +1,13 @@
 -- What a call leaves in the caller's buffers. (a choice of this project)
 -- Cited by public contracts.
-use Rattle.std.specs.Prelude.{ℕ, ◌+◌, ◌<◌, ◌≤◌, ℤ, pos, ◌≡◌, ◌⊎◌, List, [], ◌∷◌, ◌++◌, ◌-◌, Bool, true, false, codes, length, take, drop, map, flat_map, count_by}
+use Rattle.std.specs.Prelude.{ℕ, ◌+◌, ◌<◌, ◌≤◌, ℤ, pos, ◌≡◌, ◌⊎◌, List, [], ◌∷◌, ◌++◌, ◌-◌, Bool, true, false, codes, length, take, drop, map, flat_map, count_by, IfOk, IfErr}
 use Rattle.bufr_frame.specs.Prelude.{StreamEvent, StrayAt, StartsWithBufr, scan_from, classify, stated_length, stream_event, candidate_len, has_word_at}
 use Rattle.bufr_frame.specs.declared.fault.Cause.{Cause}
-use Rattle.bufr_tables.specs.Prelude.{IsFirstCycle, Sequence, table_report}
+use Rattle.bufr_tables.specs.Prelude.{IsFirstCycle, Row, Sequence, records_of, table_b_of, table_d_of, table_report}
 use Rattle.bufr_tables.specs.declared.fault.TableFault.{TableFault}
-use Rattle.bufr_cli.specs.Prelude.{Piece, output_of, errors_of, is_accepted, is_refused}
+use Rattle.bufr_cli.specs.Prelude.{Piece, output_of, errors_of, is_accepted, is_refused, encode_pieces}
+use Rattle.bufr_text.specs.Prelude.{documents_of}
+use Rattle.bufr_text.specs.declared.encode.Form.{Form}
 use Rattle.bufr_c.specs.declared.events.Candidate.{Candidate}
 use Rattle.bufr_c.specs.declared.events.Candidate.TheVariants.{Stray, Frame}
 use Rattle.bufr_c.specs.declared.command.EventText.{EventText}
@@ -35,15 +37,18 @@ abbrev pub IsCandidate : List ℕ → Candidate → Type 0
 IsCandidate m (Stray cause) = IsStray m cause
 IsCandidate m (Frame n) = IsMessage m n
 
--- The text of the event that begins there was made, and the search continues after it.
-pub record WritesEvent (piece : StreamEvent → Piece) (offset : ℕ) (m : List ℕ) (n : ℕ)
-    (text : EventText) : Type 0 where
+-- This holds of the event that begins there, and the search continues after it.
+pub record FindsEvent (Is : StreamEvent → Type 0) (offset : ℕ) (m : List ℕ) (n : ℕ) : Type 0 where
   pub event : StreamEvent
   pub here : stream_event offset m (classify m) ≡ event ∷ []
   pub moves : n ≡ candidate_len m (classify m)
   pub some : 4 ≤ n
   pub within : n ≤ length m
-  pub is : IsTextOf text (piece event)
+  pub is : Is event
+
+-- The text of the event that begins there was made.
+abbrev pub WritesEvent : (StreamEvent → Piece) → (offset : ℕ) → List ℕ → ℕ → EventText → Type 0
+WritesEvent piece offset m n text = FindsEvent (λ event. IsTextOf text (piece event)) offset m n
 
 -- The text of an event was appended to the earlier ones.
 pub record HasPut (text : EventText) (old : Texts) (output errors : List ℕ) (new : Texts)
@@ -90,10 +95,11 @@ pub record Leaves (output errors : List ℕ) (texts : Texts) (pieces : List Piec
   pub accepted : texts.accepted ≡ count_by is_accepted pieces
   pub refused : texts.refused ≡ count_by is_refused pieces
 
--- There is no room for the text of this piece, which needs so many octets.
-pub record LacksRoom (output errors : List ℕ) (texts : Texts) (piece : Piece) : Type 0 where
-  pub output_needed : texts.output_needed ≡ length (output_of piece)
-  pub errors_needed : texts.errors_needed ≡ length (errors_of piece)
+-- There is no room for these texts, and `texts` says how many octets they need.
+pub record LacksRoom (output errors : List ℕ) (texts : Texts) (written blamed : List ℕ)
+    : Type 0 where
+  pub output_needed : texts.output_needed ≡ length written
+  pub errors_needed : texts.errors_needed ≡ length blamed
   pub lacks : (length output < texts.output_length + texts.output_needed)
       ⊎ (length errors < texts.errors_length + texts.errors_needed)
 
@@ -102,7 +108,7 @@ abbrev pub StopsBefore : (StreamEvent → Piece) → (output errors : List ℕ) 
     → List StreamEvent → Type 0
 StopsBefore piece output errors texts [] = ⊥
 StopsBefore piece output errors texts (next ∷ more) =
-    LacksRoom output errors texts (piece next)
+    LacksRoom output errors texts (output_of (piece next)) (errors_of (piece next))
 
 -- A call wrote the texts of the events from `from` up to `texts.at`, where the next call continues.
 -- Status 0 says that no event is left, 74 that there is no room for the next one.
@@ -127,3 +133,32 @@ IsCycleStatus table status = (status ≡ pos 143) × ((fxy : ℕ) × IsFirstCycl
 abbrev pub IsTableStatus : (more : ℕ) → TableFault → ℤ → Type 0
 IsTableStatus more fault status =
     (status ≡ pos (more + (table_report fault).0)) ⊎ (status ≡ pos 73)
+
+-- a call passed its input, or as much of it as there is room for
+abbrev pub HasRun : ℤ → Type 0
+HasRun status = (status ≡ pos 0) ⊎ (status ≡ pos 74)
+
+-- what holds by two tables that can be read
+abbrev pub ByTables : (table_b table_d : List ℕ) → (List Row → List Sequence → Type 0) → Type 0
+ByTables table_b table_d Holds =
+    IfOk (table_b_of (records_of table_b)) (λ b.
+    IfOk (table_d_of (records_of table_d)) (λ d. Holds b d))
+
+-- The status of a call that reads tables. A table that cannot be read is reported by its fault,
+-- unless memory runs out.
+pub record CallStatus (table_b table_d : List ℕ) (status : ℤ) : Type 0 where
+  pub read : ByTables table_b table_d (λ b d. IsRunStatus status ⊎ IsCycleStatus d status)
+  pub no_table_b : IfErr (table_b_of (records_of table_b)) (λ fault. IsTableStatus 0 fault status)
+  pub no_table_d : IfOk (table_b_of (records_of table_b)) (λ _.
+      IfErr (table_d_of (records_of table_d)) (λ fault. IsTableStatus 100 fault status))
+
+-- The messages of the text from `from` on were written, or there is no room for them.
+pub record Encodes (form : Form) (b : List Row) (d : List Sequence) (octets : List ℕ) (from : ℕ)
+    (output errors : List ℕ) (texts : Texts) (status : ℤ) : Type 0 where
+  pub done : status ≡ pos 0
+      → Leaves output errors texts (encode_pieces form b d (documents_of (drop from octets)))
+      × (texts.at ≡ length octets)
+  pub stops : status ≡ pos 74 → LacksRoom output errors texts
+      (flat_map output_of (encode_pieces form b d (documents_of (drop from octets))))
+      (flat_map errors_of (encode_pieces form b d (documents_of (drop from octets))))
+      × (texts.at ≡ from)

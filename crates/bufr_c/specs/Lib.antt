@@ -4,3 +4,5 @@ pub mod Moving
 pub mod Commands
 -- what a call leaves in the caller's buffers
 pub mod Leaving
+-- the rows of items and of messages
+pub mod Rows

@@ -1,13 +1,19 @@
 //! The calls for programs in C.
-ghost use Rattle.std.specs.Prelude.{◌≡◌, ◌⊎◌, ◌+◌, IfErr, IfOk, pos};
-ghost use Rattle.bufr_tables.specs.Prelude.{records_of, table_b_of, table_d_of, table_report};
+ghost use Rattle.std.specs.Prelude.{◌≡◌, IfNone, IfSome, pos};
 ghost use Rattle.bufr_cli.specs.Prelude.{ls_piece, dump_piece};
-ghost use Rattle.bufr_c.specs.Leaving.{IsCycleStatus, IsRunStatus, IsTableStatus, Passes};
+ghost use Rattle.bufr_c.specs.Commands.{form_by};
+ghost use Rattle.bufr_c.specs.Leaving.{ByTables, CallStatus, Encodes, IsRunStatus, Passes};
+ghost use Rattle.bufr_c.specs.Rows.{PassesRows, three};
 
-use crate::command::Command;
-use crate::events::write_events;
-use crate::texts::{OUT_OF_MEMORY, Texts};
-use bufr_tables::{TableB, TableD, TableFault};
+use crate::command::{Command, EventText, Run};
+use crate::events::{write_events, write_text};
+use crate::items::EventRows;
+use crate::row_events::write_rows;
+use crate::rows::{Counts, MessageRow, ValueRow};
+use crate::tables::read_tables;
+use crate::texts::{
+    CallInput, DONE, NO_ROOM, OUT_OF_MEMORY, Texts, UNKNOWN_FORM, form_by, rest_of,
+};
 use std::alloc::Global;
 
 /// The version of the library: 1,000,000 times the first number, 1,000 times the second, and the
@@ -33,52 +39,110 @@ pub extern "C" fn bufr_list(
     ensures texts { Passes ls_piece octets.now texts.old.at lines.new faults.new texts.new result }
     ensures status { IsRunStatus result }
 {
-    write_events(alloc, &Command::List, octets, lines, faults, texts)
+    let run = Run {
+        alloc,
+        command: Command::List,
+    };
+    write_events(&run, octets, lines, faults, texts)
 }
 
-/// The status for an invalid Table D.
-fn table_d_status(fault: TableFault) -> i32
-    ensures { result ≡ pos (100 + (table_report fault).0) }
-{
-    100 + i32::from(fault.number())
-}
-
-/// Dumps the messages of a stream by the tables of two files, from `texts.at` on: their texts in
-/// `text`, a fault line for each that is refused in `faults`. Returns 0 at the end, 73 if memory
-/// ran out, and 74 before the first message whose text does not fit. If a table file cannot be
-/// read, returns its fault: that of Table B, or 100 more for Table D.
+/// Dumps the messages of a stream from `texts.at` on: their texts in `text`, a fault line for each
+/// that is refused in `faults`. Returns 0 at the end, 73 if memory ran out, and 74 before the first
+/// message whose text does not fit. If a table cannot be read, returns its fault: that of Table B,
+/// or 100 more for Table D.
+#[tactic(auto, using(crate::proofs::EventLemmas::dump_unread, crate::proofs::EventLemmas::dump_read, crate::proofs::EventLemmas::ran_status))]
 #[unsafe(no_mangle)]
 pub extern "C" fn bufr_dump(
     alloc: Global,
-    octets: &[u8],
-    table_b: &[u8],
-    table_d: &[u8],
+    input: &CallInput<'_>,
     text: &mut [u8],
     faults: &mut [u8],
     texts: &mut Texts,
 ) -> i32
-    ensures texts { IfOk (table_b_of (records_of table_b.now)) (λ b.
-        IfOk (table_d_of (records_of table_d.now)) (λ d.
-        Passes (dump_piece b d) octets.now texts.old.at text.new faults.new texts.new result)) }
-    ensures status { IfOk (table_b_of (records_of table_b.now)) (λ _.
-        IfOk (table_d_of (records_of table_d.now)) (λ d.
-        IsRunStatus result ⊎ IsCycleStatus d result)) }
-    // A table that cannot be read is reported by its fault, unless memory runs out.
-    ensures table_b { IfErr (table_b_of (records_of table_b.now)) (λ fault.
-        IsTableStatus 0 fault result) }
-    ensures table_d { IfOk (table_b_of (records_of table_b.now)) (λ _.
-        IfErr (table_d_of (records_of table_d.now)) (λ fault. IsTableStatus 100 fault result)) }
+    ensures texts { ByTables input.now.table_b.now input.now.table_d.now (λ b d.
+        Passes (dump_piece b d) input.now.octets.now texts.old.at text.new faults.new texts.new
+        result) }
+    ensures status { CallStatus input.now.table_b.now input.now.table_d.now result }
 {
     *texts = Texts::at(texts.at);
-    let b = match TableB::read(alloc, table_b) {
-        Ok(b) => b,
-        Err(TableFault::Memory) => return OUT_OF_MEMORY,
-        Err(fault) => return i32::from(fault.number()),
+    let tables = match read_tables(alloc, input) {
+        Ok(tables) => tables,
+        Err(status) => return status,
     };
-    let d = match TableD::read(alloc, table_d) {
-        Ok(d) => d,
-        Err(TableFault::Memory) => return OUT_OF_MEMORY,
-        Err(fault) => return table_d_status(fault),
+    let run = Run {
+        alloc,
+        command: Command::Dump(&tables.b, &tables.d),
     };
-    write_events(alloc, &Command::Dump(&b, &d), octets, text, faults, texts)
+    write_events(&run, input.octets, text, faults, texts)
+}
+
+/// Encodes all documents of the text from `texts.at` on, up to the first that is refused: the
+/// messages in `messages`, the line of the refused document in `faults`. Returns 0 at the end. If
+/// either has no room, returns 74, says how much is needed and writes nothing. Returns 75 if there
+/// is no such form, and otherwise the statuses of [`bufr_dump`].
+#[tactic(auto, using(crate::proofs::EventLemmas::encode_unread, crate::proofs::EventLemmas::encode_read, crate::proofs::EventLemmas::known_status, crate::proofs::EventLemmas::known_form, crate::proofs::EventLemmas::ran_status, crate::proofs::EventLemmas::memory_status, crate::proofs::EventLemmas::encodes_none, crate::proofs::EventLemmas::encodes_all, crate::proofs::EventLemmas::encodes_nothing, crate::proofs::EventLemmas::stopped_73))]
+#[unsafe(no_mangle)]
+pub extern "C" fn bufr_encode(
+    alloc: Global,
+    input: &CallInput<'_>,
+    messages: &mut [u8],
+    faults: &mut [u8],
+    texts: &mut Texts,
+) -> i32
+    ensures texts { IfSome (form_by input.now.form) (λ form.
+        ByTables input.now.table_b.now input.now.table_d.now (λ b d.
+        Encodes form b d input.now.octets.now texts.old.at messages.new faults.new texts.new
+        result)) }
+    ensures status { IfSome (form_by input.now.form) (λ _.
+        CallStatus input.now.table_b.now input.now.table_d.now result) }
+    ensures form { IfNone (form_by input.now.form) (result ≡ pos 75) }
+{
+    *texts = Texts::at(texts.at);
+    let Some(form) = form_by(input.form) else {
+        return UNKNOWN_FORM;
+    };
+    let tables = match read_tables(alloc, input) {
+        Ok(tables) => tables,
+        Err(status) => return status,
+    };
+    let octets = rest_of(input.octets, texts.at);
+    let mut text = EventText::new(alloc);
+    let Ok(tally) = text.set_encoded(octets, &tables, form) else {
+        return OUT_OF_MEMORY;
+    };
+    if !write_text(&text, messages, faults, texts) {
+        return NO_ROOM;
+    }
+    texts.at = input.octets.len();
+    texts.accepted = tally.accepted;
+    texts.refused = tally.refused;
+    DONE
+}
+
+/// Reads the items of the messages of a stream from `counts.at` on: a row for each wanted item in
+/// `items`, the octets of their texts in `texts`, and a row for each message or stray `BUFR` in
+/// `messages`. Returns 0 at the end, 73 if memory ran out, and 74 before the first message that
+/// does not fit. If a table cannot be read, returns its fault as [`bufr_dump`] does.
+#[tactic(auto, using(crate::proofs::RowLemmas::items_unread, crate::proofs::RowLemmas::items_read, crate::proofs::EventLemmas::ran_status))]
+#[unsafe(no_mangle)]
+pub extern "C" fn bufr_items(
+    alloc: Global,
+    input: &CallInput<'_>,
+    items: &mut [ValueRow],
+    texts: &mut [u8],
+    messages: &mut [MessageRow],
+    counts: &mut Counts,
+) -> i32
+    ensures rows { ByTables input.now.table_b.now input.now.table_d.now (λ b d.
+        PassesRows b d input.now.wanted.now input.now.octets.now counts.old.at
+        (three items.new texts.new messages.new) counts.new result) }
+    ensures status { CallStatus input.now.table_b.now input.now.table_d.now result }
+{
+    *counts = Counts::at(counts.at);
+    let tables = match read_tables(alloc, input) {
+        Ok(tables) => tables,
+        Err(status) => return status,
+    };
+    let mut event = EventRows::new(alloc, &tables, input.wanted);
+    write_rows(&mut event, input.octets, items, texts, messages, counts)
 }

@@ -1,14 +1,17 @@
 //! The text of one event, as the command writes it.
-ghost use Rattle.std.specs.Prelude.{◌≡◌, ◌∷◌, [], false, OnOk};
+ghost use Rattle.std.specs.Prelude.{◌≡◌, ◌∷◌, [], false, IfOk, OnOk};
 ghost use Rattle.bufr_frame.specs.Prelude.{scan, FrameAt, cause_report};
-ghost use Rattle.bufr_cli.specs.Prelude.{OnErrors, dump_piece, fault_line, ls_piece};
-ghost use Rattle.bufr_c.specs.Commands.{piece_by, IsTextOf};
+ghost use Rattle.bufr_cli.specs.Prelude.{OnErrors, dump_piece, encode_pieces, fault_line, ls_piece};
+ghost use Rattle.bufr_text.specs.Prelude.{documents_of};
+ghost use Rattle.bufr_c.specs.Commands.{piece_by, IsTextOf, IsTextOfAll};
 
+use crate::tables::Tables;
 use crate::text_out::{TextOut, write_moved};
 use bufr_bits::Device;
-use bufr_cli::{run_dump, run_ls};
+use bufr_cli::{Tally, run_dump, run_encode_form, run_ls};
 use bufr_frame::{Cause, RunFault};
 use bufr_tables::{TableB, TableD};
+use bufr_text::Form;
 use std::alloc::Global;
 
 /// A command over a stream.
@@ -18,6 +21,13 @@ pub(crate) enum Command<'t> {
     List,
     /// `bufr dump` by these tables.
     Dump(&'t TableB, &'t TableD),
+}
+
+/// A command, and where it allocates.
+#[derive(Clone, Copy)]
+pub(crate) struct Run<'t> {
+    pub(crate) alloc: Global,
+    pub(crate) command: Command<'t>,
 }
 
 /// The text of one event, and memory for making it.
@@ -130,5 +140,23 @@ impl EventText {
             Command::List => self.set_listed(offset, octets),
             Command::Dump(b, d) => self.set_dumped(offset, octets, b, d),
         }
+    }
+
+    /// Makes the text that `bufr encode` writes for all documents of a text.
+    #[tactic(auto, using(crate::proofs::EventLemmas::all_encoded))]
+    pub(crate) fn set_encoded(
+        &mut self,
+        octets: &[u8],
+        tables: &Tables,
+        form: Form,
+    ) -> Result<Tally, RunFault>
+        ensures { IfOk result (λ tally. IsTextOfAll
+            (encode_pieces form tables.now.b tables.now.d (documents_of octets.now)) self.new
+            tally) }
+    {
+        self.clear();
+        let mut r = Device::new(octets);
+        let (w, e) = (&mut self.output, &mut self.errors);
+        run_encode_form(self.alloc, &mut r, w, e, &tables.b, &tables.d, form)
     }
 }

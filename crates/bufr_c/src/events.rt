@@ -4,11 +4,10 @@ ghost use Rattle.bufr_frame.specs.Prelude.{StartsWithBufr};
 ghost use Rattle.bufr_c.specs.Commands.{piece_by};
 ghost use Rattle.bufr_c.specs.Leaving.{IsCandidate, IsRunStatus, Passes, PutsText, WritesEvent};
 
-use crate::command::{Command, EventText};
+use crate::command::{Command, EventText, Run};
 use crate::texts::{DONE, NO_ROOM, OUT_OF_MEMORY, Texts};
 use bufr_frame::{Cause, RunFault};
 use memchr::memmem;
-use std::alloc::Global;
 
 /// What begins at a `BUFR`.
 #[derive(Clone, Copy)]
@@ -20,7 +19,7 @@ pub(crate) enum Candidate {
 }
 
 /// What begins where `m`, which begins with `BUFR`, begins: the first case that holds counts.
-fn classify(m: &[u8]) -> Candidate
+pub(crate) fn classify(m: &[u8]) -> Candidate
     requires { StartsWithBufr m.now }
     ensures { IsCandidate m.now result }
 {
@@ -64,21 +63,26 @@ fn set_event(
     }
 }
 
-/// Copies a text into `to`, from index `at` on. Returns the index after the text.
-fn put(text: &[u8], at: usize, to: &mut [u8]) -> usize
-    requires { at + length text.now ≤ length to.old }
-    ensures end { result ≡ at + length text.now }
-    ensures text { take result to.new ≡ take at to.old ++ text.now }
+/// Copies values into `to`, from index `at` on. Returns the index after the last one.
+pub(crate) fn put<T: Copy>(values: &[T], at: usize, to: &mut [T]) -> usize
+    requires { at + length values.now ≤ length to.old }
+    ensures end { result ≡ at + length values.now }
+    ensures values { take result to.new ≡ take at to.old ++ values.now }
     ensures room { length to.new ≡ length to.old }
 {
-    let end = at + text.len();
-    to[at..end].copy_from_slice(text);
+    let end = at + values.len();
+    to[at..end].copy_from_slice(values);
     end
 }
 
 /// Appends the text of an event to the earlier texts if there is room, and returns whether there
 /// is. If not, `texts` says how much room the event needs.
-fn write_text(text: &EventText, output: &mut [u8], errors: &mut [u8], texts: &mut Texts) -> bool
+pub(crate) fn write_text(
+    text: &EventText,
+    output: &mut [u8],
+    errors: &mut [u8],
+    texts: &mut Texts,
+) -> bool
     requires output { texts.old.output_length ≤ length output.old }
     requires errors { texts.old.errors_length ≤ length errors.old }
     ensures { PutsText text.now texts.old output.old errors.old texts.new output.new errors.new
@@ -100,27 +104,26 @@ fn write_text(text: &EventText, output: &mut [u8], errors: &mut [u8], texts: &mu
 
 /// Writes the texts of the events from `texts.at` on, one event at a time, while there is room.
 pub(crate) fn write_events(
-    alloc: Global,
-    command: &Command<'_>,
+    run: &Run<'_>,
     octets: &[u8],
     output: &mut [u8],
     errors: &mut [u8],
     texts: &mut Texts,
 ) -> i32
-    ensures texts { Passes (piece_by command.now) octets.now texts.old.at output.new errors.new
+    ensures texts { Passes (piece_by run.now.command) octets.now texts.old.at output.new errors.new
         texts.new result }
     ensures status { IsRunStatus result }
 {
     *texts = Texts::at(texts.at);
     let word = memmem::Finder::new(b"BUFR");
-    let mut text = EventText::new(alloc);
+    let mut text = EventText::new(run.alloc);
     while texts.at < octets.len() {
         let Some(place) = word.find(&octets[texts.at..]) else {
             texts.at = octets.len();
             return DONE;
         };
         let begin = texts.at + place;
-        let Ok(moves) = set_event(command, begin as u64, &octets[begin..], &mut text) else {
+        let Ok(moves) = set_event(&run.command, begin as u64, &octets[begin..], &mut text) else {
             return OUT_OF_MEMORY;
         };
         if !write_text(&text, output, errors, texts) {

@@ -1,14 +1,19 @@
-//! The library for programs in C and in every language that calls C: `bufr ls` and `bufr dump` on
-//! octets in memory.
+//! The library for programs in C and in every language that calls C: `bufr ls`, `bufr dump` and
+//! `bufr encode` on octets in memory, and the items of messages as rows of numbers.
 #![tactic(auto)]
 
 mod calls;
 mod command;
 mod events;
+mod items;
+mod row_events;
+mod rows;
+mod tables;
 #[cfg(test)]
 mod tests;
 mod text_out;
 mod texts;
 
-pub use calls::{bufr_dump, bufr_list, bufr_version};
-pub use texts::Texts;
+pub use calls::{bufr_dump, bufr_encode, bufr_items, bufr_list, bufr_version};
+pub use rows::{Counts, MessageRow, ValueRow};
+pub use texts::{CallInput, Texts};

@@ -1,7 +1,8 @@
 //! The calls, called as by a program in C.
 
-use crate::calls::{bufr_dump, bufr_list, bufr_version};
-use crate::texts::Texts;
+use crate::calls::{bufr_dump, bufr_encode, bufr_items, bufr_list, bufr_version};
+use crate::rows::{Counts, MessageRow, ValueRow};
+use crate::texts::{CallInput, Texts};
 
 const NONE: Texts = Texts {
     at: 0,
@@ -53,20 +54,19 @@ const TABLE_B: &[u8] =
 
 const TABLE_D: &[u8] = b"fxy,member\n";
 
+const BLOCK_INPUT: CallInput<'static> = CallInput {
+    octets: &BLOCK,
+    table_b: TABLE_B,
+    table_d: TABLE_D,
+    wanted: &[],
+    form: 0,
+};
+
 #[test]
-fn dumps_a_message(rt: HostRuntime) {
+fn dumps_a_message_and_encodes_its_text(rt: HostRuntime) {
     let (mut text, mut faults) = ([0; 400], [0; 64]);
     let mut texts = NONE;
-    let (alloc, octets) = (rt.alloc(), BLOCK.as_slice());
-    let status = bufr_dump(
-        alloc,
-        octets,
-        TABLE_B,
-        TABLE_D,
-        &mut text,
-        &mut faults,
-        &mut texts,
-    );
+    let status = bufr_dump(rt.alloc(), &BLOCK_INPUT, &mut text, &mut faults, &mut texts);
     assert_eq!(rt;
         (status, texts.at, texts.accepted, texts.refused),
         (0, 48, 1, 0)
@@ -75,6 +75,134 @@ fn dumps_a_message(rt: HostRuntime) {
     assert_eq!(rt; written.starts_with(b"message\nedition 4\n"), true);
     let last = b"subset 1\n001001 10  # WMO BLOCK NUMBER [Numeric]\nend\n";
     assert_eq!(rt; written.ends_with(last), true);
+    let input = CallInput {
+        octets: written,
+        ..BLOCK_INPUT
+    };
+    let mut octets = [0; 48];
+    let mut texts = NONE;
+    let status = bufr_encode(rt.alloc(), &input, &mut octets, &mut faults, &mut texts);
+    assert_eq!(rt;
+        (status, texts.output_length, texts.errors_length),
+        (0, 48, 0)
+    );
+    assert_eq!(rt;
+        (texts.at, texts.accepted, texts.refused),
+        (written.len(), 1, 0)
+    );
+    assert_eq!(rt; octets.as_slice(), BLOCK.as_slice());
+}
+
+#[test]
+fn says_how_much_room_documents_need(rt: HostRuntime) {
+    let input = CallInput {
+        octets: b"subset 1\n",
+        ..BLOCK_INPUT
+    };
+    let mut faults = [0; 15];
+    let mut texts = NONE;
+    let status = bufr_encode(rt.alloc(), &input, &mut [], &mut faults, &mut texts);
+    assert_eq!(rt; (status, texts.at), (74, 0));
+    assert_eq!(rt; (texts.output_needed, texts.errors_needed), (0, 16));
+    assert_eq!(rt; (texts.output_length, texts.errors_length), (0, 0));
+}
+
+#[test]
+fn knows_three_forms(rt: HostRuntime) {
+    let input = CallInput {
+        form: 3,
+        ..BLOCK_INPUT
+    };
+    let mut texts = NONE;
+    let status = bufr_encode(rt.alloc(), &input, &mut [], &mut [], &mut texts);
+    assert_eq!(rt; status, 75);
+}
+
+const NO_ITEM: ValueRow = ValueRow {
+    value: 9,
+    message: 9,
+    length: 9,
+    subset: 9,
+    fxy: 9,
+    scale: 9,
+    kind: 9,
+};
+
+const NO_COUNTS: Counts = Counts {
+    at: 0,
+    items: 9,
+    octets: 9,
+    messages: 9,
+    items_needed: 9,
+    octets_needed: 9,
+};
+
+fn no_message() -> MessageRow {
+    MessageRow::plain(9, 9, 9, 9)
+}
+
+#[test]
+fn reads_an_item(rt: HostRuntime) {
+    let (mut items, mut messages) = ([NO_ITEM; 2], [no_message(); 1]);
+    let mut counts = NO_COUNTS;
+    let alloc = rt.alloc();
+    let status = bufr_items(
+        alloc,
+        &BLOCK_INPUT,
+        &mut items,
+        &mut [],
+        &mut messages,
+        &mut counts,
+    );
+    assert_eq!(rt; (status, counts.at, counts.items), (0, 48, 1));
+    assert_eq!(rt; (counts.octets, counts.messages), (0, 1));
+    let item = ValueRow {
+        value: 10,
+        message: 0,
+        length: 0,
+        subset: 1,
+        fxy: 257,
+        scale: 0,
+        kind: 1,
+    };
+    assert_eq!(rt; items[0], item);
+    let row = messages[0];
+    assert_eq!(rt; (row.offset, row.length, row.fault), (0, 48, 0));
+    assert_eq!(rt; (row.first, row.items, row.subsets), (0, 1, 1));
+    assert_eq!(rt; (row.edition, row.centre, row.year), (4, 98, 2024));
+    assert_eq!(rt; (row.observed, row.compressed), (1, 0));
+}
+
+#[test]
+fn reads_a_stray_and_stops_before_an_item_without_room(rt: HostRuntime) {
+    let mut octets = [0; 52];
+    octets[..4].copy_from_slice(b"BUFR");
+    octets[4..].copy_from_slice(&BLOCK);
+    let input = CallInput {
+        octets: &octets,
+        ..BLOCK_INPUT
+    };
+    let mut messages = [no_message(); 2];
+    let mut counts = NO_COUNTS;
+    let alloc = rt.alloc();
+    let status = bufr_items(alloc, &input, &mut [], &mut [], &mut messages, &mut counts);
+    assert_eq!(rt; (status, counts.at, counts.messages), (74, 4, 1));
+    assert_eq!(rt; (counts.items_needed, counts.octets_needed), (1, 0));
+    assert_eq!(rt; messages[0], MessageRow::plain(0, 4, 0, 1));
+}
+
+#[test]
+fn reads_only_wanted_items(rt: HostRuntime) {
+    let input = CallInput {
+        wanted: &[258],
+        ..BLOCK_INPUT
+    };
+    let mut messages = [no_message(); 1];
+    let mut counts = NO_COUNTS;
+    let alloc = rt.alloc();
+    let status = bufr_items(alloc, &input, &mut [], &mut [], &mut messages, &mut counts);
+    assert_eq!(rt; (status, counts.at, counts.items), (0, 48, 0));
+    assert_eq!(rt; (messages[0].items, messages[0].fault), (0, 0));
 }
 
 #[test]
@@ -100,18 +228,17 @@ fn lists_a_message_after_other_octets(rt: HostRuntime) {
 fn names_the_fault_of_a_table(rt: HostRuntime) {
     let (mut text, mut faults) = ([0; 8], [0; 8]);
     let mut texts = NONE;
-    let alloc = rt.alloc();
-    let status = bufr_dump(alloc, b"", b"", TABLE_D, &mut text, &mut faults, &mut texts);
+    let input = CallInput {
+        table_b: b"",
+        ..BLOCK_INPUT
+    };
+    let status = bufr_dump(rt.alloc(), &input, &mut text, &mut faults, &mut texts);
     assert_eq!(rt; (status, texts.output_length), (40, 0));
-    let status = bufr_dump(
-        alloc,
-        b"",
-        TABLE_B,
-        b"fxy,member\nx\n",
-        &mut text,
-        &mut faults,
-        &mut texts,
-    );
+    let input = CallInput {
+        table_d: b"fxy,member\nx\n",
+        ..BLOCK_INPUT
+    };
+    let status = bufr_dump(rt.alloc(), &input, &mut text, &mut faults, &mut texts);
     assert_eq!(rt; (status, texts.errors_length), (145, 0));
 }
 

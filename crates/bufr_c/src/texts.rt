@@ -1,12 +1,55 @@
-//! What a call reports to its caller.
-ghost use Rattle.std.specs.Prelude.{◌≡◌};
+//! What a call reads, and what it reports to its caller.
+ghost use Rattle.std.specs.Prelude.{◌≡◌, drop};
+ghost use Rattle.bufr_c.specs.Commands.{form_by};
 
-/// Every event was passed.
+use bufr_text::Form;
+
+/// The call reached the end of its input.
 pub(crate) const DONE: i32 = 0;
 /// Memory ran out.
 pub(crate) const OUT_OF_MEMORY: i32 = 73;
-/// The text of the next event does not fit.
+/// What comes next does not fit into the caller's buffers.
 pub(crate) const NO_ROOM: i32 = 74;
+/// There is no form of this number.
+pub(crate) const UNKNOWN_FORM: i32 = 75;
+
+/// What a call reads.
+#[repr(C)]
+#[derive(Clone, Copy, Debug)]
+pub struct CallInput<'a> {
+    /// The stream; for [`crate::bufr_encode`], the text.
+    pub octets: &'a [u8],
+    /// The contents of the file of Table B.
+    pub table_b: &'a [u8],
+    /// The contents of the file of Table D.
+    pub table_d: &'a [u8],
+    /// For [`crate::bufr_items`]: the descriptors of the wanted items; if there are none, all items
+    /// are wanted.
+    pub wanted: &'a [u16],
+    /// For [`crate::bufr_encode`]: 0 for the form that each document states, 1 for plain data, 2
+    /// for compressed data.
+    pub form: u8,
+}
+
+/// The form of a number.
+pub(crate) fn form_by(form: u8) -> Option<Form>
+    ensures { result ≡ form_by form }
+{
+    match form {
+        0 => Some(Form::AsWritten),
+        1 => Some(Form::Plain),
+        2 => Some(Form::Compressed),
+        _ => None,
+    }
+}
+
+/// The octets from an index on: none past the end.
+#[tactic(auto, using(crate::proofs::EventLemmas::rest_from))]
+pub(crate) fn rest_of(octets: &[u8], at: usize) -> &[u8]
+    ensures { result.now ≡ drop at octets.now }
+{
+    &octets[at.min(octets.len())..]
+}
 
 /// How far a call came, and what it wrote.
 #[repr(C)]

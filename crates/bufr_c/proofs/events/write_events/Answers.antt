@@ -6,7 +6,7 @@ use Rattle.bufr_c.proofs.events.write_events.Goals as goal
 
 pub loop-texts-init : goal.loop-texts-init
 loop-texts-init c =
-    let piece = piece_by c.args.command.now in
+    let piece = piece_by c.args.run.now.command in
     let zero' = c.at.ensures in
     subst (λ n. SoFar piece c.args.octets.now n c.args.output.now c.args.errors.now c.at.result) zero'.at
     (so-far-none piece c.args.octets.now c.args.output.now c.args.errors.now c.at.result zero'.output zero'.errors zero'.accepted zero'.refused)
@@ -35,7 +35,7 @@ returns-then-not-write_text-clause-texts c =
     let full : c.write_text.result ≡ false = search rules in
     let w = c.in-Ok.ensures in
     so-far-no-room _ octets _ _ _ c.loop-texts.texts _ c.in-Some.place c.in-Ok.moves _ c.set_event.new.text _ _ c.loop-texts.invariant w
-    (event-next _ octets _ _ _ at c.in-Some.place c.in-Ok.moves c.set_event.new.text (take_rest octets at) (take_rest octets begin) c.new-word.ensures c.in-Some.ensures w)
+    (event-next _ octets _ _ _ at c.in-Some.place c.in-Ok.moves (take_rest octets at) (take_rest octets begin) c.new-word.ensures c.in-Some.ensures w)
     (rw full at c.write_text.ensures)
 
 pub loop-texts-preserved : goal.loop-texts-preserved
@@ -46,7 +46,7 @@ loop-texts-preserved c =
     let w = c.in-Ok.ensures in
     let mid = c.write_text.new.texts in
     so-far-put _ octets _ _ _ c.loop-texts.texts c.loop-texts.invariant c.in-Some.place c.in-Ok.moves _ c.set_event.new.text mid _ _ _ w
-    (event-next _ octets _ _ _ at c.in-Some.place c.in-Ok.moves c.set_event.new.text (take_rest octets at) (take_rest octets begin) c.new-word.ensures c.in-Some.ensures w)
+    (event-next _ octets _ _ _ at c.in-Some.place c.in-Ok.moves (take_rest octets at) (take_rest octets begin) c.new-word.ensures c.in-Some.ensures w)
     c.if-not-write_text.ensures refl refl refl (ap (λ n. mid.accepted + n) c.from.ensures) (ap (λ n. mid.refused + n) c.from-in-loop-texts.ensures)
 
 pub returns-clause-texts : goal.returns-clause-texts

@@ -5,7 +5,7 @@ use Rattle.bufr_c.proofs.events.write_events.Given as goal
 
 -- the texts of the events so far were written
 abbrev pub invariant-loop-texts : goal.invariant-loop-texts
-invariant-loop-texts l = SoFar (piece_by l.command) l.octets l.fn.texts.at l.output l.errors l.texts
+invariant-loop-texts l = SoFar (piece_by l.run.command) l.octets l.fn.texts.at l.output l.errors l.texts
 
 -- the octets that are left
 abbrev pub decreases-loop-texts : goal.decreases-loop-texts

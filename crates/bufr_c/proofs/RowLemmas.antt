@@ -1,0 +1,242 @@
+-- The rows of a message, call by call, and the rows of events.
+use Rattle.std.proofs.Common.{rules, ℕ, ◌≡◌, ◌≢◌, ◌⊎◌, inl, inr, ◌∙◌, ◌+◌, ◌-◌, ◌<◌, ◌≤◌, List, [], ◌∷◌, ◌++◌, length, take, drop, codes, sym, ap, subst, refl, arith, Result, Ok, Err, OnOk, None, Some, option_map, if◌then◌else◌, ℤ, pos, append_assoc, Bool, true, false}
+use Rattle.std.proofs.lemmas.List.{length-take-le}
+use Rattle.bufr_frame.specs.Prelude.{Sections, StreamEvent}
+use Rattle.bufr_tables.specs.Prelude.{Row, Sequence, Tree, records_of, table_b_of, table_d_of, tree_of, tables_of, template_report}
+use Rattle.bufr_tables.specs.declared.fault.TemplateFault.{TemplateFault}
+use Rattle.bufr_walk.specs.Prelude.{View, item_call, shown_number, Timed, Shows, Read, Data, AnswersReading, ReadsData, DataReading, calls_of, turns_shown, data_of, data_report, read_by, fault_of, reading_of, next_item, fault_at}
+use Rattle.bufr_walk.specs.declared.fault.WalkFault.{WalkFault}
+use Rattle.bufr_walk.specs.declared.fault.WalkFault.TheVariants as fault
+use Rattle.bufr_c.specs.declared.rows.ValueRow.{ValueRow}
+use Rattle.bufr_c.specs.declared.rows.MessageRow.{MessageRow}
+use Rattle.bufr_c.specs.declared.rows.Counts.{Counts}
+use Rattle.bufr_c.specs.Leaving.{ByTables, FindsEvent, HasRun, events_from}
+use Rattle.bufr_c.specs.Rows.{HasNoRowRoom, HasPutRows, LacksRowRoom, LeavesRows, PassesRows, Put, PutsCall, RowPlace, Rows, StopsBeforeRows, data_fault, data_put, is_wanted, join_rows, message_fault, message_put, no_rows, place_after, row_place, rows_after, rows_in, rows_of, template_fault, template_put, three, with_call, with_calls, with_number, with_value}
+use Rattle.bufr_c.proofs.EventLemmas.{apart-0-74, apart-73-0, apart-73-74, apart-74-0, by_any_tables, by_these_tables, events-end}
+
+-- ---- The calls of a showing.
+
+calls_put : (E : Type 0) (p : Put) (calls : List Timed) (turns : ℕ) (q : Put) (steps : ℕ) → Shows {E = E} PutsCall p calls turns (Ok tt) q steps → q ≡ with_calls p calls
+calls_put E p [] turns q steps (same, made) = same
+calls_put E p (t ∷ calls) turns q steps (mid, one, more) = calls_put E mid calls turns q steps more ∙ ap (λ m. with_calls m calls) one
+
+-- a number was added
+pub number-put : (E : Type 0) (r : Result (Unit {0}) E) (p q : Put) (v : View) (fxy : ℕ) (n scale : ℤ) → fxy ≡ v.fxy → v.value ≡ shown_number n scale → is_wanted p.wanted fxy ≡ true
+    → OnOk r (q ≡ with_number p fxy scale n) → PutsCall p (item_call v) r q
+number-put E (Ok u) p q v fxy n scale same value wanted is =
+    is ∙ (ap (λ f. with_number p f scale n) same
+    ∙ sym (ap (λ b. if b then with_value p v.fxy v.value else p) (ap (λ f. is_wanted p.wanted f) (sym same) ∙ wanted) ∙ ap (λ x. with_value p v.fxy x) value))
+number-put E (Err fault) p q v fxy n scale same value wanted is = tt
+
+abbrev calls_by : List Row → Tree → Data → List Timed
+calls_by table template source = calls_of (read_by table template source 0 0)
+
+calls_same : (r : Read) (b : List Row) (t : Tree) (source : Data) → r.table ≡ b → r.template ≡ t → r.source ≡ source → calls_of r ≡ calls_by b t source
+calls_same r b t source table template same =
+    ap (λ x. calls_by x r.template r.source) table ∙ (ap (λ x. calls_by b x r.source) template ∙ ap (λ x. calls_by b t x) same)
+
+put_by_tree : (b : List Row) (d : List Sequence) (s : Sections) (p : Put) (t : Result Tree TemplateFault) → tree_of (tables_of b d) s.descriptors ≡ t → template_put b s p t ≡ message_put b d s p
+put_by_tree b d s p t tree = sym (ap (λ x. template_put b s p x) tree)
+
+fault_by_tree : (b : List Row) (d : List Sequence) (s : Sections) (t : Result Tree TemplateFault) → tree_of (tables_of b d) s.descriptors ≡ t → template_fault b s t ≡ message_fault b d s
+fault_by_tree b d s t tree = sym (ap (λ x. template_fault b s x) tree)
+
+-- data that were read have no fault
+no_fault : (b : List Row) (t : Tree) (s : Sections) (r : Read) (steps : ℕ) → AnswersReading b t (data_of s) (Ok r) steps → fault_of (data_of s) (reading_of (next_item b t) (data_of s)) ≡ None
+no_fault b t s r steps (table, template, source, rest) =
+    ap (λ st. option_map (λ why. fault_at why (reading_of (next_item b t) (data_of s)).subset (length (data_of s).bits - length (reading_of (next_item b t) (data_of s)).left)) st) rest.0
+
+pub message_done : (E : Type 0) (b : List Row) (d : List Sequence) (s : Sections) (p q : Put) (t : Tree) (r : Read) (steps steps' : ℕ) → tree_of (tables_of b d) s.descriptors ≡ Ok t
+    → AnswersReading b t (data_of s) (Ok r) steps → Shows {E = E} PutsCall p (calls_of r) (turns_shown r) (Ok tt) q steps' → q ≡ message_put b d s p
+message_done E b d s p q t r steps steps' tree (table, template, source, rest) shown =
+    calls_put E p (calls_of r) (turns_shown r) q steps' shown
+    ∙ (ap (λ cs. with_calls p cs) (calls_same r b t (data_of s) table template source)
+    ∙ (sym (ap (λ f. data_put p (calls_by b t (data_of s)) f) (no_fault b t s r steps (table, template, source, rest)))
+    ∙ put_by_tree b d s p (Ok t) tree))
+
+pub message_done_fault : (b : List Row) (d : List Sequence) (s : Sections) (t : Tree) (r : Read) (steps : ℕ) → tree_of (tables_of b d) s.descriptors ≡ Ok t
+    → AnswersReading b t (data_of s) (Ok r) steps → 0 ≡ message_fault b d s
+message_done_fault b d s t r steps tree answers =
+    sym (ap data_fault (no_fault b t s r steps answers)) ∙ fault_by_tree b d s (Ok t) tree
+
+-- the fault of a reading that was refused for another reason than memory
+its_fault : (b : List Row) (s : Sections) (t : Tree) (why : WalkFault) (steps : ℕ) → AnswersReading b t (data_of s) (Err why) steps → why ≢ fault.Memory
+    → fault_of (data_of s) (reading_of (next_item b t) (data_of s)) ≡ Some why
+its_fault b s t why steps (inl (is, made)) other = is
+its_fault b s t why steps (inr (memory, turns, may, made)) other = absurd (other memory)
+
+pub message_refused : (b : List Row) (d : List Sequence) (s : Sections) (p : Put) (t : Tree) (why : WalkFault) (steps : ℕ) → tree_of (tables_of b d) s.descriptors ≡ Ok t
+    → AnswersReading b t (data_of s) (Err why) steps → why ≢ fault.Memory → p ≡ message_put b d s p
+message_refused b d s p t why steps tree answers other =
+    sym (ap (λ f. data_put p (calls_by b t (data_of s)) f) (its_fault b s t why steps answers other)) ∙ put_by_tree b d s p (Ok t) tree
+
+pub message_refused_fault : (b : List Row) (d : List Sequence) (s : Sections) (t : Tree) (why : WalkFault) (steps : ℕ) → tree_of (tables_of b d) s.descriptors ≡ Ok t
+    → AnswersReading b t (data_of s) (Err why) steps → why ≢ fault.Memory → (data_report why).0 ≡ message_fault b d s
+message_refused_fault b d s t why steps tree answers other =
+    sym (ap data_fault (its_fault b s t why steps answers other)) ∙ fault_by_tree b d s (Ok t) tree
+
+pub template_refused : (b : List Row) (d : List Sequence) (s : Sections) (p : Put) (why : TemplateFault) → tree_of (tables_of b d) s.descriptors ≡ Err why → p ≡ message_put b d s p
+template_refused b d s p why tree = put_by_tree b d s p (Err why) tree
+
+pub template_refused_fault : (b : List Row) (d : List Sequence) (s : Sections) (why : TemplateFault) → tree_of (tables_of b d) s.descriptors ≡ Err why → (template_report why).0 ≡ message_fault b d s
+template_refused_fault b d s why tree = fault_by_tree b d s (Err why) tree
+
+-- ---- The rows of events.
+
+-- the rows of one more event
+after-next : (b : List Row) (d : List Sequence) (wanted : List ℕ) (before : Rows) (events : List StreamEvent) (event : StreamEvent)
+    → rows_after b d wanted before (events ++ event ∷ [])
+    ≡ join_rows (rows_after b d wanted before events) (rows_of b d wanted (place_after (rows_after b d wanted before events)) event)
+after-next b d wanted before [] event = refl
+after-next b d wanted before (first ∷ events) event = after-next b d wanted (join_rows before (rows_of b d wanted (place_after before) first)) events event
+
+-- where the next rows go, by the rows that the buffers begin with
+place-left : (room : Rows) (counts : Counts) (rows : Rows) → LeavesRows room counts rows → place_after rows ≡ row_place counts
+place-left room counts rows left =
+    let m : length rows.messages ≡ counts.messages = sym (ap length left.messages) ∙ length-take-le counts.messages room.messages left.messages_fit in
+    let o : length rows.octets ≡ counts.octets = sym (ap length left.octets) ∙ length-take-le counts.octets room.octets left.octets_fit in
+    let i : length rows.items ≡ counts.items = sym (ap length left.items) ∙ length-take-le counts.items room.items left.items_fit in
+    rw (m, o, i) refl
+
+-- The rows of the events up to `counts.at` were written.
+pub record RowsSoFar (b : List Row) (d : List Sequence) (wanted octets : List ℕ) (from : ℕ) (room : Rows) (counts : Counts) : Type 0 where
+  pub passed : List StreamEvent
+  pub events : events_from from octets ≡ passed ++ events_from counts.at octets
+  pub leaves : LeavesRows room counts (rows_after b d wanted no_rows passed)
+
+module _ (b : List Row) (d : List Sequence) (wanted octets : List ℕ) (from : ℕ) (room : Rows) (counts : Counts) (so : RowsSoFar b d wanted octets from room counts) where
+  abbrev rows : Rows
+  rows = rows_after b d wanted no_rows so.passed
+
+  before-is : three (take counts.items room.items) (take counts.octets room.octets) (take counts.messages room.messages) ≡ rows
+  before-is = rw (so.leaves.items, so.leaves.octets, so.leaves.messages) refl
+
+  -- the rows of the next event were put
+  pub rows-put : (event : StreamEvent) (made : Rows) (mid counts' : Counts) (room' : Rows) → events_from counts.at octets ≡ event ∷ events_from counts'.at octets
+      → made ≡ rows_of b d wanted (row_place counts) event → HasPutRows made counts room mid room'
+      → counts'.items ≡ mid.items → counts'.octets ≡ mid.octets → counts'.messages ≡ mid.messages → RowsSoFar b d wanted octets from room' counts'
+  rows-put event made mid counts' room' next is put items octets' messages =
+      let now = rows_after b d wanted no_rows (so.passed ++ event ∷ []) in
+      let same : join_rows (three (take counts.items room.items) (take counts.octets room.octets) (take counts.messages room.messages)) made ≡ now =
+      ap (λ r. join_rows r made) before-is
+      ∙ ap (λ r. join_rows rows r) (is ∙ ap (λ place. rows_of b d wanted place event) (sym (place-left room counts rows so.leaves)))
+      ∙ sym (after-next b d wanted no_rows so.passed event) in
+      let left : LeavesRows room' mid now = subst (λ r. LeavesRows room' mid r) same put.leaves in
+      record {
+        passed = so.passed ++ event ∷ [];
+        events = so.events ∙ ap (λ es. so.passed ++ es) next ∙ sym (append_assoc so.passed (event ∷ []) (events_from counts'.at octets));
+        leaves = record {
+          items = ap (λ n. take n room'.items) items ∙ left.items;
+          octets = ap (λ n. take n room'.octets) octets' ∙ left.octets;
+          messages = ap (λ n. take n room'.messages) messages ∙ left.messages;
+          items_fit = omega (arith, items, left.items_fit);
+          octets_fit = omega (arith, octets', left.octets_fit);
+          messages_fit = omega (arith, messages, left.messages_fit);
+        };
+      }
+
+  -- no event is left
+  pub rows-done : events_from counts.at octets ≡ [] → PassesRows b d wanted octets from room counts (pos 0)
+  rows-done none = record { passed = so.passed; events = so.events; leaves = so.leaves; done = λ _. none; stops = λ is. absurd (apart-0-74 is) }
+
+  pub rows-stopped : PassesRows b d wanted octets from room counts (pos 73)
+  rows-stopped = record { passed = so.passed; events = so.events; leaves = so.leaves; done = λ is. absurd (apart-73-0 is); stops = λ is. absurd (apart-73-74 is) }
+
+  -- after the last event the search is at the end
+  pub rows-ended : (counts' : Counts) → events_from counts.at octets ≡ [] → counts'.at ≡ length octets → counts'.items ≡ counts.items → counts'.octets ≡ counts.octets
+      → counts'.messages ≡ counts.messages → PassesRows b d wanted octets from room counts' (pos 0)
+  rows-ended counts' none at items octets' messages =
+      let end : events_from counts'.at octets ≡ [] = events-end octets counts'.at (omega (arith, at)) in
+      record {
+        passed = so.passed;
+        events = so.events ∙ ap (λ es. so.passed ++ es) (none ∙ sym end);
+        leaves = record {
+          items = ap (λ n. take n room.items) items ∙ so.leaves.items;
+          octets = ap (λ n. take n room.octets) octets' ∙ so.leaves.octets;
+          messages = ap (λ n. take n room.messages) messages ∙ so.leaves.messages;
+          items_fit = omega (arith, items, so.leaves.items_fit);
+          octets_fit = omega (arith, octets', so.leaves.octets_fit);
+          messages_fit = omega (arith, messages, so.leaves.messages_fit);
+        };
+        done = λ _. end;
+        stops = λ is. absurd (apart-0-74 is);
+      }
+
+  -- there is no room for the next event
+  pub rows-full : (event : StreamEvent) (more : List StreamEvent) (made : Rows) (counts' : Counts) (room' : Rows) → events_from counts.at octets ≡ event ∷ more
+      → made ≡ rows_of b d wanted (row_place counts) event → HasNoRowRoom made counts room counts' room' → PassesRows b d wanted octets from room' counts' (pos 74)
+  rows-full event more made counts' room' next is none =
+      let there : events_from counts'.at octets ≡ event ∷ more = ap (λ n. events_from n octets) none.at ∙ next in
+      let place : row_place counts ≡ row_place counts' = rw (none.messages, none.octets, none.items) refl in
+      let lacks : LacksRowRoom room' counts' (rows_of b d wanted (row_place counts') event) =
+      subst (λ r. LacksRowRoom room' counts' r) (is ∙ ap (λ p. rows_of b d wanted p event) place) none.lacks in
+      rw none.same (record {
+        passed = so.passed;
+        events = so.events ∙ ap (λ n. so.passed ++ events_from n octets) (sym none.at);
+        leaves = record {
+          items = ap (λ n. take n room.items) none.items ∙ so.leaves.items;
+          octets = ap (λ n. take n room.octets) none.octets ∙ so.leaves.octets;
+          messages = ap (λ n. take n room.messages) none.messages ∙ so.leaves.messages;
+          items_fit = omega (arith, none.items, so.leaves.items_fit);
+          octets_fit = omega (arith, none.octets, so.leaves.octets_fit);
+          messages_fit = omega (arith, none.messages, so.leaves.messages_fit);
+        };
+        done = λ no. absurd (apart-74-0 no);
+        stops = λ _. subst (λ es. StopsBeforeRows b d wanted room counts' es) (sym there) (rw none.same at lacks);
+      })
+
+-- nothing was written
+pub rows-none : (b : List Row) (d : List Sequence) (wanted octets : List ℕ) (room : Rows) (counts : Counts) → counts.items ≡ 0 → counts.octets ≡ 0 → counts.messages ≡ 0
+    → RowsSoFar b d wanted octets counts.at room counts
+rows-none b d wanted octets room counts items octets' messages = record {
+  passed = [];
+  events = refl;
+  leaves = record {
+    items = ap (λ n. take n room.items) items;
+    octets = ap (λ n. take n room.octets) octets';
+    messages = ap (λ n. take n room.messages) messages;
+    items_fit = omega (arith, items);
+    octets_fit = omega (arith, octets');
+    messages_fit = omega (arith, messages);
+  };
+}
+
+-- a call that read no stream
+pub no_rows_passed : (b : List Row) (d : List Sequence) (wanted octets : List ℕ) (from : ℕ) (room : Rows) (counts : Counts) (status : ℤ) → counts.at ≡ from → counts.items ≡ 0 → counts.octets ≡ 0
+    → counts.messages ≡ 0 → ¬ HasRun status → PassesRows b d wanted octets from room counts status
+no_rows_passed b d wanted octets from room counts status at items octets' messages stopped =
+    subst (λ n. PassesRows b d wanted octets n room counts status) at
+    (let so = rows-none b d wanted octets room counts items octets' messages in
+    record { passed = so.passed; events = so.events; leaves = so.leaves; done = λ is. absurd (stopped (inl is)); stops = λ is. absurd (stopped (inr is)) })
+
+-- The same in a loop, in which the tables and the wanted descriptors stay.
+pub record RowsLoop (b : List Row) (d : List Sequence) (wanted octets : List ℕ) (from : ℕ) (room : Rows) (counts : Counts) (b' : List Row) (d' : List Sequence) (wanted' : List ℕ) : Type 0 where
+  pub so : RowsSoFar b d wanted octets from room counts
+  pub table_b : b' ≡ b
+  pub table_d : d' ≡ d
+  pub same : wanted' ≡ wanted
+
+pub made-by-same : (b b' : List Row) (d d' : List Sequence) (wanted wanted' : List ℕ) (place : RowPlace) (event : StreamEvent) (made : Rows) → b' ≡ b → d' ≡ d → wanted' ≡ wanted
+    → made ≡ rows_of b' d' wanted' place event → made ≡ rows_of b d wanted place event
+made-by-same b b' d d' wanted wanted' place event made table_b table_d same is =
+    is ∙ (ap (λ x. rows_of x d' wanted' place event) table_b ∙ (ap (λ x. rows_of b x wanted' place event) table_d ∙ ap (λ x. rows_of b d x place event) same))
+
+-- ---- The clause of the call.
+
+-- a call that stopped before it read its stream
+pub items_unread : (table_b table_d wanted octets : List ℕ) (from : ℕ) (room : Rows) (counts : Counts) (status : ℤ) → counts.at ≡ from → counts.items ≡ 0 → counts.octets ≡ 0
+    → counts.messages ≡ 0 → ¬ HasRun status → ByTables table_b table_d (λ b d. PassesRows b d wanted octets from room counts status)
+items_unread table_b table_d wanted octets from room counts status at items octets' messages stopped =
+    by_any_tables table_b table_d (λ b d. PassesRows b d wanted octets from room counts status)
+    (λ b d. no_rows_passed b d wanted octets from room counts status at items octets' messages stopped)
+
+-- a call that read its stream by these tables
+pub items_read : (table_b table_d : List ℕ) (b b' : List Row) (d d' : List Sequence) (wanted wanted' octets : List ℕ) (from from' : ℕ) (room : Rows) (counts : Counts) (status : ℤ)
+    → table_b_of (records_of table_b) ≡ Ok b → table_d_of (records_of table_d) ≡ Ok d → b' ≡ b → d' ≡ d → wanted' ≡ wanted → from' ≡ from
+    → PassesRows b' d' wanted' octets from' room counts status → ByTables table_b table_d (λ b d. PassesRows b d wanted octets from room counts status)
+items_read table_b table_d b b' d d' wanted wanted' octets from from' room counts status is_b is_d same_b same_d same at passes =
+    by_these_tables table_b table_d b d (λ b d. PassesRows b d wanted octets from room counts status) is_b is_d
+    (subst (λ x. PassesRows x d wanted octets from room counts status) same_b
+    (subst (λ x. PassesRows b' x wanted octets from room counts status) same_d
+    (subst (λ x. PassesRows b' d' x octets from room counts status) same
+    (subst (λ x. PassesRows b' d' wanted' octets x room counts status) at passes))))

@@ -1,0 +1,343 @@
+-- The rows of items and of messages. (a choice of this project)
+-- Cited by public contracts.
+use Rattle.std.specs.Prelude.{ℕ, ◌≡◌, ◌≤◌, ◌<◌, ◌⊎◌, ◌+◌, ◌^◌, ◌-◌, take, ℤ, pos, neg_ℤ, int_lt, Bool, true, false, List, [], ◌∷◌, ◌++◌, length, nat_eq, Option, Some, None, Result, Ok, Err, if◌then◌else◌}
+use Rattle.std.specs.List.{list_any}
+use Rattle.std.specs.Int.{w128, to_le_bytes, cast_unsigned, from_bool}
+use Rattle.bufr_frame.specs.Prelude.{Sections, StreamEvent, FrameAt, StrayAt, cause_report, section_report, sections_of}
+use Rattle.bufr_frame.specs.declared.fault.SectionFault.{SectionFault}
+use Rattle.bufr_tables.specs.Prelude.{Row, Sequence, Tree, tree_of, tables_of, template_report}
+use Rattle.bufr_tables.specs.declared.fault.TemplateFault.{TemplateFault}
+use Rattle.bufr_walk.specs.Prelude.{ShownValue, shown_number, shown_text, shown_missing, shown_reference, Call, subset_call, item_call, Timed, data_of, data_report, read_by, calls_of, reading_of, fault_of, next_item}
+use Rattle.bufr_walk.specs.declared.fault.WalkFault.{WalkFault}
+use Rattle.bufr_c.specs.declared.rows.ValueRow.{ValueRow}
+use Rattle.bufr_c.specs.declared.rows.MessageRow.{MessageRow}
+use Rattle.bufr_c.specs.declared.rows.Counts.{Counts}
+use Rattle.bufr_c.specs.Leaving.{events_from}
+
+-- ---- The rows of the items of one message.
+
+-- Rows of items and the octets of their texts, with what the next row needs: the wanted
+-- descriptors, the index of the message, that of the first octet of its texts, and the subset.
+pub record Put : Type 0 where
+  pub wanted : List ℕ
+  pub message : ℕ
+  pub base : ℕ
+  pub subset : ℕ
+  pub items : List ValueRow
+  pub octets : List ℕ
+
+-- no rows of a message yet
+abbrev pub no_items : (wanted : List ℕ) → (message base : ℕ) → Put
+no_items wanted message base =
+    record {
+      wanted = wanted;
+      message = message;
+      base = base;
+      subset = 0;
+      items = [];
+      octets = [];
+    }
+
+-- a row from its parts
+abbrev pub item_by : Put → (fxy kind : ℕ) → (scale value : ℤ) → (length : ℕ) → ValueRow
+item_by p fxy kind scale value length =
+    record {
+      value = value;
+      message = p.message;
+      length = length;
+      subset = p.subset;
+      fxy = fxy;
+      scale = scale;
+      kind = kind;
+    }
+
+-- one more row
+abbrev pub with_item : Put → (fxy kind : ℕ) → (scale value : ℤ) → (length : ℕ) → Put
+with_item p fxy kind scale value length =
+    record p { items = p.items ++ item_by p fxy kind scale value length ∷ [] }
+
+-- one more row, and its octets; its value is the index of the first one
+abbrev pub with_text : Put → (fxy kind : ℕ) → (scale : ℤ) → List ℕ → Put
+with_text p fxy kind scale octets =
+    record p {
+      items = p.items
+          ++ item_by p fxy kind scale (pos (p.base + length p.octets)) (length octets) ∷ [];
+      octets = p.octets ++ octets;
+    }
+
+-- a number that 64 bits do not hold
+abbrev pub with_wide : Put → (fxy : ℕ) → (scale value : ℤ) → Put
+with_wide p fxy scale n = with_text p fxy 4 scale (to_le_bytes w128 (cast_unsigned w128 n))
+
+-- a number
+abbrev pub with_number : Put → (fxy : ℕ) → (scale value : ℤ) → Put
+with_number p fxy scale n =
+    if int_lt n (neg_ℤ (pos (2 ^ 63))) then with_wide p fxy scale n
+    else (if int_lt (pos (2 ^ 63 - 1)) n then with_wide p fxy scale n
+    else with_item p fxy 1 scale n 0)
+
+-- an item by its value
+abbrev pub with_value : Put → (fxy : ℕ) → ShownValue → Put
+with_value p fxy (shown_number n scale) = with_number p fxy scale n
+with_value p fxy (shown_text octets) = with_text p fxy 2 (pos 0) octets
+with_value p fxy shown_missing = with_item p fxy 0 (pos 0) (pos 0) 0
+with_value p fxy (shown_reference n) = with_item p fxy 3 (pos 0) n 0
+
+-- whether a descriptor is wanted: one of the list, or any if the list is empty
+abbrev pub is_wanted : List ℕ → (fxy : ℕ) → Bool
+is_wanted [] fxy = true
+is_wanted (first ∷ more) fxy = list_any (λ wanted. nat_eq wanted fxy) (first ∷ more)
+
+-- a call of the showing
+abbrev pub with_call : Put → Call → Put
+with_call p (subset_call number) = record p { subset = number }
+with_call p (item_call v) =
+    if is_wanted p.wanted v.fxy then with_value p v.fxy v.value else p
+
+-- a call was added, unless memory ran out
+abbrev pub PutsCall : {E : Type 0} → Put → Call → Result (Unit {0}) E → Put → Type 0
+PutsCall p call (Ok _) q = q ≡ with_call p call
+PutsCall p call (Err _) q = Unit {0}
+
+-- all calls of a showing
+abbrev pub with_calls : Put → List Timed → Put
+with_calls p [] = p
+with_calls p (t ∷ calls) = with_calls (with_call p t.call) calls
+
+-- the items of data that are read without a fault, or none
+abbrev pub data_put : Put → List Timed → Option WalkFault → Put
+data_put p calls None = with_calls p calls
+data_put p calls (Some why) = p
+
+-- the items of a message by the template of its descriptors, or none
+abbrev pub template_put : List Row → Sections → Put → Result Tree TemplateFault → Put
+template_put table s p (Ok template) =
+    data_put p (calls_of (read_by table template (data_of s) 0 0))
+    (fault_of (data_of s) (reading_of (next_item table template) (data_of s)))
+template_put table s p (Err fault) = p
+
+-- the items of a message, or none if it is refused
+abbrev pub message_put : List Row → List Sequence → Sections → Put → Put
+message_put b d s p = template_put b s p (tree_of (tables_of b d) s.descriptors)
+
+-- ---- The number of the fault of a message, or 0.
+
+abbrev pub data_fault : Option WalkFault → ℕ
+data_fault None = 0
+data_fault (Some why) = (data_report why).0
+
+abbrev pub template_fault : List Row → Sections → Result Tree TemplateFault → ℕ
+template_fault table s (Ok template) =
+    data_fault (fault_of (data_of s) (reading_of (next_item table template) (data_of s)))
+template_fault table s (Err fault) = (template_report fault).0
+
+abbrev pub message_fault : List Row → List Sequence → Sections → ℕ
+message_fault b d s = template_fault b s (tree_of (tables_of b d) s.descriptors)
+
+-- ---- The row of a message.
+
+-- the row of a message that cannot be divided into its sections, or of a stray `BUFR`
+abbrev pub plain_row : (offset length first fault : ℕ) → MessageRow
+plain_row offset length first fault =
+    record {
+      offset = offset;
+      length = length;
+      first = first;
+      items = 0;
+      centre = 0;
+      subcentre = 0;
+      year = 0;
+      subsets = 0;
+      fault = fault;
+      edition = 0;
+      master = 0;
+      update = 0;
+      category = 0;
+      subcategory = 0;
+      local_subcategory = 0;
+      master_version = 0;
+      local_version = 0;
+      month = 0;
+      day = 0;
+      hour = 0;
+      minute = 0;
+      second = 0;
+      observed = 0;
+      compressed = 0;
+    }
+
+-- the row of a message with its header
+abbrev pub head_row : Sections → (offset first items fault : ℕ) → MessageRow
+head_row s offset first items fault =
+    record {
+      offset = offset;
+      length = s.size;
+      first = first;
+      items = items;
+      centre = s.head.centre;
+      subcentre = s.head.subcentre;
+      year = s.head.year;
+      subsets = s.subsets;
+      fault = fault;
+      edition = s.head.edition;
+      master = s.head.master;
+      update = s.head.update;
+      category = s.head.category;
+      subcategory = s.head.subcategory;
+      local_subcategory = s.head.local_subcategory;
+      master_version = s.head.master_version;
+      local_version = s.head.local_version;
+      month = s.head.month;
+      day = s.head.day;
+      hour = s.head.hour;
+      minute = s.head.minute;
+      second = s.head.second;
+      observed = from_bool s.observed;
+      compressed = from_bool s.compressed;
+    }
+
+-- ---- The rows of events.
+
+-- Rows of items, the octets of their texts, and rows of messages.
+pub record Rows : Type 0 where
+  pub items : List ValueRow
+  pub octets : List ℕ
+  pub messages : List MessageRow
+
+-- no rows
+abbrev pub no_rows : Rows
+no_rows = record { items = []; octets = []; messages = [] }
+
+-- the rows of one event that cannot be read
+abbrev pub fault_rows : (offset length first fault : ℕ) → Rows
+fault_rows offset length first fault =
+    record { items = []; octets = []; messages = plain_row offset length first fault ∷ [] }
+
+-- the rows of the items that were added, with the row of their message
+abbrev pub put_rows : Put → Sections → (offset first fault : ℕ) → Rows
+put_rows p s offset first fault =
+    record {
+      items = p.items;
+      octets = p.octets;
+      messages = head_row s offset first (length p.items) fault ∷ [];
+    }
+
+-- where the rows of an event go: the index of its row, of the first octet of its texts, and of its
+-- first item
+pub record RowPlace : Type 0 where
+  pub message : ℕ
+  pub base : ℕ
+  pub first : ℕ
+
+-- after these rows
+abbrev pub place_after : Rows → RowPlace
+place_after before =
+    record {
+      message = length before.messages;
+      base = length before.octets;
+      first = length before.items;
+    }
+
+-- the rows of a message, by its sections
+abbrev pub sections_rows : List Row → List Sequence → (wanted : List ℕ) → RowPlace
+    → (offset length : ℕ) → Result Sections SectionFault → Rows
+sections_rows b d wanted place offset size (Ok s) =
+    put_rows (message_put b d s (no_items wanted place.message place.base)) s offset place.first
+    (message_fault b d s)
+sections_rows b d wanted place offset size (Err fault) =
+    fault_rows offset size place.first (section_report fault).0
+
+-- the rows of an event
+abbrev pub rows_of : List Row → List Sequence → (wanted : List ℕ) → RowPlace → StreamEvent → Rows
+rows_of b d wanted place (FrameAt offset octets) =
+    sections_rows b d wanted place offset (length octets) (sections_of octets)
+rows_of b d wanted place (StrayAt offset cause) =
+    fault_rows offset 4 place.first (cause_report cause).0
+
+-- rows after other rows
+abbrev pub join_rows : Rows → Rows → Rows
+join_rows before more =
+    record {
+      items = before.items ++ more.items;
+      octets = before.octets ++ more.octets;
+      messages = before.messages ++ more.messages;
+    }
+
+-- the rows of events after other rows
+abbrev pub rows_after : List Row → List Sequence → (wanted : List ℕ) → Rows → List StreamEvent
+    → Rows
+rows_after b d wanted before [] = before
+rows_after b d wanted before (event ∷ events) =
+    rows_after b d wanted (join_rows before (rows_of b d wanted (place_after before) event)) events
+
+-- ---- What a call leaves in the caller's buffers.
+
+-- rows from their parts
+abbrev pub three : List ValueRow → List ℕ → List MessageRow → Rows
+three items octets messages = record { items = items; octets = octets; messages = messages }
+
+-- the rows of one event as they were made
+abbrev pub rows_in : Put → MessageRow → Rows
+rows_in p row = three p.items p.octets (row ∷ [])
+
+-- where the next rows go
+abbrev pub row_place : Counts → RowPlace
+row_place counts =
+    record { message = counts.messages; base = counts.octets; first = counts.items }
+
+-- The buffers begin with these rows, and `counts` has their numbers.
+pub record LeavesRows (room : Rows) (counts : Counts) (rows : Rows) : Type 0 where
+  pub items : take counts.items room.items ≡ rows.items
+  pub octets : take counts.octets room.octets ≡ rows.octets
+  pub messages : take counts.messages room.messages ≡ rows.messages
+  pub items_fit : counts.items ≤ length room.items
+  pub octets_fit : counts.octets ≤ length room.octets
+  pub messages_fit : counts.messages ≤ length room.messages
+
+-- There is no room for these rows, and `counts` says how much they need.
+pub record LacksRowRoom (room : Rows) (counts : Counts) (rows : Rows) : Type 0 where
+  pub items_needed : counts.items_needed ≡ length rows.items
+  pub octets_needed : counts.octets_needed ≡ length rows.octets
+  pub lacks : (length room.items < counts.items + counts.items_needed)
+      ⊎ ((length room.octets < counts.octets + counts.octets_needed)
+      ⊎ (length room.messages < counts.messages + 1))
+
+-- Rows were appended to the earlier ones.
+pub record HasPutRows (rows : Rows) (old : Counts) (before : Rows) (new : Counts) (after : Rows)
+    : Type 0 where
+  pub leaves : LeavesRows after new (join_rows (three (take old.items before.items)
+      (take old.octets before.octets) (take old.messages before.messages)) rows)
+  pub at : new.at ≡ old.at
+
+-- There is no room for rows, and nothing was written.
+pub record HasNoRowRoom (rows : Rows) (old : Counts) (before : Rows) (new : Counts) (after : Rows)
+    : Type 0 where
+  pub same : after ≡ before
+  pub at : new.at ≡ old.at
+  pub items : new.items ≡ old.items
+  pub octets : new.octets ≡ old.octets
+  pub messages : new.messages ≡ old.messages
+  pub lacks : LacksRowRoom after new rows
+
+-- whether there was room for rows
+abbrev pub PutsRows : Rows → Counts → Rows → Counts → Rows → Bool → Type 0
+PutsRows rows old before new after true = HasPutRows rows old before new after
+PutsRows rows old before new after false = HasNoRowRoom rows old before new after
+
+-- there is no room for the first of these events
+abbrev pub StopsBeforeRows : List Row → List Sequence → (wanted : List ℕ) → (room : Rows)
+    → Counts → List StreamEvent → Type 0
+StopsBeforeRows b d wanted room counts [] = ⊥
+StopsBeforeRows b d wanted room counts (next ∷ more) =
+    LacksRowRoom room counts (rows_of b d wanted (row_place counts) next)
+
+-- A call wrote the rows of the events from `from` up to `counts.at`, where the next call continues.
+-- Status 0 says that no event is left, 74 that there is no room for the next one.
+pub record PassesRows (b : List Row) (d : List Sequence) (wanted octets : List ℕ) (from : ℕ)
+    (room : Rows) (counts : Counts) (status : ℤ) : Type 0 where
+  pub passed : List StreamEvent
+  pub events : events_from from octets ≡ passed ++ events_from counts.at octets
+  pub leaves : LeavesRows room counts (rows_after b d wanted no_rows passed)
+  pub done : status ≡ pos 0 → events_from counts.at octets ≡ []
+  pub stops : status ≡ pos 74
+      → StopsBeforeRows b d wanted room counts (events_from counts.at octets)

@@ -1,0 +1,93 @@
+#!/bin/sh
+# Builds the library for C. See --help.
+set -eu
+umask 022
+unset CDPATH
+
+usage() {
+    cat << END
+usage: $0 [--archive FILE] FOLDER
+
+Builds libbufr.so, libbufr.a and bufr.pc from the proved crate bufr_c, and copies bufr.h beside them. Run rt ci first: the
+crates below must be proved in this checkout. The crate bufr_c itself is then proved once more, which takes minutes.
+It needs the toolchain, a C compiler (\$CC, by default cc) and ar.
+
+options:
+  --archive FILE  take this libbufr_c.a, and prove nothing
+END
+}
+
+die() {
+    echo "$0: $1" >&2
+    exit "${2:-1}"
+}
+
+archive=''
+while [ $# -gt 0 ]; do
+    case $1 in
+        -h | --help) usage && exit ;;
+        --archive)
+            [ $# -gt 1 ] || die '--archive needs a FILE' 2
+            [ -f "$2" ] || die "there is no archive '$2'"
+            archive=$(realpath -- "$2")
+            shift
+            ;;
+        -*) die "unknown option $1; see $0 --help" 2 ;;
+        *) break ;;
+    esac
+    shift
+done
+[ $# -eq 1 ] && [ -n "$1" ] || die "expected one FOLDER; see $0 --help" 2
+here=$(cd "$(dirname "$0")" && pwd)
+top=$(dirname "$here")
+mkdir -p "$1"
+folder=$(cd "$1" && pwd)
+command -v rt > /dev/null || die 'the toolchain (rt) is not on PATH'
+kit=$(dirname "$(rt doc)")
+work=$(mktemp -d)
+trap 'rm -r "$work"' EXIT
+
+# deps CRATE: the libraries that a line of crates.txt lists.
+deps() { sed -n "s/^$1\( staticlib\)\{0,1\}: *//p" "$top/crates.txt"; }
+
+# build: proves bufr_c over the proved crates below it, and compiles it.
+build() {
+    set -- --crate-name bufr_c src/lib.rt --crate-type staticlib --extern "std=$kit/rlibs/std.rlib" -L "dependency=$kit/rlibs"
+    for name in $(deps bufr_c); do
+        rlib=$top/crates/$name/out/rlib
+        [ -d "$top/crates/$name" ] || rlib=$kit/rlibs
+        [ -d "$rlib/$name.rlib" ] || die "the crate $name is not proved; run rt ci at the top of the repository first"
+        set -- "$@" --extern "$name=$rlib/$name.rlib"
+    done
+    for rlib in "$top"/crates/*/out/rlib; do
+        set -- "$@" -L "dependency=$rlib"
+    done
+    (cd "$top/crates/bufr_c" && "$kit/bin/rattle" build "$@" --antt-project "$kit/rattle/logic/antt-project.json" \
+        --logic-built "$kit/logic_built" --toolchain "$kit/toolchain" -o "$work/libbufr_c.a") >&2
+}
+
+if [ -n "$archive" ]; then
+    cp "$archive" "$work/libbufr_c.a"
+else
+    build || die 'bufr_c was not built'
+fi
+# The allocator of the toolchain, which calls malloc, realloc and free.
+cp "$kit/c/liblibc_c.a" "$work/libc_c.a"
+cd "$work"
+printf '%s\n' 'CREATE libbufr.a' 'ADDLIB libbufr_c.a' 'ADDLIB libc_c.a' SAVE END | ar -M
+"${CC:-cc}" -shared -o libbufr.so.0 -Wl,-soname,libbufr.so.0 -Wl,-z,defs -Wl,--build-id=none -Wl,--exclude-libs,libc_c.a \
+    -Wl,--whole-archive libbufr_c.a -Wl,--no-whole-archive libc_c.a
+ln -s libbufr.so.0 libbufr.so
+cat > bufr.pc << 'END'
+prefix=${pcfiledir}/../..
+libdir=${prefix}/lib
+includedir=${prefix}/include
+
+Name: bufr
+Description: Lists, dumps, encodes and reads FM 94 BUFR messages
+Version: 0.1.0
+Libs: -L${libdir} -lbufr
+Cflags: -I${includedir}
+END
+cp "$here/bufr.h" .
+cp -P libbufr.a libbufr.so libbufr.so.0 bufr.pc bufr.h "$folder"

@@ -1,0 +1,179 @@
+"""Calls libbufr.so from Python through ctypes.
+
+    library = Library("libbufr.so", table_b, table_d)     the contents of B.csv and D.csv, as bytes
+    lines, faults = library.list(stream)
+    items, texts, messages = library.items(stream)
+
+Each method calls the library again with larger outputs for as long as the next message does not fit.
+"""
+import ctypes
+from typing import Iterator, List, Tuple
+
+DONE, OUT_OF_MEMORY, NO_ROOM = 0, 73, 74
+MISSING, NUMBER, TEXT, REFERENCE, WIDE = range(5)
+
+_Octets = ctypes.POINTER(ctypes.c_uint8)
+
+
+class Input(ctypes.Structure):
+    _fields_ = [
+        ("octets", _Octets),
+        ("octets_length", ctypes.c_size_t),
+        ("table_b", _Octets),
+        ("table_b_length", ctypes.c_size_t),
+        ("table_d", _Octets),
+        ("table_d_length", ctypes.c_size_t),
+        ("wanted", ctypes.POINTER(ctypes.c_uint16)),
+        ("wanted_length", ctypes.c_size_t),
+        ("form", ctypes.c_uint8),
+    ]
+
+
+class Texts(ctypes.Structure):
+    _fields_ = [
+        *((name, ctypes.c_size_t) for name in ("at", "output_length", "errors_length", "output_needed", "errors_needed")),
+        ("accepted", ctypes.c_uint64),
+        ("refused", ctypes.c_uint64),
+    ]
+
+
+class Item(ctypes.Structure):
+    _fields_ = [
+        ("value", ctypes.c_int64),
+        ("message", ctypes.c_uint32),
+        ("length", ctypes.c_uint32),
+        ("subset", ctypes.c_uint16),
+        ("fxy", ctypes.c_uint16),
+        ("scale", ctypes.c_int16),
+        ("kind", ctypes.c_uint8),
+    ]
+
+
+class Message(ctypes.Structure):
+    _fields_ = [
+        ("offset", ctypes.c_uint64),
+        ("length", ctypes.c_uint64),
+        ("first", ctypes.c_size_t),
+        ("items", ctypes.c_size_t),
+        *((name, ctypes.c_uint16) for name in ("centre", "subcentre", "year", "subsets")),
+        *((name, ctypes.c_uint8) for name in ("fault", "edition", "master", "update", "category", "subcategory")),
+        *((name, ctypes.c_uint8) for name in ("local_subcategory", "master_version", "local_version", "month", "day")),
+        *((name, ctypes.c_uint8) for name in ("hour", "minute", "second", "observed", "compressed")),
+    ]
+
+
+class Counts(ctypes.Structure):
+    _fields_ = [
+        (name, ctypes.c_size_t) for name in ("at", "items", "octets", "messages", "items_needed", "octets_needed")
+    ]
+
+
+class LibraryError(RuntimeError):
+    """A call returned another status than 0 and 74."""
+
+    def __init__(self, status: int) -> None:
+        super().__init__(f"status {status}")
+        self.status = status
+
+
+def pointer(octets: bytes) -> "ctypes._Pointer[ctypes.c_uint8]":
+    """A pointer to octets, which must outlive it."""
+    return ctypes.cast(octets, _Octets)
+
+
+def room(count: int, kind: type = ctypes.c_uint8) -> ctypes.Array:
+    """An output for so many values."""
+    return (kind * max(count, 1))()
+
+
+class Library:
+    """The library with the tables of one set. Several threads may use it at once."""
+
+    def __init__(self, path: str, table_b: bytes = b"", table_d: bytes = b"", octets: int = 1 << 16) -> None:
+        self.calls = ctypes.CDLL(path)
+        self.table_b, self.table_d, self.octets = table_b, table_d, octets
+
+    def version(self) -> int:
+        self.calls.bufr_version.restype = ctypes.c_uint32
+        return self.calls.bufr_version()
+
+    def input(self, octets: bytes, wanted: Tuple[int, ...] = (), form: int = 0) -> Input:
+        words = (ctypes.c_uint16 * max(len(wanted), 1))(*wanted)
+        tables = pointer(self.table_b), len(self.table_b), pointer(self.table_d), len(self.table_d)
+        return Input(pointer(octets), len(octets), *tables, words, len(wanted), form)
+
+    def _texts(self, call, *read) -> Tuple[bytes, bytes]:
+        """Calls until the end of the input: all that was written."""
+        texts, outputs = Texts(), [b"", b""]
+        rooms = [room(self.octets), room(self.octets)]
+        while True:
+            status = call(*read, *(it for one in rooms for it in (one, ctypes.c_size_t(len(one)))), ctypes.byref(texts))
+            lengths = texts.output_length, texts.errors_length
+            outputs = [done + bytes(memoryview(one)[:length]) for done, one, length in zip(outputs, rooms, lengths)]
+            if status == DONE:
+                return outputs[0], outputs[1]
+            if status != NO_ROOM:
+                raise LibraryError(status)
+            needed = texts.output_needed, texts.errors_needed
+            rooms = [one if len(one) >= count else room(count) for one, count in zip(rooms, needed)]
+
+    def list(self, octets: bytes) -> Tuple[bytes, bytes]:
+        """What `bufr ls` writes: the lines, and the fault lines."""
+        return self._texts(self.calls.bufr_list, pointer(octets), ctypes.c_size_t(len(octets)))
+
+    def dump(self, octets: bytes) -> Tuple[bytes, bytes]:
+        """What `bufr dump` writes: the text, and the fault lines."""
+        return self._texts(self.calls.bufr_dump, ctypes.byref(self.input(octets)))
+
+    def encode(self, text: bytes, form: int = 0) -> Tuple[bytes, bytes]:
+        """What `bufr encode` writes: the messages, and the line of the document that was refused."""
+        return self._texts(self.calls.bufr_encode, ctypes.byref(self.input(text, form=form)))
+
+    def parts(self, octets: bytes, wanted: Tuple[int, ...] = ()) -> Iterator[Tuple[ctypes.Array, bytes, List[Message]]]:
+        """The rows of items, the octets of their texts and the rows of messages, a part of the stream at a time."""
+        read, counts = self.input(octets, wanted), Counts()
+        items, texts, messages = room(self.octets // 24, Item), room(self.octets), room(1 + self.octets // 1024, Message)
+        while True:
+            status = self.calls.bufr_items(
+                ctypes.byref(read),
+                *(it for one in (items, texts, messages) for it in (one, ctypes.c_size_t(len(one)))),
+                ctypes.byref(counts),
+            )
+            if status not in (DONE, NO_ROOM):
+                raise LibraryError(status)
+            if counts.messages:
+                kept = (Item * counts.items).from_buffer_copy(items)
+                yield kept, bytes(memoryview(texts)[: counts.octets]), [
+                    Message.from_buffer_copy(messages[at]) for at in range(counts.messages)
+                ]
+            if status == DONE:
+                return
+            items = items if len(items) >= counts.items_needed else room(counts.items_needed, Item)
+            texts = texts if len(texts) >= counts.octets_needed else room(counts.octets_needed)
+
+
+def _shown(octet: int) -> bytes:
+    """An octet of a text as `bufr dump` writes it."""
+    if octet in b'"\\':
+        return b"\\%c" % octet
+    return b"%c" % octet if 32 <= octet < 127 else b"\\x%02X" % octet
+
+
+def value_text(item: Item, texts: bytes) -> bytes:
+    """The value of an item as `bufr dump` writes it."""
+    if item.kind == MISSING:
+        return b"MISSING"
+    octets = texts[item.value : item.value + item.length]
+    if item.kind == TEXT:
+        return b'"' + b"".join(map(_shown, octets)) + b'"'
+    number = int.from_bytes(octets, "little", signed=True) if item.kind == WIDE else item.value
+    if item.scale <= 0:
+        return b"%d" % (number * 10**-item.scale)
+    sign, digits = b"-" * (number < 0), b"%0*d" % (item.scale + 1, abs(number))
+    return sign + digits[: -item.scale] + b"." + digits[-item.scale :]
+
+
+def item_line(item: Item, texts: bytes) -> bytes:
+    """The line of an item as `bufr dump` writes it, without the name and unit."""
+    f, x, y = item.fxy >> 14, item.fxy >> 8 & 63, item.fxy & 255
+    return b"%s%d%02d%03d %s" % (b"R " * (item.kind == REFERENCE), f, x, y, value_text(item, texts))
