@@ -97,7 +97,7 @@ def strange(python: str, folder: pathlib.Path) -> None:
     want("$x^{..$ \\$?\ufffd" in drawn and "[$y$]" in drawn, "a text is taken for a formula")
     want(told == "", f"of a text it tells {told}")
     drawn, _ = draw(stations(1) + stations(1).replace(b"006001 20.5", b"006001 " + b"9" * 400), "--value", "012101:1")
-    want("1 point<" in drawn, "a longitude without end is drawn")
+    want("1 point:" in drawn, "a longitude without end is drawn")
 
 
 def first_of_a_level(python: str, folder: pathlib.Path, text: bytes) -> None:
@@ -180,7 +180,7 @@ def draws(python: str, program: str, folder: pathlib.Path) -> None:
     }
     for words, name, told in [
         (["map"], "synop", ["3 points"]),
-        (["map", "--value", "012101"], "buoys", ["8 places", "281.85", "287.35"]),
+        (["map", "--value", "012101"], "buoys", ["8 points", "281.85", "287.35"]),
         (["map", "--value", "001015"], "synop", [">SODANKYLA<", ">HEATHROW<", ">SAENTIS<"]),
         (["sounding"], "sounding", ["temperature", "dew point", "2023-03-14 23:31", ">850</text>", ">30</text>"]),
         (["sounding", "--message", "1", "--subset", "1"], "sounding", ["pressure"]),

@@ -553,7 +553,7 @@ class Runs(unittest.TestCase):
         self.assertEqual(levels, list(bufr_text.levels(bufr_text.dump(self.stream, faults=[]), ["007004"], ["offset"])))
         for call in (bufr_text.rows, bufr_text.levels):
             for given in ({"faults": []}, {"where": ["category=0"]}):
-                with self.assertRaisesRegex(TypeError, "pass faults and where to dump"):
+                with self.assertRaisesRegex(TypeError, "give them to dump"):
                     call([land], ["012101"], **given)
 
     def test_messages_left_out_by_their_year_are_warned_of(self):
