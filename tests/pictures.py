@@ -75,6 +75,7 @@ def strange(python: str, folder: pathlib.Path) -> None:
         ticks = re.findall(r">(\u2212?\d+)</text>", drawn)
         edges = [float(tick.replace("\u2212", "-")) for tick in ticks]
         want(((min(edges), max(edges)) == (-150, 150)) == is_whole, f"the map to {place} has {ticks}")
+    want(">93<" not in draw(stations(1).replace(b" 10.5\n", b" 90.0\n"))[0], "a map of the pole shows far more than its point")
     want("2 points: 012101 []" in draw(stations(2).replace(b"\n012101 282.5", b""), "--value", "012101")[0], "a last subset without the value hides its name")
     # Two levels at 0 degrees Celsius: the axis of temperatures is the same on both sides of 0.
     head = stations(1).partition(b"subset 1\n")[0]
