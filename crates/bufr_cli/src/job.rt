@@ -219,9 +219,9 @@ fn command_with_tables<'a>(
     ensures app { IfOk result (λ c. app_of c ≡ tables_app name.entry.now) }
     ensures local { IfOk result (λ c. (out-Command c).has_globals ≡ false) }
 {
-    let table_b = table_option(alloc, "B", 'B', "CSV file with Table B, which defines the elements");
+    let table_b = table_option(alloc, "B", 'B', "CSV file with Table B (the elements)");
     let command = named_command(alloc, name, about, notes).arg(table_b)?;
-    let table_d = table_option(alloc, "D", 'D', "CSV file with Table D, which defines the sequences");
+    let table_d = table_option(alloc, "D", 'D', "CSV file with Table D (the sequences)");
     let command = command.arg(table_d)?;
     command.arg(file_argument(alloc, file))
 }
@@ -237,7 +237,7 @@ fn encode_command<'a>(alloc: Global) -> Result<clap::Command<'a>, AllocError>
     let form = Arg::new(alloc, "form")
         .long("form")
         .value_name("WORD")
-        .help("plain or compressed (default: as each document specifies)");
+        .help("plain or compressed (default: as in each document)");
     command.arg(form)
 }
 
