@@ -2,8 +2,8 @@
 
     status = bufr_auto.dump(["a.bufr", None], output=pipe)  # None is standard input
 
-This module finds the messages itself, so that it does not have to wait for a listing. `bufr` does everything else: it
-runs once for each table set in each part of the stream. Parts are written in order, before the next read that may block.
+This module finds the messages itself, so that it does not have to wait for a listing. It runs `bufr` once for each table
+set in each part of the stream. Parts are written in order, before the next read that may block.
 """
 from __future__ import annotations
 
@@ -29,13 +29,13 @@ if TYPE_CHECKING:
     # The numbers in a header that determine the tables: centre, master table, version and local version.
     Tables = Tuple[int, int, int, int]
 
-# The approximate maximum number of bytes and pieces in a part, so that buffers do not grow with the stream.
+# The approximate maximum numbers of bytes and of pieces in a part, so that buffers do not grow with the stream.
 PART, PIECES = 1 << 22, 1 << 14
 BLOCK = 1 << 18
 # The maximum length of a line, and of the beginning of a document that contains the header and the descriptors.
 LINE, HEADER = 4096, 1 << 20
 END = b"\nend\n"
-# The number of different notes that are counted separately, and of descriptors and lists that are cached.
+# The maximum numbers of different notes, and of descriptor lists for which a result is cached.
 KINDS_OF_NOTES = 1000
 REMEMBERED = 1 << 8
 # The descriptors that have different definitions in version 13 and in versions up to 6.
@@ -143,7 +143,7 @@ class Finder:
 
 
 def is_stray(fault: bytes) -> bool:
-    """Returns whether a fault is a stray's, and not the report of a skipped message."""
+    """Returns whether a fault reports a stray rather than a skipped message."""
     return fault[:1].isdigit()
 
 
@@ -181,8 +181,9 @@ class Masker:
 class Source:
     """The pieces of a file, in order. Each piece is valid until the next one is requested.
 
-    The iterator yields None before a read that may block. If `is_long` is true, the piece just yielded is only the
-    beginning of a long piece. `rest` then yields the whole piece, block by block, and sets `lines` to its number of lines.
+    The iterator yields None before a read that may block. If `is_long` is true, the last piece that it yielded is only
+    the beginning of a long piece. In that case, `rest` yields the whole piece, block by block, and sets `lines` to its
+    number of lines.
     """
 
     is_long = False
@@ -279,7 +280,7 @@ class Documents(Source):
 
 
 def begin_of(text: bytearray) -> int:
-    """Returns where the first line begins that is neither empty nor a comment. The text begins with a line feed."""
+    """Returns where the first line that is neither empty nor a comment begins. The text must begin with a line feed."""
     at, end = 1, text.find(b"\n", 1)
     while end == at or (at < end <= at + LINE and text.startswith(b"#", at)):
         at, end = end + 1, text.find(b"\n", end + 1)
@@ -287,7 +288,7 @@ def begin_of(text: bytearray) -> int:
 
 
 def may_begin(text: bytearray) -> bool:
-    """Returns whether `text` may be the beginning of a document. If not, for example if it is BUFR, reading stops."""
+    """Returns whether `text` may be the beginning of a document. It is not if, for example, the input is BUFR."""
     at = begin_of(text)
     end = text.find(b"\n", at)
     return len(text) - at <= LINE if end < 0 else text[at:end] == b"message"
@@ -320,7 +321,7 @@ class Store:
 
 
 class Reason:
-    """A reason why a set may not match a message exactly, the descriptors concerned, and how to get the missing set."""
+    """A reason why a set may not match a message exactly, which descriptors it concerns, and how to get the right set."""
 
     def __init__(self, text: str, concerns: Callable[[str], bool], advice: Callable[[], str] = str) -> None:
         self.text, self.concerns, self.advice = text, concerns, advice
@@ -353,7 +354,7 @@ class Run:
 
     @staticmethod
     def words_of(piece: Bytes) -> bytes:
-        """Returns the descriptor list of a piece, in the form in which the piece contains it."""
+        """Returns the descriptor list of a piece, as bytes from a message or as lines from a document."""
         raise NotImplementedError
 
     @staticmethod
@@ -388,7 +389,7 @@ class Run:
             self.read, self.at = b"", 0
 
     def take_fault(self) -> None:
-        """Reads the next fault line: its place, and the text after the place."""
+        """Reads the next fault line, and splits it into the place of the fault and the text after the place."""
         for line in self.errors:
             word, _, self.told = line.partition(b": ")
             if word.startswith(self.PLACE) and word[len(self.PLACE) :].isdigit():
@@ -412,7 +413,7 @@ class Run:
         return self.output is None or self.copy_piece()
 
     def take(self) -> bool:
-        """Reads more of the program's output. Returns whether there was any."""
+        """Reads more of the program's output. Returns False at its end."""
         assert self.output is not None
         octets = self.output.read(BLOCK)
         self.read, self.at = self.read[self.at :] + octets, 0
@@ -460,7 +461,7 @@ class Encode(Run):
 
     @staticmethod
     def size_of(octets: Octets) -> int:
-        """Returns the number of lines. If there is no `end` line, counts up to the line at which `bufr` reports that."""
+        """Returns the number of lines, including the line at which `bufr` reports a missing `end` line."""
         text = bytes(octets)
         return text.count(b"\n") + 2 * (not text.endswith(END))
 
@@ -502,9 +503,9 @@ class Encode(Run):
 
 
 class Part:
-    """Consecutive pieces, and a run for each set. Each piece has a place, a size, a run or a fault, and reasons for notes.
+    """Consecutive pieces, and a run for each set. A piece has a place, a size, a run or a fault, and reasons for notes.
 
-    If there are conditions, the pieces are first added to `candidates`, without a run.
+    If there are conditions, the pieces are first added to `candidates`, and have no runs yet.
     """
 
     def __init__(self) -> None:
@@ -523,14 +524,14 @@ class Part:
 
 
 class Notes:
-    """The reasons why no set matches exactly, each with the number of pieces and the place of the first one."""
+    """The reasons why no set matches exactly, each with the number of affected pieces and the place of the first one."""
 
     def __init__(self) -> None:
         self.reasons: Dict[str, Reason] = {}
-        self.others = Reason(f"no set matches exactly, for reasons other than the first {KINDS_OF_NOTES:,}", bool)
+        self.others = Reason(f"no set matches exactly; only the first {KINDS_OF_NOTES:,} reasons are listed", bool)
 
     def known(self, reason: Reason) -> Reason:
-        """Returns the known reason with the same text or, if there are too many reasons, the one for all others."""
+        """Returns the known reason with the same text or, if there are too many reasons, the one for all the others."""
         if reason.text not in self.reasons and len(self.reasons) >= KINDS_OF_NOTES:
             return self.others
         return self.reasons.setdefault(reason.text, reason)
@@ -559,13 +560,13 @@ def reasons(asked: Tables, tables: bufr_sets.TableSet) -> List[Reason]:
         found.append(Reason(text, CHANGED_SINCE_6.__contains__))
     if local != 0 and tables.own is None:
         own = bufr_sets.own_name(tables, centre, local)
-        text = f"there is no {own} for local table {local} of centre {centre}"
+        text = f"there is no {own} for local version {local} of centre {centre}"
         found.append(Reason(text, bufr_sets.is_local, lambda: bufr_sets.advice(tables, centre, version, local)))
     return found
 
 
 class Work:
-    """Dumps or encodes all files. Records the status so far, and the lines to print at the end."""
+    """Dumps or encodes all files. Records the exit status so far, and the lines to print at the end."""
 
     def __init__(self, kind: Type[Run], files: Sequence[Optional[str]], output: int = 1) -> None:
         self.kind, self.files, self.sets, self.target = kind, files, bufr_sets.TableSets(), bufr_guard.output(output)
@@ -645,8 +646,8 @@ class Work:
     def parts(self, feed: Feed) -> Iterator[Optional[Part]]:
         """Yields the parts of a file, and None when they must be written: before a read that may block, and at the end.
 
-        This function is short: to leave a `try` block that ends more than 256 instructions into a function, Python 3.11
-        must allocate an integer, and that fails if memory has run out.
+        This function must be short: to leave a `try` block that ends more than 256 instructions into a function, Python
+        3.11 must allocate an integer, which fails if memory has run out.
         """
         source = self.kind.SOURCE(feed, self.longest)
         pieces = iter(source)  # freed after the part, because Python may otherwise report that it cannot close the iterator
@@ -659,7 +660,7 @@ class Work:
         yield None
 
     def full_parts(self, feed: Feed, source: Source, pieces: Iterator[Optional[Piece]]) -> Iterator[Optional[Part]]:
-        """Yields the parts of a file, except the last one, which is still open."""
+        """Yields the parts of a file, except the last one, which remains in `self.part`."""
         count = 0
         for piece in pieces:
             count += piece is not None and not is_stray(piece[2])
@@ -693,7 +694,7 @@ class Work:
             part.pieces.append((place, self.kind.size_of(octets), run, notes, b""))
 
     def feed(self, part: Part, source: Source, feed: Feed, piece: Piece) -> None:
-        """Passes a long piece to a separate run, block by block as the blocks arrive."""
+        """Passes a long piece to a separate run, block by block, as the blocks arrive."""
         place, begin, _ = piece
         run, notes = self.assigned(part, lambda at, length: bytes(begin[at : at + length]))
         os.close(run.pieces.descriptor())
@@ -711,7 +712,7 @@ class Work:
         part.pieces.append((place, source.lines, run, notes, b""))
 
     def selected(self, part: Part) -> Part:
-        """Returns a part with only those candidates that meet the conditions or that `bufr ls` does not list."""
+        """Returns a part that contains the candidates that meet the conditions, and those that `bufr ls` does not list."""
         if part.candidates is None:
             return part
         candidates, chosen, begin = part.candidates.descriptor(), Part(), 0
@@ -730,7 +731,7 @@ class Work:
         return chosen
 
     def refused(self, candidates: int) -> FrozenSet[int]:
-        """Returns the offsets of the candidates whose line in the output of `bufr ls` does not meet the conditions."""
+        """Returns the offsets of the candidates that `bufr ls` lists but that do not meet the conditions."""
         assert self.conditions
         (listing, target), nothing = os.pipe(), os.open(os.devnull, os.O_WRONLY)
         process = bufr_guard.start([bufr_guard.program(), "ls"], candidates, target, nothing)
@@ -763,7 +764,7 @@ class Work:
         return part.runs[tables], notes
 
     def is_concerned(self, tables: bufr_sets.TableSet, reason: Reason, words: bytes) -> bool:
-        """Returns whether a reason concerns a descriptor that a descriptor list uses."""
+        """Returns whether a reason concerns any descriptor that a descriptor list uses."""
         key = tables, reason.concerns, words
         if key in self.remembered:
             return self.remembered[key]
@@ -812,7 +813,7 @@ class Work:
             self.end(worst, is_whole)
 
     def end(self, run: Run, is_whole: bool) -> None:
-        """Adds a run's status and its error lines to those of the work."""
+        """Records the exit status of a run, and the lines that it printed besides fault lines."""
         self.last += run.others
         for line in run.others:
             if line.startswith((b"table B: ", b"table D: ")):

@@ -4,7 +4,7 @@
     for line in listing:        # a line as bytes
         if conditions.are_met(line):
             ..
-    note = conditions.note()    # says how many edition 3 messages were left out, or is empty
+    note = conditions.note()    # how many edition 3 messages were left out, or an empty string
 
 KEY is the name of a field. VALUE is the whole value of the field or its first parts: category=0 matches 0/2/0, and
 time=2024-01-02 matches all times on that day. To match any of several values, separate them with commas. A line must meet
@@ -23,10 +23,10 @@ TIME = re.compile(r"\d{4,}(-\d{2,}(-\d{2,}(T\d{2,}(:\d{2,}(:\d{2,})?)?)?)?)?").f
 
 
 class Conditions:
-    """Conditions on a line. `patterns` contains a pattern for each (for grep -E and `re`), and whether it must not match.
+    """Conditions on a line. `patterns` has a pair for each: whether the pattern must not match, and the pattern itself.
 
-    Edition 3 messages contain only the year of the century, so time=2024 does not match 0024. Such messages are left out
-    and counted.
+    The patterns work both with grep -E and with `re`. Edition 3 messages contain only the year of the century, so time=2024
+    does not match 0024. Such messages are left out and counted.
     """
 
     def __init__(self, words: Iterable[str]) -> None:
@@ -63,7 +63,7 @@ class Conditions:
         self.patterns.append((bool(negated), pattern))
 
     def pattern_of_left_out(self) -> str:
-        """Returns a pattern without groups for lines that match but are left out."""
+        """Returns a pattern for lines that match but are left out. The pattern has no groups."""
         return f" edition=3 .* time=(?:{'|'.join(self.of_century)})[ T:-]" if self.of_century else "(?!)"
 
     def are_met(self, line: bytes) -> bool:
@@ -81,10 +81,10 @@ class Conditions:
             return ""
         messages = "1 edition 3 message" if self.left_out == 1 else f"{self.left_out} edition 3 messages"
         both = f"{self.asked},{','.join(self.of_century)}"
-        return f"left out {messages}{so_far} because of two-digit years; {both} selects both editions"
+        return f"left out {messages}{so_far} because of two-digit years; use {both} to select both editions"
 
     def new_note(self, so_far: str) -> List[str]:
-        """Returns a list with the note, or an empty list if there is none or it has been returned before."""
+        """Returns a list that contains the note unless there is none or it was returned before."""
         notes = [self.note(so_far)] * (self.left_out > 0 and not self.is_told)
         self.is_told = self.left_out > 0
         return notes

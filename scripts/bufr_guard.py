@@ -12,13 +12,13 @@ function raises `Failed` if it cannot continue.
     sys.excepthook = bufr_guard.hook  # before the script imports anything else
     bufr_guard.run(work, __doc__)
 
-- `run` calls the function, flushes the output, and exits with the returned status. It handles the exception `Question`
-  by printing the help or the version, and any other exception by printing one line and exiting with status 2.
+- `run` calls the function, flushes the output, and exits with the returned status. If the function raises `Question`,
+  `run` prints the help or the version. For any other exception, it prints one line and exits with status 2.
 - `start` and `wait` run a program. A signal that ends the script also ends the program. `checked` raises `Failed` if the
   program crashed.
 - `opened`, `temporary` and `copied` return file descriptors. They raise `Failed` if there is no space for temporary
   files. `output` returns an object that writes to a descriptor, by default standard output, in large blocks.
-- `say` writes lines to standard error, and `Progress` displays a temporary progress line. `bare` returns the note on a
+- `say` writes lines to standard error, and `Progress` displays a temporary progress line. `bare` returns the note for a
   file that contains no message.
 
 Every script loads this module, so it imports as few modules as possible.
@@ -39,7 +39,7 @@ if TYPE_CHECKING:
     from types import FrameType, TracebackType
     from typing import Any, BinaryIO, Callable, Dict, Iterator, List, NoReturn, Optional, Sequence, Type, Union
 else:
-    # Python's own modules load enumerations and collections, which take longer than everything else here.
+    # The public modules import enum and collections, which takes longer than everything else here.
     import _signal as signal
     from _functools import partial
 
@@ -96,7 +96,10 @@ def run(work: Callable[[List[str]], int], text: Optional[str], ends_by_pipe: boo
 
 
 def take_descriptors() -> None:
-    """Opens any of the descriptors 0 to 2 that is closed, so that no other file gets its number. Using it still fails."""
+    """Opens those of the descriptors 0 to 2 that are closed, so that no other file gets their numbers.
+
+    Reading from descriptor 0, or writing to 1 or 2, still fails.
+    """
     for number, mode in ((0, os.O_WRONLY), (1, os.O_RDONLY), (2, os.O_RDONLY)):
         try:
             os.fstat(number)
@@ -110,7 +113,7 @@ def take_descriptors() -> None:
 
 
 def guarded(work: Callable[[List[str]], int], text: str) -> int:
-    """Returns the status of the work. If the work raises an exception, reports the exception and returns 2."""
+    """Runs the work and returns its status. If it raises an exception, reports the exception and returns 2."""
     try:
         if sys.version_info < (3, 9):
             raise Failed(f"{sys.executable} is too old; Python 3.9 or later is required")
@@ -189,12 +192,12 @@ def build() -> str:
 
 
 def reason(error: BaseException) -> str:
-    """Returns the message for an exception. For an internal error, the message includes the place in the code."""
+    """Returns the message for an exception. The message for an internal error includes the place in the code."""
     if isinstance(error, Failed):
         return str(error)
     if isinstance(error, ModuleNotFoundError):
         debian = f"on Debian: apt-get install python3-{error.name}, then /usr/bin/python3 {sys.argv[0]} .."
-        return f"{error.name} is not installed for {sys.executable} ({debian})"
+        return f"the Python package {error.name} is not installed for {sys.executable} ({debian})"
     if isinstance(error, OSError) and error.strerror:
         is_named = isinstance(error.filename, (str, bytes))
         if is_named:
@@ -274,14 +277,14 @@ def write_all(descriptor: int, octets: Union[bytes, bytearray, memoryview]) -> N
 
 
 def say(lines: bytes) -> None:
-    """Writes lines to standard error. They are printed at the next `flush`, if not before."""
+    """Writes lines to the buffer for standard error. The next `flush` prints them, unless the buffer fills up first."""
     if lines:
         Progress.clear()
         output(2).write(lines)
 
 
 def bare(file: Optional[str], begin: bytes, piece: str = "message") -> bytes:
-    """Returns the note that a file contains no message, with the file type that its first bytes suggest."""
+    """Returns the note for a file that contains no message, with the file type that its first bytes suggest."""
     head = begin.lstrip()
     if head[:1] == b"<":
         head = head.lower()
@@ -295,8 +298,8 @@ def bare(file: Optional[str], begin: bytes, piece: str = "message") -> bytes:
 class Progress:
     """A progress line on standard error, if that is a terminal. It is updated at most once a second.
 
-    The next output replaces the line. If standard output is also a terminal, and text is written to it
-    (`has_texts`), there is no progress line, because the text already shows the progress.
+    The next output replaces the line. If text is written to standard output (`has_texts`), and that is also a terminal,
+    there is no progress line, because the text already shows the progress.
     """
 
     is_shown: bool = False
@@ -332,7 +335,7 @@ class Progress:
 
 
 def program() -> str:
-    """Returns the path of `bufr`: BUFR or else, in this order, next to the script, on PATH, or in the repository."""
+    """Returns the path of `bufr`: the value of BUFR, or the first one next to the script, on PATH or in the repository."""
     named = os.environ.get("BUFR")
     if named:
         return named
@@ -398,7 +401,7 @@ def lines_from(
 
 
 def checked(status: int, has_told: bool = True, what: str = "bufr") -> int:
-    """Returns a program's status if it is 0 or 1, or if it is 2 and the reason was reported. Otherwise, raises `Failed`."""
+    """Returns a program's status. Raises `Failed` if it is over 2, or if it is 2 and no reason was reported."""
     if status > 128:
         raise Failed(f"{what} was killed (signal {status - 128}); output is incomplete")
     if status not in (0, 1, 2) or (status == 2 and not has_told):
@@ -428,7 +431,7 @@ def leave(number: int, _frame: Optional[FrameType]) -> None:
 
 
 def opened(file: Optional[str]) -> int:
-    """Opens a file for reading at any offset. If it is not a regular file, returns the descriptor of a temporary copy."""
+    """Returns a descriptor of a file that can be read at any offset: a temporary copy if the file is not a regular file."""
     descriptor = to_read(file)
     return descriptor if is_regular(descriptor) else copied(descriptor, named(file))
 
@@ -451,7 +454,7 @@ def is_regular(descriptor: int) -> bool:
 
 
 def temporary() -> int:
-    """Creates a file without a name in TMPDIR, and returns its descriptor."""
+    """Creates an unnamed file in TMPDIR, and returns its descriptor."""
     try:
         return os.open(folder_of_temporary(), os.O_TMPFILE | os.O_RDWR, 0o600)
     except OSError as error:
@@ -484,7 +487,7 @@ def no_room() -> Failed:
 
 
 def copied(source: int, name: str) -> int:
-    """Copies everything from a descriptor to a temporary file. Returns the file's descriptor, positioned at its start."""
+    """Copies the data from a descriptor to a temporary file. Returns the file's descriptor, positioned at its start."""
     descriptor, octets, progress, size = temporary(), b" ", Progress(has_texts=False), 0
     while octets:
         try:
@@ -500,7 +503,7 @@ def copied(source: int, name: str) -> int:
 
 
 def read_at(descriptor: int, offset: int, length: int) -> bytes:
-    """Reads part of a message that was found in a file. Raises `Failed` if the file is now too short."""
+    """Reads part of a message that was found in a file. Raises `Failed` if the file has been truncated since."""
     pieces, end = [], offset + length
     while offset < end:
         try:
@@ -514,7 +517,7 @@ def read_at(descriptor: int, offset: int, length: int) -> bytes:
 
 
 def fault_lines(errors: int) -> Iterator[tuple[float, bytes]]:
-    """Yields each line that a run of `bufr` wrote to a file, with the offset that the line reports.
+    """Yields each line that `bufr` wrote to the file `errors`, with the offset that the line reports.
 
     Lines that do not report faults in messages come last, with the offset `NOWHERE`.
     """
@@ -528,9 +531,9 @@ def fault_lines(errors: int) -> Iterator[tuple[float, bytes]]:
 
 
 class Faults:
-    """The fault lines from a listing, which can be printed in order with the output for its messages.
+    """The fault lines of a listing, which can be printed between the outputs for the messages.
 
-    Other lines are printed at the end. `has_told` says whether there were any other lines.
+    Lines that are not fault lines are printed at the end. `has_told` says whether there were any.
     """
 
     def __init__(self, errors: int) -> None:

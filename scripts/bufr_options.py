@@ -9,8 +9,8 @@
     bufr_guard.run(work, __doc__)
 
 `-c VALUE` and `-cVALUE` have the same effect, and so do `--name VALUE` and `--name=VALUE`. Options may follow operands.
-After `--`, every word is an operand. A function in `values` converts a word to a value, or raises a ValueError whose
-message states what was expected.
+After `--`, every word is an operand. A function in `values` converts a word to a value, or raises a `ValueError` that
+says what was expected.
 
 An invalid command line raises `bufr_guard.Failed`, with a message that refers to --help. The options --help and --version
 raise `bufr_guard.Question`, which `run` handles.
@@ -31,7 +31,7 @@ ANSWERS = {"-h": "--help", "--help": "--help", "-V": "--version", "--version": "
 class Asked:
     """The options and operands on a command line.
 
-    With `takes_conditions`, operands such as `category=0` are treated as values of --where.
+    If `takes_conditions` is true, operands such as `category=0` are treated as values of --where.
     """
 
     def __init__(
@@ -85,7 +85,7 @@ class Asked:
         return [default, *self.all(name)][-1]
 
     def files(self, skipped: int = 0) -> list[Optional[str]]:
-        """Returns the operands after the first `skipped` as file names. None, the default, stands for standard input."""
+        """Returns the operands after the first `skipped` ones as file names. None is standard input: `-`, or no operand."""
         return [None if file == "-" else file for file in self.operands[skipped:]] or [None]
 
     def conditions(self) -> Optional[Conditions]:
@@ -108,7 +108,7 @@ def is_condition(word: str) -> bool:
 
 
 def parts(word: str) -> tuple[str, Optional[str]]:
-    """Splits a word into the name of an option and the value that is joined to it, which is None if there is none."""
+    """Splits a word into the name of an option and the value attached to it, or None if there is no value."""
     if word.startswith("--"):
         name, equals, value = word.partition("=")
         return name, value if equals else None
@@ -121,7 +121,7 @@ def misused(why: str) -> bufr_guard.Failed:
 
 
 def number_from(least: int) -> Callable[[str], int]:
-    """Returns a function for `values` that accepts whole numbers of at least `least`."""
+    """Returns a function for `values` that accepts only whole numbers that are at least `least`."""
 
     def number(word: str) -> int:
         if not (word.isascii() and word.isdigit() and len(word) < 19) or int(word) < least:

@@ -66,7 +66,7 @@ class TableSet:
         return self.sequences
 
     def cached(self) -> None:
-        """Records that the set is cached. If too many sets are cached, drops the tables that were cached first."""
+        """Records that the set is cached. If too many sets are cached, drops the tables of the oldest one."""
         if self not in cache:
             cache.append(self)
         if len(cache) > CACHED:
@@ -76,8 +76,8 @@ class TableSet:
     def used(self, descriptors: Tuple[str, ...]) -> Iterator[str]:
         """Yields the elements and sequences that a descriptor list uses, directly or through sequences.
 
-        An element after 2 06 Y needs no row. The tables are read only if the list contains a sequence, and only after
-        the list's own descriptors have been yielded.
+        An element after 2 06 Y is left out, because it needs no row. The tables are read only if the list contains a
+        sequence, and only after the list's own descriptors have been yielded.
         """
         found = set()
         sequences = [""]
@@ -112,7 +112,7 @@ class TableSets:
                 tables = TableSet(os.path.join(self.folder, name), int(version), key)
                 missing = next((table for table in ("B.csv", "D.csv") if not os.path.exists(tables.file(table))), "")
                 if missing:
-                    self.notes.append(f"ignored {tables.folder}, which has no {missing}; complete it or remove it")
+                    self.notes.append(f"ignored {tables.folder}, which has no {missing}; add it, or remove the directory")
                 else:
                     self.sets.setdefault(key, {})[tables.version] = tables
         if None not in self.sets:
@@ -125,9 +125,8 @@ class TableSets:
     def asked(self, centre: int, version: int, local: int) -> TableSet:
         """Returns the set for a centre, a version and a local version.
 
-        This is WMO's set for the version; failing that, the set for the next later version; and failing that, the latest
-        set. A set with the centre's local rows takes precedence if its version is in the range from `version` to that of
-        WMO's set.
+        This is WMO's set for the version or, if there is none, the set for the next later version or else the latest set.
+        A set with the centre's local rows takes precedence if its version lies between `version` and that of WMO's set.
         """
         of_wmo = self.sets[None]
         nearest = min((number for number in of_wmo if number >= version), default=max(of_wmo))
@@ -157,7 +156,7 @@ def folder_of_sets() -> str:
 
 
 def words_of(message: Bytes) -> bytes:
-    """Returns the descriptors in section 3 of a message, as two bytes each, but no more than a template can contain."""
+    """Returns the descriptors in section 3 of a message, two bytes each, up to the maximum for a template."""
     begin = message(0, 26)
     at, flags = 8, begin[17 if begin[7:8] == b"\4" else 15 :][:1]
     for _ in range(2 if flags >= b"\x80" else 1):
@@ -184,19 +183,19 @@ NEWER = "get newer tables from WMO (wmo-im/BUFR4 on GitHub), and convert them wi
 
 
 def is_local(fxy: str) -> bool:
-    """Returns whether a descriptor is for local use, which means that a centre defines it."""
+    """Returns whether a descriptor is local, which means that each centre defines it for itself."""
     return int(fxy[1:3]) >= 48 or int(fxy[3:]) >= 192
 
 
 def advice(tables: TableSet, centre: int, version: int, local: int) -> str:
-    """Returns the command that adds a centre's local rows to a WMO set, or whom to ask for these rows."""
+    """Returns advice on how to add a centre's local rows to a WMO set: a command to run, or whom to ask for the rows."""
     folders = [*os.environ.get("ECCODES_DEFINITION_PATH", "").split(":"), ECCODES]
     of_eccodes = [f"{folder}/bufr/tables/0/local/{local}/{centre}/0" for folder in folders]
     of_wreport = f"{WREPORT}/B00000000{centre:05}{version:03}{local:03}.txt"
     for source in filter(os.path.isdir, of_eccodes):
-        return "to make it: " + command(tables, centre, local, tables.folder, source)
+        return "to make it, run: " + command(tables, centre, local, tables.folder, source)
     if os.path.isfile(of_wreport):
-        return "to make it: " + command(tables, centre, local, of_wreport, tables.folder)
+        return "to make it, run: " + command(tables, centre, local, of_wreport, tables.folder)
     if (centre, local) in ECCODES_HAS:
         words = command(tables, centre, local, tables.folder, of_eccodes[-1])
         return f"to make it, install libeccodes-data (Debian), then run: {words}"

@@ -12,9 +12,9 @@
 and `encode` converts messages to BUFR. These functions run `bufr`. `read` and `write` convert between dumps and messages
 without running it.
 
-Messages are read one at a time, so memory use depends on the longest message in a file, not on the length of the file:
-48 MB including Python, 1 KB for each item in that message, and twice the length of its dump. The faults in your list and
-the result of `encode` need additional memory.
+Messages are read one at a time, so memory use depends on the longest message in a file, not on the length of the file.
+It is 48 MB including Python, plus 1 KB for each item in that message, plus twice the length of its dump. The list of faults
+and the result of `encode` need additional memory.
 """
 from __future__ import annotations
 
@@ -95,7 +95,7 @@ _CAUSES = [
         (rb".* ", "a space at the end"),
         (rb"[a-z][^#]*#.*", "a comment; only items may have one"),
         (rb"\d{6} \"[^\"]*\\x(?![0-9A-F]{2}).*", "\\x without two upper-case hexadecimal digits"),
-        (rb"\d{6} \"[^\"]*[^ -~].*", "a byte in a string that must be written as \\xHH"),
+        (rb"\d{6} \"[^\"]*[^ -~].*", "a byte in a string that must be escaped as \\xHH"),
         (rb"\d{6} \".*", "an unescaped \" or \\ in a string, or no closing \""),
         (rb"\d{6} [^-.\d\"].*", "a string without quotes"),
     ]
@@ -115,7 +115,7 @@ class TextError(ValueError):
 
 
 class RunError(RuntimeError):
-    """Reports that a program failed or refused a dump. `status` is its exit status, or minus the signal number."""
+    """Reports that a program failed or refused a dump. `status` is its exit status, or the negative signal number."""
 
     def __init__(self, status: int, reason: str) -> None:
         super().__init__(status, reason)
@@ -126,11 +126,11 @@ class RunError(RuntimeError):
 
 
 class DumpWarning(UserWarning):
-    """Warns of a file without messages, messages that were refused or left out, or levels that cannot be told apart."""
+    """Warns about a file without messages, messages that were refused or left out, or ambiguous levels."""
 
 
 class Fault(NamedTuple):
-    """A fault line: the offset in the file, the fault number, and the fault text."""
+    """A fault: its offset in the file, its number and its text."""
 
     offset: int
     number: int
@@ -141,7 +141,7 @@ class Fault(NamedTuple):
 
 
 class Listed(NamedTuple):
-    """One line from `bufr ls`: the offset of a message in the file, its length, and its header, with the keys in `HEADER`.
+    """A line from `bufr ls`: the offset of a message in the file, its length, and its header values (see `HEADER`).
 
     `descriptors` is the number of descriptors in section 3.
     """
@@ -173,10 +173,10 @@ class Listed(NamedTuple):
 
 @dataclass
 class Item:
-    """One item in a subset: its descriptor as six digits, its value, and its name and unit from Table B.
+    """An item in a subset: its descriptor as six digits, its value, and its name and unit from Table B.
 
-    The name and the unit are `None` if the item was read without a row in Table B. `reference` is true for a new
-    reference value that is defined in the data (a line that begins with `R`).
+    The name and the unit are `None` if the item was read without a row in Table B. `reference` is true if the item is a
+    new reference value that is defined in the data (a line that begins with `R`).
     """
 
     fxy: str
@@ -188,11 +188,11 @@ class Item:
 
 @dataclass
 class Message:
-    """One message: its header (a number for each key in `HEADER`), its descriptors, and its subsets.
+    """A message: its header (a number for each key in `HEADER`), its descriptors, and its subsets.
 
     `local1` contains the local-use bytes of section 1. `section2` contains the bytes of section 2, or is `None` if there
-    is no section 2. Each subset is a list of items. If `dump` read the message, `offset` and `length` are its place in the
-    file; otherwise, they are `None`.
+    is no section 2. Each subset is a list of items. `offset` and `length` give the place of the message in the file if
+    `dump` read the message, and are `None` otherwise.
     """
 
     header: Dict[str, int]
@@ -205,7 +205,7 @@ class Message:
 
 
 class _Lines:
-    """The lines of a dump, without empty lines and comments. `line` is the current line, and `number` its number."""
+    """The lines of a dump, without empty lines and comments. `line` is the current line, and `number` is its number."""
 
     def __init__(self, stream: Iterable[bytes]) -> None:
         self.rest = iter(stream)
@@ -249,8 +249,9 @@ class _Lines:
 def read(stream: Iterable[bytes]) -> Iterator[Message]:
     """Yields the messages in a dump. `stream` yields its lines as bytes, like a file opened in mode "rb".
 
-    Raises `TextError` at the first invalid line. `bufr encode` also checks the ranges of header values, and whether the
-    items match the descriptors. A number such as `1.` raises `TextError` here, but causes fault 52 in `bufr encode`.
+    Raises `TextError` at the first invalid line. `read` does not check the ranges of header values, or whether the items
+    match the descriptors; `bufr encode` does. A number such as `1.` raises `TextError` here, and is fault 52 in
+    `bufr encode`.
     """
     lines = _Lines(stream)
     line = lines.take()
@@ -316,7 +317,7 @@ def _read_item(lines: _Lines, line: bytes) -> Item:
 def write(messages: Iterable[Message], stream: IO[bytes]) -> None:
     """Writes messages as a dump. `read` followed by `write` reproduces the output of `bufr dump` exactly.
 
-    Subsets are renumbered, so you can add and remove subsets. Raises `TypeError` for a value that is not a `Decimal`,
+    `write` numbers the subsets, so you can add and remove subsets. Raises `TypeError` for a value that is not a `Decimal`,
     bytes or `None` (a `float` is not an exact decimal), and `ValueError` for a `Decimal` that is not a number.
     """
     for message in messages:
@@ -392,7 +393,7 @@ def rows(
 
     A number is an `int` if its scale allows no decimal places, and otherwise the nearest `float`. A string contains the
     same escapes as in a dump, but no trailing spaces. A value is `None` if it is missing or the subset has no such item.
-    Raises `ValueError` for a word that is not a column. If names in Table B contain the word, the error lists their
+    Raises `ValueError` for a word that is not a column. If the word occurs in names in Table B, the error lists their
     descriptors.
     """
     _check([*columns], _COLUMN, header)
@@ -413,13 +414,13 @@ def levels(
 ) -> Iterator[Tuple[Cell, ...]]:
     """Yields a tuple for each level of a sounding: header values, then the values for `keep`, then column values.
 
-    A level is one repetition (pass) of a delayed replication. It yields a tuple if it contains an item for the first column
+    A level is one repetition (pass) of a delayed replication. It has a tuple if it contains an item for the first column
     and, if there are several columns, for at least one other column. Each column selects the first item with that
-    descriptor in the level, and each descriptor in `keep` selects the first one in the whole subset. Otherwise, `levels`
-    works like `rows`.
+    descriptor in the level, and each descriptor in `keep` selects the first one in the whole subset. In all other
+    respects, `levels` works like `rows`.
 
-    A subset is skipped if its levels cannot be told apart, because the descriptor that begins a level occurs in it again.
-    A `DumpWarning` at the end says how many subsets were skipped.
+    A subset is skipped if its levels are ambiguous because the descriptor that begins a level occurs in it again. A
+    `DumpWarning` at the end says how many subsets were skipped.
     """
     _check([*columns, *keep], re.compile(_FXY.decode()), header)
     messages = _messages(messages, faults, where)
@@ -439,7 +440,7 @@ def _check(columns: List[str], form: re.Pattern[str], header: Sequence[str]) -> 
 def _named(word: str) -> str:
     """Returns the part of an error message that lists the elements whose names contain the word, exact matches first.
 
-    The names come from the latest tables.
+    The names are those in the latest tables.
     """
     import bufr_guard
     import bufr_sets
@@ -460,7 +461,7 @@ def _messages(
     if isinstance(messages, (str, os.PathLike)):
         return dump(messages, faults=faults, where=where)
     if faults is not None or where:
-        raise TypeError("the arguments faults= and where= require a file name; to use them with messages, give them to dump()")
+        raise TypeError("the arguments faults= and where= require a file name; for messages, pass them to dump() instead")
     return messages
 
 
@@ -491,7 +492,8 @@ def _levels(
         try:
             passes = _passes(subset)
         except ValueError as twice:
-            unclear, first = unclear + 1, first or f"message {message} subset {count}: {twice}"
+            where = f"message {message} subset {count} ({twice} begins a level and occurs in it again)"
+            unclear, first = unclear + 1, first or where
             continue
         kept = [_cell(find(subset, fxy)) for fxy in keep]
         for one in passes:
@@ -499,12 +501,13 @@ def _levels(
             if found[0] and (len(found) == 1 or any(found[1:])):
                 yield (*header, *kept, *map(_cell, found))
     if unclear:
-        text = f"skipped subsets whose levels cannot be told apart: {unclear}, the first is {first}"
-        warnings.warn(text, DumpWarning, stacklevel=2)
+        what = "with ambiguous levels"
+        skipped = f"a subset {what}:" if unclear == 1 else f"{unclear} subsets {what}; the first is"
+        warnings.warn(f"skipped {skipped} {first}", DumpWarning, stacklevel=2)
 
 
 def _passes(subset: List[Item]) -> List[List[Item]]:
-    """Returns the items in each pass of each delayed replication. Raises `ValueError` if passes cannot be told apart.
+    """Returns the items in each pass of each delayed replication. Raises `ValueError` if the passes are ambiguous.
 
     `left` passes of the replication have not begun. Each pass begins with the descriptor `opener`. `one` is the current
     pass. So far, it has `items` items and `inner` factors; the previous pass had `pass_items` and `pass_inner`.
@@ -541,7 +544,7 @@ def _passes(subset: List[Item]) -> List[List[Item]]:
 
 
 def listing(file: _Path, faults: Optional[List[Fault]] = None) -> Iterator[Listed]:
-    """Yields a `Listed` for each line that `bufr ls` prints. `faults` and exceptions are the same as for `dump`."""
+    """Yields a `Listed` for each line that `bufr ls` prints. Reports faults and raises exceptions as `dump` does."""
     told = _Told(file, faults)
     with _opened(file) as stream, tempfile.TemporaryFile() as errors:
         for place in _listed(stream, errors, told):
@@ -551,7 +554,7 @@ def listing(file: _Path, faults: Optional[List[Fault]] = None) -> Iterator[Liste
 
 
 def parts(places: Iterable[Listed], octets: int = 1 << 19) -> Iterator[List[Listed]]:
-    """Splits the places into lists. In every list except the last, the messages have at least `octets` bytes in total."""
+    """Splits the places into lists. The messages in each list, except the last, have at least `octets` bytes in total."""
     part: List[Listed] = []
     held = 0
     for place in places:
@@ -581,13 +584,13 @@ def dump(
     Without a list, faults are printed to `sys.stderr`, and a `DumpWarning` at the end counts them. There is also a
     `DumpWarning` for each note from `bufr-auto`, and for a file without messages.
 
-    `dump` first lists the file, and then reads its messages. It copies a pipe to a temporary file. Raises `ValueError`
-    for an invalid condition, `RunError` if a program exits with a status over 1, and `OSError` if a file cannot be read.
-    The environment variable `BUFR` can name a different program.
+    `dump` first lists the file, and then reads its messages. If the file is a pipe, `dump` copies it to a temporary file.
+    Raises `ValueError` for an invalid condition, `RunError` if a program exits with a status over 1, and `OSError` if a
+    file cannot be read. To use a different `bufr`, set the environment variable `BUFR` to its path.
     """
     words = _words("dump", table_b, table_d)
     if where and places is not None:
-        raise TypeError("where selects messages from the whole file; pass either where or places, not both")
+        raise TypeError("pass either where= or places=, not both; where= selects messages from the whole file")
     told = _Told(file, faults)
     if where:
         import bufr_conditions
@@ -598,7 +601,7 @@ def dump(
 
 def _dumped(words: List[str], told: _Told, places: Optional[Iterable[Listed]]) -> Iterator[Message]:
     with _opened(told.file) as stream, tempfile.TemporaryFile() as errors:
-        # only after the run of a part is it known which messages were refused
+        # which messages were refused is known only after the run of a part
         for part in parts(_listed(stream, errors, told) if places is None else places):
             with tempfile.TemporaryFile() as octets, tempfile.TemporaryFile() as text:
                 for place in part:
@@ -621,7 +624,7 @@ def _dumped(words: List[str], told: _Told, places: Optional[Iterable[Listed]]) -
 
 
 class _Told:
-    """Reports the faults in a file in order, including strays between messages, and then the notes."""
+    """Reports the faults in a file and the strays between its messages, in order, and then the notes."""
 
     def __init__(self, file: _Path, faults: Optional[List[Fault]]) -> None:
         self.file, self.faults, self.count, self.is_bare = file, faults, 0, False
@@ -646,7 +649,7 @@ class _Told:
             self.stray = next(self.strays, None)
 
     def of_part(self, errors: bytes, part: List[Listed]) -> Dict[int, Fault]:
-        """Returns the faults in a part by their offsets. Counts the notes, which are reported at the end."""
+        """Returns the faults in a part, by offset. Counts the notes, which are reported at the end."""
         begins = itertools.accumulate((place.length for place in part), initial=0)
         offsets = {begin: place.offset for begin, place in zip(begins, part)}
         refused = {}
@@ -666,9 +669,12 @@ class _Told:
         """Reports the remaining strays, and issues the warnings."""
         self.up_to(float("inf"))
         told = [f"no message{_looks(stream)}"] * self.is_bare
-        told += [f"fault lines: {self.count}, the first: {self.first}"] * (self.faults is None and self.count > 0)
+        if self.faults is None and self.count:
+            faults = "1 fault" if self.count == 1 else f"{self.count} faults, the first"
+            told.append(f"{faults}: {self.first}")
         for reason, (count, first) in self.notes.items():
-            told.append(f"messages: {count}, the first at offset {first}: {reason.decode(errors='replace')}")
+            messages = "1 message," if count == 1 else f"{count} messages, the first"
+            told.append(f"{messages} at offset {first}: {reason.decode(errors='replace')}")
         if self.conditions and self.conditions.note():
             told.append(self.conditions.note())
         for text in told:
@@ -676,7 +682,7 @@ class _Told:
 
 
 def _opened(file: _Path) -> IO[bytes]:
-    """Opens a file for reading at any offset. If it is not a regular file, returns a copy."""
+    """Opens a file for reading at any offset. If it is not a regular file, opens a temporary copy instead."""
     stream = open(file, "rb")
     if stat.S_ISREG(os.fstat(stream.fileno()).st_mode):
         return stream
@@ -690,19 +696,19 @@ def _opened(file: _Path) -> IO[bytes]:
 def _octets(stream: IO[bytes], place: Listed) -> bytes:
     octets = os.pread(stream.fileno(), place.length, place.offset)
     if len(octets) < place.length:
-        raise RunError(2, f"the file changed: its message at offset {place.offset} is no longer complete")
+        raise RunError(2, f"the file changed: the message at offset {place.offset} is now incomplete")
     return octets
 
 
 def _looks(stream: IO[bytes]) -> str:
-    """Returns the likely type of a file without messages, which `bufr-auto` guesses from its first bytes."""
+    """Returns the likely type of a file without messages, as `bufr-auto` guesses it from the first bytes."""
     words, begin = [_program("bufr-auto")], os.pread(stream.fileno(), 256, 0)
     told = subprocess.run(words, input=begin, stdout=subprocess.PIPE, stderr=subprocess.PIPE).stderr
     return told.decode(errors="replace").rstrip().rpartition("contains no message")[2]
 
 
 def _listed(stream: IO[bytes], errors: IO[bytes], told: _Told) -> Iterator[Listed]:
-    """Yields the places of the messages that meet the conditions. Strays stay in a file until they are reported."""
+    """Yields the places of the messages that meet the conditions. Strays remain in `errors` until they are reported."""
     with tempfile.TemporaryFile() as lines:
         words = [_bufr(), "ls"]
         status = subprocess.run(words, stdin=stream, stdout=lines, stderr=errors).returncode
@@ -730,8 +736,8 @@ def encode(
 ) -> bytes:
     """Encodes messages in BUFR. Runs `bufr encode` with these two tables, or `bufr-auto --encode` if you pass no tables.
 
-    `form` is "plain" or "compressed". Without `form`, each message is encoded in the form that its header specifies. If a
-    message is refused, raises `RunError` with the fault line.
+    `form` is "plain" or "compressed". Without `form`, each message is encoded in the form that its header specifies.
+    Raises `RunError` with the fault line if a message is refused.
     """
     if form is not None:
         compressed = ["plain", "compressed"].index(form)
@@ -767,7 +773,7 @@ def _run(words: List[str], source: IO[bytes], target: IO[bytes]) -> subprocess.C
 
 
 def _failure(status: int, words: List[str], errors: Iterable[bytes]) -> RunError:
-    """Returns the error for a failed program: what it printed or else its status, and whether the disk is full."""
+    """Returns the error for a failed program: its output or else its status, and a hint if the disk is full."""
     told = b"".join(line for line in errors if not _FAULT.match(line)).decode(errors="replace").strip()
     told = told or f"{words[0]} " + (f"was killed (signal {-status})" if status < 0 else f"exited with status {status}")
     folder = tempfile.gettempdir()  # all output is in temporary files

@@ -6,12 +6,12 @@
 #       awk -v levels=1 -v keep=year,001001,001002 -v columns=007004,012101,012103 -f scripts/table.awk
 #
 # Without columns, each item has a row: message, subset, item, descriptor, value, name, unit. Messages, subsets and items
-# are counted from 1. An item that `bufr` read without a row of Table B has no name and no unit. A new reference value that
+# are counted from 1. An item that `bufr` read without a row in Table B has no name and no unit. A new reference value that
 # is defined in the data has the name REFERENCE. The columns in `keep`, which must be header keys, come after the subset.
 #
-# With columns, each subset has a row. A column is a descriptor or a header key (the first word of a header line). A
-# descriptor selects its first item in the subset, and 012101:2 selects the second item. If a subset has no such item, the
-# field is empty.
+# With columns, each subset has a row. A column is a descriptor or a header key (the first word of a header line). The
+# column 012101 contains the first item with this descriptor in the subset, and 012101:2 contains the second one. If a
+# subset has no such item, the field is empty.
 #
 # With levels=1, each level has a row. A level is one repetition (pass) of a delayed replication, whose factor (031000 to
 # 031002) is in the data. A level has a row if it contains an item for the first column and, if there are several columns,
@@ -19,14 +19,14 @@
 #
 # A dump does not mark where a pass begins. The first pass begins after the factor. The next pass begins at the next item
 # with the same descriptor as the first item, so a pass with two equal halves counts as two. A replication inside a pass
-# belongs to that pass. A subset is skipped if it has no levels, or if the descriptor that begins a pass also occurs inside
-# a pass.
+# belongs to that pass. A subset is skipped if it has no levels, or if its levels are ambiguous because the descriptor that
+# begins a pass also occurs inside a pass.
 #
-# Strings are quoted. They have no trailing spaces, and contain the same escapes as in a dump (\", \\, \xHH). A missing
-# value is an empty field. With json=1, each row is a JSON object, a missing value is null, and \xHH becomes the character
-# with that number.
+# Strings are quoted, and trailing spaces are dropped. They contain the same escapes as in a dump (\", \\, \xHH). A
+# missing value is an empty field. With json=1, each row is a JSON object, a missing value is null, and \xHH becomes the
+# character with that code point.
 #
-# A dump does not contain offsets. The columns `offset` and `length` come from a listing. The fault lines of the dump show
+# A dump does not contain offsets, so the columns `offset` and `length` need a listing. The fault lines of the dump show
 # which messages in the listing are not in the dump:
 #
 #     bufr ls FILE > listing
@@ -34,12 +34,12 @@
 #       awk -v columns=offset,012101 -v listing=listing -v faults=faults -f scripts/table.awk
 #
 # Notes on standard error name the columns for which no row has an item, and count the subsets that were skipped. The exit
-# status is 1 if a subset was skipped because its levels cannot be told apart. It is 2 if a column is neither a descriptor
-# nor a header key, if the dump ends inside a message, or if the listing and the fault lines do not match the dump. The
-# script runs in any awk.
+# status is 1 if a subset was skipped because its levels are ambiguous. It is 2 if a column is neither a descriptor nor a
+# header key, if the dump ends inside a message, or if the listing and the fault lines do not match the dump. The script
+# runs in any awk.
 #
-# bufr-csv sets three more variables. Each note begins with `name`. With placed=1, a comment before each message contains
-# its offset, length and file, which can then be columns. With feed=0, rows are not flushed at the end of each message. The
+# bufr-csv sets three more variables: each note begins with `name`; with placed=1, a comment before each message contains
+# its offset, length and file, which can then be columns; and with feed=0, rows are not flushed after each message. The
 # environment variable BUFR_CSV_LABELS contains the column headings, one per line.
 
 function fail(text) {
@@ -47,9 +47,10 @@ function fail(text) {
     exit failed = 2
 }
 
-# Prints the note on skipped subsets. In a feed, bufr-csv prints it after the first such subset, so it has no count.
-function tell_skipped(which, where) {
-    print name ": skipped subsets " which ", the first is message " where | "cat >&2"
+# Prints the note on skipped subsets. In a feed, bufr-csv prints it after the first such subset, when the count is 0.
+function tell_skipped(count, kind, where) {
+    kind = count > 1 ? count " subsets " kind "; the first is" : "a subset " kind ":"
+    print name ": skipped " kind " message " where (count ? "" : "; further ones are not reported") | "cat >&2"
     close("cat >&2")
 }
 
@@ -89,7 +90,7 @@ function cell(begin, value) {
     return begin (json && value == "" ? "null" : value)
 }
 
-# Reads the offset, length and file of the next message from the comment before the message.
+# Reads the offset, length and file of the next message from the comment before it.
 function take_place(   words) {
     split($0, words, /[= ]/)
     header["offset"] = words[3]
@@ -97,7 +98,7 @@ function take_place(   words) {
     header["file"] = quoted(substr($0, index($0, " file=") + 6), 1)
 }
 
-# Finds the offset and length of the next message in the listing without a fault line. Returns whether there is one.
+# Finds the offset and length of the next message in the listing that has no fault line. Returns whether there is one.
 function next_listed(   line, words, is_read) {
     do {
         if ((is_read = (getline line < listing)) <= 0)
@@ -133,7 +134,7 @@ function split_columns(words, list, keys,   count, column, word) {
         if (index(keys, " " word " "))
             is_key[word] = wanted[word] = 1
         else if (by_item)
-            fail("without columns, keep can contain only header keys, not: " word)
+            fail("without columns, keep can contain only header keys, found: " word)
         else if (is_descriptor(word, keys != ""))
             wanted[substr(word, 1, 6)] = 1
         else
@@ -203,7 +204,7 @@ function end_subset(   row, column, line) {
         if (levels && !row_count && !twice && !bare++) {
             first_bare = message " subset " subset
             if (feed == 1)
-                tell_skipped("without a level", first_bare)
+                tell_skipped(0, "without a level", first_bare)
         }
         if (!levels || row_count)
             line = begin_row()
@@ -230,9 +231,9 @@ function begin_row(   line, column) {
 # Skips a subset in which the descriptor that begins a pass also occurs inside a pass.
 function skip_subset(fxy) {
     if (!unclear++) {
-        first_unclear = message " subset " subset ": " fxy
+        first_unclear = message " subset " subset " (" fxy " begins a level and occurs in it again)"
         if (feed == 1)
-            tell_skipped("whose levels cannot be told apart", first_unclear)
+            tell_skipped(0, "with ambiguous levels", first_unclear)
     }
     twice = 1
     open = left = row_count = 0
@@ -240,8 +241,8 @@ function skip_subset(fxy) {
 }
 
 # Processes an item in or before the passes of a replication. `left` passes have not begun. Each pass begins with the
-# descriptor `opener`. The open pass has had `items` items and `inner` factors so far; the previous pass had `pass_items`
-# and `pass_inner`.
+# descriptor `opener`. So far, the open pass has `items` items and `inner` factors; the previous pass had `pass_items` and
+# `pass_inner`.
 function item(fxy) {
     if (left && (opener == "" || fxy == opener)) {
         if (opened > 1 && !pass_inner && items != pass_items) {
@@ -327,7 +328,7 @@ BEGIN {
         print "message,subset" heading (by_item ? ",item,descriptor,value,name,unit" : "")
 }
 
-# Most items are not in a column. They are skipped outside passes, and counted inside passes.
+# Most items are not in any column. They are skipped outside passes, and counted inside passes.
 !($1 in wanted) {
     if (by_item) {
         if (subset && /^[0-3R]/)
@@ -399,9 +400,9 @@ END {
         if (!(level[column] in had))
             print name ": no row has an item for " level[column] | "cat >&2"
     if (bare && feed != 1)
-        tell_skipped("without a level: " bare, first_bare)
+        tell_skipped(bare, "without a level", first_bare)
     if (unclear && feed != 1)
-        tell_skipped("whose levels cannot be told apart: " unclear, first_unclear)
+        tell_skipped(unclear, "with ambiguous levels", first_unclear)
     if (unclear)
         exit 1
 }

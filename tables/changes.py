@@ -3,9 +3,9 @@
 
     tables/changes.py OLD NEW
 
-OLD and NEW are directories that contain B.csv and D.csv. changes.py lists an element as changed if its scale, reference or
-width differs, or if its unit makes it a different kind of value (number, code or string), because these determine how data
-are read. It does not list changed names, because they affect only the comments in a dump.
+OLD and NEW are directories that contain B.csv and D.csv. changes.py lists an element as changed if the change affects how
+data are read: if its scale, reference or width differs, or if its unit makes it a different kind of value (number, code or
+string). It does not list changed names, which affect only the comments in a dump.
 """
 import os
 import sys

@@ -11,18 +11,18 @@ Each SOURCE is a directory. convert.py recognizes its format by the files in it:
     element.table, sequence.def       ecCodes definition files, including those of local tables
     B*.txt, D*.txt                    the fixed-column files of wreport
 
-wreport keeps many tables in one directory. To choose one of them, pass its B*.txt file instead of the directory; convert.py
-also reads the D*.txt file that has the same name after the first letter.
+A wreport directory contains many tables. To choose one of them, pass its B*.txt file instead of the directory. convert.py
+also reads the D*.txt file whose name is the same after the first letter.
 
-Rows from a later SOURCE replace those from an earlier one for the same descriptor, so pass master tables before local
-tables. The new tables are OUT/B.csv and OUT/D.csv, sorted by descriptor.
+If several sources define the same descriptor, the last one takes precedence, so pass master tables before local tables. The
+new tables are OUT/B.csv and OUT/D.csv, sorted by descriptor.
 
 convert.py leaves out elements and sequences that `bufr` would refuse, and prints the reason for each on standard error. If
-one member of a sequence is invalid, the whole sequence is left out. Any rows from an earlier SOURCE for the same descriptor
-are kept.
+one member of a sequence is invalid, the whole sequence is left out. If an earlier SOURCE also defines the descriptor, its
+rows are used.
 
 The exit status is 0 if no row was left out, and 1 if any was. It is 2 if convert.py wrote nothing, for example because a
-SOURCE contains no tables, a file has an unknown layout, or the output could not be written.
+SOURCE contained no tables, a file had an unknown layout, or the output could not be written.
 """
 import os
 import sys
@@ -84,7 +84,7 @@ def of_csv(folder: pathlib.Path, pattern: str, columns: list):
 
 
 def sequences_of(rows):
-    """Yields each group of consecutive rows for a sequence, as a list of the sequence and its members."""
+    """Yields a list for each group of consecutive rows with the same sequence: the sequence, followed by its members."""
     for fxy, run in itertools.groupby(rows, key=lambda row: row[0]):
         yield [fxy, *(member for _, member in run)]
 
@@ -158,7 +158,7 @@ def of_wreport(path: pathlib.Path):
 
 
 def source(folder: pathlib.Path):
-    """Returns the rows for Table B and the sequences for Table D from a source."""
+    """Returns the rows of Table B and the sequences of Table D in a source."""
     if (folder / "B.csv").exists() or (folder / "D.csv").exists():
         return of_csv(folder, "B.csv", OURS_B), sequences_of(of_csv(folder, "D.csv", OURS_D))
     elements, sequences = folder / "element.table", folder / "sequence.def"
@@ -188,7 +188,7 @@ def is_whole(text: str, least: int, most: int) -> bool:
 
 
 def whole(text: str) -> int:
-    """Returns the number in a string, which may have any number of leading zeros."""
+    """Converts a string to a number. The string may have any number of leading zeros."""
     return int(re.sub("^(-?)0+(?=[0-9])", r"\1", text))
 
 
@@ -215,7 +215,7 @@ def no_numbers(is_text: bool, scale: str, reference: str, width: str) -> str:
     if not is_whole(reference, -(2**63), 2**63 - 1):
         return "the reference must be a signed 64-bit number"
     if is_text and not (is_whole(width, 8, 2040) and whole(width) % 8 == 0):
-        return "the width of a string must be a multiple of 8 from 8 to 2040 bits"
+        return "the width of a string must be a multiple of 8 bits, from 8 to 2040"
     return "" if is_text or is_whole(width, 1, 63) else "the width must be from 1 to 63 bits"
 
 
@@ -239,7 +239,7 @@ def no_sequence(sequence: list) -> str:
 
 
 def shown(words: list) -> str:
-    """Joins the words into at most 80 characters, with unprintable characters escaped."""
+    """Joins the words, escapes unprintable characters, and truncates the result to 80 characters."""
     text = "".join(sign if sign.isprintable() else ascii(sign)[1:-1] for sign in " ".join(words))
     return text if len(text) <= 80 else text[:78] + ".."
 
@@ -253,7 +253,7 @@ def taken(folder: pathlib.Path, entries, refused) -> tuple:
         for entry in alike:
             reason = refused(entry) or ("its rows in the source conflict" if alike.count(entry) < len(alike) else "")
             if reason:
-                told = f"left out of {bufr_guard.shown(str(folder))}: {shown(entry)}: {reason}\n"
+                told = f"{bufr_guard.shown(str(folder))}: left out {shown(entry)}: {reason}\n"
                 bufr_guard.say(told.encode(**AS_IT_IS))
                 left_out += 1
                 found.pop(fxy, None)
@@ -261,7 +261,7 @@ def taken(folder: pathlib.Path, entries, refused) -> tuple:
 
 
 def write(path: pathlib.Path, aside: pathlib.Path, header: list, rows) -> None:
-    """Writes a table to the temporary file `aside`. Error messages name `path` instead."""
+    """Writes a table to the temporary file `aside`. Errors are reported for `path`, which the file will replace."""
     try:
         with open(aside, "w", newline="", **AS_IT_IS) as file:
             table = csv.writer(file, lineterminator="\n")

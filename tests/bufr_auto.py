@@ -158,7 +158,7 @@ class Trial:
         (tables / "wmo-17/D.csv").unlink()
         done = self.auto(stream=stream, BUFR_TABLES=str(tables))
         notes = b"".join(
-            b"bufr-auto: ignored %s/%s, which has no %s.csv; complete it or remove it\n" % (bytes(tables), *missing)
+            b"bufr-auto: ignored %s/%s, which has no %s.csv; add it, or remove the directory\n" % (bytes(tables), *missing)
             for missing in ((b"wmo-17", b"D"), (b"wmo-40", b"B"))
         )
         whole = (done.stdout.count(b"message\n"), done.stderr == faults + notes, done.returncode)
@@ -471,7 +471,7 @@ class Trial:
         edition_3 = bytearray(lib.message(b"\1", lib.words("001192"), edition=3))
         edition_3[12:14], edition_3[18:20] = b"\7\x62", b"\x0d\x66"
         done = self.auto(stream=bytes(edition_3))
-        self.holds("edition 3", b"there is no wmo-13+98-102 for local table 102 of centre 98" in done.stderr, done)
+        self.holds("edition 3", b"there is no wmo-13+98-102 for local version 102 of centre 98" in done.stderr, done)
         # A sequence of a table that the centre's descriptor is in, and a version that has no set.
         done = self.auto("--encode", stream=b"message\nmasterversion 999999999\ndescriptors 012101\nsubset 1\nend\n")
         self.holds("a version of nine digits", done.stderr == b"line 2: 50 line\n", done)
@@ -485,7 +485,7 @@ class Trial:
         at = [found.start() for found in re.finditer(b"BUFR", stream)]
         wanted = [
             f"3 messages, the first at offset {at[3]}: some descriptors differ between version 6 and wmo-13",
-            f"2 messages, the first at offset {at[9]}: there is no wmo-13+98-102 for local table 102 of centre 98; to make it",
+            f"2 messages, the first at offset {at[9]}: there is no wmo-13+98-102 for local version 102 of centre 98; to make it",
             f"1 message, at offset {at[11]}: version 40 is later than wmo-39{NEWER}",
         ]
         starts = [line[: len(note) + 11] for line, note in zip(told, wanted)]
@@ -493,7 +493,7 @@ class Trial:
         self.holds("no notes", self.auto(stream=exact).stderr == b"", self.auto(stream=exact).stderr)
         stream = b"".join(made(13, "001212", b"\1", centre, 1) for centre in range(1, 1300))
         told = [line for line in self.auto(stream=stream).stderr.decode().splitlines() if line.startswith("bufr-auto: ")]
-        rest = "bufr-auto: 299 messages, the first at offset 48000: no set matches exactly, for reasons other than the first 1,000"
+        rest = "bufr-auto: 299 messages, the first at offset 48000: no set matches exactly; only the first 1,000 reasons are listed"
         self.holds("kinds of notes", (len(told), told[-1]) == (1001, rest), (len(told), told[-1]))
         refused = made(41, "012101", b"\1\1").replace(b"\0\0\x16", b"\0\0\x15", 1)
         done = self.auto(stream=refused)

@@ -69,8 +69,8 @@ def made(version: int, local: int, centre: int, descriptors: str, data: bytes) -
 def of_eccodes(tables: pathlib.Path, centre: int, local: int) -> str:
     """The advice for a centre's tables that Debian's ecCodes has, installed or not."""
     folder = f"/usr/share/eccodes/definitions/bufr/tables/0/local/{local}/{centre}/0"
-    debian = "" if pathlib.Path(folder).exists() else ", install libeccodes-data (Debian), then"
-    return f"to make it{debian}: {TOP}/tables/convert.py {tables}+{centre}-{local} {tables} {folder}\n"
+    debian = "" if pathlib.Path(folder).exists() else "install libeccodes-data (Debian), then "
+    return f"to make it, {debian}run: {TOP}/tables/convert.py {tables}+{centre}-{local} {tables} {folder}\n"
 
 
 def of_definitions(place: pathlib.Path, script, holds) -> None:
@@ -86,7 +86,7 @@ def of_definitions(place: pathlib.Path, script, holds) -> None:
     for name in ("bufr-auto", "bufr-lacks"):
         _, _, errors = script(name, message * 2)
         [note] = [line for line in errors.splitlines() if line.startswith(name)]
-        command = note.partition("; to make it: ")[2]
+        command = note.partition("; to make it, run: ")[2]
         holds(f"the command of {name}", subprocess.run(command, shell=True, stderr=subprocess.STDOUT).returncode, 0)
         status, output, errors = script("bufr-auto", message)
         holds(f"a dump after the command of {name}", (status, "063255 3 " in output, errors), (0, True, ""))
@@ -196,8 +196,8 @@ def main() -> None:
         lines = "2 messages of centre 98/0, tables 0/13/102, lack 001212 301250\n"
         cut = f"offset {stream.index(b'BUFRBUFR')}: 1 cut\n"
         tables = place / "tables"
-        debian = "" if WREPORT.exists() else ", install wreport-common (Debian), then"
-        made_by = f"to make it{debian}: {TOP}/tables/convert.py {tables}/wmo-13+98-102 {WREPORT} {tables}/wmo-13"
+        debian = "" if WREPORT.exists() else "install wreport-common (Debian), then "
+        made_by = f"to make it, {debian}run: {TOP}/tables/convert.py {tables}/wmo-13+98-102 {WREPORT} {tables}/wmo-13"
         other_notes = (
             "bufr-lacks: there is no wmo-13+7-102; " + ASK.format(7)
             + f"bufr-lacks: there is no wmo-13+98-1; {of_eccodes(tables / 'wmo-13', 98, 1)}"
@@ -205,7 +205,7 @@ def main() -> None:
         )
         errors = f"{cut}bufr-lacks: there is no wmo-13+98-102; {made_by}\n{other_notes}"
         holds("bufr-lacks", script("bufr-lacks", stream), (1, lines + other_lines, errors))
-        note = f"bufr-auto: 1 message, at offset 0: there is no wmo-13+98-102 for local table 102 of centre 98; {made_by}\n"
+        note = f"bufr-auto: 1 message, at offset 0: there is no wmo-13+98-102 for local version 102 of centre 98; {made_by}\n"
         refused = "offset 0: 21 unknown sequence 301250\n"
         holds("bufr-auto before", script("bufr-auto", message), (1, "", refused + note))
         of_definitions(place, script, holds)
@@ -248,7 +248,7 @@ def main() -> None:
         # An incomplete set counts as not installed, and an invalid one is named.
         synop = (TOP / "examples/synop.bufr").read_bytes()
         (tables / "wmo-40").mkdir()
-        told = f"bufr-lacks: ignored {tables}/wmo-40, which has no B.csv; complete it or remove it\n"
+        told = f"bufr-lacks: ignored {tables}/wmo-40, which has no B.csv; add it, or remove the directory\n"
         holds("an incomplete set", script("bufr-lacks", synop), (0, "", told))
         shutil.copytree(TOP / "tables/wmo-39", tables / "wmo-40", dirs_exist_ok=True)
         (tables / "wmo-40/D.csv").write_text("no table\n")

@@ -201,7 +201,7 @@ def put_value(bits: lib.Bits, row: dict, chance: random.Random) -> None:
 def random_message(table: dict, chance: random.Random) -> bytes:
     """A message with elements, of which some come twice, and at times a group that a factor repeats."""
     chosen = [chance.choice(ELEMENTS) for _ in range(chance.randrange(1, 6))]
-    # A descriptor with which a pass begins comes once in it, so that levels can be told apart.
+    # A descriptor with which a pass begins comes once in it, so that levels are not ambiguous.
     group = chance.sample(["007004", "012101", "011002", "001015"], 3) if chance.random() < 0.6 else []
     bits, subsets = lib.Bits(), chance.randrange(1, 4)
     for _ in range(subsets):
@@ -333,11 +333,11 @@ def several_files(folder: pathlib.Path) -> None:
 
 
 def notes(folder: pathlib.Path) -> None:
-    """Columns without a value, subsets without levels, and those whose levels cannot be told apart."""
+    """Columns without a value, subsets without levels, and those with ambiguous levels."""
     done = run("-c", "012101,012104", SYNOP)
     holds("an empty column", (done.returncode, done.stderr) == (0, b"bufr-csv: no row has an item for 012104\n"), done)
     done = run("--levels", "-c", "020013,020011", SYNOP)
-    told = b"bufr-csv: skipped subsets without a level: 1, the first is message 1 subset 1\n"
+    told = b"bufr-csv: skipped a subset without a level: message 1 subset 1\n"
     holds("a subset without levels", (done.returncode, done.stderr) == (0, told), done)
     bits = lib.Bits()
     bits.put(2, 8)
@@ -347,12 +347,12 @@ def notes(folder: pathlib.Path) -> None:
     twice = lib.message(bits.octets(), lib.words("103000 031001 008002 020011 008002"))
     done = run("--levels", "-c", "020011", input=twice)
     (folder / "twice").write_bytes(twice)
-    told = b"bufr-csv: skipped subsets whose levels cannot be told apart%s, the first is message 1 subset 1: 008002\n"
+    told = b"bufr-csv: skipped a subset with ambiguous levels: message 1 subset 1 (008002 begins a level and occurs in it again)%s\n"
     of_file = run("--levels", "-c", "020011", folder / "twice")
-    for what, done, count in (("a file", of_file, b": 1"), ("a pipe", done, b"")):
-        holds(f"levels of {what} that cannot be told apart", (done.returncode, done.stderr) == (1, told % count), done)
+    for what, done, rest in (("a file", of_file, b""), ("a pipe", done, b"; further ones are not reported")):
+        holds(f"ambiguous levels of {what}", (done.returncode, done.stderr) == (1, told % rest), done)
     done = run("--levels", "-c", "020011", folder / "nosuch", folder / "twice")
-    holds("levels that cannot be told apart after a missing file", done.returncode == 2, done)
+    holds("ambiguous levels after a missing file", done.returncode == 2, done)
     later = lib.asking(lib.message(b"\x14"), 45)
     done = run("-c", "001001", input=later)
     holds("a note on tables", done.returncode == 0 and b"bufr-csv: 1 message, at offset 0: version 45" in done.stderr, done)
@@ -379,10 +379,10 @@ def refusals(_folder: pathlib.Path) -> None:
         (["-c", "064001"], keys),
         (["-c", "001256"], keys),
         (["-c", "\u0661\u0662\u0663\u0664\u0665\u0666"], keys),
-        (["-c", "012101:0"], b"a count from 1"),
-        (["-c", "012101:"], b"a count from 1"),
-        (["-c", "012101:x"], b"a count from 1"),
-        (["-c", "012101:\u0662"], b"a count from 1"),
+        (["-c", "012101:0"], b"a whole number of at least 1 after the colon"),
+        (["-c", "012101:"], b"a whole number of at least 1 after the colon"),
+        (["-c", "012101:x"], b"a whole number of at least 1 after the colon"),
+        (["-c", "012101:\u0662"], b"a whole number of at least 1 after the colon"),
         (["-c", "message"], keys),
         (["-c", "time"], b"use year,month,day,hour,minute"),
         (["-c", "001001,tables"], b"use master,masterversion,localversion"),
@@ -511,7 +511,7 @@ def feed(awk: list, _folder: pathlib.Path) -> None:
         while told.count(b"\n") < 2 and select.select([process.stderr], [], [], 20)[0]:
             told += os.read(process.stderr.fileno(), 1 << 16)
         is_right = told.startswith(b"bufr-csv: 1 message so far, at offset 0: version 45 ") and told.endswith(
-            b"\nbufr-csv: skipped subsets without a level, the first is message 1 subset 1\n"
+            b"\nbufr-csv: skipped a subset without a level: message 1 subset 1; further ones are not reported\n"
         )
         holds(f"{awk}: the notes of a live feed", is_right, told)
         process.stdin.close()

@@ -444,7 +444,7 @@ def options(trial: Trial) -> None:
     if trial.name == "bufr-dask":
         (trial.place / "distributed.py").write_text("raise ModuleNotFoundError(name=__name__)\n")
         done = trial.run([SYNOP], environment={"PYTHONPATH": str(trial.place)})
-        trial.fails("a package that is not there", done, "bufr-dask: distributed is not installed for ")
+        trial.fails("a package that is not there", done, "bufr-dask: the Python package distributed is not installed for ")
     if trial.name in OTHERS:
         return
     done = trial.run([SYNOP, "--help"])
@@ -529,7 +529,7 @@ def guard() -> None:
         (work.format("0") + "; print('more')", 0, ""),
         ("sys.excepthook = bufr_guard.hook; raise KeyboardInterrupt", -signal.SIGINT, ""),
         ("sys.excepthook = bufr_guard.hook; raise MemoryError", 2, "out of memory"),
-        ("sys.excepthook = bufr_guard.hook; import nosuch", 2, f"nosuch is not installed for {sys.executable} (on Debian: apt-get install python3-nosuch, then /usr/bin/python3 -c ..)"),
+        ("sys.excepthook = bufr_guard.hook; import nosuch", 2, f"the Python package nosuch is not installed for {sys.executable} (on Debian: apt-get install python3-nosuch, then /usr/bin/python3 -c ..)"),
     ):
         words, environment = [sys.executable, "-c", "import bufr_guard, sys; " + code], {**os.environ, "TMPDIR": "/nosuch"}
         environment = os.environ if code.startswith((few, small)) else environment

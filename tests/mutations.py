@@ -193,7 +193,7 @@ MUTATIONS = [
         "tests/python_module.py",
     ),
     ("scripts/bufr_text.py", "[0] += int(count)", "[0] += 1", "tests/python_module.py"),
-    ("scripts/bufr_text.py", "(self.faults is None and self.count > 0)", "(self.count > 0)", "tests/python_module.py"),
+    ("scripts/bufr_text.py", "if self.faults is None and self.count:", "if self.count:", "tests/python_module.py"),
     ("scripts/bufr_text.py", "status == 1 and not has_told", "False", "tests/python_module.py"),
     ("scripts/bufr_text.py", "done.returncode == 1 and not done.stderr", "False", "tests/python_module.py"),
     ("scripts/bufr_text.py", "if len(octets) < place.length:", "if False:", "tests/python_module.py"),

@@ -202,9 +202,9 @@ def draws(python: str, program: str, folder: pathlib.Path) -> None:
     for words, text, status, told in [
         (["map", folder / "b.png"], texts["one_block_number"], 1, "no subset has a latitude and a longitude"),
         (["map", "--value", "012104", folder / "b.png"], texts["synop"], 1, "no subset contains 012104"),
-        (["sounding", folder / "b.png"], texts["synop"], 1, "no chosen subset has two levels"),
-        (["sounding", "--subset", "2", folder / "b.png"], texts["sounding"], 1, "no chosen subset has two levels"),
-        (["sounding", "--message", "2", folder / "b.png"], texts["sounding"], 1, "no chosen subset has two levels"),
+        (["sounding", folder / "b.png"], texts["synop"], 1, "no selected subset has two levels"),
+        (["sounding", "--subset", "2", folder / "b.png"], texts["sounding"], 1, "no selected subset has two levels"),
+        (["sounding", "--message", "2", folder / "b.png"], texts["sounding"], 1, "no selected subset has two levels"),
         (["map", "--value", "012101:2", folder / "b.png"], texts["synop"], 1, "no subset contains 012101:2"),
         (["map", folder / "b.png"], b"", 1, "bufr-plot: the input contains no message"),
         (["sounding", folder / "b.png"], b"# a note\n", 1, "bufr-plot: the input contains no message"),

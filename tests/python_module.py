@@ -89,7 +89,7 @@ MISTAKES = [
     (2, b"edition 4 # NOTE\n", "a comment; only items may have one"),
     (24, b'001015 "\\xc4"\n', "\\x without two upper-case hexadecimal digits"),
     (24, b'001015 "\\xC"\n', "\\x without two upper-case hexadecimal digits"),
-    (24, b'001015 "B\xc3\x96BLINGEN"\n', "a byte in a string that must be written as \\xHH"),
+    (24, b'001015 "B\xc3\x96BLINGEN"\n', "a byte in a string that must be escaped as \\xHH"),
     (24, b'001015 "a"b"\n', 'an unescaped " or \\ in a string, or no closing "'),
     (24, b'001015 "a\n', 'an unescaped " or \\ in a string, or no closing "'),
     (24, b"001015 HEATHROW\n", "a string without quotes"),
@@ -403,7 +403,7 @@ class Tables(unittest.TestCase):
                 rows = list(bufr_text.levels(messages, *names))
             self.assertEqual(self.alike(rows), self.alike(wanted))
             count += len(rows)
-            lines = [line for line in done.stderr.decode().splitlines() if "told apart" in line]
+            lines = [line for line in done.stderr.decode().splitlines() if "ambiguous levels" in line]
             self.assertEqual([f"table.awk: {one.message}" for one in told], lines)
             self.assertEqual({one.filename for one in told}, {__file__})
             unclear += done.returncode
@@ -553,11 +553,11 @@ class Runs(unittest.TestCase):
         self.assertEqual(levels, list(bufr_text.levels(bufr_text.dump(self.stream, faults=[]), ["007004"], ["offset"])))
         for call in (bufr_text.rows, bufr_text.levels):
             for given in ({"faults": []}, {"where": ["category=0"]}):
-                with self.assertRaisesRegex(TypeError, "give them to dump"):
+                with self.assertRaisesRegex(TypeError, r"pass them to dump\(\) instead"):
                     call([land], ["012101"], **given)
 
     def test_messages_left_out_by_their_year_are_warned_of(self):
-        with self.assertWarnsRegex(bufr_text.DumpWarning, f"^{self.stream}: left out 1 edition 3 .* time=2006,0006 selects"):
+        with self.assertWarnsRegex(bufr_text.DumpWarning, f"^{self.stream}: left out 1 edition 3 .* use time=2006,0006 to select"):
             self.assertEqual(list(bufr_text.dump(self.stream, *TABLES, [], where=["time=2006"])), [])
         [one] = bufr_text.dump(self.stream, *TABLES, [], where=["time=2006,0006"])
         self.assertEqual((one.header["edition"], one.header["year"]), (3, 6))
@@ -595,7 +595,7 @@ class Runs(unittest.TestCase):
             with self.assertWarns(bufr_text.DumpWarning) as warned, contextlib.redirect_stderr(told):
                 messages = list(bufr_text.dump(self.stream, *tables))
             lines = told.getvalue().splitlines()
-            text = f"{self.stream}: fault lines: {len(lines)}, the first: {lines[0]}"
+            text = f"{self.stream}: {len(lines)} faults, the first: {lines[0]}"
             self.assertEqual(str(warned.warning), text)
             self.assertEqual(warned.filename, __file__)
         with warnings.catch_warnings():
@@ -618,7 +618,7 @@ class Runs(unittest.TestCase):
         self.stream.write_bytes(self.octets + later * 2)
         with self.assertWarns(bufr_text.DumpWarning) as warned:
             list(bufr_text.dump(self.stream, faults=[]))
-        wanted = f"{self.stream}: messages: 2, the first at offset {len(self.octets)}: version 45 is later than wmo-39"
+        wanted = f"{self.stream}: 2 messages, the first at offset {len(self.octets)}: version 45 is later than wmo-39"
         self.assertEqual(str(warned.warning).partition(";")[0], wanted)
 
     def test_what_a_program_tells_beside_faults_is_a_warning(self):
@@ -627,7 +627,7 @@ class Runs(unittest.TestCase):
         with warnings.catch_warnings(record=True) as told:
             warnings.simplefilter("always")
             self.assertEqual(len(list(bufr_text.dump(self.stream, *TABLES))), 1)
-        self.assertEqual(str(told[1].message), f"{self.stream}: messages: 1, the first at offset 0: strange\ufffd")
+        self.assertEqual(str(told[1].message), f"{self.stream}: 1 message, at offset 0: strange\ufffd")
         # their kinds are bounded, as what is held is
         seen = bufr_text._Told(self.stream, None)
         for number in range(5000):
@@ -646,7 +646,7 @@ class Runs(unittest.TestCase):
         with warnings.catch_warnings(record=True) as told, contextlib.redirect_stderr(io.StringIO()):
             warnings.simplefilter("always")
             list(bufr_text.dump(self.stream))
-        wanted = ["no message: it looks like HTML", "fault lines: 20, the first: offset 6: 1 cut"]
+        wanted = ["no message: it looks like HTML", "20 faults, the first: offset 6: 1 cut"]
         self.assertEqual([str(one.message) for one in told], [f"{self.stream}: {text}" for text in wanted])
 
     def test_failures_are_told(self):
@@ -673,7 +673,7 @@ class Runs(unittest.TestCase):
             ('[ "$1" = ls ] && exec "$REAL" "$@" | sed "s/ .*/ /"', "and bufr_text have different versions", 2),
             ('[ "$1" = dump ] || exec "$REAL" "$@"', "wrote nothing for the message at offset 0", 2),
             ('[ "$1" = ls ] && exec "$REAL" "$@"; kill -9 $$', "was killed .signal 9.", -9),
-            ('[ "$1" = ls ] && "$REAL" "$@" | sed s/length=694/length=9999999/', "at offset 0 is no longer complete", 2),
+            ('[ "$1" = ls ] && "$REAL" "$@" | sed s/length=694/length=9999999/', "at offset 0 is now incomplete", 2),
         ]:
             self.use_program(script)
             with self.subTest(script), self.assertRaisesRegex(bufr_text.RunError, told) as error:

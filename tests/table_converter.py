@@ -17,7 +17,7 @@ from lib import TOP, finish, program
 
 AS_IT_IS = {"encoding": "utf-8", "errors": "surrogateescape"}
 HEADERS = {"B": "fxy,name,unit,scale,reference,width", "D": "fxy,member"}
-WIDE, WHOLE = "the width must be from 1 to 63 bits", "the width of a string must be a multiple of 8 from 8 to 2040 bits"
+WIDE, WHOLE = "the width must be from 1 to 63 bits", "the width of a string must be a multiple of 8 bits, from 8 to 2040"
 SCALE, REFERENCE = "the scale must be a whole number from -127 to 127", "the reference must be a signed 64-bit number"
 FACTOR = "a replication factor must be a number with scale 0, reference 0 and width 8"
 
@@ -129,7 +129,7 @@ one to other
   sequences removed: 1: 301002
   sequences added: 0
 """
-TWICE = "left out of source: %s: its rows in the source conflict\n"
+TWICE = "source: left out %s: its rows in the source conflict\n"
 SOURCES = [
     ("B.csv", f"{HEADERS['B']}\n{ELEMENT}\n{ELEMENT}", 0, "", ELEMENT),
     ("B.csv", "", 2, "source/B.csv has no column fxy\n", None),
@@ -137,7 +137,7 @@ SOURCES = [
         "B.csv",
         f"{HEADERS['B']}\n064000,{'N' * 64},K,2,0,16\n064001,{'N' * 65},K,2,0,16\n",
         1,
-        f"left out of source: 064000 {'N' * 64} K 2 0 16: X is over 63\nleft out of source: 064001 {'N' * 65} K 2 0..: X is over 63\n",
+        f"source: left out 064000 {'N' * 64} K 2 0 16: X is over 63\nsource: left out 064001 {'N' * 65} K 2 0..: X is over 63\n",
         "",
     ),
     ("BUFR_TableD_en_01.csv", "FXY1,FXY2\n301001,001001\n", 0, "", "301001,001001\n"),
@@ -159,15 +159,15 @@ SOURCES = [
         "sequence.def",
         '"307060" = [ 001001, 12101, 001002 ]\n"307061" = [ ]\n"307062" = [ 001001 , 001002, ] # a comment\n',
         1,
-        "left out of source: 307060 001001 12101 001002: member '12101': expected six digits, beginning with 0-3\n"
-        "left out of source: 307061: no members\n",
+        "source: left out 307060 001001 12101 001002: member '12101': expected six digits, beginning with 0-3\n"
+        "source: left out 307061: no members\n",
         "307062,001001\n307062,001002\n",
     ),
     (
         "element.table",
         "#code|..\n\n012101|a|long|A | NAME|K|2|0|16|C|2|4\n",
         1,
-        "left out of source: 012101 A NAME K 2 0: the scale must be a whole number from -127 to 127\n",
+        "source: left out 012101 A NAME K 2 0: the scale must be a whole number from -127 to 127\n",
         "",
     ),
     ("element.table", "012101|a|long|NAME|K|2|0\n", 2, "source/element.table, line 1: expected at least eight fields\n", None),
@@ -193,7 +193,7 @@ SOURCES = [
         + wreport_row("041003", "DISSOLVED NITRATES", "\u03bcMOL KG-1", "3", "0", "17")
         + wreport_row("041004", "OF NO WIDTH", "K", "3", "0", "0"),
         1,
-        "left out of source: 041004 OF NO WIDTH K 3 0 0: the width must be from 1 to 63 bits\n",
+        "source: left out 041004 OF NO WIDTH K 3 0 0: the width must be from 1 to 63 bits\n",
         "001210,MADE UP,CCITT IA5,0,0,72\n001211,A CODE,CODE TABLE 1211,0,0,8\n001212,A FLAG,FLAG TABLE 1212,0,0,8\n"
         f"001213,A COMMON ONE,COMMON CODE TABLE C-1,0,0,16\n007030,{'N' * 65},M,1,-4000,17\n"
         "041003,DISSOLVED NITRATES,\u03bcMOL KG-1,3,0,17\n",

@@ -61,102 +61,109 @@ const VERSION: &str = "0.1.0";
 /// The notes under the help of the program.
 const PROGRAM_NOTES: &str = "\
 Exit status:
-  0  nothing was refused
-  1  a message or a document was refused, or a BUFR begins none
-  2  the command line, a file, a table, reading, writing or memory failed
+  0  no fault was reported
+  1  a message or a document was refused, or there was a stray (the bytes BUFR
+     where no complete message begins)
+  2  the command line or a table was invalid, a file could not be opened,
+     reading or writing failed, or memory ran out
 
 Examples:
   bufr ls bulletins.bufr
-  bufr dump -B b.csv -D d.csv bulletins.bufr
-  bufr encode -B b.csv -D d.csv bulletins.txt";
+  bufr dump -B B.csv -D D.csv bulletins.bufr > bulletins.txt
+  bufr encode -B B.csv -D D.csv bulletins.txt > again.bufr";
 
 /// The notes under the help of `ls`.
 const LS_NOTES: &str = "\
-Each message is a line on standard output. Each fault is a line on standard
-error, with its offset in octets and its number:
-  1-3    a BUFR that begins no message: cut, a length under 12, no 7777
-  10     an edition other than 3 and 4
-  11-13  sections that do not fit the message
-  14     a message of edition 3 that is too long to be written again
-  70-73  reading, writing, endless input, memory
+Each line on standard output describes one message.
+Each line on standard error reports a fault and, for a fault in the stream, its
+byte offset. The faults have these numbers:
+  1-3    a stray: the bytes BUFR where no complete message begins
+  10     an edition other than 3 or 4
+  11-13  invalid section lengths
+  14     an edition 3 message that is too long to be encoded again
+  70-73  a failure to read, write or allocate memory, or input that is too long
 
 Exit status:
-  0  nothing was refused
-  1  a message was refused, or a BUFR begins none
-  2  the command line, the file, reading, writing or memory failed
+  0  no fault was reported
+  1  a message was refused, or there was a stray
+  2  the command line was invalid, the file could not be opened, reading or
+     writing failed, or memory ran out
 
 Example:
   bufr ls bulletins.bufr 2> faults.txt";
 
 /// The notes under the help of `dump`.
 const DUMP_NOTES: &str = "\
-Each message is written as text to standard output. Each fault is a line on
-standard error, with its offset in octets and its number:
-  1-3    a BUFR that begins no message: cut, a length under 12, no 7777
-  10     an edition other than 3 and 4
-  11-13  sections that do not fit the message
-  14     a message of edition 3 that is too long to be written again
-  20-28  descriptors that the tables do not know, or that make no template
-  30-35  data that do not fit the template
-  70-73  reading, writing, endless input, memory
-A refused message writes nothing to standard output. A faulty table is reported
-before the input is opened:
-  40-45  header, row, duplicate, cycle, size, number of fields
+Messages are dumped to standard output, except those that have a fault.
+Each line on standard error reports a fault and, for a fault in the stream, its
+byte offset. The faults have these numbers:
+  1-3    a stray: the bytes BUFR where no complete message begins
+  10     an edition other than 3 or 4
+  11-13  invalid section lengths
+  14     an edition 3 message that is too long to be encoded again
+  20-28  an unknown or unsupported descriptor, or an invalid descriptor list
+  30-35  data that do not match the descriptors
+  40-45  an invalid table; the tables are checked before the input is opened
+  70-73  a failure to read, write or allocate memory, or input that is too long
 
-The tables are CSV files whose first line names these columns:
+The first line of each table contains the column names:
   B  fxy,name,unit,scale,reference,width
   D  fxy,member
-The sets of WMO are in share/bufr/tables, below the folder that bufr was
-installed to. Take the set for the version that bufr ls shows: tables=0/24/0
-asks for version 24, which wmo-37 serves. Tables of another version can give
-wrong values without a fault. bufr-auto chooses the set for each message.
+
+WMO's tables are in the directory share/bufr/tables of the installation. Use the
+table set (a directory with both tables) for the version that bufr ls prints:
+for example, tables=0/24/0 means version 24, which is in the set wmo-37. With
+the wrong tables, values can be wrong although no fault is reported. The script
+bufr-auto chooses the table set for each message.
 
 Exit status:
-  0  nothing was refused
-  1  a message was refused, or a BUFR begins none
-  2  the command line, a file, a table, reading, writing or memory failed
+  0  no fault was reported
+  1  a message was refused, or there was a stray
+  2  the command line or a table was invalid, a file could not be opened,
+     reading or writing failed, or memory ran out
 
 Example:
-  bufr dump -B b.csv -D d.csv bulletins.bufr > bulletins.txt";
+  bufr dump -B B.csv -D D.csv bulletins.bufr > bulletins.txt";
 
 /// The notes under the help of `encode`.
 const ENCODE_NOTES: &str = "\
-Each document becomes a message on standard output, once its end line is read.
-The first document that is refused ends the run, with a line on standard error:
-the line of the text, counted from 1, and the fault's number:
-  50     a line that is not allowed there, is too long, or is missing at the end
-  51     an item other than the expected one, a missing one, or one too many
-  52-55  a value: no number, out of range, text too long, missing not allowed
-  56     descriptors that the tables do not know, or that make no template
-  57     the number of a subset, or of subsets
+Each document (the dump of one message) is encoded as soon as it is complete.
+bufr stops at the first invalid document, and writes nothing for that document.
+Each line on standard error reports a fault and, for a fault in the dump, its
+line number. The faults have these numbers:
+  50     a line that is invalid, misplaced or too long, or a missing end line
+  51     an unexpected item, a missing item, or too many items
+  52-55  an invalid value
+  56     an unknown or unsupported descriptor, or an invalid descriptor list
+  57     a wrong subset number, or a wrong number of subsets
   58-59  data that cannot be compressed
-  60-61  a message that is too long, a header value out of range
-  62     data that the template cannot hold
-  70-73  reading, writing, endless input, memory
-A refused document writes nothing to standard output. A faulty table is reported
-before the input is opened:
-  40-45  header, row, duplicate, cycle, size, number of fields
+  60-61  a message that is too long, or a header value that is out of range
+  62     data that would give the encoded message fault 31, 32 or 35
+  40-45  an invalid table; the tables are checked before the input is opened
+  70-73  a failure to read, write or allocate memory, or input that is too long
 
-The tables are CSV files whose first line names these columns:
+The first line of each table contains the column names:
   B  fxy,name,unit,scale,reference,width
   D  fxy,member
-Take the tables that the text was dumped with.
 
-With --form plain or --form compressed each message is written in that form,
-whatever its document says. Data cannot be compressed where replication factors
-differ between subsets (58), where texts differ and one has more than 63 octets
-without the spaces at its end, or where reference values differ (59). Plain data
-may be too long (60).
+Use the tables with which the dump was made.
+
+With --form, every message is encoded in that form, whatever its document
+specifies. Data cannot be compressed if replication factors differ between
+subsets (fault 58), if strings differ and one of them has more than 63 bytes
+without its trailing spaces, or if reference values differ (fault 59). A plain
+message may be too long (fault 60).
 
 Exit status:
-  0  nothing was refused
+  0  no fault was reported
   1  a document was refused
-  2  the command line, a file, a table, reading, writing or memory failed
+  2  the command line or a table was invalid, a file could not be opened,
+     reading or writing failed, or memory ran out
 
 Examples:
-  bufr encode -B b.csv -D d.csv bulletins.txt > bulletins.bufr
-  bufr dump -B b.csv -D d.csv plain.bufr |
-    bufr encode -B b.csv -D d.csv --form compressed > compressed.bufr";
+  bufr encode -B B.csv -D D.csv bulletins.txt > bulletins.bufr
+  bufr dump -B B.csv -D D.csv plain.bufr |
+    bufr encode -B B.csv -D D.csv --form compressed > compressed.bufr";
 
 impl From<AllocError> for LineFault {
     ghost from_gives = { λ _ e. e ≡ Memory };
@@ -212,9 +219,9 @@ fn command_with_tables<'a>(
     ensures app { IfOk result (λ c. app_of c ≡ tables_app name.entry.now) }
     ensures local { IfOk result (λ c. (out-Command c).has_globals ≡ false) }
 {
-    let table_b = table_option(alloc, "B", 'B', "Table B, the elements, as CSV");
+    let table_b = table_option(alloc, "B", 'B', "CSV file with Table B (the elements)");
     let command = named_command(alloc, name, about, notes).arg(table_b)?;
-    let table_d = table_option(alloc, "D", 'D', "Table D, the sequences, as CSV");
+    let table_d = table_option(alloc, "D", 'D', "CSV file with Table D (the sequences)");
     let command = command.arg(table_d)?;
     command.arg(file_argument(alloc, file))
 }
@@ -224,13 +231,13 @@ fn encode_command<'a>(alloc: Global) -> Result<clap::Command<'a>, AllocError>
     ensures app { IfOk result (λ c. app_of c ≡ with_rule (tables_app (codes "encode")) form_rule) }
     ensures local { IfOk result (λ c. (out-Command c).has_globals ≡ false) }
 {
-    let about = "Writes the BUFR message of each document";
-    let file = "The text to encode (default: standard input)";
+    let about = "Encode the messages in a dump";
+    let file = "Dump to encode (default: standard input)";
     let command = command_with_tables(alloc, "encode", about, ENCODE_NOTES, file)?;
     let form = Arg::new(alloc, "form")
         .long("form")
         .value_name("WORD")
-        .help("plain or compressed (default: as each document says)");
+        .help("plain or compressed (default: as in each document)");
     command.arg(form)
 }
 
@@ -239,11 +246,11 @@ fn top_command<'a>(alloc: Global) -> Result<clap::Command<'a>, AllocError>
     ensures { IfOk result (λ c. app_of c ≡ with_subcommand top_app
         (with_rule (new_app (codes "ls")) (new_rule (codes "FILE"))).top) }
 {
-    let about = "Lists, dumps and encodes messages of FM 94 BUFR";
+    let about = "List, dump and encode FM 94 BUFR messages";
     let command = named_command(alloc, "bufr", about, PROGRAM_NOTES).bin_name("bufr")?;
     let command = command.version(VERSION).subcommand_required(true);
-    let file = file_argument(alloc, "The file to list (default: standard input)");
-    let ls = named_command(alloc, "ls", "Lists each BUFR message on a line", LS_NOTES).arg(file)?;
+    let file = file_argument(alloc, "File to list (default: standard input)");
+    let ls = named_command(alloc, "ls", "List the messages, one per line", LS_NOTES).arg(file)?;
     command.subcommand(ls)
 }
 
@@ -253,8 +260,8 @@ fn command_line<'a>(alloc: Global) -> Result<clap::Command<'a>, AllocError>
     ensures { IfOk result (λ c. app_of c ≡ bufr_app) }
 {
     let command = top_command(alloc)?;
-    let about = "Writes each BUFR message as text";
-    let file = "The file to dump (default: standard input)";
+    let about = "Print each message as text";
+    let file = "File to dump (default: standard input)";
     let dump = command_with_tables(alloc, "dump", about, DUMP_NOTES, file)?;
     let command = command.subcommand(dump)?;
     command.subcommand(encode_command(alloc)?)
