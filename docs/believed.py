@@ -6,8 +6,8 @@
 
 A few lines on the notation and the contracts come first. The definitions follow under headings: first what the format is,
 then how a run uses its devices, and last what the kit's csv and clap promise. Most definitions come after those that they
-use. Imports, tags and derives are left out. A law that justifies a file is printed after it, and what the law alone needs
-comes at the end. The types and traits of a signature are printed with their ghost items. Not followed are the names of std,
+use. Imports, tags and derives are left out, and so is an enum of faults if its report is printed, which lists each fault
+with its number and text. A law that justifies a file is printed after it, and what the law alone needs comes at the end. The types and traits of a signature are printed with their ghost items. Not followed are the names of std,
 and those that the checker itself makes from a contract (specs.contracts). Any other name that is imported and not found is
 reported, and the status is 1. The counts go to standard error.
 """
@@ -326,6 +326,13 @@ def reached(calls, house):
     return [item for item in seen if item not in calls]
 
 
+def reported(items):
+    """The enums of faults among items of which a report lists each fault with its number and text."""
+    report = re.compile(r": (\w+) → ℕ × List \(List ℕ\)$")
+    names = {found[1] for item in items for found in [report.search(item.code().split("\n")[0])] if found}
+    return [item for item in items if item.path.suffix == ".rt" and item.name in names]
+
+
 def size(items):
     """How many definitions there are, and how many lines they have."""
     return f"{len(items)} definitions, {sum(text(item).count(chr(10)) + 1 for item in items)} lines"
@@ -338,11 +345,13 @@ def main():
     house, order, titles = House(), headed(), list(HEADINGS)
     calls = [contract(call) for call in sys.argv[1:] or ["run"]]
     definitions = reached(calls, house)
+    enums = reported(definitions)
+    definitions = [item for item in definitions if item not in enums]
     paths = {item.path for item in definitions}
     laws = {TOP / "crates" / f"bufr_{file}": [contract(law) for law in names] for file, names in LAWS.items()}
     laws = {path: [law for law in ones if law.name not in [call.name for call in calls]] for path, ones in laws.items() if path in paths}
     justifying = sum(laws.values(), [])
-    beside = [item for item in reached(justifying, house) if item not in definitions + calls]
+    beside = [item for item in reached(justifying, house) if item not in definitions + calls + enums]
     if house.lost:
         sys.exit("\n".join(f"{sys.argv[0]}: {one}" for one in sorted(house.lost)))
     print(PRIMER)

@@ -31,7 +31,7 @@ NAMED = {
             "abbrev pub failures_after", "pub enum OpenFault", "pub struct Failed"],
     "Message::parse": ["pub struct Message", "impl<'a> Model for Message", "unfoldable pub sections_of", "abbrev pub ◌>>=◌"],
     "Finder::held": ["impl Model for InputBuffer", "abbrev pub held", "pub record FinderModel"],
-    "Template::build": ["abbrev pub ◌>>=◌ : {E A B : Type 0} → Result A E"],
+    "Template::build": ["abbrev pub ◌>>=◌ : {E A B : Type 0} → Result A E", "pub enum TemplateFault"],
     "DumpReader::read_more": ["pub record Document "],
     "Buffered::write": ["impl<S: Sink> Sink for Buffered<S>", "ghost taken = "],
     "hand_on": ["fn hand_on<W: Sink, E: Sink>(w: &mut W, e: &mut E) -> Result<(), RunFault>"],
@@ -107,6 +107,9 @@ def main() -> None:
     for law in ("data_are_read_item_by_item", "elements_have_their_rows"):
         if not re.search(rf"^pub fn {law}\b", texts["3"], re.M):
             wrongs.append(f"the law {law} is not printed beside what it justifies")
+    for fault, report in ("TemplateFault", "template_report"), ("ItemFault", "item_report"), ("RunFault", "run_report"):
+        if f"enum {fault} " in texts["3"] or f"abbrev pub {report} : {fault} " not in texts["3"]:
+            wrongs.append(f"the faults of {fault} are not printed once, in {report}")
     if re.search(r"^ *(?:--|//) rule:|^\s*(?:pub |ghost )*use ", texts["3"], re.M):
         wrongs.append("a tag or an import is printed")
     for calls, names in NAMED.items():
