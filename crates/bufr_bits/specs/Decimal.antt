@@ -95,6 +95,11 @@ abbrev pub ◌>>=◌ : {E A B : Type 0} → Result A E → (A → Result B E) �
 (Ok x) >>= next = next x
 (Err fault) >>= next = Err fault
 
+-- a result with its fault in another form
+abbrev pub map_err : {E F A : Type 0} → (E → F) → Result A E → Result A F
+map_err form (Ok x) = Ok x
+map_err form (Err fault) = Err (form fault)
+
 -- the number that a text writes, times ten to the scale, or the first fault
 -- rule: inexact-before-too-large
 unfoldable pub decimal_value_of : (text : List ℕ) (scale : ℤ) → Result ℤ NumberFault

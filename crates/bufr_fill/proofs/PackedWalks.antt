@@ -2,8 +2,8 @@
 use Rattle.std.proofs.lemmas.Grind.{common_steps}
 use Rattle.std.proofs.Common.{◌≡◌, ℕ, zero, suc, ◌+◌, ◌-◌, ◌<◌, Bool, true, false, List, [], ◌∷◌, ◌++◌, length, Option, Some, None, Result, Ok, Err, refl, sym, ◌∙◌, ap, arith, ◌≤◌, max, slice_get, if◌then◌else◌}
 use Rattle.std.proofs.lemmas.List.{append-nil}
-use Rattle.bufr_walk.specs.Prelude.{FieldSpec, Content, Course, Next, take_next, at_end, astray, refused, TakenField, Takes, course_after, oks, answers_of}
-use Rattle.bufr_fill.specs.Prelude.{Taken, Draft, Subset, DraftFault, at_line, too_many_values, item_too_many, walk_refused, WrittenItem, written_item, fill, with_bits_before, Filler, item_row, cells_at, rows, longest, are_many, content_here, contents_here, packed_to, pack_across, packed_filler, ◌>>=◌, ItemRow, first_there, line_in, packed_data, packing, PackedOutModel, IsPacked, PackedFills, rows_left, new_packed_out, and_end, all_at_end, first_line_at, IsFaultHere}
+use Rattle.bufr_walk.specs.Prelude.{FieldSpec, Content, Course, Next, take_next, at_end, astray, refused, TakenField, Takes, course_after, oks, answers_of, would_be_many}
+use Rattle.bufr_fill.specs.Prelude.{Taken, Draft, Subset, DraftFault, at_line, too_many_values, item_too_many, walk_refused, WrittenItem, written_item, fill, with_bits_before, Filler, item_row, cells_at, rows, longest, content_here, contents_here, packed_to, pack_across, packed_filler, ◌>>=◌, ItemRow, first_there, line_in, packed_data, packing, PackedOutModel, IsPacked, PackedFills, rows_left, new_packed_out, and_end, all_at_end, first_line_at, IsFaultHere}
 use Rattle.bufr_fill.proofs.FillSteps.{fill_at, fill_end}
 use Rattle.bufr_fill.proofs.WalkLemmas.{HasFilled, walk_fills, after_answers, unfilled}
 use Rattle.bufr_fill.proofs.EntryLemmas.{length-cells}
@@ -114,7 +114,7 @@ stays course s (i ∷ items) s' h p =
 
 module _ (course : Course) (s : Subset) (more : List Subset) where
   abbrev filler : Filler ItemRow (List Content) DraftFault
-  filler = packed_filler s.end_line (are_many (longest (s ∷ more)) (length (s ∷ more)))
+  filler = packed_filler s.end_line (would_be_many (length (s ∷ more)) (longest (s ∷ more)))
 
   -- what the definition makes of the rows from an index on
   abbrev fill_from : Course → ℕ → Result (List Bool) DraftFault
@@ -131,7 +131,7 @@ module _ (course : Course) (s : Subset) (more : List Subset) where
   came : (items : List TakenField) (mid : PackedOutModel) → Takes (oks PackedFills) course (new_packed_out (s ∷ more)) items mid → Came items mid
   came items mid h =
       let w = stays course (new_packed_out (s ∷ more)) items mid h (omega arith) in
-      let f = walk_fills filler rows_left (λ (p : PackedOutModel). p.bits) (oks PackedFills) (fills s.end_line (are_many (longest (s ∷ more)) (length (s ∷ more)))) course (new_packed_out (s ∷ more))
+      let f = walk_fills filler rows_left (λ (p : PackedOutModel). p.bits) (oks PackedFills) (fills s.end_line (would_be_many (length (s ∷ more)) (longest (s ∷ more)))) course (new_packed_out (s ∷ more))
       items mid h in
       let e : longest (s ∷ more) - 0 ≡ longest (s ∷ more) = omega arith in
       record {
@@ -178,11 +178,11 @@ module _ (course : Course) (s : Subset) (more : List Subset) where
           let at : index ≡ longest (s ∷ more) = omega (arith, l, h) in
           ap (λ k. fill filler c (rows k index (s ∷ more))) l
           ∙ ap (fill_at filler c []) e
-          ∙ ap Err (past (are_many index (length (cells_at index (s ∷ more)))) (are_many (longest (s ∷ more)) (length (s ∷ more))) (slice_get s.items index)
-          (ap (are_many index) (length-cells index (s ∷ more)) ∙ ap (λ x. are_many x (length (s ∷ more))) at) (none_past s.items index (omega (arith, l, h))) p)
+          ∙ ap Err (past (would_be_many (length (cells_at index (s ∷ more))) index) (would_be_many (length (s ∷ more)) (longest (s ∷ more))) (slice_get s.items index)
+          (ap (λ n. would_be_many n index) (length-cells index (s ∷ more)) ∙ ap (λ x. would_be_many (length (s ∷ more)) x) at) (none_past s.items index (omega (arith, l, h))) p)
       by (suc k) l =
           ap (λ k. fill filler c (rows k index (s ∷ more))) l
-          ∙ unfilled filler rows_left (λ (p : PackedOutModel). p.bits) (oks PackedFills) (fills s.end_line (are_many (longest (s ∷ more)) (length (s ∷ more)))) c
+          ∙ unfilled filler rows_left (λ (p : PackedOutModel). p.bits) (oks PackedFills) (fills s.end_line (would_be_many (length (s ∷ more)) (longest (s ∷ more)))) c
           (item_row index (s ∷ more) ∷ rows k (index + 1) (s ∷ more)) spec f e p
 
   -- where an item is left over

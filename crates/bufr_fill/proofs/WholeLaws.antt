@@ -3,8 +3,8 @@ use Rattle.std.proofs.lemmas.Slice.Zip.{AllZip-long}
 use Rattle.std.proofs.Common.{◌≡◌, ℕ, zero, suc, ◌+◌, ◌*◌, ◌<◌, ◌≤◌, List, [], ◌∷◌, length, drop, Some, refl, sym, ◌∙◌, ap, subst, arith, Bool, ◌++◌, Ok, slice_get, flat_map}
 use Rattle.bufr_fill.proofs.EntryLemmas.{length-cells}
 use Rattle.std.proofs.Math.Nat.{mul-le-mul_right}
-use Rattle.bufr_walk.specs.Prelude.{Content, max_values, Item, packed, ReadsSubsets, ReadsItems, after, IsPackedReading, content_at, Course, next_item, items_of_subset, subsets_from}
-use Rattle.bufr_fill.specs.Prelude.{IsAlike, Draft, Subset, cells_at, rows, longest, plain_data, packed_filler, are_many, ◌>>=◌, at_line_if_fault, content_here, contents_here, packed_data, AreDrafts, AreDumped, IsWrittenAgain, IsPackedAgain, IsWrittenApart, IsTogetherOrNot, IsSaid, AreSaid, AllAlike, AllHaveOctets}
+use Rattle.bufr_walk.specs.Prelude.{Content, max_values, Item, packed, ReadsSubsets, ReadsItems, after, IsPackedReading, content_at, Course, next_item, items_of_subset, subsets_from, would_be_many}
+use Rattle.bufr_fill.specs.Prelude.{IsAlike, Draft, Subset, cells_at, rows, longest, plain_data, packed_filler, ◌>>=◌, map_err, content_here, contents_here, packed_data, AreDrafts, AreDumped, IsWrittenAgain, IsPackedAgain, IsWrittenApart, IsTogetherOrNot, IsSaid, AreSaid, AllAlike, AllHaveOctets, at_line}
 use Rattle.bufr_fill.proofs.PlainLaws.{IsSaidRow, HaveContents, AllSpecs, EachSpecs, rewritten}
 use Rattle.std.specs.List.{AllZip}
 use Rattle.bufr_tables.specs.Prelude.{Row, AreRows, Tree, IsLegal, Record}
@@ -44,7 +44,7 @@ said_at : (end_line : ℕ) (items : List (Item Content)) (ds : List Draft) (p : 
     → content_here i.spec (slice_get ds p) end_line ≡ Ok i.content
 said_at end_line [] [] zero i rest h e = absurd cc
 said_at end_line [] [] (suc p) i rest h e = absurd cc
-said_at end_line (x ∷ items) (d ∷ ds) zero i rest h e = let is : x ≡ i = cc in subst (λ (y : Item Content). content_here y.spec (Some d) end_line ≡ Ok y.content) is (ap (at_line_if_fault d.line) h.0)
+said_at end_line (x ∷ items) (d ∷ ds) zero i rest h e = let is : x ≡ i = cc in subst (λ (y : Item Content). content_here y.spec (Some d) end_line ≡ Ok y.content) is (ap (map_err (at_line d.line)) h.0)
 said_at end_line (x ∷ items) (d ∷ ds) (suc p) i rest h e = said_at end_line items ds p i rest h.1 e
 said_at end_line items ds p i rest h e = absurd h
 
@@ -110,7 +110,7 @@ packed_rows zero course (i ∷ items) [] bits suffix specs said h = let no : i �
 packed_rows zero course items (s ∷ ss) bits suffix specs said h = absurd said
 packed_rows (suc n) course items [] bits suffix specs said h = absurd said
 packed_rows (suc n) course items (s ∷ ss) bits suffix specs said h =
-    let many = are_many (longest (s ∷ ss)) (length (s ∷ ss)) in
+    let many = would_be_many (length (s ∷ ss)) (longest (s ∷ ss)) in
     let r = rewritten (packed (suc n)) (packed_filler s.end_line many) IsSaidRow row_bits (λ spec c. refl) (packed_rewritten (suc n) s.end_line many (omega arith)) course items
     (rows (longest (s ∷ ss)) 0 (s ∷ ss)) bits suffix specs (all_rows_said (suc n) items s ss (have_contents (suc n) course items bits suffix specs h.0.0) said h.1) h.0 in
     record { is = r.fills; again = λ more. ((r.again more, h.0.1), h.1); short = r.short }
