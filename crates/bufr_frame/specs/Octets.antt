@@ -29,7 +29,7 @@ two_octets n = n / 256 ∷ n % 256 ∷ []
 -- words, two octets each
 abbrev pub octets_of_words : List ℕ → List ℕ
 octets_of_words [] = []
-octets_of_words (word ∷ more) = word / 256 ∷ word % 256 ∷ octets_of_words more
+octets_of_words (word ∷ more) = two_octets word ++ octets_of_words more
 
 -- ---- The words that an iterator has left.
 

@@ -67,7 +67,7 @@ hex_pair octet = hex_digit (octet / 16) ∷ hex_digit (octet % 16) ∷ []
 -- rule: text-hexadecimal
 unfoldable pub hex_text : List ℕ → List ℕ
 hex_text [] = []
-hex_text (octet ∷ more) = hex_digit (octet / 16) ∷ hex_digit (octet % 16) ∷ hex_text more
+hex_text (octet ∷ more) = hex_pair octet ++ hex_text more
 
 -- one more element before a list that was read
 abbrev pub onto_read : {X : Type 0} → Option X → Option (List X) → Option (List X)
