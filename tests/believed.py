@@ -1,6 +1,6 @@
 #!/usr/bin/env python3
-"""Runs docs/believed.py: each of its headings has definitions, those that docs/proof.md cites are among them, and nothing
-that a contract names is left out but names of std.
+"""Runs docs/believed.py: each of its headings has definitions, those that docs/proof.md cites are among them, nothing that
+a contract names is left out but names of std, and a file of definitions that `run` does not need says so.
 
     tests/believed.py
 """
@@ -90,6 +90,18 @@ def of_every_function() -> "list[str]":
     return sorted(house.lost)
 
 
+def of_first_lines() -> "list[str]":
+    """The files of specs/ whose first line does not say rightly whether `run` needs them."""
+    module = runpy.run_path(str(TOP / "docs/believed.py"))
+    needed = {item.path for item in module["reached"]([module["contract"]("run")], module["House"]())}
+    wrongs = []
+    for path in sorted(TOP.glob("crates/*/specs/*.antt")):
+        says = bool(re.match("-- Only (?:contracts|laws) need this file\\. ", path.read_text(encoding="utf-8")))
+        if path.name not in ("Lib.antt", "Prelude.antt") and says == (path in needed):
+            wrongs.append(f"{path.relative_to(TOP)}: run needs {'it' if says else 'nothing of it'}")
+    return wrongs
+
+
 def main() -> None:
     texts, wrongs = {promise: printed(calls) for promise, calls in CALLS.items()}, []
     rows = dict(re.findall(r"^\| \*\*(\d)\. .* \| (.*) \|$", (TOP / "docs/proof.md").read_text(encoding="utf-8"), re.M))
@@ -124,7 +136,7 @@ def main() -> None:
         if message := piped.stderr.read():
             wrongs.append(f"a closed output gives {message}")
     sys.setrecursionlimit(10_000)
-    finish(wrongs + of_copies() + of_every_function())
+    finish(wrongs + of_copies() + of_every_function() + of_first_lines())
 
 
 if __name__ == "__main__":

@@ -1,6 +1,5 @@
--- What the lines of a document are, in order, and the one spelling that a dump has.
--- (A choice of this project)
--- Cited by public contracts.
+-- Only contracts need this file. What the lines of a document are, in order, and the one spelling
+-- that a dump has. (A choice of this project)
 use Rattle.std.specs.Prelude.{◌≡◌, ◌==◌, false, List, [], ◌∷◌, length, ◌≤◌, ◌⊎◌, ℕ, ◌+◌, ◌++◌, map, if◌then◌else◌, take, drop, codes, None, Result, Ok, Err}
 use Rattle.std.specs.List.{AllByRecursion, concat}
 use Rattle.bufr_fill.specs.Prelude.{AllHaveOctets, DraftEntry, Holds, Ends, subsets_of, DraftValue, draft, Draft, Subset, content_of, normal_form}

@@ -1,5 +1,5 @@
--- Private: how a document is kept while it is read, and what taking held lines comes to.
--- Cited by private steps only.
+-- Only contracts need this file. How a document is kept while it is read, and what taking held
+-- lines comes to.
 use Rattle.std.specs.Prelude.{◌≡◌, ◌≤◌, length, take, ◌<◌, ◌+◌, ◌==◌, ℕ, true, false, [], List, ◌∷◌, ◌++◌, drop, Bool, Option, None, Some, ◌⊎◌, ◌*◌, ◌-◌, Result, Ok, Err}
 use Rattle.bufr_text.specs.declared.document.DocumentParts.TheInside.{Inside}
 use Rattle.std.specs.List.{AllByRecursion}
