@@ -5,7 +5,7 @@ use Rattle.std.proofs.lemmas.Bool.Decides.{nat_tests}
 use Rattle.std.proofs.lemmas.List.{map-append}
 use Rattle.bufr_bits.proofs.DecimalLemmas.{and_first}
 use Rattle.bufr_fill.specs.Prelude.{DraftValue, draft, DraftEntry, Holds, Ends}
-use Rattle.bufr_text.specs.Prelude.{Document, edition_in, optional_in, subsets_in, ParserState, Between, Heading, BeforeSubsets, Filling, Stopped, LineEffect, Continues, Completes, Refuses, Parsing, Turn, between, before_subsets, IsTurn, NotAllowed, SubsetCount, HeaderRange, in_range, heading, beginning, closing, with_entry, turn, read_line, parse_lines, parsing_after, reported_at, reported_at_end, lines_of, documents_of, Line, Passed, Opens, Header, Local1, Section2, Descriptors, Begins, Item, Closes, NumberedLine, numbered_line, onto_heard, numbered_lines, header_says, Element, SubsetHeard, subsets_heard, first_at, entries_heard, IsDocument, AreReported, IsProperlyReported, AreProper, IsBare, IsParsing}
+use Rattle.bufr_text.specs.Prelude.{Document, edition_in, optional_in, subsets_in, ParserState, Between, Heading, BeforeSubsets, Filling, Stopped, LineEffect, Continues, Completes, Refuses, Parsing, LineStep, between, before_subsets, IsTurn, NotAllowed, SubsetCount, HeaderRange, in_range, heading, beginning, closing, with_entry, turn, read_line, parse_lines, parsing_after, reported_at, reported_at_end, lines_of, documents_of, Line, Passed, Opens, Header, Local1, Section2, Descriptors, Begins, Item, Closes, NumberedLine, numbered_line, onto_heard, numbered_lines, header_says, Element, SubsetHeard, subsets_heard, first_at, entries_heard, IsDocument, AreReported, IsProperlyReported, AreProper, IsBare, IsParsing}
 use Rattle.bufr_text.proofs.ReaderLemmas.{stopped-reports}
 use Rattle.bufr_text.specs.declared.document.LineGroup.{LineGroup}
 use Rattle.bufr_text.specs.declared.document.LineGroup.TheVariants as group
@@ -130,12 +130,12 @@ IsOpen (BeforeSubsets part, d) own = IsBeforeSubsets part d own
 IsOpen (Filling subset, d) own = IsFilling subset d own
 IsOpen (Stopped, d) own = ⊥
 
-abbrev IsOpenAfter : Turn → List NumberedLine → Type 0
+abbrev IsOpenAfter : LineStep → List NumberedLine → Type 0
 IsOpenAfter (Continues state, d) own = IsOpen (state, d) own
 IsOpenAfter (Completes, d) own = IsDocument d own
 IsOpenAfter (Refuses fault, d) own = Unit {0}
 
-if-open : (own : List NumberedLine) (b : Bool) (x y : Turn) → (b ≡ true → IsOpenAfter x own) → (b ≡ false → IsOpenAfter y own) → IsOpenAfter (if b then x else y) own
+if-open : (own : List NumberedLine) (b : Bool) (x y : LineStep) → (b ≡ true → IsOpenAfter x own) → (b ≡ false → IsOpenAfter y own) → IsOpenAfter (if b then x else y) own
 if-open own true x y p q = p refl
 if-open own false x y p q = q refl
 
@@ -161,8 +161,8 @@ heading-open : (at key value : ℕ) (d : Document) (own : List NumberedLine) →
 heading-open at key value d own is =
     let here = own ++ numbered_line at (Header key value) ∷ [] in
     let next = with_value d value in
-    let taken : Turn = (Continues (if key == 19 then BeforeSubsets group.Local1 else Heading), next) in
-    let ranged : Turn = if not (in_range (edition_in d) key value) then (Refuses HeaderRange, d) else taken in
+    let taken : LineStep = (Continues (if key == 19 then BeforeSubsets group.Local1 else Heading), next) in
+    let ranged : LineStep = if not (in_range (edition_in d) key value) then (Refuses HeaderRange, d) else taken in
     if-open here (not (key == length d.header)) (Refuses NotAllowed, d) ranged (λ e. tt) (λ e.
     if-open here (not (in_range (edition_in d) key value)) (Refuses HeaderRange, d) taken (λ f. tt) (λ f. by (key == 19) (equal key (length d.header) (not-false (key == length d.header) e))))
   where
@@ -441,7 +441,7 @@ on at line more own = append_assoc own (one at (read_line line)) (numbered_lines
 end-reported : (at : ℕ) (parsing : Parsing) (own : List NumberedLine) → IsOpen parsing own → AreReported (own ++ []) (reported_at_end at parsing.0)
 end-reported at parsing own h1 = grind (arith, nat_tests, common_steps)
 
-reported-on : (at : ℕ) (line : List ℕ) (more : List (List ℕ)) (own : List NumberedLine) (here : Turn) → IsOpenAfter here (own ++ one at (read_line line))
+reported-on : (at : ℕ) (line : List ℕ) (more : List (List ℕ)) (own : List NumberedLine) (here : LineStep) → IsOpenAfter here (own ++ one at (read_line line))
     → ((next : Parsing) (own' : List NumberedLine) → IsOpen next own' → AreReported (own' ++ numbered_lines (at + 1) more) (parse_lines (at + 1) next more))
     → AreReported (own ++ numbered_lines at (line ∷ more)) (reported_at at here ++ parse_lines (at + 1) (parsing_after here) more)
 reported-on at line more own (Continues state, d) opens rest = subst (λ (t : List NumberedLine). AreReported t (parse_lines (at + 1) (state, d) more)) (on at line more own)
@@ -463,10 +463,10 @@ text-reported text = lines-reported 1 between (lines_of text) [] refl
 end-proper : (at : ℕ) (state : ParserState) → AreProper (reported_at_end at state)
 end-proper at state = grind (arith, nat_tests, common_steps)
 
-reported-proper : (at : ℕ) (here : Turn) → IsTurn (at + 1) here → AreProper (reported_at at here)
+reported-proper : (at : ℕ) (here : LineStep) → IsTurn (at + 1) here → AreProper (reported_at at here)
 reported-proper at here h1 = grind (arith, nat_tests, common_steps)
 
-proper-on : (at : ℕ) (here : Turn) (more : List (List ℕ)) → IsTurn at here → ((next : Parsing) → IsParsing at next → AreProper (parse_lines at next more))
+proper-on : (at : ℕ) (here : LineStep) (more : List (List ℕ)) → IsTurn at here → ((next : Parsing) → IsParsing at next → AreProper (parse_lines at next more))
     → AreProper (parse_lines at (parsing_after here) more)
 proper-on at (Continues state, d) more is rest = rest (state, d) is
 proper-on at (Completes, d) more is rest = rest between refl

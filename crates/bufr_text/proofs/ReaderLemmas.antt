@@ -3,7 +3,7 @@ use Rattle.bufr_text.proofs.LineLemmas.{both}
 use Rattle.std.proofs.Common.{◌≡◌, ℕ, ◌+◌, ◌<◌, ◌≤◌, ◌==◌, nat_lt, not, Bool, true, false, List, [], ◌∷◌, ◌++◌, length, refl, sym, ap, ◌∙◌, arith, append_assoc, append-nil, length-append, subst, if◌then◌else◌, ◌⊎◌, inl, inr, zero, suc, ◌&&◌, take, drop, Option, Some, None, ◌-◌, length-drop, Result, Ok, Err, OnErr, slice_index}
 use Rattle.std.proofs.lemmas.Bool.Decides.{nat_tests}
 use Rattle.bufr_bits.proofs.DecimalLemmas.{and_first, and_second}
-use Rattle.bufr_text.specs.Prelude.{blank, Line, Passed, Item, Closes, Wrong, line_of, ParserState, Between, Heading, BeforeSubsets, Filling, Stopped, LineEffect, Continues, Completes, Refuses, Parsing, Turn, between, ParseResult, Refused, NotAllowed, turn, read_line, parse_lines, parsing_after, reported_at, reported_at_end, lines_of, prepend_to_line, Split, onto_split, split_of, parse_open_lines, documents_of, open_documents_of, Document, with_entry, has_no_feed, ReaderPosition, parse, parse_open, ContinuesParse, ReaderModel, KeepsUnread, IsMissingFeed, ReadsLines, TakesWholeLines, position_of, parsing_of, IsParsing, IsTurn, position_with, TakesLines, IsTaking, WantsAt, adds, ends_by_feed, IsProgress, IsReader, ParsesHeldLines, WantsHere, stopped, text_of_lines, ReadFault}
+use Rattle.bufr_text.specs.Prelude.{blank, Line, Passed, Item, Closes, Wrong, line_of, ParserState, Between, Heading, BeforeSubsets, Filling, Stopped, LineEffect, Continues, Completes, Refuses, Parsing, LineStep, between, ParseResult, Refused, NotAllowed, turn, read_line, parse_lines, parsing_after, reported_at, reported_at_end, lines_of, prepend_to_line, Split, onto_split, split_of, parse_open_lines, documents_of, open_documents_of, Document, with_entry, has_no_feed, ReaderPosition, parse, parse_open, ContinuesParse, ReaderModel, KeepsUnread, IsMissingFeed, ReadsLines, TakesWholeLines, position_of, parsing_of, IsParsing, IsTurn, position_with, TakesLines, IsTaking, WantsAt, adds, ends_by_feed, IsProgress, IsReader, ParsesHeldLines, WantsHere, stopped, text_of_lines, ReadFault}
 use Rattle.std.proofs.lemmas.Bool.{true≢false}
 use Rattle.memchr.specs.Find.{IsFirstByte, is_byte}
 use Rattle.std.proofs.lemmas.List.{take_at, drop-drop}
@@ -362,7 +362,7 @@ keeps-same old s new bs (taken, same) held ended = (
 -- ---- Only an `end` line makes a document whole.
 
 -- a line that completes a document is an `end` line
-abbrev IsByEnd : Line → Turn → Type 0
+abbrev IsByEnd : Line → LineStep → Type 0
 IsByEnd line (Continues state, d) = Unit {0}
 IsByEnd line (Completes, d) = line ≡ Closes
 IsByEnd line (Refuses fault, d) = Unit {0}
@@ -394,7 +394,7 @@ item-taken old p line entries subset fxy form same inside short says more =
     subst T (sym same) here
 
 -- a line is taken
-line-taken : (new : Progress) (held : List ℕ) (from n : ℕ) (t : Turn) (ended : Bool) → FeedAt (drop from held) (Some n)
+line-taken : (new : Progress) (held : List ℕ) (from n : ℕ) (t : LineStep) (ended : Bool) → FeedAt (drop from held) (Some n)
     → t ≡ turn new.at (parsing_of new) (read_line (take n (drop from held)))
     → ContinuesParse (position_with new.at (parsing_of new) (drop from held) ended) (position_with (new.at + 1) (parsing_after t) (drop (from + (n + 1)) held) ended) (reported_at new.at t)
 line-taken new held from n t ended h1 h2 = grind (arith, nat_tests, common_steps, before, takes-line, drop-drop)
@@ -425,14 +425,14 @@ passes-feed : (at at' : ℕ) (held : List ℕ) (from n : ℕ) → TakesWholeLine
 passes-feed at at' held from n h1 h2 = grind (arith, nat_tests, common_steps, drop-drop, passes-line)
 
 -- what holds after a line
-holds-after : (new : Progress) (t : Turn) (line : List ℕ) → IsParsing new.at (parsing_of new) → 0 < new.at → t ≡ turn new.at (parsing_of new) (read_line line) → IsTurn (new.at + 1) t
+holds-after : (new : Progress) (t : LineStep) (line : List ℕ) → IsParsing new.at (parsing_of new) → 0 < new.at → t ≡ turn new.at (parsing_of new) (read_line line) → IsTurn (new.at + 1) t
 holds-after new t line s some e = subst (IsTurn (new.at + 1)) (sym e) (turn-holds new.at (parsing_of new) (read_line line) some (said-sound line) s)
 
 further : (a b c : ReaderPosition) (x : List ParseResult) → b.ended ≡ c.ended → ContinuesParse a b [] → ContinuesParse b c x → ContinuesParse a c x
 further a b c x same f g = goes-further a b c [] x (λ e. sym same ∙ e) f g
 
 -- lines were taken, and one more
-one-further : (old new : Progress) (held : List ℕ) (from n : ℕ) (t : Turn) (ended : Bool) → IsTaking old new held from → FeedAt (drop from held) (Some n)
+one-further : (old new : Progress) (held : List ℕ) (from n : ℕ) (t : LineStep) (ended : Bool) → IsTaking old new held from → FeedAt (drop from held) (Some n)
     → t ≡ turn new.at (parsing_of new) (read_line (take n (drop from held)))
     → ContinuesParse (position_with old.at (parsing_of old) held ended) (position_with (new.at + 1) (parsing_after t) (drop (from + (n + 1)) held) ended) (reported_at new.at t)
 one-further old new held from n t ended is feed e =
@@ -456,7 +456,7 @@ pub taking-ends : (old new : Progress) (held : List ℕ) (from n : ℕ) (effect 
     → ((state : ParserState) → effect ≡ Continues state → ⊥) → (effect, last.parts) ≡ turn new.at (parsing_of new) (read_line (take n (drop from held)))
     → TakesLines old last held (from + (n + 1)) effect
 taking-ends old new held from n effect last is feed at ends e =
-    let t : Turn = (effect, last.parts) in
+    let t : LineStep = (effect, last.parts) in
     let rest = drop (from + (n + 1)) held in
     let here : new.at ≡ last.at - 1 = omega (arith, at) in
     record {
@@ -611,7 +611,7 @@ room-made zero reads' room room' made order first some = first refl some
 room-made (suc reads) reads' room room' made order first some = omega (arith, made (omega arith), order)
 
 -- each line reports at most one document or fault, and so does the end
-reported-few : (at : ℕ) (t : Turn) → length (reported_at at t) ≤ 1
+reported-few : (at : ℕ) (t : LineStep) → length (reported_at at t) ≤ 1
 reported-few at (Continues state, d) = omega arith
 reported-few at (Completes, d) = omega arith
 reported-few at (Refuses fault, d) = omega arith

@@ -54,8 +54,8 @@ abbrev pub between : Parsing
 between = (Between, blank 0)
 
 -- what a line does, and the document after it
-abbrev pub Turn : Type 0
-Turn = LineEffect × Document
+abbrev pub LineStep : Type 0
+LineStep = LineEffect × Document
 
 -- a document, or the fault that ends the reading, with its line
 pub data ParseResult : Type 0 where
@@ -73,7 +73,7 @@ in_range edition key value = nat_le (slice_index leasts key) value
 
 -- a header line
 -- rule: reading-header-order, fault-61, fault-order-of-a-line
-abbrev pub heading : Document → Line → Turn
+abbrev pub heading : Document → Line → LineStep
 heading d (Header key value) = if not (key == length d.header) then (Refuses NotAllowed, d)
     else if not (in_range (edition_in d) key value) then (Refuses HeaderRange, d) else (
       Continues (if key == 19 then BeforeSubsets group.Local1 else Heading),
@@ -105,7 +105,7 @@ may_be_section2 group.Section2 d = optional_in d == 1
 may_be_section2 group.Descriptors d = false
 
 -- a line after the header and before the first subset
-abbrev pub before_subsets : LineGroup → Document → Line → Turn
+abbrev pub before_subsets : LineGroup → Document → Line → LineStep
 before_subsets part d (Local1 octets) = if may_be_local1 part then (
   Continues (BeforeSubsets group.Local1),
   record d { local1 = d.local1 ++ octets },
@@ -124,7 +124,7 @@ before_subsets part d line = (Refuses NotAllowed, d)
 
 -- a line in a subset
 -- rule: reading-subset-end
-abbrev pub filling : (at subset : ℕ) → Document → Line → Turn
+abbrev pub filling : (at subset : ℕ) → Document → Line → LineStep
 filling at subset d (Item fxy form) =
     (Continues (Filling subset), with_entry d (Holds (draft at fxy form)))
 filling at subset d (Begins next) = (beginning subset d next, with_entry d (Ends at))
@@ -133,7 +133,7 @@ filling at subset d line = (Refuses NotAllowed, d)
 
 -- what a line does; between documents only `message` may be
 -- rule: reading-empty-lines, reading-between-documents, fault-50
-unfoldable pub turn : (at : ℕ) → Parsing → Line → Turn
+unfoldable pub turn : (at : ℕ) → Parsing → Line → LineStep
 turn at (state, d) Passed = (Continues state, d)
 turn at (Between, d) Opens = (Continues Heading, blank at)
 turn at (Between, d) line = (Refuses NotAllowed, d)
@@ -163,12 +163,12 @@ abbrev pub read_line : List ℕ → Line
 read_line line = if nat_lt max_line (length line) then Wrong else line_of line
 
 -- where the reading is after a line
-abbrev pub parsing_after : Turn → Parsing
+abbrev pub parsing_after : LineStep → Parsing
 parsing_after (Continues state, d) = (state, d)
 parsing_after (Completes, d) = between
 parsing_after (Refuses fault, d) = (Stopped, d)
 
-abbrev pub reported_at : (at : ℕ) → Turn → List ParseResult
+abbrev pub reported_at : (at : ℕ) → LineStep → List ParseResult
 reported_at at (Continues state, d) = []
 reported_at at (Completes, d) = Complete d ∷ []
 reported_at at (Refuses fault, d) = Refused at fault ∷ []

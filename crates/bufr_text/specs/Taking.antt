@@ -8,7 +8,7 @@ use Rattle.bufr_text.specs.declared.document.ParserState.{ParserState}
 use Rattle.bufr_text.specs.declared.document.ParserState.TheVariants.{Between, Heading, BeforeSubsets, Filling, Stopped}
 use Rattle.bufr_text.specs.declared.document.LineEffect.{LineEffect}
 use Rattle.bufr_text.specs.declared.document.LineEffect.TheVariants.{Continues, Completes, Refuses}
-use Rattle.bufr_text.specs.Documents.{max_line, are_in_range, IsHeaded, adds, read_line, Document, Parsing, Turn, parsing_after, reported_at, blank, ParseResult, Complete, Refused, edition_in, optional_in}
+use Rattle.bufr_text.specs.Documents.{max_line, are_in_range, IsHeaded, adds, read_line, Document, Parsing, LineStep, parsing_after, reported_at, blank, ParseResult, Complete, Refused, edition_in, optional_in}
 use Rattle.bufr_text.specs.Dump.{IsOctet, IsDescriptorWord}
 use Rattle.bufr_text.specs.Spelling.{IsProper}
 use Rattle.bufr_text.specs.declared.document.ParsedLine.{ParsedLine}
@@ -87,7 +87,7 @@ IsParsing at (Filling subset, d) =
 IsParsing at (Stopped, d) = ⊥
 
 -- what holds after a line; a document that is whole has a line for each entry
-abbrev pub IsTurn : (at : ℕ) → Turn → Type 0
+abbrev pub IsTurn : (at : ℕ) → LineStep → Type 0
 IsTurn at (Continues state, d) = IsParsing at (state, d)
 IsTurn at (Completes, d) = IsProper d × (length d.entries < at)
 IsTurn at (Refuses fault, d) = Unit {0}
