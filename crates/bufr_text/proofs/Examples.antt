@@ -1,7 +1,7 @@
 -- Lines computed on examples, each rule beside its nearest wrong neighbour.
 use Rattle.std.proofs.Common.{◌≡◌, ℕ, List, [], ◌∷◌, ◌++◌, refl, codes, replicate, map, true, false, arith, drop, take, Some, None, pos, ◌+◌, inl}
 use Rattle.bufr_fill.specs.Prelude.{number_token, text_form, missing_form, reference_token, draft, Holds, Ends}
-use Rattle.bufr_text.specs.Prelude.{leasts, mosts, prefix_while, suffix_while, without_prefix, hex_read, fxy_read, descriptors_read, quoted_read, is_hashed, quoted, hex_text, descriptors_text, runs_after, Line, Passed, Header, Local1, Section2, Descriptors, Begins, Item, Wrong, keys, index_from, value_read, worded, line_of, Opens, Closes, read_line, ParseResult, Complete, Refused, NotAllowed, SubsetCount, HeaderRange, turn, parse_lines, lines_of, documents_of, Document, open_documents_of, split_of, parse_open_lines, item_text, local1_line, descriptors_line, text_of_lines, IsDumpable, dump_text_of, header_lines, subset_lines, item_entries, subset_entries, document_of, ls_line, AreEnded, IsProper, NumberedLine, numbered_line, numbered_lines, SubsetHeard, subsets_heard, entries_heard, IsDocument}
+use Rattle.bufr_text.specs.Prelude.{leasts, mosts, prefix_while, suffix_while, without_prefix, hex_read, fxy_read, descriptors_read, quoted_read, is_hashed, quoted, hex_text, descriptors_text, runs_after, Line, Passed, Header, Local1, Section2, Descriptors, Begins, Item, Wrong, keys, index_from, value_read, worded, line_of, Opens, Closes, read_line, ParseResult, Complete, Refused, NotAllowed, SubsetCount, HeaderRange, line_step, parse_lines, lines_of, documents_of, Document, open_documents_of, split_of, parse_open_lines, item_text, local1_line, descriptors_line, text_of_lines, IsDumpable, dump_text_of, header_lines, subset_lines, item_entries, subset_entries, document_of, ls_line, AreEnded, IsProper, NumberedLine, numbered_line, numbered_lines, SubsetHeard, subsets_heard, entries_heard, IsDocument}
 use Rattle.bufr_frame.specs.declared.section1.Head.{Head}
 use Rattle.bufr_frame.specs.Prelude.{IsFitting, greatest_values, values_of, Sections}
 use Rattle.bufr_frame.proofs.AgainLemmas.{at-most}
@@ -101,7 +101,7 @@ lines_read :
     ≡ Complete (record { line = 1; header = header_written; local1 = []; section2 = []; descriptors = []; entries = [] })
     ∷ Complete (record { line = 24; header = header_written; local1 = []; section2 = []; descriptors = []; entries = [] }) ∷ [])
 unfolding quoted line_of worded prefix_while suffix_while without_prefix fxy_read value_read quoted_read is_hashed index_from keys leasts mosts hex_read descriptors_read hex_text descriptors_text ten
-    parse_lines lines_of turn
+    parse_lines lines_of line_step
 lines_read = (refl, refl, refl, refl, refl, refl, refl, refl, refl, refl, refl, refl, refl, refl, refl, refl, refl, refl, refl, refl, refl, refl, refl)
 
 -- ---- The definitions computed on worked examples.
@@ -244,7 +244,7 @@ documents_read :
     × (documents_of (text_of_lines (lines_3 (codes "edition 5") (codes "centre 98") (codes "second 0") ++ item_lines)) ≡ Refused 2 HeaderRange ∷ [])
     -- a document of edition 4 that says edition 3 is refused at its year
     × (documents_of (text_of_lines (codes "message" ∷ codes "edition 3" ∷ drop 2 head_lines ++ item_lines)) ≡ Refused 12 HeaderRange ∷ [])
-unfolding header_lines subset_lines item_entries subset_entries keys leasts mosts digits runs_after hex_text descriptors_text quoted decimal_text_of unsigned_text parse_lines lines_of turn line_of
+unfolding header_lines subset_lines item_entries subset_entries keys leasts mosts digits runs_after hex_text descriptors_text quoted decimal_text_of unsigned_text parse_lines lines_of line_step line_of
     worded prefix_while suffix_while index_from without_prefix descriptors_read fxy_read value_read quoted_read hex_read is_hashed parse_open_lines split_of
 documents_read = (refl, refl, refl, refl, refl, refl, refl, refl, refl, refl, refl, refl, refl, refl, refl, refl, refl, refl, refl)
 

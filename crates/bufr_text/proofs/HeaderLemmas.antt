@@ -4,7 +4,7 @@ use Rattle.bufr_fill.proofs.EntryLemmas.{length-prepended}
 use Rattle.std.proofs.Common.{◌≡◌, ℕ, ◌+◌, List, [], ◌∷◌, ◌++◌, length, refl, ap, ◌∙◌, subst, sym, arith, zero, suc, ◌-◌, ◌*◌, ◌<◌, ◌≤◌, ◌==◌, nat_le, nat_lt, Bool, true, false, Option, Some, None, codes, if◌then◌else◌, length-append, cond, map, take, drop, get_or, ◌&&◌, not, IfSome, slice_index, option_map, position}
 use Rattle.std.specs.List.{AllByRecursion, position_from}
 use Rattle.bufr_fill.specs.Prelude.{Draft, DraftEntry, Holds, Ends, Subset, prepend_to_subset, subsets_of, DraftValue, number_token, text_form, missing_form, reference_token, draft, HasOctets, AllHaveOctets, AreOctets}
-use Rattle.bufr_text.specs.Prelude.{Document, read_line, edition_in, subsets_in, Between, Heading, BeforeSubsets, Filling, Stopped, LineEffect, Parsing, LineStep, IsTurn, in_range, heading, before_subsets, filling, beginning, closing, with_entry, turn, are_in_range, head_from_values, IsHeaded, IsOctet, IsDescriptorWord, AreEnded, IsBare, HasLineGroups, EntryHasOctets, HasSubsets, IsParsing, without_space, upper_value, either_value, pair_value, onto_read, hex_read, fxy_read, descriptors_read, number_read, QuotedToken, Octet, quoting_of, quoted_on, quoted_read, is_number_octet, is_passed_after, prefix_while, suffix_while, Line, Passed, Opens, Header, Local1, Section2, Descriptors, Begins, Item, Closes, Wrong, keys, index_from, made, with_one_to, item_if_comment, number_value, value_read, valued, item_line, worded, line_of, leasts, mosts, is_named, lead_of, key_at}
+use Rattle.bufr_text.specs.Prelude.{Document, read_line, edition_in, subsets_in, Between, Heading, BeforeSubsets, Filling, Stopped, LineEffect, Parsing, LineStep, IsTurn, in_range, heading, before_subsets, filling, beginning, closing, with_entry, line_step, are_in_range, head_from_values, IsHeaded, IsOctet, IsDescriptorWord, AreEnded, IsBare, HasLineGroups, EntryHasOctets, HasSubsets, IsParsing, without_space, upper_value, either_value, pair_value, onto_read, hex_read, fxy_read, descriptors_read, number_read, QuotedToken, Octet, quoting_of, quoted_on, quoted_read, is_number_octet, is_passed_after, prefix_while, suffix_while, Line, Passed, Opens, Header, Local1, Section2, Descriptors, Begins, Item, Closes, Wrong, keys, index_from, made, with_one_to, item_if_comment, number_value, value_read, valued, item_line, worded, line_of, leasts, mosts, is_named, lead_of, key_at}
 use Rattle.bufr_text.specs.declared.document.LineGroup.{LineGroup}
 use Rattle.bufr_text.specs.declared.document.LineGroup.TheVariants as group
 use Rattle.std.specs.Str.{bytes_eq}
@@ -398,18 +398,18 @@ filling-so at subset d Closes sound h lines few written (ended, is, has) =
 filling-so at subset d line sound h lines few written has = tt
 
 -- what holds before a line holds after it
-pub turn-holds : (at : ℕ) (parsing : Parsing) (line : Line) → 0 < at → IsSound line → IsParsing at parsing → IsTurn (at + 1) (turn at parsing line)
-unfolding turn
-turn-holds at (Between, d) Passed some sound s = s
-turn-holds at (Between, d) Opens some sound s = (omega arith, refl, omega arith, record { local1 = refl; section2 = refl; descriptors = refl; entries = refl })
-turn-holds at (Heading, d) Passed some sound s = later at (Heading, d) s
-turn-holds at (Heading, d) (Header key value) some sound s = heading-so at key value d s.0 s.1 s.2 s.3
-turn-holds at (BeforeSubsets part, d) Passed some sound s = later at (BeforeSubsets part, d) s
-turn-holds at (BeforeSubsets part, d) line some sound s = before_subsets-so at part d line sound s.0 s.1 s.2 s.3
-turn-holds at (Filling subset, d) Passed some sound s = later at (Filling subset, d) s
-turn-holds at (Filling subset, d) line some sound s = filling-so at subset d line sound s.0 s.1 s.2 s.3 s.4
-turn-holds at (Stopped, d) line some sound s = absurd s
-turn-holds at parsing line some sound s = tt
+pub line_step-holds : (at : ℕ) (parsing : Parsing) (line : Line) → 0 < at → IsSound line → IsParsing at parsing → IsTurn (at + 1) (line_step at parsing line)
+unfolding line_step
+line_step-holds at (Between, d) Passed some sound s = s
+line_step-holds at (Between, d) Opens some sound s = (omega arith, refl, omega arith, record { local1 = refl; section2 = refl; descriptors = refl; entries = refl })
+line_step-holds at (Heading, d) Passed some sound s = later at (Heading, d) s
+line_step-holds at (Heading, d) (Header key value) some sound s = heading-so at key value d s.0 s.1 s.2 s.3
+line_step-holds at (BeforeSubsets part, d) Passed some sound s = later at (BeforeSubsets part, d) s
+line_step-holds at (BeforeSubsets part, d) line some sound s = before_subsets-so at part d line sound s.0 s.1 s.2 s.3
+line_step-holds at (Filling subset, d) Passed some sound s = later at (Filling subset, d) s
+line_step-holds at (Filling subset, d) line some sound s = filling-so at subset d line sound s.0 s.1 s.2 s.3 s.4
+line_step-holds at (Stopped, d) line some sound s = absurd s
+line_step-holds at parsing line some sound s = tt
 
 -- ---- The table of the keys of the header, beside its definition.
 

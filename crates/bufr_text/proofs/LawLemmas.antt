@@ -5,11 +5,11 @@ use Rattle.std.proofs.lemmas.Bool.Decides.{nat_tests}
 use Rattle.std.proofs.lemmas.List.{map-append}
 use Rattle.bufr_bits.proofs.DecimalLemmas.{and_first}
 use Rattle.bufr_fill.specs.Prelude.{DraftValue, draft, DraftEntry, Holds, Ends}
-use Rattle.bufr_text.specs.Prelude.{Document, edition_in, optional_in, subsets_in, ParserState, Between, Heading, BeforeSubsets, Filling, Stopped, LineEffect, Continues, Completes, Refuses, Parsing, LineStep, between, before_subsets, IsTurn, NotAllowed, SubsetCount, HeaderRange, in_range, heading, beginning, closing, with_entry, turn, read_line, parse_lines, parsing_after, reported_at, reported_at_end, lines_of, documents_of, Line, Passed, Opens, Header, Local1, Section2, Descriptors, Begins, Item, Closes, NumberedLine, numbered_line, onto_heard, numbered_lines, header_says, Element, SubsetHeard, subsets_heard, first_at, entries_heard, IsDocument, AreReported, IsProperlyReported, AreProper, IsBare, IsParsing}
+use Rattle.bufr_text.specs.Prelude.{Document, edition_in, optional_in, subsets_in, ParserState, Between, Heading, BeforeSubsets, Filling, Stopped, LineEffect, Continues, Completes, Refuses, Parsing, LineStep, between, before_subsets, IsTurn, NotAllowed, SubsetCount, HeaderRange, in_range, heading, beginning, closing, with_entry, line_step, read_line, parse_lines, parsing_after, reported_at, reported_at_end, lines_of, documents_of, Line, Passed, Opens, Header, Local1, Section2, Descriptors, Begins, Item, Closes, NumberedLine, numbered_line, onto_heard, numbered_lines, header_says, Element, SubsetHeard, subsets_heard, first_at, entries_heard, IsDocument, AreReported, IsProperlyReported, AreProper, IsBare, IsParsing}
 use Rattle.bufr_text.proofs.ReaderLemmas.{stopped-reports}
 use Rattle.bufr_text.specs.declared.document.LineGroup.{LineGroup}
 use Rattle.bufr_text.specs.declared.document.LineGroup.TheVariants as group
-use Rattle.bufr_text.proofs.HeaderLemmas.{turn-holds, all-more, said-sound, with_value, with_local1, with_section2, with_descriptors, equal}
+use Rattle.bufr_text.proofs.HeaderLemmas.{line_step-holds, all-more, said-sound, with_value, with_local1, with_section2, with_descriptors, equal}
 use Rattle.std.proofs.lemmas.Grind.{common_steps}
 
 abbrev says : List NumberedLine → List Line
@@ -409,29 +409,29 @@ section2-after at group.Section2 d octets own is = by-flag at group.Section2 d o
 section2-after at group.Descriptors d octets own is = tt
 
 -- each line keeps it
-turn-opens : (at : ℕ) (parsing : Parsing) (line : Line) (own : List NumberedLine) → IsOpen parsing own → IsOpenAfter (turn at parsing line) (own ++ one at line)
-unfolding turn
-turn-opens at (Between, d) Passed own is = passed (Between, d) own is
-turn-opens at (Between, d) Opens own is = record {
+line_step-opens : (at : ℕ) (parsing : Parsing) (line : Line) (own : List NumberedLine) → IsOpen parsing own → IsOpenAfter (line_step at parsing line) (own ++ one at line)
+unfolding line_step
+line_step-opens at (Between, d) Passed own is = passed (Between, d) own is
+line_step-opens at (Between, d) Opens own is = record {
   header = [];
   are = ap (λ (t : List NumberedLine). t ++ numbered_line at Opens ∷ []) is;
   in_order = refl;
   bare = record { local1 = refl; section2 = refl; descriptors = refl; entries = refl };
 }
-turn-opens at (Heading, d) Passed own is = passed (Heading, d) own is
-turn-opens at (Heading, d) (Header key value) own is = heading-open at key value d own is
-turn-opens at (BeforeSubsets part, d) Passed own is = passed (BeforeSubsets part, d) own is
-turn-opens at (BeforeSubsets part, d) (Local1 octets) own is = by-part at part d octets own is
-turn-opens at (BeforeSubsets part, d) (Section2 octets) own is = section2-after at part d octets own is
-turn-opens at (BeforeSubsets part, d) (Descriptors words) own is = descriptors-open at part d words own is
-turn-opens at (BeforeSubsets part, d) (Begins subset) own is = first-open at subset part d own is
-turn-opens at (BeforeSubsets part, d) Closes own is = none-open at part d own is
-turn-opens at (Filling subset, d) Passed own is = passed (Filling subset, d) own is
-turn-opens at (Filling subset, d) (Begins next) own is = next-open at subset next d own is
-turn-opens at (Filling subset, d) (Item fxy form) own is = item-open at subset d own (element at fxy form) refl is
-turn-opens at (Filling subset, d) Closes own is = end-open at subset d own is
-turn-opens at (Stopped, d) line own is = absurd is
-turn-opens at parsing line own is = tt
+line_step-opens at (Heading, d) Passed own is = passed (Heading, d) own is
+line_step-opens at (Heading, d) (Header key value) own is = heading-open at key value d own is
+line_step-opens at (BeforeSubsets part, d) Passed own is = passed (BeforeSubsets part, d) own is
+line_step-opens at (BeforeSubsets part, d) (Local1 octets) own is = by-part at part d octets own is
+line_step-opens at (BeforeSubsets part, d) (Section2 octets) own is = section2-after at part d octets own is
+line_step-opens at (BeforeSubsets part, d) (Descriptors words) own is = descriptors-open at part d words own is
+line_step-opens at (BeforeSubsets part, d) (Begins subset) own is = first-open at subset part d own is
+line_step-opens at (BeforeSubsets part, d) Closes own is = none-open at part d own is
+line_step-opens at (Filling subset, d) Passed own is = passed (Filling subset, d) own is
+line_step-opens at (Filling subset, d) (Begins next) own is = next-open at subset next d own is
+line_step-opens at (Filling subset, d) (Item fxy form) own is = item-open at subset d own (element at fxy form) refl is
+line_step-opens at (Filling subset, d) Closes own is = end-open at subset d own is
+line_step-opens at (Stopped, d) line own is = absurd is
+line_step-opens at parsing line own is = tt
 
 on : (at : ℕ) (line : List ℕ) (more : List (List ℕ)) (own : List NumberedLine) → (own ++ one at (read_line line)) ++ numbered_lines (at + 1) more ≡ own ++ numbered_lines at (line ∷ more)
 unfolding numbered_lines
@@ -452,7 +452,7 @@ reported-on at line more own (Refuses fault, d) is rest = stopped-reports (at + 
 lines-reported : (at : ℕ) (parsing : Parsing) (lines : List (List ℕ)) (own : List NumberedLine) → IsOpen parsing own → AreReported (own ++ numbered_lines at lines) (parse_lines at parsing lines)
 unfolding parse_lines numbered_lines
 lines-reported at parsing [] own is = end-reported at parsing own is
-lines-reported at parsing (line ∷ more) own is = reported-on at line more own (turn at parsing (read_line line)) (turn-opens at parsing (read_line line) own is)
+lines-reported at parsing (line ∷ more) own is = reported-on at line more own (line_step at parsing (read_line line)) (line_step-opens at parsing (read_line line) own is)
     (λ next own' opens. lines-reported (at + 1) next more own' opens)
 
 pub text-reported : (text : List ℕ) → AreReported (numbered_lines 1 (lines_of text)) (documents_of text)
@@ -476,8 +476,8 @@ pub spelled-proper : (at : ℕ) (parsing : Parsing) (lines : List (List ℕ)) �
 unfolding parse_lines
 spelled-proper at parsing [] some holds = end-proper at parsing.0
 spelled-proper at parsing (line ∷ more) some holds =
-    let here = turn at parsing (read_line line) in
-    let after = turn-holds at parsing (read_line line) some (said-sound line) holds in
+    let here = line_step at parsing (read_line line) in
+    let after = line_step-holds at parsing (read_line line) some (said-sound line) holds in
     all-more IsProperlyReported (reported_at at here) (parse_lines (at + 1) (parsing_after here) more) (reported-proper at here after)
     (proper-on (at + 1) here more after (λ next holds. spelled-proper (at + 1) next more (omega arith) holds))
 

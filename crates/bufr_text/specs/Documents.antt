@@ -133,14 +133,14 @@ filling at subset d line = (Refuses NotAllowed, d)
 
 -- what a line does; between documents only `message` may be
 -- rule: reading-empty-lines, reading-between-documents, fault-50
-unfoldable pub turn : (at : ℕ) → Parsing → Line → LineStep
-turn at (state, d) Passed = (Continues state, d)
-turn at (Between, d) Opens = (Continues Heading, blank at)
-turn at (Between, d) line = (Refuses NotAllowed, d)
-turn at (Heading, d) line = heading d line
-turn at (BeforeSubsets part, d) line = before_subsets part d line
-turn at (Filling subset, d) line = filling at subset d line
-turn at (Stopped, d) line = (Continues Stopped, d)
+unfoldable pub line_step : (at : ℕ) → Parsing → Line → LineStep
+line_step at (state, d) Passed = (Continues state, d)
+line_step at (Between, d) Opens = (Continues Heading, blank at)
+line_step at (Between, d) line = (Refuses NotAllowed, d)
+line_step at (Heading, d) line = heading d line
+line_step at (BeforeSubsets part, d) line = before_subsets part d line
+line_step at (Filling subset, d) line = filling at subset d line
+line_step at (Stopped, d) line = (Continues Stopped, d)
 
 -- whether a line adds to the document that is being read: octets, descriptors, an item, or the end
 -- of a subset
@@ -185,7 +185,7 @@ reported_at_end at state = Refused at NotAllowed ∷ []
 unfoldable pub parse_lines : (at : ℕ) → Parsing → List (List ℕ) → List ParseResult
 parse_lines at p [] = reported_at_end at p.0
 parse_lines at p (line ∷ more) =
-    let here = turn at p (read_line line) in reported_at at here
+    let here = line_step at p (read_line line) in reported_at at here
     ++ parse_lines (at + 1) (parsing_after here) more
 
 -- one more octet before the first line
@@ -207,9 +207,9 @@ documents_of text = parse_lines 1 between (lines_of text)
 unfoldable pub parse_open_lines : (at : ℕ) → Parsing → List (List ℕ) → (rest : List ℕ)
     → List ParseResult
 parse_open_lines at p [] rest =
-    if nat_lt max_line (length rest) then reported_at at (turn at p Wrong) else []
+    if nat_lt max_line (length rest) then reported_at at (line_step at p Wrong) else []
 parse_open_lines at p (line ∷ more) rest =
-    let here = turn at p (read_line line) in reported_at at here
+    let here = line_step at p (read_line line) in reported_at at here
     ++ parse_open_lines (at + 1) (parsing_after here) more rest
 
 -- the lines of a text that end by a line feed, and what is after the last of them
