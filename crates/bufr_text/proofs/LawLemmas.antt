@@ -5,7 +5,7 @@ use Rattle.std.proofs.lemmas.Bool.Decides.{nat_tests}
 use Rattle.std.proofs.lemmas.List.{map-append}
 use Rattle.bufr_bits.proofs.DecimalLemmas.{and_first}
 use Rattle.bufr_fill.specs.Prelude.{DraftValue, draft, DraftEntry, Holds, Ends}
-use Rattle.bufr_text.specs.Prelude.{Document, edition_in, optional_in, subsets_in, ParserState, Between, Heading, BeforeSubsets, Filling, Stopped, LineEffect, Continues, Completes, Refuses, Parsing, LineStep, between, before_subsets, IsTurn, NotAllowed, SubsetCount, HeaderRange, in_range, heading, beginning, closing, with_entry, line_step, read_line, parse_lines, parsing_after, reported_at, reported_at_end, lines_of, documents_of, Line, Passed, Opens, Header, Local1, Section2, Descriptors, Begins, Item, Closes, NumberedLine, numbered_line, onto_heard, numbered_lines, header_says, Element, SubsetHeard, subsets_heard, first_at, entries_heard, IsDocument, AreReported, IsProperlyReported, AreProper, IsBare, IsParsing}
+use Rattle.bufr_text.specs.Prelude.{Document, edition_in, optional_in, subsets_in, ParserState, Between, Heading, BeforeSubsets, Filling, Stopped, LineEffect, Continues, Completes, Refuses, Parsing, LineStep, between, before_subsets, IsLineStep, NotAllowed, SubsetCount, HeaderRange, in_range, heading, beginning, closing, with_entry, line_step, read_line, parse_lines, parsing_after, reported_at, reported_at_end, lines_of, documents_of, Line, Passed, Opens, Header, Local1, Section2, Descriptors, Begins, Item, Closes, NumberedLine, numbered_line, onto_heard, numbered_lines, header_says, Element, SubsetHeard, subsets_heard, first_at, entries_heard, IsDocument, AreReported, IsProperlyReported, AreProper, IsBare, IsParsing}
 use Rattle.bufr_text.proofs.ReaderLemmas.{stopped-reports}
 use Rattle.bufr_text.specs.declared.document.LineGroup.{LineGroup}
 use Rattle.bufr_text.specs.declared.document.LineGroup.TheVariants as group
@@ -463,10 +463,10 @@ text-reported text = lines-reported 1 between (lines_of text) [] refl
 end-proper : (at : ℕ) (state : ParserState) → AreProper (reported_at_end at state)
 end-proper at state = grind (arith, nat_tests, common_steps)
 
-reported-proper : (at : ℕ) (here : LineStep) → IsTurn (at + 1) here → AreProper (reported_at at here)
+reported-proper : (at : ℕ) (here : LineStep) → IsLineStep (at + 1) here → AreProper (reported_at at here)
 reported-proper at here h1 = grind (arith, nat_tests, common_steps)
 
-proper-on : (at : ℕ) (here : LineStep) (more : List (List ℕ)) → IsTurn at here → ((next : Parsing) → IsParsing at next → AreProper (parse_lines at next more))
+proper-on : (at : ℕ) (here : LineStep) (more : List (List ℕ)) → IsLineStep at here → ((next : Parsing) → IsParsing at next → AreProper (parse_lines at next more))
     → AreProper (parse_lines at (parsing_after here) more)
 proper-on at (Continues state, d) more is rest = rest (state, d) is
 proper-on at (Completes, d) more is rest = rest between refl

@@ -3,7 +3,7 @@ use Rattle.bufr_text.proofs.LineLemmas.{both}
 use Rattle.std.proofs.Common.{◌≡◌, ℕ, ◌+◌, ◌<◌, ◌≤◌, ◌==◌, nat_lt, not, Bool, true, false, List, [], ◌∷◌, ◌++◌, length, refl, sym, ap, ◌∙◌, arith, append_assoc, append-nil, length-append, subst, if◌then◌else◌, ◌⊎◌, inl, inr, zero, suc, ◌&&◌, take, drop, Option, Some, None, ◌-◌, length-drop, Result, Ok, Err, OnErr, slice_index}
 use Rattle.std.proofs.lemmas.Bool.Decides.{nat_tests}
 use Rattle.bufr_bits.proofs.DecimalLemmas.{and_first, and_second}
-use Rattle.bufr_text.specs.Prelude.{blank, Line, Passed, Item, Closes, Wrong, line_of, ParserState, Between, Heading, BeforeSubsets, Filling, Stopped, LineEffect, Continues, Completes, Refuses, Parsing, LineStep, between, ParseResult, Refused, NotAllowed, line_step, read_line, parse_lines, parsing_after, reported_at, reported_at_end, lines_of, prepend_to_line, Split, onto_split, split_of, parse_open_lines, documents_of, open_documents_of, Document, with_entry, has_no_feed, ReaderPosition, parse, parse_open, ContinuesParse, ReaderModel, KeepsUnread, IsMissingFeed, ReadsLines, TakesWholeLines, position_of, parsing_of, IsParsing, IsTurn, position_with, TakesLines, IsTaking, WantsAt, adds, ends_by_feed, IsProgress, IsReader, ParsesHeldLines, WantsHere, stopped, text_of_lines, ReadFault}
+use Rattle.bufr_text.specs.Prelude.{blank, Line, Passed, Item, Closes, Wrong, line_of, ParserState, Between, Heading, BeforeSubsets, Filling, Stopped, LineEffect, Continues, Completes, Refuses, Parsing, LineStep, between, ParseResult, Refused, NotAllowed, line_step, read_line, parse_lines, parsing_after, reported_at, reported_at_end, lines_of, prepend_to_line, Split, onto_split, split_of, parse_open_lines, documents_of, open_documents_of, Document, with_entry, has_no_feed, ReaderPosition, parse, parse_open, ContinuesParse, ReaderModel, KeepsUnread, IsMissingFeed, ReadsLines, TakesWholeLines, position_of, parsing_of, IsParsing, IsLineStep, position_with, TakesLines, IsTaking, WantsAt, adds, ends_by_feed, IsProgress, IsReader, ParsesHeldLines, WantsHere, stopped, text_of_lines, ReadFault}
 use Rattle.std.proofs.lemmas.Bool.{true≢false}
 use Rattle.memchr.specs.Find.{IsFirstByte, is_byte}
 use Rattle.std.proofs.lemmas.List.{take_at, drop-drop}
@@ -425,8 +425,8 @@ passes-feed : (at at' : ℕ) (held : List ℕ) (from n : ℕ) → TakesWholeLine
 passes-feed at at' held from n h1 h2 = grind (arith, nat_tests, common_steps, drop-drop, passes-line)
 
 -- what holds after a line
-holds-after : (new : Progress) (t : LineStep) (line : List ℕ) → IsParsing new.at (parsing_of new) → 0 < new.at → t ≡ line_step new.at (parsing_of new) (read_line line) → IsTurn (new.at + 1) t
-holds-after new t line s some e = subst (IsTurn (new.at + 1)) (sym e) (line_step-holds new.at (parsing_of new) (read_line line) some (said-sound line) s)
+holds-after : (new : Progress) (t : LineStep) (line : List ℕ) → IsParsing new.at (parsing_of new) → 0 < new.at → t ≡ line_step new.at (parsing_of new) (read_line line) → IsLineStep (new.at + 1) t
+holds-after new t line s some e = subst (IsLineStep (new.at + 1)) (sym e) (line_step-holds new.at (parsing_of new) (read_line line) some (said-sound line) s)
 
 further : (a b c : ReaderPosition) (x : List ParseResult) → b.ended ≡ c.ended → ContinuesParse a b [] → ContinuesParse b c x → ContinuesParse a c x
 further a b c x same f g = goes-further a b c [] x (λ e. sym same ∙ e) f g
@@ -466,7 +466,7 @@ taking-ends old new held from n effect last is feed at ends e =
           (subst (λ (k : ℕ). ContinuesParse old' (position_with k (parsing_after t) rest ended) (reported_at new.at t)) (sym at) (one-further old new held from n t ended is feed e));
       all = λ state goes. absurd (ends state goes);
       within = omega (arith, feed.0, length-drop from held);
-      holds = subst (λ (k : ℕ). IsTurn k t) (sym at) (holds-after new t (take n (drop from held)) is.holds is.some e);
+      holds = subst (λ (k : ℕ). IsLineStep k t) (sym at) (holds-after new t (take n (drop from held)) is.holds is.some e);
       some = omega (arith, at);
       near = omega (arith, is.near, at);
       passes = subst (λ (k : ℕ). TakesWholeLines old.at held k rest) (sym at) (passes-feed old.at new.at held from n is.passes feed);

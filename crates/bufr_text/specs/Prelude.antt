@@ -11,7 +11,7 @@ pub use Rattle.bufr_text.specs.Documents.{max_line, most_entries, Document, edit
 unfoldable pub use Rattle.bufr_text.specs.Documents.{line_step, parse_lines, lines_of, parse_open_lines, split_of}
 pub use Rattle.bufr_text.specs.Spelling.{NumberedLine, numbered_line, onto_heard, header_says, Element, SubsetHeard, subsets_heard, first_at, entries_heard, IsDocument, AreReported, IsProperlyReported, AreProper, IsProper, AreEnded, header_as, normal_head, normal_line, draft_answer, line_and, normal_items, normal_subsets, normal, IsWhole}
 unfoldable pub use Rattle.bufr_text.specs.Spelling.{numbered_lines}
-pub use Rattle.bufr_text.specs.Taking.{IsBare, IsParsing, IsTurn, parsing_of, ParsesHeldLines, ReadsMoreText, TakesHeldLines, FillsBuffer, text_input, stopped, position_with, TakesLines, IsTaking, WantsAt, ends_by_feed, IsProgress, IsReader, WantsHere, HasLineGroups, EntryHasOctets, HasSubsets, meaning}
+pub use Rattle.bufr_text.specs.Taking.{IsBare, IsParsing, IsLineStep, parsing_of, ParsesHeldLines, ReadsMoreText, TakesHeldLines, FillsBuffer, text_input, stopped, position_with, TakesLines, IsTaking, WantsAt, ends_by_feed, IsProgress, IsReader, WantsHere, HasLineGroups, EntryHasOctets, HasSubsets, meaning}
 pub use Rattle.bufr_bits.specs.Prelude.{◌>>=◌, map_err}
 pub use Rattle.bufr_text.specs.Encoding.{bits_by, places_by, WritesData, data_bits, octets_of_bits, encoding_of, parts_as, compressed_as, message_of, IsDocumentRefusal, WritesForm, document_fault, document_report, line_of_fault, compressed_by, form_of_flag, turns_by, AreOctetsOf, IsData, stop_fault, CountsSteps, IsNoData, writing_in}
 unfoldable pub use Rattle.bufr_text.specs.Encoding.{encoding_in}

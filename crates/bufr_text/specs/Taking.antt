@@ -87,10 +87,10 @@ IsParsing at (Filling subset, d) =
 IsParsing at (Stopped, d) = ⊥
 
 -- what holds after a line; a document that is whole has a line for each entry
-abbrev pub IsTurn : (at : ℕ) → LineStep → Type 0
-IsTurn at (Continues state, d) = IsParsing at (state, d)
-IsTurn at (Completes, d) = IsProper d × (length d.entries < at)
-IsTurn at (Refuses fault, d) = Unit {0}
+abbrev pub IsLineStep : (at : ℕ) → LineStep → Type 0
+IsLineStep at (Continues state, d) = IsParsing at (state, d)
+IsLineStep at (Completes, d) = IsProper d × (length d.entries < at)
+IsLineStep at (Refuses fault, d) = Unit {0}
 
 -- ---- What taking the lines that are held comes to.
 
@@ -110,7 +110,7 @@ pub record TakesLines (old new : Progress) (held : List ℕ) (offset : ℕ)
   pub all : (state : ParserState) → effect ≡ Continues state
       → (state ≡ new.state) × (has_no_feed (drop offset held) ≡ true)
   pub within : offset ≤ length held
-  pub holds : IsTurn new.at (effect, new.parts)
+  pub holds : IsLineStep new.at (effect, new.parts)
   pub some : 0 < new.at
   pub near : new.at ≤ old.at + offset
   pub passes : TakesWholeLines old.at held new.at (drop offset held)
