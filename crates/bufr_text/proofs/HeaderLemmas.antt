@@ -4,7 +4,7 @@ use Rattle.bufr_fill.proofs.EntryLemmas.{length-prepended}
 use Rattle.std.proofs.Common.{◌≡◌, ℕ, ◌+◌, List, [], ◌∷◌, ◌++◌, length, refl, ap, ◌∙◌, subst, sym, arith, zero, suc, ◌-◌, ◌*◌, ◌<◌, ◌≤◌, ◌==◌, nat_le, nat_lt, Bool, true, false, Option, Some, None, codes, if◌then◌else◌, length-append, cond, map, take, drop, get_or, ◌&&◌, not, IfSome, slice_index, option_map, position}
 use Rattle.std.specs.List.{AllByRecursion, position_from}
 use Rattle.bufr_fill.specs.Prelude.{Draft, DraftEntry, Holds, Ends, Subset, prepend_to_subset, subsets_of, DraftValue, number_token, text_form, missing_form, reference_token, draft, HasOctets, AllHaveOctets, AreOctets}
-use Rattle.bufr_text.specs.Prelude.{Document, read_line, edition_in, subsets_in, Between, Heading, BeforeSubsets, Filling, Stopped, LineEffect, Parsing, LineStep, IsLineStep, in_range, heading, before_subsets, filling, beginning, closing, with_entry, line_step, are_in_range, head_from_values, IsHeaded, IsOctet, IsDescriptorWord, AreEnded, IsBare, HasLineGroups, EntryHasOctets, HasSubsets, IsParsing, without_space, upper_value, either_value, pair_value, onto_read, hex_read, fxy_read, descriptors_read, number_read, QuotedToken, Octet, quoting_of, quoted_on, quoted_read, is_number_octet, is_passed_after, prefix_while, suffix_while, Line, Passed, Opens, Header, Local1, Section2, Descriptors, Begins, Item, Closes, Wrong, keys, index_from, made, with_one_to, item_if_comment, number_value, value_read, valued, item_line, worded, line_of, leasts, mosts, is_named, lead_of, key_at}
+use Rattle.bufr_text.specs.Prelude.{Document, read_line, edition_in, subsets_in, Between, Heading, BeforeSubsets, Filling, Stopped, LineEffect, Parsing, LineStep, IsLineStep, in_range, heading, before_subsets, in_subset, beginning, closing, with_entry, line_step, are_in_range, head_from_values, IsHeaded, IsOctet, IsDescriptorWord, AreEnded, IsBare, HasLineGroups, EntryHasOctets, HasSubsets, IsParsing, without_space, upper_value, either_value, pair_value, onto_read, hex_read, fxy_read, descriptors_read, number_read, QuotedToken, Octet, quoting_of, quoted_on, quoted_read, is_number_octet, is_passed_after, prefix_while, suffix_while, Line, Passed, Opens, Header, Local1, Section2, Descriptors, Begins, Item, Closes, Wrong, keys, index_from, made, with_one_to, item_if_comment, number_value, value_read, valued, item_line, worded, line_of, leasts, mosts, is_named, lead_of, key_at}
 use Rattle.bufr_text.specs.declared.document.LineGroup.{LineGroup}
 use Rattle.bufr_text.specs.declared.document.LineGroup.TheVariants as group
 use Rattle.std.specs.Str.{bytes_eq}
@@ -373,12 +373,12 @@ one-more at ended d h1 = grind (arith, nat_tests, common_steps, all-more, end-en
 by-number : (subset ended : ℕ) (d : Document) → subset ≡ ended + 1 → HasSubsets (ended + 1) d → HasSubsets subset d
 by-number subset ended d is has = subst (λ (n : ℕ). HasSubsets n d) (sym is) has
 
-filling-so : (at subset : ℕ) (d : Document) (line : Line) → IsSound line → IsHeaded d → length d.entries < at → subset < 65536 → HasLineGroups d
-    → ((ended : ℕ) × (subset ≡ ended + 1) × HasSubsets ended d) → IsLineStep (at + 1) (filling at subset d line)
-filling-so at subset d (Begins next) sound h lines few written (ended, is, has) =
+in_subset-so : (at subset : ℕ) (d : Document) (line : Line) → IsSound line → IsHeaded d → length d.entries < at → subset < 65536 → HasLineGroups d
+    → ((ended : ℕ) × (subset ≡ ended + 1) × HasSubsets ended d) → IsLineStep (at + 1) (in_subset at subset d line)
+in_subset-so at subset d (Begins next) sound h lines few written (ended, is, has) =
     beginning-so at subset next (with_entry d (Ends at)) (still-headed d (Ends at) h) (omega (arith, lines, one-entry d (Ends at))) (still-written d (Ends at) written)
     (by-number subset ended (with_entry d (Ends at)) is (one-more at ended d has))
-filling-so at subset d (Item fxy form) sound h lines few written (ended, is, has) = (
+in_subset-so at subset d (Item fxy form) sound h lines few written (ended, is, has) = (
   still-headed d (Holds (draft at fxy form)) h,
   omega (arith, lines, one-entry d (Holds (draft at fxy form))),
   few,
@@ -392,10 +392,10 @@ filling-so at subset d (Item fxy form) sound h lines few written (ended, is, has
     },
   ),
 )
-filling-so at subset d Closes sound h lines few written (ended, is, has) =
+in_subset-so at subset d Closes sound h lines few written (ended, is, has) =
     closing-so at subset (with_entry d (Ends at)) (still-headed d (Ends at) h) (omega (arith, lines, one-entry d (Ends at))) (still-written d (Ends at) written)
     (by-number subset ended (with_entry d (Ends at)) is (one-more at ended d has)) (ends-last d.entries at)
-filling-so at subset d line sound h lines few written has = tt
+in_subset-so at subset d line sound h lines few written has = tt
 
 -- what holds before a line holds after it
 pub line_step-holds : (at : ℕ) (parsing : Parsing) (line : Line) → 0 < at → IsSound line → IsParsing at parsing → IsLineStep (at + 1) (line_step at parsing line)
@@ -407,7 +407,7 @@ line_step-holds at (Heading, d) (Header key value) some sound s = heading-so at 
 line_step-holds at (BeforeSubsets part, d) Passed some sound s = later at (BeforeSubsets part, d) s
 line_step-holds at (BeforeSubsets part, d) line some sound s = before_subsets-so at part d line sound s.0 s.1 s.2 s.3
 line_step-holds at (Filling subset, d) Passed some sound s = later at (Filling subset, d) s
-line_step-holds at (Filling subset, d) line some sound s = filling-so at subset d line sound s.0 s.1 s.2 s.3 s.4
+line_step-holds at (Filling subset, d) line some sound s = in_subset-so at subset d line sound s.0 s.1 s.2 s.3 s.4
 line_step-holds at (Stopped, d) line some sound s = absurd s
 line_step-holds at parsing line some sound s = tt
 

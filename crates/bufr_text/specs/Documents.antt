@@ -124,12 +124,12 @@ before_subsets part d line = (Refuses NotAllowed, d)
 
 -- a line in a subset
 -- rule: reading-subset-end
-abbrev pub filling : (at subset : ℕ) → Document → Line → LineStep
-filling at subset d (Item fxy form) =
+abbrev pub in_subset : (at subset : ℕ) → Document → Line → LineStep
+in_subset at subset d (Item fxy form) =
     (Continues (Filling subset), with_entry d (Holds (draft at fxy form)))
-filling at subset d (Begins next) = (beginning subset d next, with_entry d (Ends at))
-filling at subset d Closes = (closing subset d, with_entry d (Ends at))
-filling at subset d line = (Refuses NotAllowed, d)
+in_subset at subset d (Begins next) = (beginning subset d next, with_entry d (Ends at))
+in_subset at subset d Closes = (closing subset d, with_entry d (Ends at))
+in_subset at subset d line = (Refuses NotAllowed, d)
 
 -- what a line does; between documents only `message` may be
 -- rule: reading-empty-lines, reading-between-documents, fault-50
@@ -139,7 +139,7 @@ line_step at (Between, d) Opens = (Continues Heading, blank at)
 line_step at (Between, d) line = (Refuses NotAllowed, d)
 line_step at (Heading, d) line = heading d line
 line_step at (BeforeSubsets part, d) line = before_subsets part d line
-line_step at (Filling subset, d) line = filling at subset d line
+line_step at (Filling subset, d) line = in_subset at subset d line
 line_step at (Stopped, d) line = (Continues Stopped, d)
 
 -- whether a line adds to the document that is being read: octets, descriptors, an item, or the end
