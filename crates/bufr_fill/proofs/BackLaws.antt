@@ -7,7 +7,7 @@ use Rattle.std.proofs.lemmas.Bool.{ltb-false}
 use Rattle.std.specs.List.{AllByRecursion}
 use Rattle.bufr_tables.specs.Prelude.{IsLegal, Record, Row, AreRows, Tree}
 use Rattle.bufr_walk.specs.Prelude.{FieldSpec, IsSpec, Content, bits_for, FieldFault, found, content_at, Course, Next, take_next, at_end, astray, refused, next_item, max_values, Item, DataCoding, plain, packed, ReadsPass, items_of_subset, subsets_from, would_be_many}
-use Rattle.bufr_fill.specs.Prelude.{Draft, Subset, ItemFault, DraftFault, at_line, too_many_values, content_of, plainly, plain_filler, RowCell, ItemRow, cells_at, rows, longest, map_err, content_here, contents_here, packed_to, pack_across, packed_filler, plain_data, packed_data, first_line, ◌>>=◌, WrittenItem, written_item, Filler, fill, with_bits_before, packing, Fits, AllFit, HasOctets, AllHaveOctets, IsSaid, IsReadBack, IsPackedReadBack, AreDrafts, AreSaid}
+use Rattle.bufr_fill.specs.Prelude.{Draft, Subset, ItemFault, DraftFault, at_line, too_many_values, content_of, plainly, plain_filler, RowCell, ItemRow, cells_at, rows, most_items, map_err, content_here, contents_here, packed_to, pack_across, packed_filler, plain_data, packed_data, first_line, ◌>>=◌, WrittenItem, written_item, Filler, fill, with_bits_before, packing, Fits, AllFit, HasOctets, AllHaveOctets, IsSaid, IsReadBack, IsPackedReadBack, AreDrafts, AreSaid}
 use Rattle.bufr_fill.proofs.FillSteps.{filled, bits_with, fill_at, plain_more}
 use Rattle.bufr_walk.proofs.NextField.{table_read, IsGoodCourse, next_field}
 use Rattle.bufr_walk.specs.Prelude.{IsWithin}
@@ -249,7 +249,7 @@ other_subsets j zero from s ss (i ∷ items) h = absurd h
 other_subsets j (suc count) from s ss [] h = absurd h
 other_subsets j (suc count) from s ss (i ∷ items) h = (h.0.1, other_subsets j count (from + 1) s ss items h.1)
 
-all_subsets : (j count : ℕ) (ss : List Subset) (items : List (Item (List Content))) → RowsSaid j items (rows count 0 ss) → longest ss ≤ count → AreSaid (subsets_from (length ss) j items) ss
+all_subsets : (j count : ℕ) (ss : List Subset) (items : List (Item (List Content))) → RowsSaid j items (rows count 0 ss) → most_items ss ≤ count → AreSaid (subsets_from (length ss) j items) ss
 all_subsets j count [] items h l = tt
 all_subsets j count (s ∷ ss) items h l = (first_subset j count 0 s ss items h (omega (arith, l)), all_subsets (suc j) count ss items (other_subsets j count 0 s ss items h) (omega (arith, l)))
 
@@ -266,7 +266,7 @@ pub packed_back : (course : Course) → IsGoodCourse course → (ss : List Subse
 packed_back course good [] out text e = record { items = []; said = tt; read = λ more. (refl, ap (λ x. x ++ more) (sym (same_ok [] out e))) }
 packed_back course good (s ∷ ss) out text e =
     let n = length (s ∷ ss) in
-    let most = longest (s ∷ ss) in
+    let most = most_items (s ∷ ss) in
     let b = back (packed n) (packed_filler s.end_line (would_be_many n most)) (IsSaidAcross n) (IsRowOf n) (λ spec cs. refl) (packed_one n (omega arith)) course (rows most 0 (s ∷ ss)) out good
     (rows_octets n most 0 (s ∷ ss) refl text) e in
     let zero_more : 0 + length b.items ≡ length b.items = omega arith in

@@ -289,9 +289,9 @@ rows zero from subsets = []
 rows (suc n) from subsets = item_row from subsets ∷ rows n (from + 1) subsets
 
 -- the number of items of the longest subset
-abbrev pub longest : List Subset → ℕ
-longest [] = 0
-longest (s ∷ subsets) = max (length s.items) (longest subsets)
+abbrev pub most_items : List Subset → ℕ
+most_items [] = 0
+most_items (s ∷ subsets) = max (length s.items) (most_items subsets)
 
 -- the line of the first cell, 0 where there is none
 abbrev pub first_line : List RowCell → ℕ
@@ -367,7 +367,7 @@ packed_filler end_line many = record {
 abbrev pub packed_writing : Course → List Subset → Writing DraftFault
 packed_writing course [] = no_writing
 packed_writing course (s ∷ subsets) =
-    let most = longest (s ∷ subsets) in
+    let most = most_items (s ∷ subsets) in
     let filler = packed_filler s.end_line (would_be_many (length (s ∷ subsets)) most) in
     pass_writing (fill_pass filler course (rows most 0 (s ∷ subsets)))
 

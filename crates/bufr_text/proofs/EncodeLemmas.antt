@@ -2,7 +2,7 @@
 use Rattle.std.proofs.Common.{inl, inr, ◌≡◌, ◌+◌, ℕ, suc, Bool, List, [], ◌∷◌, ◌++◌, length, length-append, Option, Some, None, Result, Ok, Err, refl, sym, ◌∙◌, ap, subst, arith, ◌<◌, get_or, true, false, ◌≤◌, zero, ◌-◌, ◌*◌, append_assoc, if◌then◌else◌}
 use Rattle.bufr_walk.specs.declared.spec.Taken.{Taken}
 use Rattle.bufr_walk.specs.Prelude.{FieldSpec, octets_in, Course, Next, take_next, at_end, astray, refused, NextTurn, asked, operated, ahead, counts_of, next_item, Turns, finish, open_end, group, pass_end, factor_turn, element_turn, operator_turn, Rest, passes, unroll, TakenField, Takes, course_after, ticked, answers_of, oks, StopsWalk, Walked, element_spec, factor_spec, inserted_spec, OperatorModel, after_operator, after_field, would_be_many}
-use Rattle.bufr_fill.specs.Prelude.{IfDraftFault, at_line, DraftEntry, Holds, Ends, Subset, subset, prepend_to_subset, subsets_of, WrittenItem, Filler, fill_pass, bits_written, bits_or, fill, with_bits_before, Writing, pass_writing, writing_then, bits_of_writing, plainly, plain_filler, plain_writing, plain_data, packed_writing, cells_at, rows, longest, packed_filler, packed_data, AreOctets, PlainOutModel, PlainFills, IsFaultNext, after_end, line_at, items_left, end_left, ends_of, PackedOutModel, new_packed_out, PackedFills, IsFaultHere, all_at_end, first_line_at, rows_left}
+use Rattle.bufr_fill.specs.Prelude.{IfDraftFault, at_line, DraftEntry, Holds, Ends, Subset, subset, prepend_to_subset, subsets_of, WrittenItem, Filler, fill_pass, bits_written, bits_or, fill, with_bits_before, Writing, pass_writing, writing_then, bits_of_writing, plainly, plain_filler, plain_writing, plain_data, packed_writing, cells_at, rows, most_items, packed_filler, packed_data, AreOctets, PlainOutModel, PlainFills, IsFaultNext, after_end, line_at, items_left, end_left, ends_of, PackedOutModel, new_packed_out, PackedFills, IsFaultHere, all_at_end, first_line_at, rows_left}
 use Rattle.bufr_fill.specs.declared.fault.DraftFault.{DraftFault}
 use Rattle.bufr_fill.proofs.FillSteps.{pass_at, pass_with, pass_more, fill_end}
 use Rattle.bufr_fill.proofs.WalkLemmas.{HasFilled, after_answers, fills, walk_of_items, fault_as_defined}
@@ -614,19 +614,19 @@ packed_counts : (course : Course) (ss : List Subset) (items : List TakenField) (
     → length mid.bits ≤ length (packed_writing course ss).bits
 packed_counts course [] items mid some h = absurd (omega (arith, some))
 packed_counts course (s ∷ more) items mid some h =
-    let many = would_be_many (length (s ∷ more)) (longest (s ∷ more)) in
+    let many = would_be_many (length (s ∷ more)) (most_items (s ∷ more)) in
     let c = walk_counts (packed_filler s.end_line many) rows_left (λ (p : PackedOutModel). p.bits) (oks PackedFills) (packed_fills s.end_line many) course (new_packed_out (s ∷ more)) items mid h in
-    let e : longest (s ∷ more) - 0 ≡ longest (s ∷ more) = omega arith in
+    let e : most_items (s ∷ more) - 0 ≡ most_items (s ∷ more) = omega arith in
     omega (arith, c, ap (λ k. count_filled (packed_filler s.end_line many) course (rows k 0 (s ∷ more))) e)
 
 -- ---- the turns
 
 -- the turns of all subsets are those that a walk comes to
 packed_turns_left : (course : Course) (s : Subset) (more : List Subset) (items : List TakenField) (mid : PackedOutModel) → Takes (oks PackedFills) course (new_packed_out (s ∷ more)) items mid
-    → (packed_writing course (s ∷ more)).turns ≡ turns_filled (packed_filler s.end_line (would_be_many (length (s ∷ more)) (longest (s ∷ more)))) (course_after course items) (rows_left mid)
+    → (packed_writing course (s ∷ more)).turns ≡ turns_filled (packed_filler s.end_line (would_be_many (length (s ∷ more)) (most_items (s ∷ more)))) (course_after course items) (rows_left mid)
 packed_turns_left course s more items mid h =
-    let many = would_be_many (length (s ∷ more)) (longest (s ∷ more)) in
-    let e : longest (s ∷ more) ≡ longest (s ∷ more) - 0 = omega arith in
+    let many = would_be_many (length (s ∷ more)) (most_items (s ∷ more)) in
+    let e : most_items (s ∷ more) ≡ most_items (s ∷ more) - 0 = omega arith in
     ap (λ k. turns_filled (packed_filler s.end_line many) course (rows k 0 (s ∷ more))) e
     ∙ walk_turns (packed_filler s.end_line many) rows_left (λ (p : PackedOutModel). p.bits) (oks PackedFills) (packed_fills s.end_line many) course (new_packed_out (s ∷ more)) items mid h
 
@@ -635,7 +635,7 @@ turns_at_most : (course : Course) (ss : List Subset) (items : List TakenField) (
     → (course (answers_of items)).turns ≤ (packed_writing course ss).turns
 turns_at_most course [] items mid g some h = absurd (omega (arith, some))
 turns_at_most course (s ∷ more) items mid g some h =
-    some_turns (packed_filler s.end_line (would_be_many (length (s ∷ more)) (longest (s ∷ more)))) course items (rows_left mid) ((packed_writing course (s ∷ more)).turns) g
+    some_turns (packed_filler s.end_line (would_be_many (length (s ∷ more)) (most_items (s ∷ more)))) course items (rows_left mid) ((packed_writing course (s ∷ more)).turns) g
     (packed_turns_left course s more items mid h)
 
 -- where nothing more is taken, whatever the filler, all were made
@@ -643,7 +643,7 @@ packed_all_turns : (course : Course) (ss : List Subset) (items : List TakenField
     → ((end : ℕ) (many : Bool) → IsLast (packed_filler end many) (course (answers_of items)).next (rows_left mid)) → (course (answers_of items)).turns ≡ (packed_writing course ss).turns
 packed_all_turns course [] items mid some h l = absurd (omega (arith, some))
 packed_all_turns course (s ∷ more) items mid some h l =
-    let many = would_be_many (length (s ∷ more)) (longest (s ∷ more)) in
+    let many = would_be_many (length (s ∷ more)) (most_items (s ∷ more)) in
     last_turns (packed_filler s.end_line many) course items (rows_left mid) (course (answers_of items)).next ((packed_writing course (s ∷ more)).turns) (packed_turns_left course s more items mid h)
     refl
     (l s.end_line many)
@@ -654,7 +654,7 @@ end_is_last end many next mid e = subst (λ n. IsLast (packed_filler end many) n
 
 -- nor is anything taken at a fault
 packed_fault_is_last : (end : ℕ) (many : Bool) (next : Next) (mid : PackedOutModel) (f : DraftFault) → IsFaultHere next mid f → IsLast (packed_filler end many) next (rows_left mid)
-packed_fault_is_last end many (take_next spec) mid f h = by (longest mid.subsets - mid.index)
+packed_fault_is_last end many (take_next spec) mid f h = by (most_items mid.subsets - mid.index)
   where
     by : (k : ℕ) → IsLast (packed_filler end many) (take_next spec) (rows k mid.index mid.subsets)
     by zero = tt
