@@ -4,7 +4,7 @@ use Rattle.std.specs.List.{concat, AllByRecursion}
 use Rattle.std.proofs.lemmas.Bool.Decides.{nat_tests}
 use Rattle.std.proofs.lemmas.List.{length-map}
 use Rattle.bufr_fill.specs.Prelude.{draft, DraftEntry, Holds, Ends}
-use Rattle.bufr_text.specs.Prelude.{leasts, mosts, Document, edition_in, optional_in, subsets_in, Heading, BeforeSubsets, Filling, Continues, Completes, Parsing, between, may_be_section2, in_range, with_entry, line_step, read_line, parse_lines, lines_of, documents_of, blank, Complete, Line, Opens, Header, Local1, Section2, Descriptors, Begins, Item, Closes, header_lines, local1_line, section2_line, descriptors_line, subset_line, subset_lines, item_text, dump_value_of, item_entries, subset_entries, IsOctet, IsDescriptorWord, IsItem, header_of, bit, head_lines, dump_lines, dump_text_of, document_of, lines_before, IsDumpable, runs_of, runs_after}
+use Rattle.bufr_text.specs.Prelude.{leasts, mosts, Document, edition_in, optional_in, subsets_in, Heading, BeforeSubsets, Filling, Continues, Completes, Parsing, between, may_be_section2, in_range, with_entry, line_step, read_line, parse_lines, lines_of, documents_of, blank, Complete, Line, Opens, Header, Local1, Section2, Descriptors, Begins, ItemLine, Closes, header_lines, local1_line, section2_line, descriptors_line, subset_line, subset_lines, item_text, dump_value_of, item_entries, subset_entries, IsOctet, IsDescriptorWord, IsItem, header_of, bit, head_lines, dump_lines, dump_text_of, document_of, lines_before, IsDumpable, runs_of, runs_after}
 use Rattle.bufr_text.specs.declared.document.LineGroup.{LineGroup}
 use Rattle.bufr_text.specs.declared.document.LineGroup.TheVariants as group
 use Rattle.bufr_text.proofs.HeaderLemmas.{any-edition, with_value, with_local1, with_section2, with_descriptors}
@@ -155,7 +155,7 @@ items-run [] subset d at more all =
     ∙ ap (λ n. parse_lines n (Filling subset, with_entries d []) more) (omega arith)
 items-run (item ∷ items) subset d at more (here, all) =
     let one : DraftEntry = Holds (draft at item.fxy (dump_value_of item.value)) in
-    goes at (Filling subset, d) (Filling subset, with_entry d one) _ (Item item.fxy (dump_value_of item.value)) (map item_text items ++ more) (item-line item here) refl
+    goes at (Filling subset, d) (Filling subset, with_entry d one) _ (ItemLine item.fxy (dump_value_of item.value)) (map item_text items ++ more) (item-line item here) refl
     ∙ items-run items subset (with_entry d one) (at + 1) more all
     ∙ ap (λ (t : List DraftEntry). parse_lines (at + 1 + length items) (Filling subset, record d { entries = t }) more) (append_assoc d.entries (one ∷ []) (item_entries (at + 1) items))
     ∙ ap (λ n. parse_lines n (Filling subset, with_entries d (item_entries at (item ∷ items))) more) (omega arith)

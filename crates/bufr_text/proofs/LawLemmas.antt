@@ -5,7 +5,7 @@ use Rattle.std.proofs.lemmas.Bool.Decides.{nat_tests}
 use Rattle.std.proofs.lemmas.List.{map-append}
 use Rattle.bufr_bits.proofs.DecimalLemmas.{and_first}
 use Rattle.bufr_fill.specs.Prelude.{DraftValue, draft, DraftEntry, Holds, Ends}
-use Rattle.bufr_text.specs.Prelude.{Document, edition_in, optional_in, subsets_in, ParserState, Between, Heading, BeforeSubsets, Filling, Stopped, LineEffect, Continues, Completes, Refuses, Parsing, LineStep, between, before_subsets, IsLineStep, NotAllowed, SubsetCount, HeaderRange, in_range, heading, beginning, closing, with_entry, line_step, read_line, parse_lines, parsing_after, reported_at, reported_at_end, lines_of, documents_of, Line, Passed, Opens, Header, Local1, Section2, Descriptors, Begins, Item, Closes, NumberedLine, numbered_line, onto_heard, numbered_lines, header_says, Element, SubsetHeard, subsets_heard, first_at, entries_heard, IsDocument, AreReported, IsProperlyReported, AreProper, IsBare, IsParsing}
+use Rattle.bufr_text.specs.Prelude.{Document, edition_in, optional_in, subsets_in, ParserState, Between, Heading, BeforeSubsets, Filling, Stopped, LineEffect, Continues, Completes, Refuses, Parsing, LineStep, between, before_subsets, IsLineStep, NotAllowed, SubsetCount, HeaderRange, in_range, heading, beginning, closing, with_entry, line_step, read_line, parse_lines, parsing_after, reported_at, reported_at_end, lines_of, documents_of, Line, Passed, Opens, Header, Local1, Section2, Descriptors, Begins, ItemLine, Closes, NumberedLine, numbered_line, onto_heard, numbered_lines, header_says, Element, SubsetHeard, subsets_heard, first_at, entries_heard, IsDocument, AreReported, IsProperlyReported, AreProper, IsBare, IsParsing}
 use Rattle.bufr_text.proofs.ReaderLemmas.{stopped-reports}
 use Rattle.bufr_text.specs.declared.document.LineGroup.{LineGroup}
 use Rattle.bufr_text.specs.declared.document.LineGroup.TheVariants as group
@@ -39,7 +39,7 @@ element at fxy form = record { at = at; fxy = fxy; form = form }
 
 -- the line of an item, and its entry
 abbrev item_line : Element → NumberedLine
-item_line i = numbered_line i.at (Item i.fxy i.form)
+item_line i = numbered_line i.at (ItemLine i.fxy i.form)
 
 abbrev item_entry : Element → DraftEntry
 item_entry i = Holds (draft i.at i.fxy i.form)
@@ -428,7 +428,7 @@ line_step-opens at (BeforeSubsets part, d) (Begins subset) own is = first-open a
 line_step-opens at (BeforeSubsets part, d) Closes own is = none-open at part d own is
 line_step-opens at (Filling subset, d) Passed own is = passed (Filling subset, d) own is
 line_step-opens at (Filling subset, d) (Begins next) own is = next-open at subset next d own is
-line_step-opens at (Filling subset, d) (Item fxy form) own is = item-open at subset d own (element at fxy form) refl is
+line_step-opens at (Filling subset, d) (ItemLine fxy form) own is = item-open at subset d own (element at fxy form) refl is
 line_step-opens at (Filling subset, d) Closes own is = end-open at subset d own is
 line_step-opens at (Stopped, d) line own is = absurd is
 line_step-opens at parsing line own is = tt

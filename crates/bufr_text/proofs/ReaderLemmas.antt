@@ -3,7 +3,7 @@ use Rattle.bufr_text.proofs.LineLemmas.{both}
 use Rattle.std.proofs.Common.{◌≡◌, ℕ, ◌+◌, ◌<◌, ◌≤◌, ◌==◌, nat_lt, not, Bool, true, false, List, [], ◌∷◌, ◌++◌, length, refl, sym, ap, ◌∙◌, arith, append_assoc, append-nil, length-append, subst, if◌then◌else◌, ◌⊎◌, inl, inr, zero, suc, ◌&&◌, take, drop, Option, Some, None, ◌-◌, length-drop, Result, Ok, Err, OnErr, slice_index}
 use Rattle.std.proofs.lemmas.Bool.Decides.{nat_tests}
 use Rattle.bufr_bits.proofs.DecimalLemmas.{and_first, and_second}
-use Rattle.bufr_text.specs.Prelude.{blank, Line, Passed, Item, Closes, Wrong, line_of, ParserState, Between, Heading, BeforeSubsets, Filling, Stopped, LineEffect, Continues, Completes, Refuses, Parsing, LineStep, between, ParseResult, Refused, NotAllowed, line_step, read_line, parse_lines, parsing_after, reported_at, reported_at_end, lines_of, prepend_to_line, Split, onto_split, split_of, parse_open_lines, documents_of, open_documents_of, Document, with_entry, has_no_feed, ReaderPosition, parse, parse_open, ContinuesParse, ReaderModel, KeepsUnread, IsMissingFeed, ReadsLines, TakesWholeLines, position_of, parsing_of, IsParsing, IsLineStep, position_with, TakesLines, IsTaking, WantsAt, adds, ends_by_feed, IsProgress, IsReader, ParsesHeldLines, WantsHere, stopped, text_of_lines, ReadFault}
+use Rattle.bufr_text.specs.Prelude.{blank, Line, Passed, ItemLine, Closes, Wrong, line_of, ParserState, Between, Heading, BeforeSubsets, Filling, Stopped, LineEffect, Continues, Completes, Refuses, Parsing, LineStep, between, ParseResult, Refused, NotAllowed, line_step, read_line, parse_lines, parsing_after, reported_at, reported_at_end, lines_of, prepend_to_line, Split, onto_split, split_of, parse_open_lines, documents_of, open_documents_of, Document, with_entry, has_no_feed, ReaderPosition, parse, parse_open, ContinuesParse, ReaderModel, KeepsUnread, IsMissingFeed, ReadsLines, TakesWholeLines, position_of, parsing_of, IsParsing, IsLineStep, position_with, TakesLines, IsTaking, WantsAt, adds, ends_by_feed, IsProgress, IsReader, ParsesHeldLines, WantsHere, stopped, text_of_lines, ReadFault}
 use Rattle.std.proofs.lemmas.Bool.{true≢false}
 use Rattle.memchr.specs.Find.{IsFirstByte, is_byte}
 use Rattle.std.proofs.lemmas.List.{take_at, drop-drop}
@@ -377,14 +377,14 @@ completes-end at parsing line effect d is e = subst (IsByEnd line) (sym e ∙ ap
 -- ---- Lines that are taken one after another.
 
 -- a line with an item, in a subset
-item-line_step : (at subset : ℕ) (line : List ℕ) (d new : Document) (fxy : ℕ) (form : DraftValue) → length line ≤ 4096 → line_of line ≡ Item fxy form
+item-line_step : (at subset : ℕ) (line : List ℕ) (d new : Document) (fxy : ℕ) (form : DraftValue) → length line ≤ 4096 → line_of line ≡ ItemLine fxy form
     → new ≡ with_entry d (Holds (draft at fxy form))
     → (Continues (Filling subset), new) ≡ line_step at (Filling subset, d) (read_line line)
 unfolding line_step
 item-line_step at subset line d new fxy form h1 h2 h3 = grind (arith, nat_tests, common_steps)
 
 pub item-taken : (old p : Progress) (line : List ℕ) (entries : List DraftEntry) (subset fxy : ℕ) (form : DraftValue) → p ≡ old → p.state ≡ Filling subset → length line ≤ 4096
-    → line_of line ≡ Item fxy form → entries ≡ p.parts.entries ++ Holds (draft p.at fxy form) ∷ []
+    → line_of line ≡ ItemLine fxy form → entries ≡ p.parts.entries ++ Holds (draft p.at fxy form) ∷ []
     → (Continues p.state, record p.parts { entries = entries }) ≡ line_step old.at (parsing_of old) (read_line line)
 item-taken old p line entries subset fxy form same inside short says more =
     let T : Progress → Type 0 = λ x. (Continues x.state, record x.parts { entries = entries }) ≡ line_step old.at (parsing_of old) (read_line line) in

@@ -4,7 +4,7 @@
 use Rattle.std.specs.Prelude.{ℕ, List, [], slice_index, ◌+◌, ◌==◌, nat_le, nat_lt, Bool, true, false, not, ◌&&◌, if◌then◌else◌, ◌∷◌, ◌++◌, length, ◌≡◌, ◌^◌, Option, Some, None}
 use Rattle.bufr_fill.specs.Prelude.{DraftEntry, draft, Holds, Ends}
 use Rattle.bufr_frame.specs.Prelude.{head_by}
-use Rattle.bufr_text.specs.Line.{Line, Passed, Opens, Header, Local1, Section2, Descriptors, Begins, Item, Closes, Wrong, leasts, mosts, line_of}
+use Rattle.bufr_text.specs.Line.{Line, Passed, Opens, Header, Local1, Section2, Descriptors, Begins, ItemLine, Closes, Wrong, leasts, mosts, line_of}
 use Rattle.bufr_frame.specs.declared.section1.Head.{Head}
 use Rattle.bufr_text.specs.declared.fault.TextLineFault.{TextLineFault}
 use Rattle.bufr_text.specs.declared.fault.TextLineFault.TheVariants.{NotAllowed, SubsetCount, HeaderRange}
@@ -125,7 +125,7 @@ before_subsets part d line = (Refuses NotAllowed, d)
 -- a line in a subset
 -- rule: reading-subset-end
 abbrev pub in_subset : (at subset : ℕ) → Document → Line → LineStep
-in_subset at subset d (Item fxy form) =
+in_subset at subset d (ItemLine fxy form) =
     (Continues (Filling subset), with_entry d (Holds (draft at fxy form)))
 in_subset at subset d (Begins next) = (beginning subset d next, with_entry d (Ends at))
 in_subset at subset d Closes = (closing subset d, with_entry d (Ends at))
@@ -148,7 +148,7 @@ abbrev pub adds : ParserState → Line → Bool
 adds (BeforeSubsets part) (Local1 octets) = true
 adds (BeforeSubsets part) (Section2 octets) = true
 adds (BeforeSubsets part) (Descriptors words) = true
-adds (Filling subset) (Item fxy form) = true
+adds (Filling subset) (ItemLine fxy form) = true
 adds (Filling subset) (Begins next) = true
 adds (Filling subset) Closes = true
 adds state line = false

@@ -181,7 +181,7 @@ pub data Line : Type 0 where
   Section2 : (octets : List ℕ) → Line
   Descriptors : (words : List ℕ) → Line
   Begins : (subset : ℕ) → Line
-  Item : (fxy : ℕ) (form : DraftValue) → Line
+  ItemLine : (fxy : ℕ) (form : DraftValue) → Line
   Closes : Line
   Wrong : Line
 
@@ -226,7 +226,7 @@ with_one_to most line xs =
 
 -- nothing but a comment is after a value
 abbrev pub item_if_comment : (fxy : ℕ) → DraftValue × List ℕ → Line
-item_if_comment fxy (form, rest) = if is_passed_after rest then Item fxy form else Wrong
+item_if_comment fxy (form, rest) = if is_passed_after rest then ItemLine fxy form else Wrong
 
 -- a number by its form, and the rest after it
 abbrev pub number_value : (List ℕ → DraftValue) → List ℕ → Option (DraftValue × List ℕ)

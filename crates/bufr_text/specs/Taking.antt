@@ -43,7 +43,7 @@ meaning (said.Local1 octets) = line.Local1 octets.now
 meaning (said.Section2 octets) = line.Section2 octets.now
 meaning (said.Descriptors words) = line.Descriptors words.now
 meaning (said.Begins subset) = line.Begins subset
-meaning (said.Item fxy form) = line.Item fxy (form_in form)
+meaning (said.Item fxy form) = line.ItemLine fxy (form_in form)
 meaning said.Closes = line.Closes
 meaning said.Wrong = line.Wrong
 
