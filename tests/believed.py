@@ -119,6 +119,8 @@ def main() -> None:
     for law in ("data_are_read_item_by_item", "elements_have_their_rows"):
         if not re.search(rf"^pub fn {law}\b", texts["3"], re.M):
             wrongs.append(f"the law {law} is not printed beside what it justifies")
+    if "-- crates/bufr_tables/specs/TableB.antt\n-- Table B: " not in texts["3"]:
+        wrongs.append("the first lines of a file are not printed")
     for fault, report in ("TemplateFault", "template_report"), ("ItemFault", "item_report"), ("RunFault", "run_report"):
         if f"enum {fault} " in texts["3"] or f"abbrev pub {report} : {fault} " not in texts["3"]:
             wrongs.append(f"the faults of {fault} are not printed once, in {report}")

@@ -62,7 +62,7 @@ element_part tables width_given places d = do
   _ ← with_places places 1 d
   Ok (part (element d bare) 0)
 
--- an operator; one that gives a width comes before an element
+-- an operator; one that gives a width comes before an element (own)
 -- rule: 2-06-y-before-an-element, fault-22, fault-28, order-at-an-operator
 abbrev pub operator_part : ℕ → ℕ → List ℕ → Result ExpandedPart TemplateFault
 operator_part places d after = do
@@ -71,7 +71,7 @@ operator_part places d after = do
   _ ← with_places places 1 d
   Ok (part (operator d bare) 0)
 
--- the body of a group: the next X descriptors after its own places; some node of it takes bits
+-- the body of a group: the next X descriptors after its own places; some node takes bits (own)
 -- rule: replication-before-expansion, replication-nested, replication-in-one-list, fault-23
 -- rule: order-at-a-replication
 abbrev pub body_of : Option Expansion → (places own d : ℕ) → List ℕ → Result Tree TemplateFault

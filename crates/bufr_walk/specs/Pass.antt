@@ -129,7 +129,7 @@ passes_apart course (suc n) bits =
     let p = read_pass plain (λ items. false) course bits in
     p ∷ (if is_none p.stop then passes_apart course n p.state.left else [])
 
--- one pass for n compressed subsets; with no subset there is none
+-- one pass for n compressed subsets; with no subset there is none (own)
 -- rule: no-subsets
 abbrev pub passes_together : Course → (n : ℕ) → List Bool → List (DataPass (List Content))
 passes_together course zero bits = []
