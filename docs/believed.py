@@ -7,9 +7,10 @@
 A few lines on the notation and the contracts come first. The definitions follow under headings: first what the format is,
 then how a run uses its devices, and last what the kit's csv and clap promise. Most definitions come after those that they
 use. Imports, tags and derives are left out, and so is an enum of faults if its report is printed, which lists each fault
-with its number and text. The first lines of a file of definitions stand below its name. A law that justifies a file is printed after it, and what the law alone needs comes at the end. The types and traits of a signature are printed with their ghost items. Not followed are the names of std,
-and those that the checker itself makes from a contract (specs.contracts). Any other name that is imported and not found is
-reported, and the status is 1. The counts go to standard error.
+with its number and text. The first lines of a file of definitions stand below its name. A law that justifies a file is
+printed after it, and what the law alone needs comes at the end. The types and traits of a signature are printed with their
+ghost items. Not followed are the names of std, and those that the checker itself makes from a contract (specs.contracts).
+Any other name that is imported and not found is reported, and the status is 1. The counts go to standard error.
 """
 import functools
 import pathlib

@@ -110,8 +110,8 @@ item_report wrong.MissingForbidden = (55, codes "missing forbidden" ∷ [])
 item_report wrong.UnequalFactor = (58, codes "unequal factor" ∷ [])
 item_report wrong.Increment = (59, codes "increment" ∷ [])
 item_report (wrong.Walk why) =
-    let (number, fxy) = refusal_parts why in
-    (62, codes "walk " ∷ decimal number ∷ codes " descriptor " ∷ fxy_text fxy ∷ [])
+    let refused = refusal_parts why in
+    (62, codes "walk " ∷ decimal refused.0 ∷ codes " descriptor " ∷ fxy_text refused.1 ∷ [])
 
 -- the number of a fault where no document is: too many values have their own
 abbrev pub number_of_draft_fault : DraftFault → ℕ
