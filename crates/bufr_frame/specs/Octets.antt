@@ -1,6 +1,6 @@
 -- Numbers in octets. (WMO-No. 306, Volume I.2, FM 94: the most significant octet comes first)
 -- Cited by public contracts.
-use Rattle.std.specs.Prelude.{ℕ, ◌+◌, ◌*◌, ◌/◌, ◌%◌, List, [], ◌∷◌, slice_index}
+use Rattle.std.specs.Prelude.{ℕ, ◌+◌, ◌*◌, ◌/◌, ◌%◌, List, [], ◌∷◌, ◌++◌, slice_index}
 use Rattle.bufr_frame.specs.declared.message.Words.{Words}
 
 -- the number that the three octets from index p write
