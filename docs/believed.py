@@ -6,10 +6,11 @@
 
 A few lines on the notation and the contracts come first. The definitions follow under headings: first what the format is,
 then how a run uses its devices, and last what the kit's csv and clap promise. Most definitions come after those that they
-use. Imports, tags and derives are left out. A law that justifies a file is printed after it, and what the law alone needs
-comes at the end. The types and traits of a signature are printed with their ghost items. Not followed are the names of std,
-and those that the checker itself makes from a contract (specs.contracts). Any other name that is imported and not found is
-reported, and the status is 1. The counts go to standard error.
+use. Imports, tags and derives are left out, and so is an enum of faults if its report is printed, which lists each fault
+with its number and text. The first lines of a file of definitions stand below its name. A law that justifies a file is
+printed after it, and what the law alone needs comes at the end. The types and traits of a signature are printed with their
+ghost items. Not followed are the names of std, and those that the checker itself makes from a contract (specs.contracts).
+Any other name that is imported and not found is reported, and the status is 1. The counts go to standard error.
 """
 import functools
 import pathlib
@@ -52,6 +53,7 @@ a statement: `×` is "and" or a pair, `⊎` "or", `→` "implies" or a function,
 `(x : A) ×` "for some x". `λ x. e` is a function, `x ∷ xs` a list by its first member, and `++` joins lists. In `do`, a line
 `x ← e` stops at the first fault or `None`, as `>>=` does. `x.now`, `x.old` and `x.new` are in docs/proof.md. Names that
 stand nowhere below, such as `take` and `codes`, are std's (rattle/std and rattle/core in the kit, and rattle/ANTT.md).
+The first lines of each file say which part of FM 94 it states. `(own)` marks a rule that is a choice of this project.
 """
 # The laws that a reader leans on, by the file that they justify.
 LAWS = {
@@ -313,6 +315,12 @@ def headed():
     return order
 
 
+def about(path):
+    """The first lines of a file of specs/: what it defines, and the part of FM 94 that it states, or that it is our own."""
+    first = re.match(r"(?:--.*\n)*", "\n".join(read(path)))[0]
+    return [line for line in re.sub(r"\s*(?:--)? ?Cited by [a-z ]+\.", "", first).split("\n") if line] if path.suffix == ".antt" else []
+
+
 def text(item):
     """The lines of a definition, without what is beside its meaning."""
     return "\n".join(line for line in item.lines if not BESIDE.match(line))
@@ -324,6 +332,13 @@ def reached(calls, house):
     for call in calls:
         reach(call, seen, house)
     return [item for item in seen if item not in calls]
+
+
+def reported(items):
+    """The enums of faults among items of which a report lists each fault with its number and text."""
+    report = re.compile(r": (\w+) → ℕ × List \(List ℕ\)$")
+    names = {found[1] for item in items for found in [report.search(item.code().split("\n")[0])] if found}
+    return [item for item in items if item.path.suffix == ".rt" and item.name in names]
 
 
 def size(items):
@@ -338,11 +353,13 @@ def main():
     house, order, titles = House(), headed(), list(HEADINGS)
     calls = [contract(call) for call in sys.argv[1:] or ["run"]]
     definitions = reached(calls, house)
+    enums = reported(definitions)
+    definitions = [item for item in definitions if item not in enums]
     paths = {item.path for item in definitions}
     laws = {TOP / "crates" / f"bufr_{file}": [contract(law) for law in names] for file, names in LAWS.items()}
     laws = {path: [law for law in ones if law.name not in [call.name for call in calls]] for path, ones in laws.items() if path in paths}
     justifying = sum(laws.values(), [])
-    beside = [item for item in reached(justifying, house) if item not in definitions + calls]
+    beside = [item for item in reached(justifying, house) if item not in definitions + calls + enums]
     if house.lost:
         sys.exit("\n".join(f"{sys.argv[0]}: {one}" for one in sorted(house.lost)))
     print(PRIMER)
@@ -364,7 +381,7 @@ def main():
             print(f"\n== {count}. {titles[number]}")
         if item.path != path:
             path = item.path
-            print(f"\n-- {path.relative_to(TOP if TOP in path.parents else kit())}")
+            print(f"\n-- {path.relative_to(TOP if TOP in path.parents else kit())}", *about(path), sep="\n")
         print(f"\n{text(item)}")
     own = calls + [item for item in definitions if TOP in item.path.parents]
     print(f"{size(own)}, {len({item.path for item in own})} files", file=sys.stderr)

@@ -1,6 +1,6 @@
 #!/usr/bin/env python3
-"""Runs docs/believed.py: each of its headings has definitions, those that docs/proof.md cites are among them, and nothing
-that a contract names is left out but names of std.
+"""Runs docs/believed.py: each of its headings has definitions, those that docs/proof.md cites are among them, nothing that
+a contract names is left out but names of std, and a file of definitions that `run` does not need says so.
 
     tests/believed.py
 """
@@ -31,7 +31,7 @@ NAMED = {
             "abbrev pub failures_after", "pub enum OpenFault", "pub struct Failed"],
     "Message::parse": ["pub struct Message", "impl<'a> Model for Message", "unfoldable pub sections_of", "abbrev pub ◌>>=◌"],
     "Finder::held": ["impl Model for InputBuffer", "abbrev pub held", "pub record FinderModel"],
-    "Template::build": ["abbrev pub ◌>>=◌ : {E A B : Type 0} → Result A E"],
+    "Template::build": ["abbrev pub ◌>>=◌ : {E A B : Type 0} → Result A E", "pub enum TemplateFault"],
     "DumpReader::read_more": ["pub record Document "],
     "Buffered::write": ["impl<S: Sink> Sink for Buffered<S>", "ghost taken = "],
     "hand_on": ["fn hand_on<W: Sink, E: Sink>(w: &mut W, e: &mut E) -> Result<(), RunFault>"],
@@ -90,6 +90,18 @@ def of_every_function() -> "list[str]":
     return sorted(house.lost)
 
 
+def of_first_lines() -> "list[str]":
+    """The files of specs/ whose first line does not say rightly whether `run` needs them."""
+    module = runpy.run_path(str(TOP / "docs/believed.py"))
+    needed = {item.path for item in module["reached"]([module["contract"]("run")], module["House"]())}
+    wrongs = []
+    for path in sorted(TOP.glob("crates/*/specs/*.antt")):
+        says = bool(re.match("-- Only (?:contracts|laws) need this file\\. ", path.read_text(encoding="utf-8")))
+        if path.name not in ("Lib.antt", "Prelude.antt") and says == (path in needed):
+            wrongs.append(f"{path.relative_to(TOP)}: run needs {'it' if says else 'nothing of it'}")
+    return wrongs
+
+
 def main() -> None:
     texts, wrongs = {promise: printed(calls) for promise, calls in CALLS.items()}, []
     rows = dict(re.findall(r"^\| \*\*(\d)\. .* \| (.*) \|$", (TOP / "docs/proof.md").read_text(encoding="utf-8"), re.M))
@@ -107,6 +119,11 @@ def main() -> None:
     for law in ("data_are_read_item_by_item", "elements_have_their_rows"):
         if not re.search(rf"^pub fn {law}\b", texts["3"], re.M):
             wrongs.append(f"the law {law} is not printed beside what it justifies")
+    if "-- crates/bufr_tables/specs/TableB.antt\n-- Table B: " not in texts["3"]:
+        wrongs.append("the first lines of a file are not printed")
+    for fault, report in ("TemplateFault", "template_report"), ("ItemFault", "item_report"), ("RunFault", "run_report"):
+        if f"enum {fault} " in texts["3"] or f"abbrev pub {report} : {fault} " not in texts["3"]:
+            wrongs.append(f"the faults of {fault} are not printed once, in {report}")
     if re.search(r"^ *(?:--|//) rule:|^\s*(?:pub |ghost )*use ", texts["3"], re.M):
         wrongs.append("a tag or an import is printed")
     for calls, names in NAMED.items():
@@ -121,7 +138,7 @@ def main() -> None:
         if message := piped.stderr.read():
             wrongs.append(f"a closed output gives {message}")
     sys.setrecursionlimit(10_000)
-    finish(wrongs + of_copies() + of_every_function())
+    finish(wrongs + of_copies() + of_every_function() + of_first_lines())
 
 
 if __name__ == "__main__":

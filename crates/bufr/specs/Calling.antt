@@ -1,5 +1,4 @@
--- What the process does with its words. (a choice of this project)
--- Cited by public contracts.
+-- Only contracts need this file. What the process does with its words. (a choice of this project)
 use Rattle.std.specs.Prelude.{◌≡◌, ◌⊎◌, ℕ, List, [], Option, codes}
 use Rattle.std.specs.Borrow.{Bor}
 use Rattle.bufr_frame.specs.declared.fault.RunFault.TheVariants.{Memory}

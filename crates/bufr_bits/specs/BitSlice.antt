@@ -1,4 +1,4 @@
--- What a slice of bits shows of itself. Cited by public contracts.
+-- Only contracts need this file. What a slice of bits shows of itself.
 use Rattle.std.specs.Prelude.{ℕ, List}
 use Rattle.bufr_bits.specs.declared.bit_slice.BitSlice.{BitSlice}
 

@@ -11,17 +11,17 @@ use Rattle.bufr_bits.specs.declared.decimal.ShortDecimal.{ShortDecimal}
 
 -- digits with a point before the last so many, and leading zeros for one digit before the point
 -- rule: decimal-point
-abbrev pub pointed : (places : ℕ) (digits : List ℕ) → List ℕ
-pointed places digits =
-    let padded = replicate (places + 1 - length digits) 48 ++ digits in
-    let whole = length padded - places in
+abbrev pub pointed : (decimals : ℕ) (digits : List ℕ) → List ℕ
+pointed decimals digits =
+    let padded = replicate (decimals + 1 - length digits) 48 ++ digits in
+    let whole = length padded - decimals in
     take whole padded ++ 46 ∷ drop whole padded
 
 -- a number without its sign: a point before the last digits, or below scale 0 zeros after them
 -- rule: decimal-zeros-after
 unfoldable pub unsigned_text : (n : ℕ) (scale : ℤ) → List ℕ
 unsigned_text n (pos zero) = decimal n
-unsigned_text n (pos (suc places)) = pointed (suc places) (decimal n)
+unsigned_text n (pos (suc decimals)) = pointed (suc decimals) (decimal n)
 unsigned_text zero (negsuc less) = decimal 0
 unsigned_text (suc n) (negsuc less) = decimal (suc n) ++ replicate (suc less) 48
 
@@ -79,10 +79,10 @@ abbrev pub whole_quotient : (n d : ℕ) → Result ℕ NumberFault
 whole_quotient n d = if n % d == 0 then Ok (n / d) else Err Inexact
 
 -- the number that digits with a point before the last so many write, times ten to the scale
-abbrev pub scaled : (digits : List ℕ) (places : ℕ) (scale : ℤ) → Result ℕ NumberFault
-scaled digits places scale =
+abbrev pub scaled : (digits : List ℕ) (decimals : ℕ) (scale : ℤ) → Result ℕ NumberFault
+scaled digits decimals scale =
     whole_quotient (digits_value 10 digits * 10 ^ positive_scale scale)
-    (10 ^ (places + negative_scale scale))
+    (10 ^ (decimals + negative_scale scale))
 
 -- a number with its sign, within an i128
 abbrev pub signed : (negative : Bool) → ℕ → Result ℤ NumberFault
@@ -94,6 +94,11 @@ infixl 10 ◌>>=◌
 abbrev pub ◌>>=◌ : {E A B : Type 0} → Result A E → (A → Result B E) → Result B E
 (Ok x) >>= next = next x
 (Err fault) >>= next = Err fault
+
+-- a result with its fault in another form
+abbrev pub map_err : {E F A : Type 0} → (E → F) → Result A E → Result A F
+map_err form (Ok x) = Ok x
+map_err form (Err fault) = Err (form fault)
 
 -- the number that a text writes, times ten to the scale, or the first fault
 -- rule: inexact-before-too-large

@@ -1,4 +1,4 @@
--- What the test devices do. (a choice of this project) Cited by public contracts.
+-- Only contracts need this file. What the test devices do. (a choice of this project)
 use Rattle.std.specs.Prelude.{ℕ, zero, suc, ◌-◌, min, List, Option, None, Some, option_map, Result, Ok, Err, vec_len}
 use Rattle.bufr_bits.specs.declared.device.Failed.{Failed}
 use Rattle.bufr_bits.specs.declared.script.ScriptOut.{ScriptOut}

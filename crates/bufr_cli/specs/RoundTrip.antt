@@ -1,6 +1,5 @@
--- A stream dumped, its text encoded, and that dumped again.
--- (A choice of this project)
--- Cited by public contracts.
+-- Only contracts need this file. A stream dumped, its text encoded, and that dumped again. (A
+-- choice of this project)
 use Rattle.std.specs.Prelude.{◌≡◌, ℕ, ◌+◌, ◌≤◌, List, [], ◌∷◌, length, map, flat_map, count_by, Result, Ok, Err}
 use Rattle.std.specs.List.{AllByRecursion, AllZip, concat, filter}
 use Rattle.bufr_bits.specs.Prelude.{taken_of}

@@ -6,8 +6,8 @@ use Rattle.bufr_fill.proofs.EntryLemmas.{length-cells}
 use Rattle.std.proofs.lemmas.Bool.{ltb-false}
 use Rattle.std.specs.List.{AllByRecursion}
 use Rattle.bufr_tables.specs.Prelude.{IsLegal, Record, Row, AreRows, Tree}
-use Rattle.bufr_walk.specs.Prelude.{FieldSpec, IsSpec, Content, bits_for, FieldFault, found, content_at, Course, Next, take_next, at_end, astray, refused, next_item, max_values, Item, DataCoding, plain, packed, ReadsPass, items_of_subset, subsets_from}
-use Rattle.bufr_fill.specs.Prelude.{Draft, Subset, ItemFault, DraftFault, at_line, too_many_values, content_of, plainly, plain_filler, RowCell, ItemRow, cells_at, rows, longest, at_line_if_fault, content_here, contents_here, packed_to, are_many, pack_across, packed_filler, plain_data, packed_data, first_line, ◌>>=◌, WrittenItem, written_item, Filler, fill, with_bits_before, packing, Fits, AllFit, HasOctets, AllHaveOctets, IsSaid, IsReadBack, IsPackedReadBack, AreDrafts, AreSaid}
+use Rattle.bufr_walk.specs.Prelude.{FieldSpec, IsSpec, Content, bits_for, FieldFault, found, content_at, Course, Next, take_next, at_end, astray, refused, next_item, max_values, Item, DataCoding, plain, packed, ReadsPass, items_of_subset, subsets_from, would_be_many}
+use Rattle.bufr_fill.specs.Prelude.{Draft, Subset, ItemFault, DraftFault, at_line, too_many_values, content_of, plainly, plain_filler, RowCell, ItemRow, cells_at, rows, most_items, map_err, content_here, contents_here, packed_to, pack_across, packed_filler, plain_data, packed_data, first_line, ◌>>=◌, WrittenItem, written_item, Filler, fill, with_bits_before, packing, Fits, AllFit, HasOctets, AllHaveOctets, IsSaid, IsReadBack, IsPackedReadBack, AreDrafts, AreSaid}
 use Rattle.bufr_fill.proofs.FillSteps.{filled, bits_with, fill_at, plain_more}
 use Rattle.bufr_walk.proofs.NextField.{table_read, IsGoodCourse, next_field}
 use Rattle.bufr_walk.specs.Prelude.{IsWithin}
@@ -132,7 +132,7 @@ cell_said : (spec : FieldSpec) (o : Option Draft) (end_line : ℕ) (c : Content)
 cell_said spec None end_line c text e = cc
 cell_said spec (Some d) end_line c text e = by_content (content_of spec d) refl e
   where
-    by_content : (r : Result Content ItemFault) → content_of spec d ≡ r → at_line_if_fault d.line r ≡ Ok c → (content_of spec d ≡ Ok c) × Fits spec c
+    by_content : (r : Result Content ItemFault) → content_of spec d ≡ r → map_err (at_line d.line) r ≡ Ok c → (content_of spec d ≡ Ok c) × Fits spec c
     by_content (Err why) p q = cc
     by_content (Ok x) p q = let h : content_of spec d ≡ Ok c = p ∙ ap Ok (same_ok x c q) in (h, draft_fits spec d c text h)
 
@@ -166,12 +166,12 @@ IsSaidAcross n i a = SaidFrom 0 i.spec i.content a.cells × ((a.index + 1) * n �
 abbrev IsRowOf : ℕ → ItemRow → Type 0
 IsRowOf n a = (length a.cells ≡ n) × AllByRecursion (λ (cell : RowCell). OctetsIn cell.draft) a.cells
 
-few_of : (index n : ℕ) → are_many index n ≡ false → (index + 1) * n ≤ max_values
+few_of : (index n : ℕ) → would_be_many n index ≡ false → (index + 1) * n ≤ max_values
 few_of index n h = ltb-false max_values ((index + 1) * n) h
 
 packed_one : (n : ℕ) → 1 ≤ n → (spec : FieldSpec) (a : ItemRow) (w : WrittenItem (List Content)) → IsSpec spec → IsRowOf n a → pack_across spec a ≡ Ok w
     → IsOneBack (packed n) (IsSaidAcross n) spec a w
-packed_one n some spec a w good row e = by_many (are_many a.index (length a.cells)) refl e
+packed_one n some spec a w good row e = by_many (would_be_many (length a.cells) a.index) refl e
   where
     by_list : (cs : List Content) (bits : List Bool) → (a.index + 1) * n ≤ max_values → AreCellsSaid spec a.cells cs → packing spec cs ≡ Ok bits
         → IsOneBack (packed n) (IsSaidAcross n) spec a (written_item cs bits)
@@ -192,7 +192,7 @@ packed_one n some spec a w good row e = by_many (are_many a.index (length a.cell
     by_contents few (Err why) p q = cc
     by_contents few (Ok cs) p q = by_packing cs few (cells_said spec a.cells cs row.1 p) (packing spec cs) refl q
 
-    by_many : (b : Bool) → are_many a.index (length a.cells) ≡ b → (if b then Err (at_line (first_line a.cells) (too_many_values spec.fxy)) else
+    by_many : (b : Bool) → would_be_many (length a.cells) a.index ≡ b → (if b then Err (at_line (first_line a.cells) (too_many_values spec.fxy)) else
         (contents_here spec a.cells >>= λ cs. packed_to cs a.cells (packing spec cs))) ≡ Ok w → IsOneBack (packed n) (IsSaidAcross n) spec a w
     by_many true p q = cc
     by_many false p q = by_contents (subst (λ k. (a.index + 1) * k ≤ max_values) row.0 (few_of a.index (length a.cells) p)) (contents_here spec a.cells) refl q
@@ -249,7 +249,7 @@ other_subsets j zero from s ss (i ∷ items) h = absurd h
 other_subsets j (suc count) from s ss [] h = absurd h
 other_subsets j (suc count) from s ss (i ∷ items) h = (h.0.1, other_subsets j count (from + 1) s ss items h.1)
 
-all_subsets : (j count : ℕ) (ss : List Subset) (items : List (Item (List Content))) → RowsSaid j items (rows count 0 ss) → longest ss ≤ count → AreSaid (subsets_from (length ss) j items) ss
+all_subsets : (j count : ℕ) (ss : List Subset) (items : List (Item (List Content))) → RowsSaid j items (rows count 0 ss) → most_items ss ≤ count → AreSaid (subsets_from (length ss) j items) ss
 all_subsets j count [] items h l = tt
 all_subsets j count (s ∷ ss) items h l = (first_subset j count 0 s ss items h (omega (arith, l)), all_subsets (suc j) count ss items (other_subsets j count 0 s ss items h) (omega (arith, l)))
 
@@ -266,8 +266,8 @@ pub packed_back : (course : Course) → IsGoodCourse course → (ss : List Subse
 packed_back course good [] out text e = record { items = []; said = tt; read = λ more. (refl, ap (λ x. x ++ more) (sym (same_ok [] out e))) }
 packed_back course good (s ∷ ss) out text e =
     let n = length (s ∷ ss) in
-    let most = longest (s ∷ ss) in
-    let b = back (packed n) (packed_filler s.end_line (are_many most n)) (IsSaidAcross n) (IsRowOf n) (λ spec cs. refl) (packed_one n (omega arith)) course (rows most 0 (s ∷ ss)) out good
+    let most = most_items (s ∷ ss) in
+    let b = back (packed n) (packed_filler s.end_line (would_be_many n most)) (IsSaidAcross n) (IsRowOf n) (λ spec cs. refl) (packed_one n (omega arith)) course (rows most 0 (s ∷ ss)) out good
     (rows_octets n most 0 (s ∷ ss) refl text) e in
     let zero_more : 0 + length b.items ≡ length b.items = omega arith in
     record {

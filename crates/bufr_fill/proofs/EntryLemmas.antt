@@ -7,7 +7,7 @@ use Rattle.std.proofs.Math.Seq.{drop-cons, drop-append_seam}
 use Rattle.std.proofs.lemmas.List.{append-nil, append_assoc, map-append, take_all, drop_all}
 use Rattle.std.proofs.lemmas.Option.{none-some, slice_get-get_or, slice_get_within, get_or_from_slice_get}
 use Rattle.std.proofs.lemmas.Bool.Decides.{nat_tests}
-use Rattle.bufr_fill.specs.Prelude.{ValueKind, Taken, Draft, DraftEntry, Holds, Ends, Subset, subset, prepend_to_subset, subsets_of, ItemFault, DraftFault, at_line, item_too_many, RowCell, cells_at, at_line_if_fault, entry_or_end, ends_of, entry_here, is_end, value_by, entry_by, entry_with, entries_stored, AreOctetsInside, draft, number_token, text_form, reference_token, IsEntryInside, AreInside, octets_stored, line_at, PlainOutModel, plain_out_model, IsFilled, IsFaultOf, IfDraftFault, after_end, FieldContent, content_of, padded_content}
+use Rattle.bufr_fill.specs.Prelude.{ValueKind, Taken, Draft, DraftEntry, Holds, Ends, Subset, subset, prepend_to_subset, subsets_of, ItemFault, DraftFault, at_line, item_too_many, RowCell, cells_at, map_err, entry_or_end, ends_of, entry_here, is_end, value_by, entry_by, entry_with, entries_stored, AreOctetsInside, draft, number_token, text_form, reference_token, IsEntryInside, AreInside, octets_stored, line_at, PlainOutModel, plain_out_model, IsFilled, IsFaultOf, IfDraftFault, after_end, FieldContent, content_of, padded_content}
 use Rattle.bufr_fill.specs.declared.draft.StoredEntry.{StoredEntry}
 use Rattle.bufr_walk.specs.Prelude.{FieldSpec, Content, answer_of, bits_for}
 use Rattle.bufr_fill.specs.declared.fault.DraftFault.TheVariants as draft_fault
@@ -307,7 +307,7 @@ filled_here entries index (Holds item) spec d t old new s view here said gives b
       forth = forth;
     })
   where
-    by : {c : Content} (r : Result Content ItemFault) → ◌≡◌ {A = Result Content DraftFault} (Ok c) (at_line_if_fault item.line r) → r ≡ Ok c
+    by : {c : Content} (r : Result Content ItemFault) → ◌≡◌ {A = Result Content DraftFault} (Ok c) (map_err (at_line item.line) r) → r ≡ Ok c
     by (Ok x) h = cc
     by (Err why) h = absurd cc
 
@@ -326,7 +326,7 @@ item_fault spec more draft_fault.Memory e is = tt
 item_fault spec more (draft_fault.Item line fault) (Ends end) is = cc
 item_fault spec more (draft_fault.Item line fault) (Holds d) is = by (content_of spec d) refl is
   where
-    by : (r : Result Content ItemFault) → content_of spec d ≡ r → Err (at_line line fault) ≡ at_line_if_fault d.line r
+    by : (r : Result Content ItemFault) → content_of spec d ≡ r → Err (at_line line fault) ≡ map_err (at_line d.line) r
         → (why : ItemFault) × (content_of spec d ≡ Err why) × (at_line line fault ≡ at_line d.line why)
     by (Ok c) e h = absurd cc
     by (Err why) e h = (why, e, cc)

@@ -4,8 +4,8 @@ use Rattle.std.proofs.Common.{◌≡◌, ℕ, ◌+◌, ◌*◌, ◌≤◌, Bool,
 use Rattle.std.specs.List.{AllByRecursion, AllZip}
 use Rattle.std.proofs.lemmas.Bool.{le-ltb}
 use Rattle.std.proofs.lemmas.List.{length-append}
-use Rattle.bufr_walk.specs.Prelude.{FieldSpec, IsSpec, Content, found, bits_for, answer_by_role, answer_of, FieldFault, plain_field, missing, unequal_factor, packed_field, answer_first, max_values, Item, packed, plain, after, ReadsPass, ReadsSubsets, IsPackedReading, content_at, Course, take_next, at_end, subsets_from, items_of_subset}
-use Rattle.bufr_fill.specs.Prelude.{ItemFault, plainly, Taken, Role, packing, same, are_same, packed_bits, packed_unlike, written_item, fill, with_bits_before, plain_filler, RowCell, ItemRow, at_line_if_fault, content_here, contents_here, packed_to, pack_across, packed_filler, first_line, unlike_line, ◌>>=◌, plain_data, item_row, cells_at, rows, longest, packing_fault, are_many, packed_data, Fits, AllFit, IsWrittenApart, IsDumped, AreDrafts, AreDumped, IsSaid, AreSaid, IsUnlike, IsTogetherOrNot, Draft, Subset, at_line, too_many_values, content_of}
+use Rattle.bufr_walk.specs.Prelude.{FieldSpec, IsSpec, Content, found, bits_for, answer_by_role, answer_of, FieldFault, plain_field, missing, unequal_factor, packed_field, answer_first, max_values, Item, packed, plain, after, ReadsPass, ReadsSubsets, IsPackedReading, content_at, Course, take_next, at_end, subsets_from, items_of_subset, would_be_many}
+use Rattle.bufr_fill.specs.Prelude.{ItemFault, plainly, Taken, Role, packing, same, are_same, packed_bits, packed_unlike, written_item, fill, with_bits_before, plain_filler, RowCell, ItemRow, map_err, content_here, contents_here, packed_to, pack_across, packed_filler, first_line, unlike_line, ◌>>=◌, plain_data, item_row, cells_at, rows, most_items, packing_fault, packed_data, Fits, AllFit, IsWrittenApart, IsDumped, AreDrafts, AreDumped, IsSaid, AreSaid, IsUnlike, IsTogetherOrNot, Draft, Subset, at_line, too_many_values, content_of}
 use Rattle.bufr_fill.proofs.FillSteps.{filled, fill_more, fill_end, plain_both}
 use Rattle.bufr_fill.proofs.PlainLaws.{IsSaidRow, item_bits, join, IsRewritten, draft_again, same_draft, AllSpecs, plain_again, EachSpecs, width_least, plain_read, content_length}
 use Rattle.bufr_fill.proofs.PackedLaws.{packed_again, packed_count, fitting_again}
@@ -287,7 +287,7 @@ longest_tails spec (i ∷ items) (q ∷ rs) h = omega (arith, longest_tails spec
 content_there : (p : ℕ) (ds : List Draft) (end_line : ℕ) (i : Item Content) (items : List (Item Content)) → AreDrafts IsSaid (i ∷ items) (drop p ds)
     → content_here i.spec (slice_get ds p) end_line ≡ Ok i.content
 content_there zero [] end_line i items h = absurd h
-content_there zero (d ∷ ds) end_line i items h = ap (at_line_if_fault d.line) h.0
+content_there zero (d ∷ ds) end_line i items h = ap (map_err (at_line d.line)) h.0
 content_there (suc p) [] end_line i items h = absurd h
 content_there (suc p) (d ∷ ds) end_line i items h = content_there p ds end_line i items h
 
@@ -509,7 +509,7 @@ all_followed course (items ∷ subsets) bits suffix specs r =
     let both = length-append (flat_map item_bits items) (subset_bits subsets) in
     record { follow = (first.follow, rest.follow); short = omega (arith, first.short, rest.short, both); least = omega (arith, first.least, rest.least, both) }
 
-said_from : (subsets : List (List (Item Content))) (ss : List Subset) → AreSaid subsets ss → SaidAt 0 subsets ss × (longest ss ≡ longest_left subsets)
+said_from : (subsets : List (List (Item Content))) (ss : List Subset) → AreSaid subsets ss → SaidAt 0 subsets ss × (most_items ss ≡ longest_left subsets)
 said_from [] [] h = (tt, refl)
 said_from (items ∷ subsets) (s ∷ ss) h =
     let rest = said_from subsets ss h.1 in
@@ -524,12 +524,12 @@ together course (items ∷ subsets) (s ∷ ss) bits suffix few specs dumped r =
     by (from_index s.end_line many course items subsets (s ∷ ss) 0 all.follow at.0 (omega (arith, all.short, all.least, few)))
   where
     many : Bool
-    many = are_many (longest (s ∷ ss)) (length (s ∷ ss))
+    many = would_be_many (length (s ∷ ss)) (most_items (s ∷ ss))
 
     all : AreAllFollowed course (items ∷ subsets) bits suffix
     all = all_followed course (items ∷ subsets) bits suffix specs r
 
-    at : SaidAt 0 (items ∷ subsets) (s ∷ ss) × (longest (s ∷ ss) ≡ longest_left (items ∷ subsets))
+    at : SaidAt 0 (items ∷ subsets) (s ∷ ss) × (most_items (s ∷ ss) ≡ longest_left (items ∷ subsets))
     at = said_from (items ∷ subsets) (s ∷ ss) (subsets_said course (items ∷ subsets) (s ∷ ss) all.follow dumped)
 
     data_are : packed_data course (s ∷ ss) ≡ fill (packed_filler s.end_line many) course (rows (longest_left (items ∷ subsets)) 0 (s ∷ ss))

@@ -2,8 +2,8 @@
 use Rattle.std.proofs.lemmas.Grind.{common_steps}
 use Rattle.std.proofs.Common.{◌≡◌, ℕ, zero, suc, ◌+◌, ◌-◌, ◌<◌, Bool, true, false, List, [], ◌∷◌, ◌++◌, length, Option, Some, None, Result, Ok, Err, refl, sym, ◌∙◌, ap, arith, ◌≤◌, max, slice_get, if◌then◌else◌}
 use Rattle.std.proofs.lemmas.List.{append-nil}
-use Rattle.bufr_walk.specs.Prelude.{FieldSpec, Content, Course, Next, take_next, at_end, astray, refused, TakenField, Takes, course_after, oks, answers_of}
-use Rattle.bufr_fill.specs.Prelude.{Taken, Draft, Subset, DraftFault, at_line, too_many_values, item_too_many, walk_refused, WrittenItem, written_item, fill, with_bits_before, Filler, item_row, cells_at, rows, longest, are_many, content_here, contents_here, packed_to, pack_across, packed_filler, ◌>>=◌, ItemRow, first_there, line_in, packed_data, packing, PackedOutModel, IsPacked, PackedFills, rows_left, new_packed_out, and_end, all_at_end, first_line_at, IsFaultHere}
+use Rattle.bufr_walk.specs.Prelude.{FieldSpec, Content, Course, Next, take_next, at_end, astray, refused, TakenField, Takes, course_after, oks, answers_of, would_be_many}
+use Rattle.bufr_fill.specs.Prelude.{Taken, Draft, Subset, DraftFault, at_line, too_many_values, item_too_many, walk_refused, WrittenItem, written_item, fill, with_bits_before, Filler, item_row, cells_at, rows, most_items, content_here, contents_here, packed_to, pack_across, packed_filler, ◌>>=◌, ItemRow, first_there, line_in, packed_data, packing, PackedOutModel, IsPacked, PackedFills, rows_left, new_packed_out, and_end, all_at_end, first_line_at, IsFaultHere}
 use Rattle.bufr_fill.proofs.FillSteps.{fill_at, fill_end}
 use Rattle.bufr_fill.proofs.WalkLemmas.{HasFilled, walk_fills, after_answers, unfilled}
 use Rattle.bufr_fill.proofs.EntryLemmas.{length-cells}
@@ -25,16 +25,16 @@ some_there (y ∷ xs) (suc k) x e = omega (arith, some_there xs k x e)
 first_has_index : (spec : FieldSpec) (index : ℕ) (s : Subset) (ss : List Subset) (w : WrittenItem (List Content)) → pack_across spec (item_row index (s ∷ ss)) ≡ Ok w → index < length s.items
 first_has_index spec index s ss w e = grind (arith, common_steps, slice_get, some_there)
 
-pub within : (s s' : PackedOutModel) (spec : FieldSpec) (t : Taken) → IsPacked s spec t s' → s.index < longest s.subsets
+pub within : (s s' : PackedOutModel) (spec : FieldSpec) (t : Taken) → IsPacked s spec t s' → s.index < most_items s.subsets
 within s s' spec t h = by s.subsets refl
   where
-    by : (ss : List Subset) → s.subsets ≡ ss → s.index < longest s.subsets
+    by : (ss : List Subset) → s.subsets ≡ ss → s.index < most_items s.subsets
     by [] e =
         let none : h.put.item ≡ [] = none_written spec s.index h.put.contents h.put.item (ap (λ ss. pack_across spec (item_row s.index ss)) (sym e) ∙ h.put.is) in
         absurd (omega (arith, h.put.forth, ap length (h.put.bits ∙ ap (λ b. s.bits ++ b) none ∙ append-nil s.bits)))
     by (x ∷ ss) e =
         let there = first_has_index spec s.index x ss (written_item h.put.contents h.put.item) (ap (λ ss. pack_across spec (item_row s.index ss)) (sym e) ∙ h.put.is) in
-        omega (arith, there, ap longest e)
+        omega (arith, there, ap most_items e)
 
 pub row_first : (n index : ℕ) (ss : List Subset) → index < n → rows (n - index) index ss ≡ item_row index ss ∷ rows (n - (index + 1)) (index + 1) ss
 row_first n index ss h = let e : n - index ≡ suc (n - (index + 1)) = omega (arith, h) in ap (λ k. rows k index ss) e
@@ -44,8 +44,8 @@ pub fills : (end : ℕ) (many : Bool) (s : PackedOutModel) (spec : FieldSpec) (t
 fills end many s spec t s' h = record {
   draft = item_row s.index s.subsets;
   item = written_item h.put.contents h.put.item;
-  here = row_first (longest s.subsets) s.index s.subsets (within s s' spec t h) ∙ ap (λ k. item_row s.index s.subsets ∷ rows (longest s.subsets - k) k s.subsets) (sym h.index)
-      ∙ ap (λ ss. item_row s.index s.subsets ∷ rows (longest ss - s'.index) s'.index ss) (sym h.subsets);
+  here = row_first (most_items s.subsets) s.index s.subsets (within s s' spec t h) ∙ ap (λ k. item_row s.index s.subsets ∷ rows (most_items s.subsets - k) k s.subsets) (sym h.index)
+      ∙ ap (λ ss. item_row s.index s.subsets ∷ rows (most_items ss - s'.index) s'.index ss) (sym h.subsets);
   fills = h.put.is;
   gives = h.put.gives;
   bits = h.put.bits;
@@ -70,27 +70,27 @@ past_none [] index e = omega arith
 past_none (x ∷ items) zero e = absurd cc e
 past_none (x ∷ items) (suc index) e = omega (arith, past_none items index e)
 
-no_row : (index : ℕ) (ss : List Subset) → longest ss ≤ index → rows (longest ss - index) index ss ≡ []
-no_row index ss h = let e : longest ss - index ≡ 0 = omega (arith, h) in ap (λ n. rows n index ss) e
+no_row : (index : ℕ) (ss : List Subset) → most_items ss ≤ index → rows (most_items ss - index) index ss ≡ []
+no_row index ss h = let e : most_items ss - index ≡ 0 = omega (arith, h) in ap (λ n. rows n index ss) e
 
 -- all subsets end after the longest
-ends_past : (index : ℕ) (ss : List Subset) → all_at_end (cells_at index ss) ≡ Ok tt → longest ss ≤ index
+ends_past : (index : ℕ) (ss : List Subset) → all_at_end (cells_at index ss) ≡ Ok tt → most_items ss ≤ index
 ends_past index [] e = omega arith
 ends_past index (s ∷ ss) e = by (slice_get s.items index) refl e (λ e. ends_past index ss e)
   where
-    by : (o : Option Draft) → slice_get s.items index ≡ o → and_end o (all_at_end (cells_at index ss)) ≡ Ok tt → (all_at_end (cells_at index ss) ≡ Ok tt → longest ss ≤ index)
-        → max (length s.items) (longest ss) ≤ index
+    by : (o : Option Draft) → slice_get s.items index ≡ o → and_end o (all_at_end (cells_at index ss)) ≡ Ok tt → (all_at_end (cells_at index ss) ≡ Ok tt → most_items ss ≤ index)
+        → max (length s.items) (most_items ss) ≤ index
     by None is e g = omega (arith, past_none s.items index is, g e)
     by (Some d) is e g = absurd cc e
 
 -- an item that is left over is there
-ends_before : (index : ℕ) (ss : List Subset) (f : DraftFault) → all_at_end (cells_at index ss) ≡ Err f → (index < longest ss) × (f ≡ at_line (first_there (cells_at index ss)) item_too_many)
+ends_before : (index : ℕ) (ss : List Subset) (f : DraftFault) → all_at_end (cells_at index ss) ≡ Err f → (index < most_items ss) × (f ≡ at_line (first_there (cells_at index ss)) item_too_many)
 ends_before index [] f e = absurd cc e
 ends_before index (s ∷ ss) f e = by (slice_get s.items index) refl e (λ e. ends_before index ss f e)
   where
     by : (o : Option Draft) → slice_get s.items index ≡ o → and_end o (all_at_end (cells_at index ss)) ≡ Err f
-        → (all_at_end (cells_at index ss) ≡ Err f → (index < longest ss) × (f ≡ at_line (first_there (cells_at index ss)) item_too_many))
-        → (index < longest (s ∷ ss)) × (f ≡ at_line (first_there (cells_at index (s ∷ ss))) item_too_many)
+        → (all_at_end (cells_at index ss) ≡ Err f → (index < most_items ss) × (f ≡ at_line (first_there (cells_at index ss)) item_too_many))
+        → (index < most_items (s ∷ ss)) × (f ≡ at_line (first_there (cells_at index (s ∷ ss))) item_too_many)
     by None is e g = let r = g e in (omega (arith, r.0), r.1 ∙ ap (λ o. at_line (line_in o (first_there (cells_at index ss))) item_too_many) (sym is))
     by (Some d) is e g = let same : at_line d.line item_too_many ≡ f =
         cc in (omega (arith, some_there s.items index d is), sym same ∙ ap (λ o. at_line (line_in o (first_there (cells_at index ss))) item_too_many) (sym is))
@@ -100,25 +100,25 @@ ends_before index (s ∷ ss) f e = by (slice_get s.items index) refl e (λ e. en
 -- a walk stays with its subsets, and within the longest of them
 pub record Stays (s s' : PackedOutModel) : Type 0 where
   pub subsets : s'.subsets ≡ s.subsets
-  pub within : s'.index ≤ longest s'.subsets
+  pub within : s'.index ≤ most_items s'.subsets
 
-pub stays : (course : Course) (s : PackedOutModel) (items : List TakenField) (s' : PackedOutModel) → Takes (oks PackedFills) course s items s' → s.index ≤ longest s.subsets → Stays s s'
+pub stays : (course : Course) (s : PackedOutModel) (items : List TakenField) (s' : PackedOutModel) → Takes (oks PackedFills) course s items s' → s.index ≤ most_items s.subsets → Stays s s'
 stays course s [] s' h p = record {
   subsets = ap (λ (x : PackedOutModel). x.subsets) h;
-  within = omega (arith, p, ap (λ (x : PackedOutModel). x.index) h, ap (λ (x : PackedOutModel). longest x.subsets) h);
+  within = omega (arith, p, ap (λ (x : PackedOutModel). x.index) h, ap (λ (x : PackedOutModel). most_items x.subsets) h);
 }
 stays course s (i ∷ items) s' h p =
     let near = within s h.0 i.spec i.taken h.2 in
-    let rest = stays (λ answers. course (i.taken ∷ answers)) h.0 items s' h.3 (omega (arith, near, h.2.index, ap longest h.2.subsets)) in
+    let rest = stays (λ answers. course (i.taken ∷ answers)) h.0 items s' h.3 (omega (arith, near, h.2.index, ap most_items h.2.subsets)) in
     record { subsets = rest.subsets ∙ h.2.subsets; within = rest.within }
 
 module _ (course : Course) (s : Subset) (more : List Subset) where
   abbrev filler : Filler ItemRow (List Content) DraftFault
-  filler = packed_filler s.end_line (are_many (longest (s ∷ more)) (length (s ∷ more)))
+  filler = packed_filler s.end_line (would_be_many (length (s ∷ more)) (most_items (s ∷ more)))
 
   -- what the definition makes of the rows from an index on
   abbrev fill_from : Course → ℕ → Result (List Bool) DraftFault
-  fill_from c index = fill filler c (rows (longest (s ∷ more) - index) index (s ∷ more))
+  fill_from c index = fill filler c (rows (most_items (s ∷ more) - index) index (s ∷ more))
 
   -- what a walk from the beginning wrote
   record Came (items : List TakenField) (mid : PackedOutModel) : Type 0 where
@@ -126,29 +126,29 @@ module _ (course : Course) (s : Subset) (more : List Subset) where
     are : mid.bits ≡ bits
     is : packed_data course (s ∷ more) ≡ with_bits_before filler bits (fill_from (course_after course items) mid.index)
     subsets : mid.subsets ≡ s ∷ more
-    near : mid.index ≤ longest (s ∷ more)
+    near : mid.index ≤ most_items (s ∷ more)
 
   came : (items : List TakenField) (mid : PackedOutModel) → Takes (oks PackedFills) course (new_packed_out (s ∷ more)) items mid → Came items mid
   came items mid h =
       let w = stays course (new_packed_out (s ∷ more)) items mid h (omega arith) in
-      let f = walk_fills filler rows_left (λ (p : PackedOutModel). p.bits) (oks PackedFills) (fills s.end_line (are_many (longest (s ∷ more)) (length (s ∷ more)))) course (new_packed_out (s ∷ more))
+      let f = walk_fills filler rows_left (λ (p : PackedOutModel). p.bits) (oks PackedFills) (fills s.end_line (would_be_many (length (s ∷ more)) (most_items (s ∷ more)))) course (new_packed_out (s ∷ more))
       items mid h in
-      let e : longest (s ∷ more) - 0 ≡ longest (s ∷ more) = omega arith in
+      let e : most_items (s ∷ more) - 0 ≡ most_items (s ∷ more) = omega arith in
       record {
         bits = f.0;
         are = f.1;
         is = ap (λ k. fill filler course (rows k 0 (s ∷ more))) (sym e) ∙ f.2
-            ∙ ap (λ ss. with_bits_before filler f.0 (fill filler (course_after course items) (rows (longest ss - mid.index) mid.index ss))) w.subsets;
+            ∙ ap (λ ss. with_bits_before filler f.0 (fill filler (course_after course items) (rows (most_items ss - mid.index) mid.index ss))) w.subsets;
         subsets = w.subsets;
-        near = omega (arith, w.within, ap longest w.subsets);
+        near = omega (arith, w.within, ap most_items w.subsets);
       }
 
   -- where the walk is refused
-  refused_here : (c : Course) (index : ℕ) (why : refusal.the_data) → (c []).next ≡ refused why → index ≤ longest (s ∷ more)
+  refused_here : (c : Course) (index : ℕ) (why : refusal.the_data) → (c []).next ≡ refused why → index ≤ most_items (s ∷ more)
       → fill_from c index ≡ Err (at_line (first_line_at index (s ∷ more)) (walk_refused why))
-  refused_here c index why e h = by (longest (s ∷ more) - index) refl
+  refused_here c index why e h = by (most_items (s ∷ more) - index) refl
     where
-      by : (left : ℕ) → longest (s ∷ more) - index ≡ left → fill_from c index ≡ Err (at_line (first_line_at index (s ∷ more)) (walk_refused why))
+      by : (left : ℕ) → most_items (s ∷ more) - index ≡ left → fill_from c index ≡ Err (at_line (first_line_at index (s ∷ more)) (walk_refused why))
       by zero l =
           ap (λ k. fill filler c (rows k index (s ∷ more))) l
           ∙ ap (fill_at filler c []) e
@@ -158,9 +158,9 @@ module _ (course : Course) (s : Subset) (more : List Subset) where
           ∙ ap (fill_at filler c (item_row index (s ∷ more) ∷ rows k (index + 1) (s ∷ more))) e
 
   -- where an item is at fault
-  fault_here : (c : Course) (index : ℕ) (spec : FieldSpec) (f : DraftFault) → (c []).next ≡ take_next spec → index ≤ longest (s ∷ more) → pack_across spec (item_row index (s ∷ more)) ≡ Err f
+  fault_here : (c : Course) (index : ℕ) (spec : FieldSpec) (f : DraftFault) → (c []).next ≡ take_next spec → index ≤ most_items (s ∷ more) → pack_across spec (item_row index (s ∷ more)) ≡ Err f
       → fill_from c index ≡ Err f
-  fault_here c index spec f e h p = by (longest (s ∷ more) - index) refl
+  fault_here c index spec f e h p = by (most_items (s ∷ more) - index) refl
     where
       past : (many many' : Bool) (o : Option Draft) → many ≡ many' → o ≡ None
           → (if many then Err (at_line (line_in o s.end_line) (too_many_values spec.fxy)) else
@@ -173,24 +173,24 @@ module _ (course : Course) (s : Subset) (more : List Subset) where
       past false true o a b p = absurd cc a
       past m m' (Some d) a b p = absurd cc b
 
-      by : (left : ℕ) → longest (s ∷ more) - index ≡ left → fill_from c index ≡ Err f
+      by : (left : ℕ) → most_items (s ∷ more) - index ≡ left → fill_from c index ≡ Err f
       by zero l =
-          let at : index ≡ longest (s ∷ more) = omega (arith, l, h) in
+          let at : index ≡ most_items (s ∷ more) = omega (arith, l, h) in
           ap (λ k. fill filler c (rows k index (s ∷ more))) l
           ∙ ap (fill_at filler c []) e
-          ∙ ap Err (past (are_many index (length (cells_at index (s ∷ more)))) (are_many (longest (s ∷ more)) (length (s ∷ more))) (slice_get s.items index)
-          (ap (are_many index) (length-cells index (s ∷ more)) ∙ ap (λ x. are_many x (length (s ∷ more))) at) (none_past s.items index (omega (arith, l, h))) p)
+          ∙ ap Err (past (would_be_many (length (cells_at index (s ∷ more))) index) (would_be_many (length (s ∷ more)) (most_items (s ∷ more))) (slice_get s.items index)
+          (ap (λ n. would_be_many n index) (length-cells index (s ∷ more)) ∙ ap (λ x. would_be_many (length (s ∷ more)) x) at) (none_past s.items index (omega (arith, l, h))) p)
       by (suc k) l =
           ap (λ k. fill filler c (rows k index (s ∷ more))) l
-          ∙ unfilled filler rows_left (λ (p : PackedOutModel). p.bits) (oks PackedFills) (fills s.end_line (are_many (longest (s ∷ more)) (length (s ∷ more)))) c
+          ∙ unfilled filler rows_left (λ (p : PackedOutModel). p.bits) (oks PackedFills) (fills s.end_line (would_be_many (length (s ∷ more)) (most_items (s ∷ more)))) c
           (item_row index (s ∷ more) ∷ rows k (index + 1) (s ∷ more)) spec f e p
 
   -- where an item is left over
   over_here : (c : Course) (index : ℕ) (f : DraftFault) → (c []).next ≡ at_end → all_at_end (cells_at index (s ∷ more)) ≡ Err f → fill_from c index ≡ Err f
   over_here c index f e p =
       let b = ends_before index (s ∷ more) f p in
-      ap (fill filler c) (row_first (longest (s ∷ more)) index (s ∷ more) b.0)
-      ∙ ap (fill_at filler c (item_row index (s ∷ more) ∷ rows (longest (s ∷ more) - (index + 1)) (index + 1) (s ∷ more))) e
+      ap (fill filler c) (row_first (most_items (s ∷ more)) index (s ∷ more) b.0)
+      ∙ ap (fill_at filler c (item_row index (s ∷ more) ∷ rows (most_items (s ∷ more) - (index + 1)) (index + 1) (s ∷ more))) e
       ∙ ap Err (sym b.1)
 
   later : (items : List TakenField) (mid : PackedOutModel) → Came items mid → (f : DraftFault) → fill_from (course_after course items) mid.index ≡ Err f → packed_data course (s ∷ more) ≡ Err f

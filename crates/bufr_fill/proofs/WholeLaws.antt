@@ -3,8 +3,8 @@ use Rattle.std.proofs.lemmas.Slice.Zip.{AllZip-long}
 use Rattle.std.proofs.Common.{◌≡◌, ℕ, zero, suc, ◌+◌, ◌*◌, ◌<◌, ◌≤◌, List, [], ◌∷◌, length, drop, Some, refl, sym, ◌∙◌, ap, subst, arith, Bool, ◌++◌, Ok, slice_get, flat_map}
 use Rattle.bufr_fill.proofs.EntryLemmas.{length-cells}
 use Rattle.std.proofs.Math.Nat.{mul-le-mul_right}
-use Rattle.bufr_walk.specs.Prelude.{Content, max_values, Item, packed, ReadsSubsets, ReadsItems, after, IsPackedReading, content_at, Course, next_item, items_of_subset, subsets_from}
-use Rattle.bufr_fill.specs.Prelude.{IsAlike, Draft, Subset, cells_at, rows, longest, plain_data, packed_filler, are_many, ◌>>=◌, at_line_if_fault, content_here, contents_here, packed_data, AreDrafts, AreDumped, IsWrittenAgain, IsPackedAgain, IsWrittenApart, IsTogetherOrNot, IsSaid, AreSaid, AllAlike, AllHaveOctets}
+use Rattle.bufr_walk.specs.Prelude.{Content, max_values, Item, packed, ReadsSubsets, ReadsItems, after, IsPackedReading, content_at, Course, next_item, items_of_subset, subsets_from, would_be_many}
+use Rattle.bufr_fill.specs.Prelude.{IsAlike, Draft, Subset, cells_at, rows, most_items, plain_data, packed_filler, ◌>>=◌, map_err, content_here, contents_here, packed_data, AreDrafts, AreDumped, IsWrittenAgain, IsPackedAgain, IsWrittenApart, IsTogetherOrNot, IsSaid, AreSaid, AllAlike, AllHaveOctets, at_line}
 use Rattle.bufr_fill.proofs.PlainLaws.{IsSaidRow, HaveContents, AllSpecs, EachSpecs, rewritten}
 use Rattle.std.specs.List.{AllZip}
 use Rattle.bufr_tables.specs.Prelude.{Row, AreRows, Tree, IsLegal, Record}
@@ -44,7 +44,7 @@ said_at : (end_line : ℕ) (items : List (Item Content)) (ds : List Draft) (p : 
     → content_here i.spec (slice_get ds p) end_line ≡ Ok i.content
 said_at end_line [] [] zero i rest h e = absurd cc
 said_at end_line [] [] (suc p) i rest h e = absurd cc
-said_at end_line (x ∷ items) (d ∷ ds) zero i rest h e = let is : x ≡ i = cc in subst (λ (y : Item Content). content_here y.spec (Some d) end_line ≡ Ok y.content) is (ap (at_line_if_fault d.line) h.0)
+said_at end_line (x ∷ items) (d ∷ ds) zero i rest h e = let is : x ≡ i = cc in subst (λ (y : Item Content). content_here y.spec (Some d) end_line ≡ Ok y.content) is (ap (map_err (at_line d.line)) h.0)
 said_at end_line (x ∷ items) (d ∷ ds) (suc p) i rest h e = said_at end_line items ds p i rest h.1 e
 said_at end_line items ds p i rest h e = absurd h
 
@@ -73,16 +73,16 @@ rows_said items ss (i ∷ rest) p have h e few =
       rows_said items ss rest (p + 1) have.1 h (drop_next items p i rest e) (subst (λ k. k * length ss ≤ max_values) (sym q) few),
     )
 
-longest_said : (j : ℕ) (items : List (Item (List Content))) (ss : List Subset) → AreSaid (subsets_from (length ss) j items) ss → longest ss ≤ length items
+longest_said : (j : ℕ) (items : List (Item (List Content))) (ss : List Subset) → AreSaid (subsets_from (length ss) j items) ss → most_items ss ≤ length items
 longest_said j items [] h = omega arith
 longest_said j items (s ∷ ss) h = omega (arith, AllZip-long IsSaid (items_of_subset j items) s.items h.0, length-items_of j items, longest_said (suc j) items ss h.1)
 
 all_rows_said : (n : ℕ) (items : List (Item (List Content))) (s : Subset) (ss : List Subset) → HaveContents n items → AreSaid (subsets_from n 0 items) (s ∷ ss)
-    → length items * n ≤ max_values → AreDrafts IsSaidRow items (rows (longest (s ∷ ss)) 0 (s ∷ ss))
+    → length items * n ≤ max_values → AreDrafts IsSaidRow items (rows (most_items (s ∷ ss)) 0 (s ∷ ss))
 all_rows_said n items s ss have said few =
     let same = sym (subset_count _ n items (s ∷ ss) said) in
     let h = subst (λ k. AreSaid (subsets_from k 0 items) (s ∷ ss)) same said in
-    let l : longest (s ∷ ss) ≡ length items = omega (arith, AllZip-long IsSaid (items_of_subset 0 items) s.items h.0, length-items_of 0 items, longest_said 1 items ss h.1) in
+    let l : most_items (s ∷ ss) ≡ length items = omega (arith, AllZip-long IsSaid (items_of_subset 0 items) s.items h.0, length-items_of 0 items, longest_said 1 items ss h.1) in
     subst (λ k. AreDrafts IsSaidRow items (rows k 0 (s ∷ ss))) (sym l)
     (rows_said items (s ∷ ss) items 0 (subst (λ k. HaveContents k items) same have) h refl (omega (arith, subst (λ k. length items * k ≤ max_values) same few)))
 
@@ -110,9 +110,9 @@ packed_rows zero course (i ∷ items) [] bits suffix specs said h = let no : i �
 packed_rows zero course items (s ∷ ss) bits suffix specs said h = absurd said
 packed_rows (suc n) course items [] bits suffix specs said h = absurd said
 packed_rows (suc n) course items (s ∷ ss) bits suffix specs said h =
-    let many = are_many (longest (s ∷ ss)) (length (s ∷ ss)) in
+    let many = would_be_many (length (s ∷ ss)) (most_items (s ∷ ss)) in
     let r = rewritten (packed (suc n)) (packed_filler s.end_line many) IsSaidRow row_bits (λ spec c. refl) (packed_rewritten (suc n) s.end_line many (omega arith)) course items
-    (rows (longest (s ∷ ss)) 0 (s ∷ ss)) bits suffix specs (all_rows_said (suc n) items s ss (have_contents (suc n) course items bits suffix specs h.0.0) said h.1) h.0 in
+    (rows (most_items (s ∷ ss)) 0 (s ∷ ss)) bits suffix specs (all_rows_said (suc n) items s ss (have_contents (suc n) course items bits suffix specs h.0.0) said h.1) h.0 in
     record { is = r.fills; again = λ more. ((r.again more, h.0.1), h.1); short = r.short }
 
 -- the same over a template: nothing is required of the specifications

@@ -87,17 +87,12 @@ walk_refused (turn.Defining fxy) = wrong.Walk (walk.Defining fxy)
 abbrev pub too_many_values : (fxy : ℕ) → ItemFault
 too_many_values fxy = wrong.Walk (walk.TooManyValues fxy)
 
--- the number of a refusal of the walk, that of the fault that a message's data would have
-abbrev pub walk_number : WalkRefusal → ℕ
-walk_number (walk.Width fxy) = 31
-walk_number (walk.Defining fxy) = 32
-walk_number (walk.TooManyValues fxy) = 35
-
--- the descriptor that is refused
-abbrev pub walk_descriptor : WalkRefusal → ℕ
-walk_descriptor (walk.Width fxy) = fxy
-walk_descriptor (walk.Defining fxy) = fxy
-walk_descriptor (walk.TooManyValues fxy) = fxy
+-- a refusal of the walk: the number of the fault that a message's data would have, and the
+-- descriptor that is refused
+abbrev pub refusal_parts : WalkRefusal → ℕ × ℕ
+refusal_parts (walk.Width fxy) = (31, fxy)
+refusal_parts (walk.Defining fxy) = (32, fxy)
+refusal_parts (walk.TooManyValues fxy) = (35, fxy)
 
 -- what is expected, in parts
 abbrev pub expected_text : Expected → List (List ℕ)
@@ -114,15 +109,13 @@ item_report wrong.TextLong = (54, codes "text long" ∷ [])
 item_report wrong.MissingForbidden = (55, codes "missing forbidden" ∷ [])
 item_report wrong.UnequalFactor = (58, codes "unequal factor" ∷ [])
 item_report wrong.Increment = (59, codes "increment" ∷ [])
-item_report (wrong.Walk why) = (
-  62,
-  codes "walk " ∷ decimal (walk_number why) ∷ codes " descriptor " ∷ fxy_text (walk_descriptor why)
-      ∷ [],
-)
+item_report (wrong.Walk why) =
+    let refused = refusal_parts why in
+    (62, codes "walk " ∷ decimal refused.0 ∷ codes " descriptor " ∷ fxy_text refused.1 ∷ [])
 
 -- the number of a fault where no document is: too many values have their own
 abbrev pub number_of_draft_fault : DraftFault → ℕ
-number_of_draft_fault (draft_fault.Item line (wrong.Walk why)) = walk_number why
+number_of_draft_fault (draft_fault.Item line (wrong.Walk why)) = (refusal_parts why).0
 number_of_draft_fault (draft_fault.Item line fault) = (item_report fault).0
 number_of_draft_fault draft_fault.Memory = 73
 

@@ -4,11 +4,11 @@
 -- Cited by public contracts.
 use Rattle.std.specs.Prelude.{Bool, List, [], ◌∷◌, ◌++◌, Result, Ok, Err, ℕ, zero, suc, ◌+◌, ◌-◌, ◌*◌, ◌==◌, ◌&&◌, nat_lt, nat_le, min, not, true, false, if◌then◌else◌, take, replicate, length, Option, Some, None, unwrap_or, ◌≡◌, ◌≤◌, drop, max, slice_get}
 pub use Rattle.bufr_walk.specs.declared.spec.Taken.{Taken}
-use Rattle.bufr_walk.specs.Prelude.{FieldSpec, Content, number, text, missing, reference, bits_for, FieldFault, increment, unequal_factor, found, answer_of, packed_field, answer_first, Course, Item, Step, Passing, Pass, pass, max_values}
+use Rattle.bufr_walk.specs.Prelude.{FieldSpec, Content, number, text, missing, reference, bits_for, FieldFault, increment, unequal_factor, found, answer_of, packed_field, answer_first, Course, Item, Step, Passing, Pass, pass, max_values, would_be_many}
 use Rattle.std.specs.List.{list_all, flat_map}
 use Rattle.std.specs.Str.{bytes_eq}
 use Rattle.std.specs.Ordering.{int_eq}
-use Rattle.bufr_bits.specs.Prelude.{◌>>=◌, bits_of, bits_in, number_of}
+use Rattle.bufr_bits.specs.Prelude.{◌>>=◌, bits_of, bits_in, number_of, map_err}
 pub use Rattle.bufr_tables.specs.declared.table_b.Kind.{Kind}
 use Rattle.bufr_tables.specs.Prelude.{is_character}
 use Rattle.bufr_walk.specs.declared.spec.Role.TheVariants as role
@@ -289,9 +289,9 @@ rows zero from subsets = []
 rows (suc n) from subsets = item_row from subsets ∷ rows n (from + 1) subsets
 
 -- the number of items of the longest subset
-abbrev pub longest : List Subset → ℕ
-longest [] = 0
-longest (s ∷ subsets) = max (length s.items) (longest subsets)
+abbrev pub most_items : List Subset → ℕ
+most_items [] = 0
+most_items (s ∷ subsets) = max (length s.items) (most_items subsets)
 
 -- the line of the first cell, 0 where there is none
 abbrev pub first_line : List RowCell → ℕ
@@ -303,15 +303,10 @@ abbrev pub first_there : List RowCell → ℕ
 first_there [] = 0
 first_there (c ∷ cs) = line_in c.draft (first_there cs)
 
--- a content, or its fault with the line
-abbrev pub at_line_if_fault : ℕ → Result Content ItemFault → Result Content DraftFault
-at_line_if_fault line (Ok c) = Ok c
-at_line_if_fault line (Err why) = Err (at_line line why)
-
 -- the content of one cell
 abbrev pub content_here : FieldSpec → Option Draft → (end_line : ℕ) → Result Content DraftFault
 content_here spec None end_line = Err (at_line end_line (wrong_for spec))
-content_here spec (Some d) end_line = at_line_if_fault d.line (content_of spec d)
+content_here spec (Some d) end_line = map_err (at_line d.line) (content_of spec d)
 
 -- the contents of a row
 abbrev pub contents_here : FieldSpec → List RowCell → Result (List Content) DraftFault
@@ -346,15 +341,11 @@ abbrev pub packed_to : List Content → List RowCell → Result (List Bool) Fiel
 packed_to cs cells (Ok bits) = Ok (written_item cs bits)
 packed_to cs cells (Err why) = Err (packing_fault cs cells why)
 
--- whether the item at an index makes too many values
-abbrev pub are_many : (index subsets : ℕ) → Bool
-are_many index subsets = nat_lt max_values ((index + 1) * subsets)
-
 -- an item of all subsets: its contents and its bits, or its fault
 -- rule: fault-order-of-subsets
 abbrev pub pack_across : FieldSpec → ItemRow → Result (WrittenItem (List Content)) DraftFault
 pack_across spec a =
-    if are_many a.index (length a.cells)
+    if would_be_many (length a.cells) a.index
     then Err (at_line (first_line a.cells) (too_many_values spec.fxy))
     else (contents_here spec a.cells >>= λ cs. packed_to cs a.cells (packing spec cs))
 
@@ -376,8 +367,8 @@ packed_filler end_line many = record {
 abbrev pub packed_writing : Course → List Subset → Writing DraftFault
 packed_writing course [] = no_writing
 packed_writing course (s ∷ subsets) =
-    let most = longest (s ∷ subsets) in
-    let filler = packed_filler s.end_line (are_many most (length (s ∷ subsets))) in
+    let most = most_items (s ∷ subsets) in
+    let filler = packed_filler s.end_line (would_be_many (length (s ∷ subsets)) most) in
     pass_writing (fill_pass filler course (rows most 0 (s ∷ subsets)))
 
 abbrev pub packed_data : Course → List Subset → Result (List Bool) DraftFault

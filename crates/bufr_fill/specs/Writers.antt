@@ -1,12 +1,11 @@
--- The writers of data, compressed or not; the rows of all subsets, and the k that is found.
--- (A choice of this project)
--- Cited by public contracts.
+-- Only contracts need this file. The writers of data, compressed or not; the rows of all subsets,
+-- and the k that is found. (A choice of this project)
 use Rattle.std.specs.Prelude.{ℕ, ◌≡◌, ◌≤◌, ◌<◌, ◌*◌, ◌^◌, Bool, List, [], ◌∷◌, ◌++◌, length, Option, Some, None, Result, Ok, Err, ◌+◌, ◌-◌, suc, ◌==◌, ◌&&◌, nat_lt, max, min, if◌then◌else◌, take}
 use Rattle.bufr_walk.specs.declared.spec.Taken.{Taken}
 use Rattle.bufr_walk.specs.Prelude.{FieldSpec, Content, answer_of, bits_for, Next, take_next, at_end, astray, refused, FieldFault, answer_first, max_values}
 use Rattle.bufr_fill.specs.Draft.{DraftFault, Draft, DraftEntry, Holds, Ends, ItemFault, at_line, item_too_many, walk_refused, Subset, content_of, wrong_for, FieldContent, raw_limit, padded_content, IsContentOf}
 use Rattle.bufr_fill.specs.declared.fault.DraftFault.{DraftFault}
-use Rattle.bufr_fill.specs.Encoding.{written_item, RowCell, ItemRow, rows, longest, item_row, cells_at, first_line, pack_across, content_here, contents_here, first_from, Taken}
+use Rattle.bufr_fill.specs.Encoding.{written_item, RowCell, ItemRow, rows, most_items, item_row, cells_at, first_line, pack_across, content_here, contents_here, first_from, Taken}
 use Rattle.std.specs.List.{list_all, AllByRecursion}
 use Rattle.bufr_fill.specs.declared.packed_out.NumberRange.{NumberRange}
 use Rattle.bufr_fill.specs.declared.fault.DraftFault.TheVariants as draft_fault
@@ -167,7 +166,7 @@ first_line_at index subsets = first_line (cells_at index subsets)
 
 -- the rows that are left
 abbrev pub rows_left : PackedOutModel → List ItemRow
-rows_left s = rows (longest s.subsets - s.index) s.index s.subsets
+rows_left s = rows (most_items s.subsets - s.index) s.index s.subsets
 
 -- the fault by what comes next: of the item, of the walk on its line, or of an item left over
 abbrev pub IsFaultHere : Next → PackedOutModel → DraftFault → Type 0

@@ -1,7 +1,7 @@
 //! Faults in the items of a dump text. (Their numbers and their order are a choice of this
 //! project.)
 ghost use Rattle.std.specs.Prelude.{◌≡◌};
-ghost use Rattle.bufr_fill.specs.Draft.{item_report, number_of_draft_fault, walk_descriptor, walk_number};
+ghost use Rattle.bufr_fill.specs.Draft.{item_report, number_of_draft_fault, refusal_parts};
 ghost use Rattle.bufr_fill.specs.declared.fault.DraftFault.TheVariants.{Memory};
 
 use bufr_tables::Fxy;
@@ -46,7 +46,7 @@ pub enum WalkRefusal {
 impl WalkRefusal {
     /// Its number, that of the fault that a message's data would have: 31, 32 or 35.
     pub fn number(self) -> u8
-        ensures { result ≡ walk_number self }
+        ensures { result ≡ (refusal_parts self).0 }
     {
         match self {
             WalkRefusal::Width(_) => WIDTH,
@@ -57,7 +57,7 @@ impl WalkRefusal {
 
     /// The descriptor that is refused.
     pub fn fxy(self) -> Fxy
-        ensures { result ≡ walk_descriptor self }
+        ensures { result ≡ (refusal_parts self).1 }
     {
         match &self {
             WalkRefusal::Width(fxy)

@@ -1,4 +1,4 @@
--- The meaning of an event of the code. Cited by public contracts.
+-- Only contracts need this file. The meaning of an event of the code.
 use Rattle.std.specs.Prelude.{List, [], ◌∷◌, ◌≤◌, length}
 use Rattle.bufr_frame.specs.Scan.{StreamEvent, FrameAt, StrayAt}
 use Rattle.bufr_frame.specs.declared.finder.Event.{Event}

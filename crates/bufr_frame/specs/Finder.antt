@@ -1,4 +1,4 @@
--- The model of a finder, its search, and what a call of it does. Cited by public contracts.
+-- Only contracts need this file. The model of a finder, its search, and what a call of it does.
 use Rattle.std.specs.Prelude.{◌≡◌, ◌≢◌, ℕ, ◌+◌, ◌*◌, ◌<◌, ◌≤◌, max, Bool, true, false, List, [], ◌∷◌, ◌++◌, Option, Some, None, length, drop, ◌-◌, Result, Ok, Err, take, ◌⊎◌, ◌^◌, codes, IfSome}
 use Rattle.std.specs.List.{concat}
 use Rattle.std.specs.Io.KnownBytes.{Consumes, IsAtEnd}

@@ -1,6 +1,6 @@
 -- Numbers in octets. (WMO-No. 306, Volume I.2, FM 94: the most significant octet comes first)
 -- Cited by public contracts.
-use Rattle.std.specs.Prelude.{ℕ, ◌+◌, ◌*◌, ◌/◌, ◌%◌, List, [], ◌∷◌, slice_index}
+use Rattle.std.specs.Prelude.{ℕ, ◌+◌, ◌*◌, ◌/◌, ◌%◌, List, [], ◌∷◌, ◌++◌, slice_index}
 use Rattle.bufr_frame.specs.declared.message.Words.{Words}
 
 -- the number that the three octets from index p write
@@ -29,7 +29,7 @@ two_octets n = n / 256 ∷ n % 256 ∷ []
 -- words, two octets each
 abbrev pub octets_of_words : List ℕ → List ℕ
 octets_of_words [] = []
-octets_of_words (word ∷ more) = word / 256 ∷ word % 256 ∷ octets_of_words more
+octets_of_words (word ∷ more) = two_octets word ++ octets_of_words more
 
 -- ---- The words that an iterator has left.
 

@@ -17,10 +17,6 @@ edition_of m = slice_index m 7
 abbrev pub octet_at : List ℕ → (n : ℕ) → ℕ
 octet_at m n = slice_index m (7 + n)
 
--- the number that octets n and n + 1 of section 1 write
-abbrev pub two_at : List ℕ → (n : ℕ) → ℕ
-two_at m n = u16_at m (7 + n)
-
 -- how many octets its values have
 unfoldable pub head_size : (edition : ℕ) → ℕ
 head_size edition = if edition == 3 then 14 else 19
@@ -67,7 +63,7 @@ head_by edition value = record {
 -- the value that octets of a message have; a value that an edition lacks is 0
 abbrev pub value_at : List ℕ → HeadOctets → ℕ
 value_at m (OneOctet n) = octet_at m n
-value_at m (TwoOctets n) = two_at m n
+value_at m (TwoOctets n) = u16_at m (7 + n)
 value_at m NoOctets = 0
 
 -- the greatest value that octets can have

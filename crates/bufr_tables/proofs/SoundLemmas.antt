@@ -1,8 +1,8 @@
 -- What is true of each tree that the expansion gives.
 use Rattle.std.proofs.lemmas.Grind.{common_steps}
-use Rattle.std.proofs.Common.{◌≡◌, ◌≢◌, ℕ, zero, suc, ◌+◌, ◌<◌, ◌≤◌, ◌==◌, Bool, true, false, not, ◌&&◌, ◌||◌, List, [], ◌∷◌, length, take, Option, Some, None, Result, Ok, Err, refl, sym, ◌∙◌, ap, subst, arith, inl, inr, ◌++◌, drop, append_assoc, IfOk, nat_le, nat_lt, ok_or}
+use Rattle.std.proofs.Common.{◌≡◌, ◌≢◌, ℕ, zero, suc, ◌+◌, ◌<◌, ◌≤◌, ◌==◌, Bool, true, false, not, ◌&&◌, ◌||◌, List, [], ◌∷◌, length, take, Option, Some, None, Result, Ok, Err, refl, sym, ◌∙◌, ap, subst, arith, inl, inr, ◌++◌, drop, append_assoc, IfOk, nat_le, nat_lt, ok_or, slice_index}
 use Rattle.std.proofs.lemmas.Bool.{ne_eqb, eqb-true}
-use Rattle.bufr_tables.specs.Prelude.{TemplateFault, f_of, x_of, y_of, is_legal_operator, gives_width, Tree, bare, element, operator, fixed, delayed, join, size, depth, consumes, Tables, Expansion, ExpandedPart, part, ◌>>=◌, unless, with_places, is_factor, begins_with_element, element_part, operator_part, body_of, fixed_part, delayed_part, group_by, group_part, sequence_part, part_by, part_of, level, inner_of, tree_of, first_of, max_open, IsKnownAfter, IsKnown, IsLegal, is_element_first, EveryGroupConsumes, IsSound, leaves, ListsLeaves, says_nothing, says_itself, says_replication, says_sequence, IsAnswer, Cell, cells_of, trees_of_cells, AreCellsOf, IsTemplate, BuilderModel, growth, places_so_far, push_tree, PushesTree, IsFaultOrMemory}
+use Rattle.bufr_tables.specs.Prelude.{TemplateFault, f_of, x_of, y_of, is_legal_operator, gives_width, Tree, bare, element, operator, fixed, delayed, join, size, depth, consumes, Tables, Expansion, ExpandedPart, part, ◌>>=◌, unless, with_places, is_factor, begins_with_element, element_part, operator_part, body_of, fixed_part, delayed_part, group_by, group_part, sequence_part, part_by, part_of, level, inner_of, tree_of, max_open, IsKnownAfter, IsKnown, IsLegal, is_element_first, EveryGroupConsumes, IsSound, leaves, ListsLeaves, says_nothing, says_itself, says_replication, says_sequence, IsAnswer, Cell, cells_of, trees_of_cells, AreCellsOf, IsTemplate, BuilderModel, growth, places_so_far, push_tree, PushesTree, IsFaultOrMemory}
 use Rattle.bufr_tables.proofs.ExpansionLemmas.{depth-join, part-element, cells-tail, length-cells, raised_flattened, kept_raised}
 use Rattle.std.proofs.lemmas.List.{append-nil, take-append-drop}
 use Rattle.bufr_tables.specs.declared.fault.TemplateFault.TheVariants as fault
@@ -272,9 +272,9 @@ pub record IsFineWhole (known : ℕ → Bool) (tree : Tree) : Type 0 where
 pub tree_fine : (tables : Tables) (list : List ℕ) (tree : Tree) → tree_of tables list ≡ Ok tree → IsFineWhole tables.known tree
 unfolding tree_of
 tree_fine tables list tree h =
-    let k : Tree → Result Tree TemplateFault = λ tree. unless (consumes tree) (fault.EmptyGroup (first_of list)) >>= λ _. Ok tree in
+    let k : Tree → Result Tree TemplateFault = λ tree. unless (consumes tree) (fault.EmptyGroup (slice_index list 0)) >>= λ _. Ok tree in
     let one = steps (level tables (inner_of tables max_open) false 0 1 list) k tree h in
-    let full = tested (consumes one.middle) (fault.EmptyGroup (first_of list)) (Ok one.middle) tree one.then_is in
+    let full = tested (consumes one.middle) (fault.EmptyGroup (slice_index list 0)) (Ok one.middle) tree one.then_is in
     let fine = level_fine tables max_open (inner_of tables max_open) (inner_fine tables max_open) false 0 1 list one.middle one.first_is in
     subst (IsFineWhole tables.known) (tree_is one.middle tree full.then_is)
     (record { sound = (fine.groups, full.met); is_known = fine.is_known; legal = fine.legal; shallow = fine.shallow })
@@ -424,9 +424,9 @@ inner_says tables (suc room) = λ places list tree h. level_says tables (inner_o
 pub tree_says : (tables : Tables) (list : List ℕ) (tree : Tree) → tree_of tables list ≡ Ok tree → ListsLeaves tables.members list (leaves tree)
 unfolding tree_of
 tree_says tables list tree h =
-    let k : Tree → Result Tree TemplateFault = λ tree. unless (consumes tree) (fault.EmptyGroup (first_of list)) >>= λ _. Ok tree in
+    let k : Tree → Result Tree TemplateFault = λ tree. unless (consumes tree) (fault.EmptyGroup (slice_index list 0)) >>= λ _. Ok tree in
     let one = steps (level tables (inner_of tables max_open) false 0 1 list) k tree h in
-    let full = tested (consumes one.middle) (fault.EmptyGroup (first_of list)) (Ok one.middle) tree one.then_is in
+    let full = tested (consumes one.middle) (fault.EmptyGroup (slice_index list 0)) (Ok one.middle) tree one.then_is in
     subst (λ t. ListsLeaves tables.members list (leaves t)) (tree_is one.middle tree full.then_is)
     (level_says tables (inner_of tables max_open) (inner_says tables max_open) false 0 1 list one.middle one.first_is)
 
@@ -455,7 +455,7 @@ of_fine f (Err why) fine = tt
 
 -- what is left of the definition after the list
 after_list : List ℕ → Result Tree TemplateFault → Result Tree TemplateFault
-after_list list expanded = expanded >>= λ tree. unless (consumes tree) (fault.EmptyGroup (first_of list)) >>= λ _. Ok tree
+after_list list expanded = expanded >>= λ tree. unless (consumes tree) (fault.EmptyGroup (slice_index list 0)) >>= λ _. Ok tree
 
 -- the list, as the code begins it
 same_start : (tables : Tables) (list : List ℕ) (start : BuilderModel) → start ≡ growth [] 0 0 false
@@ -472,7 +472,7 @@ put_tree : (start new : BuilderModel) (tree : Tree) → start ≡ growth [] 0 0 
 put_tree start new tree es e = grind (arith, common_steps)
 
 pub whole-empty : (tables : Tables) (list : List ℕ) (start new : BuilderModel) (first : ℕ) → start ≡ growth [] 0 0 false
-    → PushesTree start (level tables (inner_of tables max_open) false 0 (places_so_far start) list) new → new.full ≡ false → first ≡ first_of list → tree_of tables list ≡ Err (fault.EmptyGroup first)
+    → PushesTree start (level tables (inner_of tables max_open) false 0 (places_so_far start) list) new → new.full ≡ false → first ≡ slice_index list 0 → tree_of tables list ≡ Err (fault.EmptyGroup first)
 unfolding tree_of after_list
 whole-empty tables list start new first es puts empty ef = grind (arith, common_steps)
 
@@ -492,7 +492,7 @@ whole-ok tables list start new es puts full =
     record {
       tree = puts.tree;
       is_defined = ap (after_list list) (same_start tables list start es ∙ puts.is_defined)
-          ∙ ap (λ b. unless b (fault.EmptyGroup (first_of list)) >>= λ _. Ok puts.tree) (ap (λ (g : BuilderModel). g.full) (sym tree_is) ∙ full);
+          ∙ ap (λ b. unless b (fault.EmptyGroup (slice_index list 0)) >>= λ _. Ok puts.tree) (ap (λ (g : BuilderModel). g.full) (sym tree_is) ∙ full);
       cells_are = ap (λ (g : BuilderModel). g.cells) tree_is;
       groups_are = ap (λ (g : BuilderModel). g.groups) tree_is;
       depth_is = ap (λ (g : BuilderModel). g.deep) tree_is;

@@ -1,5 +1,5 @@
--- A template as cells, read back as its tree. (a choice of this project)
--- Cited by public contracts.
+-- Only contracts need this file. A template as cells, read back as its tree. (a choice of this
+-- project)
 use Rattle.std.specs.Prelude.{◌≡◌, ℕ, zero, suc, List, [], ◌∷◌, refl, ◌+◌, ◌≤◌}
 use Rattle.std.proofs.Common.{◌∙◌, ap}
 use Rattle.std.specs.Coded.{Coded, code_by, coded×, coded_ℕ, coded_list}

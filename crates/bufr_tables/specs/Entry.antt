@@ -1,4 +1,4 @@
--- The row that an entry is, and when two rows are the same. Cited by public contracts.
+-- Only contracts need this file. The row that an entry is, and when two rows are the same.
 use Rattle.std.specs.Prelude.{◌==◌, ◌&&◌, Bool}
 use Rattle.std.specs.Cmp.{IsEquivalence, and_equiv, int_eq_equiv, nat_eq_equiv, on_equiv}
 use Rattle.std.specs.Cmp.Lexicographic.{nat_list_eq_equiv}

@@ -1,7 +1,7 @@
 -- The tree that a list of descriptors means, or the first fault, and what holds of it.
 -- (WMO-No. 306, Volume I.2, FM 94: section 3, replications, Tables C and D; the faults and limits
 -- are a choice of this project) Cited by public contracts.
-use Rattle.std.specs.Prelude.{ℕ, zero, suc, ◌+◌, ◌==◌, nat_lt, nat_le, not, ◌||◌, Bool, true, false, List, [], ◌∷◌, length, take, Option, Some, None, Result, Ok, Err, ok_or, is_some, ◌≡◌, ◌≤◌, ◌⊎◌, ◌++◌, ◌<◌, ◌≢◌, IfOk, IfErr}
+use Rattle.std.specs.Prelude.{ℕ, zero, suc, ◌+◌, ◌==◌, nat_lt, nat_le, not, ◌||◌, Bool, true, false, List, [], ◌∷◌, length, take, Option, Some, None, Result, Ok, Err, ok_or, is_some, ◌≡◌, ◌≤◌, ◌⊎◌, ◌++◌, ◌<◌, ◌≢◌, IfOk, IfErr, slice_index}
 use Rattle.bufr_tables.specs.Records.{◌>>=◌}
 use Rattle.bufr_tables.specs.declared.fault.TemplateFault.{TemplateFault}
 use Rattle.bufr_tables.specs.Fxy.{f_of, x_of, y_of}
@@ -62,7 +62,7 @@ element_part tables width_given places d = do
   _ ← with_places places 1 d
   Ok (part (element d bare) 0)
 
--- an operator; one that gives a width comes before an element
+-- an operator; one that gives a width comes before an element (own)
 -- rule: 2-06-y-before-an-element, fault-22, fault-28, order-at-an-operator
 abbrev pub operator_part : ℕ → ℕ → List ℕ → Result ExpandedPart TemplateFault
 operator_part places d after = do
@@ -71,7 +71,7 @@ operator_part places d after = do
   _ ← with_places places 1 d
   Ok (part (operator d bare) 0)
 
--- the body of a group: the next X descriptors after its own places; some node of it takes bits
+-- the body of a group: the next X descriptors after its own places; some node takes bits (own)
 -- rule: replication-before-expansion, replication-nested, replication-in-one-list, fault-23
 -- rule: order-at-a-replication
 abbrev pub body_of : Option Expansion → (places own d : ℕ) → List ℕ → Result Tree TemplateFault
@@ -154,17 +154,13 @@ unfoldable pub inner_of : Tables → ℕ → Option Expansion
 inner_of tables zero = None
 inner_of tables (suc room) = Some (level tables (inner_of tables room) false 0)
 
--- the first descriptor of a list, or 000000
-abbrev pub first_of : List ℕ → ℕ
-first_of [] = 0
-first_of (d ∷ after) = d
-
--- a whole list: the end of the template is its first place, and some node takes bits
+-- a whole list: the end of the template is its first place, and some node takes bits; else the fault
+-- names the first descriptor, or 000000
 -- rule: groups-take-bits, fault-25
 unfoldable pub tree_of : Tables → List ℕ → Result Tree TemplateFault
 tree_of tables list = do
   tree ← level tables (inner_of tables max_open) false 0 1 list
-  _ ← unless (consumes tree) (fault.EmptyGroup (first_of list))
+  _ ← unless (consumes tree) (fault.EmptyGroup (slice_index list 0))
   Ok tree
 
 -- ---- What Tables B and D say to the expansion.

@@ -1,4 +1,4 @@
--- What cells in the making mean. Cited by private steps only.
+-- Only contracts need this file. What cells in the making mean.
 use Rattle.bufr_tables.specs.declared.expand.TemplateBuilder.{TemplateBuilder}
 use Rattle.bufr_tables.specs.Growth.{BuilderModel, growth}
 

@@ -1,4 +1,4 @@
--- Cells in the making, and what an expander puts after them. Cited by private steps only.
+-- Only contracts need this file. Cells in the making, and what an expander puts after them.
 use Rattle.std.specs.Prelude.{ℕ, ◌+◌, ◌-◌, ◌≡◌, ◌≢◌, max, Bool, false, ◌||◌, List, [], ◌∷◌, ◌++◌, length, slice_set, Result, Ok, Err, Option}
 use Rattle.bufr_tables.specs.declared.template.Cell.{Cell}
 use Rattle.bufr_tables.specs.declared.template.Cell.TheVariants as cell

@@ -4,7 +4,7 @@ use Rattle.std.specs.List.{concat, AllByRecursion}
 use Rattle.std.proofs.lemmas.Bool.Decides.{nat_tests}
 use Rattle.std.proofs.lemmas.List.{length-map}
 use Rattle.bufr_fill.specs.Prelude.{draft, DraftEntry, Holds, Ends}
-use Rattle.bufr_text.specs.Prelude.{leasts, mosts, Document, edition_in, optional_in, subsets_in, Heading, BeforeSubsets, Filling, Continues, Completes, Parsing, between, may_be_section2, in_range, with_entry, turn, read_line, parse_lines, lines_of, documents_of, blank, Complete, Line, Opens, Header, Local1, Section2, Descriptors, Begins, Item, Closes, header_lines, local1_line, section2_line, descriptors_line, subset_line, subset_lines, item_text, dump_value_of, item_entries, subset_entries, IsOctet, IsDescriptorWord, IsItem, header_of, bit, head_lines, dump_lines, dump_text_of, document_of, lines_before, IsDumpable, runs_of, runs_after}
+use Rattle.bufr_text.specs.Prelude.{leasts, mosts, Document, edition_in, optional_in, subsets_in, Heading, BeforeSubsets, Filling, Continues, Completes, Parsing, between, may_be_section2, in_range, with_entry, line_step, read_line, parse_lines, lines_of, documents_of, blank, Complete, Line, Opens, Header, Local1, Section2, Descriptors, Begins, ItemLine, Closes, header_lines, local1_line, section2_line, descriptors_line, subset_line, subset_lines, item_text, dump_value_of, item_entries, subset_entries, IsOctet, IsDescriptorWord, IsItem, header_of, bit, head_lines, dump_lines, dump_text_of, document_of, lines_before, IsDumpable, runs_of, runs_after}
 use Rattle.bufr_text.specs.declared.document.LineGroup.{LineGroup}
 use Rattle.bufr_text.specs.declared.document.LineGroup.TheVariants as group
 use Rattle.bufr_text.proofs.HeaderLemmas.{any-edition, with_value, with_local1, with_section2, with_descriptors}
@@ -22,12 +22,12 @@ said-is : (line : List ℕ) (meaning : Line) → IsLineOf line meaning → read_
 said-is line meaning h1 = grind (arith, nat_tests, common_steps)
 
 -- the reading goes on after a line, or gives a document
-pub goes : (at : ℕ) (parsing next : Parsing) (line : List ℕ) (meaning : Line) (more : List (List ℕ)) → IsLineOf line meaning → turn at parsing meaning ≡ (Continues next.0, next.1)
+pub goes : (at : ℕ) (parsing next : Parsing) (line : List ℕ) (meaning : Line) (more : List (List ℕ)) → IsLineOf line meaning → line_step at parsing meaning ≡ (Continues next.0, next.1)
     → parse_lines at parsing (line ∷ more) ≡ parse_lines (at + 1) next more
 unfolding parse_lines
 goes at parsing next line meaning more is e = rw (said-is line meaning is, e) refl
 
-pub gives : (at : ℕ) (parsing : Parsing) (d : Document) (line : List ℕ) (meaning : Line) (more : List (List ℕ)) → IsLineOf line meaning → turn at parsing meaning ≡ (Completes, d)
+pub gives : (at : ℕ) (parsing : Parsing) (d : Document) (line : List ℕ) (meaning : Line) (more : List (List ℕ)) → IsLineOf line meaning → line_step at parsing meaning ≡ (Completes, d)
     → parse_lines at parsing (line ∷ more) ≡ Complete d ∷ parse_lines (at + 1) between more
 unfolding parse_lines
 gives at parsing d line meaning more is e = rw (said-is line meaning is, e) refl
@@ -57,7 +57,7 @@ ranged edition k value d same range = ap (λ (n : ℕ). in_range n k value) same
 run-on : (edition k : ℕ) (value : ℕ) (values : List ℕ) (d : Document) (at : ℕ) (more : List (List ℕ)) → 0 < k → k + length values ≡ 19 → k ≡ length d.header → edition_in d ≡ edition
     → InRange edition k (value ∷ values)
     → parse_lines at (Heading, d) (header_lines k (value ∷ values) ++ more) ≡ parse_lines (at + 1 + length values) (BeforeSubsets group.Local1, with_header d (d.header ++ value ∷ values)) more
-unfolding header_lines turn
+unfolding header_lines line_step
 run-on edition k value [] d at more suffix count is same (range, small, rest) =
     let last : k ≡ 19 = omega (arith, count) in
     let is_last : (k == 19) ≡ true = grind (arith, nat_tests, last) in
@@ -76,7 +76,7 @@ run-on edition k value (v ∷ values) d at more suffix count is same (range, sma
 pub header-run : (edition v : ℕ) (values : List ℕ) (line at : ℕ) (more : List (List ℕ)) → length values ≡ 18 → InRange edition 0 (edition ∷ v ∷ values)
     → parse_lines at (Heading, blank line) (header_lines 0 (edition ∷ v ∷ values) ++ more)
     ≡ parse_lines (at + 1 + 19) (BeforeSubsets group.Local1, with_header (blank line) (edition ∷ v ∷ values)) more
-unfolding header_lines turn
+unfolding header_lines line_step
 header-run edition v values line at more count (range, small, rest) =
     let d = blank line in
     let first : in_range 0 0 edition ≡ true = any-edition 0 edition edition ∙ range in
@@ -87,7 +87,7 @@ header-run edition v values line at more count (range, small, rest) =
 -- local use
 pub local1-run : (runs : List (List ℕ)) (d : Document) (at : ℕ) (more : List (List ℕ)) → AllByRecursion (IsRun IsOctet 32) runs
     → parse_lines at (BeforeSubsets group.Local1, d) (map local1_line runs ++ more) ≡ parse_lines (at + length runs) (BeforeSubsets group.Local1, with_local1 d (concat runs)) more
-unfolding turn
+unfolding line_step
 local1-run [] d at more all =
     ap (λ (t : List ℕ). parse_lines at (BeforeSubsets group.Local1, record d { local1 = t }) more) (sym (append-nil d.local1))
     ∙ ap (λ n. parse_lines n (BeforeSubsets group.Local1, with_local1 d []) more) (omega arith)
@@ -115,7 +115,7 @@ may-section2 group.Descriptors d early there = absurd (early refl)
 pub section2-run : (runs : List (List ℕ)) (part : LineGroup) (d : Document) (at : ℕ) (more : List (List ℕ)) → (part ≡ group.Descriptors → ⊥) → (0 < length runs → optional_in d ≡ 1)
     → AllByRecursion (IsRun IsOctet 32) runs
     → parse_lines at (BeforeSubsets part, d) (map section2_line runs ++ more) ≡ parse_lines (at + length runs) (BeforeSubsets (written part runs group.Section2), with_section2 d (concat runs)) more
-unfolding turn written
+unfolding line_step written
 section2-run [] part d at more early optional all =
     ap (λ (t : List ℕ). parse_lines at (BeforeSubsets part, record d { section2 = t }) more) (sym (append-nil d.section2))
     ∙ ap (λ n. parse_lines n (BeforeSubsets part, with_section2 d []) more) (omega arith)
@@ -131,7 +131,7 @@ section2-run (run ∷ runs) part d at more early optional (here, all) =
 pub descriptors-run : (runs : List (List ℕ)) (part : LineGroup) (d : Document) (at : ℕ) (more : List (List ℕ)) → AllByRecursion (IsRun IsDescriptorWord 8) runs
     → parse_lines at (BeforeSubsets part, d) (map descriptors_line runs ++ more)
     ≡ parse_lines (at + length runs) (BeforeSubsets (written part runs group.Descriptors), with_descriptors d (concat runs)) more
-unfolding turn written
+unfolding line_step written
 descriptors-run [] part d at more all =
     ap (λ (t : List ℕ). parse_lines at (BeforeSubsets part, record d { descriptors = t }) more) (sym (append-nil d.descriptors))
     ∙ ap (λ n. parse_lines n (BeforeSubsets part, with_descriptors d []) more) (omega arith)
@@ -149,13 +149,13 @@ with_entries d entries = record d { entries = d.entries ++ entries }
 
 items-run : (items : List View) (subset : ℕ) (d : Document) (at : ℕ) (more : List (List ℕ)) → AllByRecursion IsItem items
     → parse_lines at (Filling subset, d) (map item_text items ++ more) ≡ parse_lines (at + length items) (Filling subset, with_entries d (item_entries at items)) more
-unfolding turn item_entries
+unfolding line_step item_entries
 items-run [] subset d at more all =
     ap (λ (t : List DraftEntry). parse_lines at (Filling subset, record d { entries = t }) more) (sym (append-nil d.entries))
     ∙ ap (λ n. parse_lines n (Filling subset, with_entries d []) more) (omega arith)
 items-run (item ∷ items) subset d at more (here, all) =
     let one : DraftEntry = Holds (draft at item.fxy (dump_value_of item.value)) in
-    goes at (Filling subset, d) (Filling subset, with_entry d one) _ (Item item.fxy (dump_value_of item.value)) (map item_text items ++ more) (item-line item here) refl
+    goes at (Filling subset, d) (Filling subset, with_entry d one) _ (ItemLine item.fxy (dump_value_of item.value)) (map item_text items ++ more) (item-line item here) refl
     ∙ items-run items subset (with_entry d one) (at + 1) more all
     ∙ ap (λ (t : List DraftEntry). parse_lines (at + 1 + length items) (Filling subset, record d { entries = t }) more) (append_assoc d.entries (one ∷ []) (item_entries (at + 1) items))
     ∙ ap (λ n. parse_lines n (Filling subset, with_entries d (item_entries at (item ∷ items))) more) (omega arith)
@@ -166,7 +166,7 @@ subset-lines-count n items subsets = omega (arith, length-append (map item_text 
 
 -- a subset begins and its items follow
 subset-run : (items : List View) (subset : ℕ) (d : Document) (at : ℕ) (parsing : Parsing) (tail more : List (List ℕ)) → subset < 65536 → AllByRecursion IsItem items
-    → turn at parsing (Begins subset) ≡ (Continues (Filling subset), d)
+    → line_step at parsing (Begins subset) ≡ (Continues (Filling subset), d)
     → parse_lines at parsing ((subset_line subset ∷ (map item_text items ++ tail)) ++ more)
     ≡ parse_lines (at + 1 + length items) (Filling subset, with_entries d (item_entries (at + 1) items)) (tail ++ more)
 subset-run items subset d at parsing tail more few all begins =
@@ -178,7 +178,7 @@ subsets-run : (subsets : List (List View)) (n : ℕ) (d : Document) (at : ℕ) (
     → AllByRecursion (λ items. AllByRecursion IsItem items) subsets
     → parse_lines at (Filling n, d) (subset_lines (n + 1) subsets ++ codes "end" ∷ more)
     ≡ Complete (with_entries d (Ends at ∷ subset_entries at subsets)) ∷ parse_lines (at + length (subset_lines (n + 1) subsets) + 1) between more
-unfolding turn subset_entries subset_lines
+unfolding line_step subset_entries subset_lines
 subsets-run [] n d at more stated few all =
     let closed : (n == subsets_in d) ≡ true = grind (arith, nat_tests, stated) in
     gives at (Filling n, d) (with_entry d (Ends at)) _ Closes more end-line (rw closed refl)
@@ -201,7 +201,7 @@ pub subsets-written : (subsets : List (List View)) (part : LineGroup) (d : Docum
     → AllByRecursion (λ items. AllByRecursion IsItem items) subsets
     → parse_lines at (BeforeSubsets part, d) (subset_lines 1 subsets ++ codes "end" ∷ more)
     ≡ Complete (with_entries d (subset_entries at subsets)) ∷ parse_lines (at + length (subset_lines 1 subsets) + 1) between more
-unfolding turn subset_entries subset_lines
+unfolding line_step subset_entries subset_lines
 subsets-written [] part d at more none stated few all =
     let closed : (0 == subsets_in d) ≡ true = grind (arith, nat_tests, stated) in
     gives at (BeforeSubsets part, d) d _ Closes more end-line (rw closed refl)
@@ -347,7 +347,7 @@ all-lines-run : (s : Sections) (subsets : List (List View)) (at : ℕ) (more : L
     let e = at + 1 + 1 + 19 + length a + length b + length c in
     parse_lines at between (codes "message" ∷ (header_lines 0 (header_of s) ++ (map local1_line a ++ (map section2_line b ++ (map descriptors_line c ++ (subset_lines 1 subsets ++ codes "end" ∷ more))))))
     ≡ Complete (document_with at (header_of s) (concat a) (concat b) (concat c) subsets e) ∷ parse_lines (e + length (subset_lines 1 subsets) + 1) between more
-unfolding turn header-tail
+unfolding line_step header-tail
 all-lines-run s subsets at more given =
     let a = runs_of 32 s.local1 in
     let b = runs_of 32 (unwrap_or s.section2 []) in

@@ -1,12 +1,12 @@
 -- The bits and the turns of a walk that writes.
 use Rattle.std.proofs.Common.{inl, inr, ◌≡◌, ◌+◌, ℕ, suc, Bool, List, [], ◌∷◌, ◌++◌, length, length-append, Option, Some, None, Result, Ok, Err, refl, sym, ◌∙◌, ap, subst, arith, ◌<◌, get_or, true, false, ◌≤◌, zero, ◌-◌, ◌*◌, append_assoc, if◌then◌else◌}
 use Rattle.bufr_walk.specs.declared.spec.Taken.{Taken}
-use Rattle.bufr_walk.specs.Prelude.{FieldSpec, octets_in, Course, Next, take_next, at_end, astray, refused, NextTurn, asked, operated, ahead, counts_of, next_item, Turns, finish, open_end, group, pass_end, factor_turn, element_turn, operator_turn, Rest, passes, unroll, TakenField, Takes, course_after, ticked, answers_of, oks, StopsWalk, Walked, element_spec, factor_spec, inserted_spec, OperatorModel, after_operator, after_field}
-use Rattle.bufr_fill.specs.Prelude.{IfDraftFault, at_line, DraftEntry, Holds, Ends, Subset, subset, prepend_to_subset, subsets_of, WrittenItem, Filler, fill_pass, bits_written, bits_or, fill, with_bits_before, Writing, pass_writing, writing_then, bits_of_writing, plainly, plain_filler, plain_writing, plain_data, packed_writing, cells_at, rows, longest, are_many, packed_filler, packed_data, AreOctets, PlainOutModel, PlainFills, IsFaultNext, after_end, line_at, items_left, end_left, ends_of, PackedOutModel, new_packed_out, PackedFills, IsFaultHere, all_at_end, first_line_at, rows_left}
+use Rattle.bufr_walk.specs.Prelude.{FieldSpec, octets_in, Course, Next, take_next, at_end, astray, refused, NextTurn, asked, operated, ahead, counts_of, next_item, Turns, finish, open_end, group, pass_end, factor_turn, element_turn, operator_turn, Rest, passes, unroll, TakenField, Takes, course_after, ticked, answers_of, oks, StopsWalk, Walked, element_spec, factor_spec, inserted_spec, OperatorModel, after_operator, after_field, would_be_many}
+use Rattle.bufr_fill.specs.Prelude.{IfDraftFault, at_line, DraftEntry, Holds, Ends, Subset, subset, prepend_to_subset, subsets_of, WrittenItem, Filler, fill_pass, bits_written, bits_or, fill, with_bits_before, Writing, pass_writing, writing_then, bits_of_writing, plainly, plain_filler, plain_writing, plain_data, packed_writing, cells_at, rows, most_items, packed_filler, packed_data, AreOctets, PlainOutModel, PlainFills, IsFaultNext, after_end, line_at, items_left, end_left, ends_of, PackedOutModel, new_packed_out, PackedFills, IsFaultHere, all_at_end, first_line_at, rows_left}
 use Rattle.bufr_fill.specs.declared.fault.DraftFault.{DraftFault}
 use Rattle.bufr_fill.proofs.FillSteps.{pass_at, pass_with, pass_more, fill_end}
 use Rattle.bufr_fill.proofs.WalkLemmas.{HasFilled, after_answers, fills, walk_of_items, fault_as_defined}
-use Rattle.bufr_text.specs.Prelude.{report_of_items, document_fault, octets_of_bits, message_of, IsDocumentRefusal, stop_fault, AreOctetsOf, CountsSteps, IsData, IsNoData, DocumentFault}
+use Rattle.bufr_text.specs.Prelude.{map_err, document_fault, octets_of_bits, message_of, IsDocumentRefusal, stop_fault, AreOctetsOf, CountsSteps, IsData, IsNoData, DocumentFault}
 use Rattle.bufr_bits.specs.Prelude.{padding, bits_of}
 use Rattle.bufr_fill.proofs.FieldLemmas.{octets_again}
 use Rattle.bufr_frame.specs.declared.section1.Head.{Head}
@@ -56,9 +56,9 @@ module _ {D C E S : Type 0} (filler : Filler D C E) (left : S → List D) (out :
 
 -- a fault that is reported is the definition's
 pub refuses_so : (o : DraftFault) (why : DocumentFault) (r : Result (List Bool) DraftFault) → why ≡ document_fault o → IfDraftFault o (λ f. r ≡ Err f)
-    → IsDocumentRefusal why (report_of_items r)
+    → IsDocumentRefusal why (map_err document_fault r)
 refuses_so draft_fault.Memory why r e h = inl e
-refuses_so (draft_fault.Item line f) why r e h = inr (ap report_of_items h ∙ ap Err (sym e))
+refuses_so (draft_fault.Item line f) why r e h = inr (ap (map_err document_fault) h ∙ ap Err (sym e))
 
 -- octets that are the bits of data
 pub octets_are_bits : (xs : List ℕ) (bits : List Bool) → ((k : ℕ) → get_or xs k 0 < 256) → AreOctetsOf xs bits → xs ≡ octets_of_bits bits
@@ -307,7 +307,7 @@ pub record IsSubset (places : ℕ) (course : Course) (s : PlainOutModel) (steps 
 
 pub record IsNoSubset (places : ℕ) (course : Course) (s : PlainOutModel) (steps : ℕ)
     (why : DocumentFault) (steps' : ℕ) : Type 0 where
-  pub refuses : IsDocumentRefusal why (report_of_items (fill_next course s.left))
+  pub refuses : IsDocumentRefusal why (map_err document_fault (fill_next course s.left))
   pub made : CountsSteps (why ≡ document.Memory) steps (next_writing course s.left).turns steps'
   pub few : steps' ≤ steps + places * (length (next_writing course s.left).bits + 1)
 
@@ -417,7 +417,7 @@ subset_over n course s c mid c' e why w some fault results few =
     let is = refused_later course s mid w.0 e w.1 (subst (λ n. IsFaultNext n mid.left e) (sym w.2) (some_left mid.left (omega (arith, some, k.count)), fault)) in
     let count = counts (end_left s.left) course s w.0 mid w.1 in
     record {
-      refuses = inr (ap report_of_items is ∙ ap Err (sym results));
+      refuses = inr (ap (map_err document_fault) is ∙ ap Err (sym results));
       made = inr (all_turns course s c mid c' w);
       few = omega (arith, few, mul_most n (length mid.bits - length s.bits) (length (next_writing course s.left).bits + 1) (omega (arith, count)));
     }
@@ -551,19 +551,19 @@ module _ (n : ℕ) (course : Course) (all : List Subset) (done : ℕ) (s : Plain
       no_less w more (Some why) = omega arith
 
       -- a refusal is the last
-      is_last : (f : DocumentFault) → report_of_items (fill_next course s.left) ≡ Err f → next_then ≡ next_writing course s.left
+      is_last : (f : DocumentFault) → map_err document_fault (fill_next course s.left) ≡ Err f → next_then ≡ next_writing course s.left
       is_last f = last (next_writing course s.left) rest (next_writing course s.left).stop refl
         where
-          last : (w more : Writing DraftFault) (stop : Option DraftFault) → w.stop ≡ stop → report_of_items (bits_of_writing w) ≡ Err f → writing_then w stop more ≡ w
-          last w more None e r = absurd cc (sym (ap (λ o. report_of_items (bits_or w.bits o)) e) ∙ r)
+          last : (w more : Writing DraftFault) (stop : Option DraftFault) → w.stop ≡ stop → map_err document_fault (bits_of_writing w) ≡ Err f → writing_then w stop more ≡ w
+          last w more None e r = absurd cc (sym (ap (λ o. map_err document_fault (bits_or w.bits o)) e) ∙ r)
           last w more (Some why) e r = refl
 
-      by : (f : DocumentFault) → IsDocumentRefusal f (report_of_items (fill_next course s.left)) → IsDocumentRefusal f (report_of_items (plain_data course all))
+      by : (f : DocumentFault) → IsDocumentRefusal f (map_err document_fault (fill_next course s.left)) → IsDocumentRefusal f (map_err document_fault (plain_data course all))
       by f (inl out) = inl out
-      by f (inr r) = inr (ap (λ w. report_of_items (bits_of_writing w)) (by_next ∙ ap (writing_then (wrote s.bits h.made) None) (is_last f r)) ∙ same_refusal (next_writing course s.left).stop r)
+      by f (inr r) = inr (ap (λ w. map_err document_fault (bits_of_writing w)) (by_next ∙ ap (writing_then (wrote s.bits h.made) None) (is_last f r)) ∙ same_refusal (next_writing course s.left).stop r)
         where
-          same_refusal : (o : Option DraftFault) → report_of_items (bits_or (next_writing course s.left).bits o) ≡ Err f
-              → report_of_items (bits_or (s.bits ++ (next_writing course s.left).bits) o) ≡ Err f
+          same_refusal : (o : Option DraftFault) → map_err document_fault (bits_or (next_writing course s.left).bits o) ≡ Err f
+              → map_err document_fault (bits_or (s.bits ++ (next_writing course s.left).bits) o) ≡ Err f
           same_refusal None r = absurd cc r
           same_refusal (Some why) r = r
 
@@ -579,7 +579,7 @@ module _ (n : ℕ) (course : Course) (all : List Subset) (done : ℕ) (s : Plain
                 (omega (arith, ap (λ (w : Writing DraftFault). w.turns) by_next, no_less (next_writing course s.left) rest (next_writing course s.left).stop)),
           )
 
-      made_so : (f : DocumentFault) → IsDocumentRefusal f (report_of_items (fill_next course s.left))
+      made_so : (f : DocumentFault) → IsDocumentRefusal f (map_err document_fault (fill_next course s.left))
           → CountsSteps (f ≡ document.Memory) steps (next_writing course s.left).turns steps' → CountsSteps (f ≡ document.Memory) 0 (plain_writing course all).turns steps'
       made_so f r (inl m) = inl (m.0, fewer m.1)
       made_so f (inl out) (inr m) = inl (out, fewer (omega (arith, m)))
@@ -614,19 +614,19 @@ packed_counts : (course : Course) (ss : List Subset) (items : List TakenField) (
     → length mid.bits ≤ length (packed_writing course ss).bits
 packed_counts course [] items mid some h = absurd (omega (arith, some))
 packed_counts course (s ∷ more) items mid some h =
-    let many = are_many (longest (s ∷ more)) (length (s ∷ more)) in
+    let many = would_be_many (length (s ∷ more)) (most_items (s ∷ more)) in
     let c = walk_counts (packed_filler s.end_line many) rows_left (λ (p : PackedOutModel). p.bits) (oks PackedFills) (packed_fills s.end_line many) course (new_packed_out (s ∷ more)) items mid h in
-    let e : longest (s ∷ more) - 0 ≡ longest (s ∷ more) = omega arith in
+    let e : most_items (s ∷ more) - 0 ≡ most_items (s ∷ more) = omega arith in
     omega (arith, c, ap (λ k. count_filled (packed_filler s.end_line many) course (rows k 0 (s ∷ more))) e)
 
 -- ---- the turns
 
 -- the turns of all subsets are those that a walk comes to
 packed_turns_left : (course : Course) (s : Subset) (more : List Subset) (items : List TakenField) (mid : PackedOutModel) → Takes (oks PackedFills) course (new_packed_out (s ∷ more)) items mid
-    → (packed_writing course (s ∷ more)).turns ≡ turns_filled (packed_filler s.end_line (are_many (longest (s ∷ more)) (length (s ∷ more)))) (course_after course items) (rows_left mid)
+    → (packed_writing course (s ∷ more)).turns ≡ turns_filled (packed_filler s.end_line (would_be_many (length (s ∷ more)) (most_items (s ∷ more)))) (course_after course items) (rows_left mid)
 packed_turns_left course s more items mid h =
-    let many = are_many (longest (s ∷ more)) (length (s ∷ more)) in
-    let e : longest (s ∷ more) ≡ longest (s ∷ more) - 0 = omega arith in
+    let many = would_be_many (length (s ∷ more)) (most_items (s ∷ more)) in
+    let e : most_items (s ∷ more) ≡ most_items (s ∷ more) - 0 = omega arith in
     ap (λ k. turns_filled (packed_filler s.end_line many) course (rows k 0 (s ∷ more))) e
     ∙ walk_turns (packed_filler s.end_line many) rows_left (λ (p : PackedOutModel). p.bits) (oks PackedFills) (packed_fills s.end_line many) course (new_packed_out (s ∷ more)) items mid h
 
@@ -635,7 +635,7 @@ turns_at_most : (course : Course) (ss : List Subset) (items : List TakenField) (
     → (course (answers_of items)).turns ≤ (packed_writing course ss).turns
 turns_at_most course [] items mid g some h = absurd (omega (arith, some))
 turns_at_most course (s ∷ more) items mid g some h =
-    some_turns (packed_filler s.end_line (are_many (longest (s ∷ more)) (length (s ∷ more)))) course items (rows_left mid) ((packed_writing course (s ∷ more)).turns) g
+    some_turns (packed_filler s.end_line (would_be_many (length (s ∷ more)) (most_items (s ∷ more)))) course items (rows_left mid) ((packed_writing course (s ∷ more)).turns) g
     (packed_turns_left course s more items mid h)
 
 -- where nothing more is taken, whatever the filler, all were made
@@ -643,7 +643,7 @@ packed_all_turns : (course : Course) (ss : List Subset) (items : List TakenField
     → ((end : ℕ) (many : Bool) → IsLast (packed_filler end many) (course (answers_of items)).next (rows_left mid)) → (course (answers_of items)).turns ≡ (packed_writing course ss).turns
 packed_all_turns course [] items mid some h l = absurd (omega (arith, some))
 packed_all_turns course (s ∷ more) items mid some h l =
-    let many = are_many (longest (s ∷ more)) (length (s ∷ more)) in
+    let many = would_be_many (length (s ∷ more)) (most_items (s ∷ more)) in
     last_turns (packed_filler s.end_line many) course items (rows_left mid) (course (answers_of items)).next ((packed_writing course (s ∷ more)).turns) (packed_turns_left course s more items mid h)
     refl
     (l s.end_line many)
@@ -654,7 +654,7 @@ end_is_last end many next mid e = subst (λ n. IsLast (packed_filler end many) n
 
 -- nor is anything taken at a fault
 packed_fault_is_last : (end : ℕ) (many : Bool) (next : Next) (mid : PackedOutModel) (f : DraftFault) → IsFaultHere next mid f → IsLast (packed_filler end many) next (rows_left mid)
-packed_fault_is_last end many (take_next spec) mid f h = by (longest mid.subsets - mid.index)
+packed_fault_is_last end many (take_next spec) mid f h = by (most_items mid.subsets - mid.index)
   where
     by : (k : ℕ) → IsLast (packed_filler end many) (take_next spec) (rows k mid.index mid.subsets)
     by zero = tt
@@ -691,7 +691,7 @@ packed_over n course ss start c mid c' e why at some z w fault results few =
     let h = subst (λ x. Takes (oks PackedFills) course x w.0 mid) at w.1 in
     let is = packed_fault_as_defined course ss w.0 mid e some h (subst (λ next. IsFaultHere next mid e) (sym w.2) fault) in
     record {
-      refuses = inr (ap report_of_items is ∙ ap Err (sym results));
+      refuses = inr (ap (map_err document_fault) is ∙ ap Err (sym results));
       made = inr (walk_makes_all course ss start c mid c' at some z w);
       few = omega (arith, z, few, mul_most n (length mid.bits - length start.bits) (length (packed_writing course ss).bits + 1) (omega (arith, packed_counts course ss w.0 mid some h)));
     }

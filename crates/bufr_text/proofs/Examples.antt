@@ -1,7 +1,7 @@
 -- Lines computed on examples, each rule beside its nearest wrong neighbour.
 use Rattle.std.proofs.Common.{◌≡◌, ℕ, List, [], ◌∷◌, ◌++◌, refl, codes, replicate, map, true, false, arith, drop, take, Some, None, pos, ◌+◌, inl}
 use Rattle.bufr_fill.specs.Prelude.{number_token, text_form, missing_form, reference_token, draft, Holds, Ends}
-use Rattle.bufr_text.specs.Prelude.{leasts, mosts, prefix_while, suffix_while, without_prefix, hex_read, fxy_read, descriptors_read, quoted_read, is_hashed, quoted, hex_text, descriptors_text, runs_after, Line, Passed, Header, Local1, Section2, Descriptors, Begins, Item, Wrong, keys, index_from, value_read, worded, line_of, Opens, Closes, read_line, ParseResult, Complete, Refused, NotAllowed, SubsetCount, HeaderRange, turn, parse_lines, lines_of, documents_of, Document, open_documents_of, split_of, parse_open_lines, item_text, local1_line, descriptors_line, text_of_lines, IsDumpable, dump_text_of, header_lines, subset_lines, item_entries, subset_entries, document_of, ls_line, AreEnded, IsProper, NumberedLine, numbered_line, numbered_lines, SubsetHeard, subsets_heard, entries_heard, IsDocument}
+use Rattle.bufr_text.specs.Prelude.{leasts, mosts, prefix_while, suffix_while, without_prefix, hex_read, fxy_read, descriptors_read, quoted_read, is_hashed, quoted, hex_text, descriptors_text, runs_after, Line, Passed, Header, Local1, Section2, Descriptors, Begins, ItemLine, Wrong, keys, index_from, value_read, worded, line_of, Opens, Closes, read_line, ParseResult, Complete, Refused, NotAllowed, SubsetCount, HeaderRange, line_step, parse_lines, lines_of, documents_of, Document, open_documents_of, split_of, parse_open_lines, item_text, local1_line, descriptors_line, text_of_lines, IsDumpable, dump_text_of, header_lines, subset_lines, item_entries, subset_entries, document_of, ls_line, AreEnded, IsProper, NumberedLine, numbered_line, numbered_lines, SubsetHeard, subsets_heard, entries_heard, IsDocument}
 use Rattle.bufr_frame.specs.declared.section1.Head.{Head}
 use Rattle.bufr_frame.specs.Prelude.{IsFitting, greatest_values, values_of, Sections}
 use Rattle.bufr_frame.proofs.AgainLemmas.{at-most}
@@ -23,7 +23,7 @@ abbrev all_said : List (List ℕ) → List Line
 all_said lines = map read_line lines
 
 ten : Line
-ten = Item 257 (number_token (codes "10"))
+ten = ItemLine 257 (number_token (codes "10"))
 
 -- the lines of a document, with these from the one of `centre` to that of `subsets`, and these
 -- after them
@@ -51,7 +51,7 @@ lines_read :
     (item_text (record { fxy = 0x8504; entry = None; value = shown_text inserted }) ≡ inserted_line)
     × (all_said (
     inserted_line ∷ codes "012101 MISSING" ∷ codes "R 012101 -400" ∷ codes "005002 -0.05 #" ∷ codes "005002 -0.05  # LATITUDE [degree]" ∷ [])
-    ≡ Item 0x8504 (text_form inserted) ∷ Item 0x0C65 missing_form ∷ Item 0x0C65 (reference_token (codes "-400")) ∷ Item 0x0502 (number_token (codes "-0.05")) ∷ Item 0x0502 (number_token (codes "-0.05")) ∷ [])
+    ≡ ItemLine 0x8504 (text_form inserted) ∷ ItemLine 0x0C65 missing_form ∷ ItemLine 0x0C65 (reference_token (codes "-400")) ∷ ItemLine 0x0502 (number_token (codes "-0.05")) ∷ ItemLine 0x0502 (number_token (codes "-0.05")) ∷ [])
     × (all_said (
     codes "001001 10 " ∷ codes "001001 10# x" ∷ codes "001001  10" ∷ codes "001001 " ∷ codes "001001 x" ∷ codes "R 012101 MISSING" ∷ codes "064001 1" ∷ codes "01001 1"
     ∷ (codes "205001 " ++ 34 ∷ 65 ∷ []) ∷ (codes "205001 " ++ 34 ∷ 92 ∷ codes "xfe" ++ 34 ∷ []) ∷ (codes "205001 " ++ 34 ∷ 9 ∷ 34 ∷ []) ∷ [])
@@ -78,13 +78,13 @@ lines_read :
     ≡ Local1 (10 ∷ 249 ∷ []) ∷ Wrong ∷ Wrong ∷ Section2 (255 ∷ []) ∷ Wrong ∷ Wrong ∷ Wrong ∷ [])
     -- a descriptor is six digits whose F, X and Y fit their bits, on every line
     × (all_said (codes "descriptors 001001" ∷ codes "descriptors 0010010" ∷ codes "descriptors 00100" ∷ codes "descriptors 363255" ∷ codes "descriptors 364255" ∷ codes "descriptors 363256" ∷ codes "descriptors 463255" ∷ codes "363255 10" ∷ codes "363256 10" ∷ codes "0010010 10" ∷ [])
-    ≡ Descriptors (257 ∷ []) ∷ Wrong ∷ Wrong ∷ Descriptors (65535 ∷ []) ∷ Wrong ∷ Wrong ∷ Wrong ∷ Item 65535 (number_token (codes "10")) ∷ Wrong ∷ Wrong ∷ [])
+    ≡ Descriptors (257 ∷ []) ∷ Wrong ∷ Wrong ∷ Descriptors (65535 ∷ []) ∷ Wrong ∷ Wrong ∷ Wrong ∷ ItemLine 65535 (number_token (codes "10")) ∷ Wrong ∷ Wrong ∷ [])
     -- in a text: escapes with upper-case digits, for any octet; nothing that cannot be printed; the
     -- closing quote
     × (all_said (
     (codes "205001 " ++ 34 ∷ 92 ∷ codes "x41" ++ 34 ∷ []) ∷ (codes "205001 " ++ 34 ∷ 92 ∷ codes "xaf" ++ 34 ∷ []) ∷ (codes "205001 " ++ 34 ∷ 92 ∷ codes "n" ++ 34 ∷ []) ∷ (codes "205001 " ++ 34 ∷ 126 ∷ 34 ∷ []) ∷ (codes "205001 " ++ 34 ∷ 127 ∷ 34 ∷ [])
     ∷ (codes "205001 " ++ 34 ∷ 254 ∷ 34 ∷ []) ∷ (codes "205001 " ++ 34 ∷ 65 ∷ []) ∷ (codes "205001 " ++ 34 ∷ 34 ∷ 34 ∷ []) ∷ [])
-    ≡ Item 0x8501 (text_form (65 ∷ [])) ∷ Wrong ∷ Wrong ∷ Item 0x8501 (text_form (126 ∷ [])) ∷ Wrong ∷ Wrong ∷ Wrong ∷ Wrong ∷ [])
+    ≡ ItemLine 0x8501 (text_form (65 ∷ [])) ∷ Wrong ∷ Wrong ∷ ItemLine 0x8501 (text_form (126 ∷ [])) ∷ Wrong ∷ Wrong ∷ Wrong ∷ Wrong ∷ [])
     -- lines of octets and of descriptors may be short in the middle; their kinds come in order
     × (none_with (codes "local1 01" ∷ codes "local1 0203" ∷ codes "section2 04" ∷ codes "section2 0506" ∷ codes "descriptors 001001" ∷ codes "descriptors 012101 001001" ∷ codes "end" ∷ [])
     ≡ Complete (record { line = 1; header = header_written; local1 = 1 ∷ 2 ∷ 3 ∷ []; section2 = 4 ∷ 5 ∷ 6 ∷ []; descriptors = 257 ∷ 0x0C65 ∷ 257 ∷ []; entries = [] }) ∷ [])
@@ -101,7 +101,7 @@ lines_read :
     ≡ Complete (record { line = 1; header = header_written; local1 = []; section2 = []; descriptors = []; entries = [] })
     ∷ Complete (record { line = 24; header = header_written; local1 = []; section2 = []; descriptors = []; entries = [] }) ∷ [])
 unfolding quoted line_of worded prefix_while suffix_while without_prefix fxy_read value_read quoted_read is_hashed index_from keys leasts mosts hex_read descriptors_read hex_text descriptors_text ten
-    parse_lines lines_of turn
+    parse_lines lines_of line_step
 lines_read = (refl, refl, refl, refl, refl, refl, refl, refl, refl, refl, refl, refl, refl, refl, refl, refl, refl, refl, refl, refl, refl, refl, refl)
 
 -- ---- The definitions computed on worked examples.
@@ -244,7 +244,7 @@ documents_read :
     × (documents_of (text_of_lines (lines_3 (codes "edition 5") (codes "centre 98") (codes "second 0") ++ item_lines)) ≡ Refused 2 HeaderRange ∷ [])
     -- a document of edition 4 that says edition 3 is refused at its year
     × (documents_of (text_of_lines (codes "message" ∷ codes "edition 3" ∷ drop 2 head_lines ++ item_lines)) ≡ Refused 12 HeaderRange ∷ [])
-unfolding header_lines subset_lines item_entries subset_entries keys leasts mosts digits runs_after hex_text descriptors_text quoted decimal_text_of unsigned_text parse_lines lines_of turn line_of
+unfolding header_lines subset_lines item_entries subset_entries keys leasts mosts digits runs_after hex_text descriptors_text quoted decimal_text_of unsigned_text parse_lines lines_of line_step line_of
     worded prefix_while suffix_while index_from without_prefix descriptors_read fxy_read value_read quoted_read hex_read is_hashed parse_open_lines split_of
 documents_read = (refl, refl, refl, refl, refl, refl, refl, refl, refl, refl, refl, refl, refl, refl, refl, refl, refl, refl, refl)
 
@@ -329,7 +329,7 @@ no_section2 h = some-none 1 [] (h.no_section2 refl)
 
 -- comments and empty lines are counted, and passed over
 passed_over : numbered_lines 21 (codes "# x" ∷ [] ∷ codes "subset 1" ∷ codes "001001 10  # x" ∷ codes "end" ∷ codes "x" ∷ [])
-    ≡ numbered_line 23 (Begins 1) ∷ numbered_line 24 (Item 257 (number_token (codes "10"))) ∷ numbered_line 25 Closes ∷ numbered_line 26 Wrong ∷ []
+    ≡ numbered_line 23 (Begins 1) ∷ numbered_line 24 (ItemLine 257 (number_token (codes "10"))) ∷ numbered_line 25 Closes ∷ numbered_line 26 Wrong ∷ []
 unfolding numbered_lines line_of worded prefix_while suffix_while without_prefix fxy_read value_read is_hashed index_from keys leasts mosts
 passed_over = refl
 
@@ -343,7 +343,7 @@ two_ends = refl
 
 -- subsets are numbered from one on
 two_subsets : subsets_heard 1 (subset_at 23 ∷ subset_at 25 ∷ [])
-    ≡ numbered_line 23 (Begins 1) ∷ numbered_line 24 (Item 257 (number_token (codes "10"))) ∷ numbered_line 25 (Begins 2) ∷ numbered_line 26 (Item 257 (number_token (codes "10"))) ∷ []
+    ≡ numbered_line 23 (Begins 1) ∷ numbered_line 24 (ItemLine 257 (number_token (codes "10"))) ∷ numbered_line 25 (Begins 2) ∷ numbered_line 26 (ItemLine 257 (number_token (codes "10"))) ∷ []
 two_subsets = refl
 
 -- ---- the lines of a document
@@ -356,7 +356,7 @@ header_heard =
     ∷ numbered_line 17 (Header 15 5) ∷ numbered_line 18 (Header 16 1) ∷ numbered_line 19 (Header 17 0) ∷ numbered_line 20 (Header 18 0) ∷ numbered_line 21 (Header 19 1) ∷ []
 
 one_document : IsDocument (document 0 1 (257 ∷ []) (number 24 257 (codes "10") ∷ Ends 25 ∷ []))
-    (numbered_line 1 Opens ∷ header_heard ++ numbered_line 22 (Descriptors (257 ∷ [])) ∷ numbered_line 23 (Begins 1) ∷ numbered_line 24 (Item 257 (number_token (codes "10"))) ∷ numbered_line 25 Closes ∷ [])
+    (numbered_line 1 Opens ∷ header_heard ++ numbered_line 22 (Descriptors (257 ∷ [])) ∷ numbered_line 23 (Begins 1) ∷ numbered_line 24 (ItemLine 257 (number_token (codes "10"))) ∷ numbered_line 25 Closes ∷ [])
 unfolding document number
 one_document = record {
   header = header_heard;

@@ -16,7 +16,7 @@ use Rattle.bufr_walk.proofs.NextField.{AreRead, table_read, next_field}
 use Rattle.bufr_fill.proofs.WholeLaws.{packed_rows, reads_specs, template_apart, template_together}
 use Rattle.bufr_fill.proofs.GoodReads.{plain_specs}
 use Rattle.bufr_fill.proofs.FormLaws.{all_followed, plain_subsets, subsets_said, subset_bits, bits_or_none, row_bits, follow_reading}
-use Rattle.bufr_text.specs.Prelude.{subset_entries, document_of, lines_before, items_shown, IsAccepted, dump_items, HaveNoMinusZero, ArePacked, AreWritten, IsCanonical, IsEncodedAgain, HasReadingIn, IsForForm, IsFormed, IsFaultIn, EncodesForm, EncodesAgain, HasSameReading, data_bits, octets_of_bits, encoding_of, report_of_items, parts_as, compressed_as, message_of, encoding_in, IsDocumentRefusal, compressed_by, form_of_flag, compressed_in, Document, DocumentFault, Form}
+use Rattle.bufr_text.specs.Prelude.{subset_entries, document_of, lines_before, items_shown, IsAccepted, dump_items, HaveNoMinusZero, ArePacked, AreWritten, IsCanonical, IsEncodedAgain, HasReadingIn, IsForForm, IsFormed, IsFaultIn, EncodesForm, EncodesAgain, HasSameReading, data_bits, octets_of_bits, encoding_of, map_err, parts_as, compressed_as, message_of, encoding_in, IsDocumentRefusal, compressed_by, form_of_flag, compressed_in, Document, DocumentFault, Form, document_fault}
 use Rattle.bufr_text.proofs.DumpableLemmas.{sections_given}
 use Rattle.bufr_text.proofs.RoundTripLemmas.{all_apart, encoded_to, parts_back, parts_with, size_least, fills_as, bit_back, section2_back, enough, suffix, encoded_again, as_written, data_refused, parts_of_document, plain_reading, packed_reading, filled, is_message}
 use Rattle.std.specs.Global.{Global}
@@ -285,7 +285,7 @@ not_written : (table : List Row) (sequences : List Sequence) (m : List ℕ) (s :
 not_written table sequences m s template values used at a f =
     let d = document_of at s (dump_items table s.subsets values) in
     let is : encoding_in form.Compressed table sequences d ≡ Err (fault.Item f.line f.why) =
-    data_refused form.Compressed table sequences d template (fault.Item f.line f.why) a.expands (ap report_of_items f.is) in
+    data_refused form.Compressed table sequences d template (fault.Item f.line f.why) a.expands (ap (map_err document_fault) f.is) in
     subst (IsFormed form.Compressed table s template values) (sym is) f.unlike
 
 as_it_is : (table : List Row) (m : List ℕ) (s : Sections) (template : Tree) (values : Values) (used at : ℕ) (sequences : List Sequence) → length m ≤ max_octets

@@ -4,7 +4,7 @@ use Rattle.bufr_fill.proofs.EntryLemmas.{length-prepended}
 use Rattle.std.proofs.Common.{◌≡◌, ℕ, ◌+◌, List, [], ◌∷◌, ◌++◌, length, refl, ap, ◌∙◌, subst, sym, arith, zero, suc, ◌-◌, ◌*◌, ◌<◌, ◌≤◌, ◌==◌, nat_le, nat_lt, Bool, true, false, Option, Some, None, codes, if◌then◌else◌, length-append, cond, map, take, drop, get_or, ◌&&◌, not, IfSome, slice_index, option_map, position}
 use Rattle.std.specs.List.{AllByRecursion, position_from}
 use Rattle.bufr_fill.specs.Prelude.{Draft, DraftEntry, Holds, Ends, Subset, prepend_to_subset, subsets_of, DraftValue, number_token, text_form, missing_form, reference_token, draft, HasOctets, AllHaveOctets, AreOctets}
-use Rattle.bufr_text.specs.Prelude.{Document, read_line, edition_in, subsets_in, Between, Heading, BeforeSubsets, Filling, Stopped, LineEffect, Parsing, Turn, IsTurn, in_range, heading, before_subsets, filling, beginning, closing, with_entry, turn, are_in_range, head_from_values, IsHeaded, IsOctet, IsDescriptorWord, AreEnded, IsBare, HasLineGroups, EntryHasOctets, HasSubsets, IsParsing, without_space, upper_value, either_value, pair_value, onto_read, hex_read, fxy_read, descriptors_read, number_read, QuotedToken, Octet, quoting_of, quoted_on, quoted_read, is_number_octet, is_passed_after, prefix_while, suffix_while, Line, Passed, Opens, Header, Local1, Section2, Descriptors, Begins, Item, Closes, Wrong, keys, index_from, made, with_one_to, item_if_comment, number_value, value_read, valued, item_line, worded, line_of, leasts, mosts, is_named, lead_of, key_at}
+use Rattle.bufr_text.specs.Prelude.{Document, read_line, edition_in, subsets_in, Between, Heading, BeforeSubsets, Filling, Stopped, LineEffect, Parsing, LineStep, IsLineStep, in_range, heading, before_subsets, in_subset, beginning, closing, with_entry, line_step, are_in_range, head_from_values, IsHeaded, IsOctet, IsDescriptorWord, AreEnded, IsBare, HasLineGroups, EntryHasOctets, HasSubsets, IsParsing, without_space, upper_value, either_value, pair_value, onto_read, hex_read, fxy_read, descriptors_read, number_read, QuotedToken, Octet, quoting_of, quoted_on, quoted_read, is_number_octet, is_passed_after, prefix_while, suffix_while, Line, Passed, Opens, Header, Local1, Section2, Descriptors, Begins, ItemLine, Closes, Wrong, keys, index_from, made, with_one_to, item_if_comment, number_value, value_read, valued, item_line, worded, line_of, leasts, mosts, is_named, lead_of, key_at}
 use Rattle.bufr_text.specs.declared.document.LineGroup.{LineGroup}
 use Rattle.bufr_text.specs.declared.document.LineGroup.TheVariants as group
 use Rattle.std.specs.Str.{bytes_eq}
@@ -72,7 +72,7 @@ abbrev pub IsSound : Line → Type 0
 IsSound (Local1 octets) = AllByRecursion IsOctet octets
 IsSound (Section2 octets) = AllByRecursion IsOctet octets
 IsSound (Descriptors words) = AllByRecursion IsDescriptorWord words
-IsSound (Item fxy form) = HasOctets form
+IsSound (ItemLine fxy form) = HasOctets form
 IsSound other = Unit {0}
 
 if-some : {X : Type 0} (P : X → Type 0) (b : Bool) (x y : Option X) → (b ≡ true → IfSome x P) → (b ≡ false → IfSome y P) → IfSome (if b then x else y) P
@@ -159,7 +159,7 @@ made-always line (Some x) h = h x
 made-always line None h = tt
 
 item-sound : (fxy : ℕ) (r : Option (DraftValue × List ℕ)) → IfSome r (λ r. HasOctets (r.0)) → IsSound (made (item_if_comment fxy) r)
-item-sound fxy (Some (form, rest)) h = if-line (is_passed_after rest) (Item fxy form) Wrong h tt
+item-sound fxy (Some (form, rest)) h = if-line (is_passed_after rest) (ItemLine fxy form) Wrong h tt
 item-sound fxy None h = tt
 
 valued-sound : (read : List ℕ → Option (DraftValue × List ℕ)) (r : ℕ × List ℕ) → ((text : List ℕ) → IfSome (read text) (λ r. HasOctets (r.0))) → IsSound (valued read r)
@@ -311,11 +311,11 @@ ranges-again (x ∷ xs) v h g =
 pub later : (at : ℕ) (parsing : Parsing) → IsParsing at parsing → IsParsing (at + 1) parsing
 later at parsing h1 = grind (arith, nat_tests, common_steps)
 
-if-so : (at : ℕ) (b : Bool) (x y : Turn) → (b ≡ true → IsTurn at x) → (b ≡ false → IsTurn at y) → IsTurn at (if b then x else y)
+if-so : (at : ℕ) (b : Bool) (x y : LineStep) → (b ≡ true → IsLineStep at x) → (b ≡ false → IsLineStep at y) → IsLineStep at (if b then x else y)
 if-so at true x y p q = p refl
 if-so at false x y p q = q refl
 
-if-effect : (at : ℕ) (b : Bool) (x y : LineEffect) (d : Document) → (b ≡ true → IsTurn at (x, d)) → (b ≡ false → IsTurn at (y, d)) → IsTurn at (if b then x else y, d)
+if-effect : (at : ℕ) (b : Bool) (x y : LineEffect) (d : Document) → (b ≡ true → IsLineStep at (x, d)) → (b ≡ false → IsLineStep at (y, d)) → IsLineStep at (if b then x else y, d)
 if-effect at true x y d p q = p refl
 if-effect at false x y d p q = q refl
 
@@ -335,7 +335,7 @@ value-so : (at key value : ℕ) (d : Document) (b : Bool) → (key == 19) ≡ b 
 value-so at key value d b h1 h2 h3 h4 h5 h6 h7 = grind (arith, nat_tests, common_steps, length-append, ranges-again, written-bare, still-bare)
 
 heading-so : (at key value : ℕ) (d : Document) → length d.header < 20 → are_in_range (edition_in d) 0 d.header ≡ true → length d.entries < at → IsBare d
-    → IsTurn (at + 1) (heading d (Header key value))
+    → IsLineStep (at + 1) (heading d (Header key value))
 heading-so at key value d h1 h2 h3 h4 = grind (arith, nat_tests, common_steps, if-so, value-so, same-key, not-false)
 
 subset-few : (a b n : ℕ) → ((a == b) && nat_le a n) ≡ true → a ≤ n
@@ -344,17 +344,17 @@ subset-few a b n h = let le : nat_le a n ≡ true = and_second (a == b) (nat_le 
 same-number : (a b n : ℕ) → ((a == b) && nat_le a n) ≡ true → a ≡ b
 same-number a b n h = let is : (a == b) ≡ true = and_first (a == b) (nat_le a n) h in grind (arith, nat_tests, is)
 
-beginning-so : (at read subset : ℕ) (d : Document) → IsHeaded d → length d.entries < at + 1 → HasLineGroups d → HasSubsets read d → IsTurn (at + 1) (beginning read d subset, d)
+beginning-so : (at read subset : ℕ) (d : Document) → IsHeaded d → length d.entries < at + 1 → HasLineGroups d → HasSubsets read d → IsLineStep (at + 1) (beginning read d subset, d)
 beginning-so at read subset d h1 h2 h3 h4 = grind (arith, nat_tests, common_steps, if-effect, subset-few, subsets-few, same-number)
 
 pub equal : (a b : ℕ) → (a == b) ≡ true → a ≡ b
 equal a b e = grind (arith, nat_tests, e)
 
-closing-so : (at read : ℕ) (d : Document) → IsHeaded d → length d.entries ≤ at → HasLineGroups d → HasSubsets read d → AreEnded d.entries → IsTurn (at + 1) (closing read d, d)
+closing-so : (at read : ℕ) (d : Document) → IsHeaded d → length d.entries ≤ at → HasLineGroups d → HasSubsets read d → AreEnded d.entries → IsLineStep (at + 1) (closing read d, d)
 closing-so at read d h1 h2 h3 h4 h5 = grind (arith, nat_tests, common_steps, if-effect, drafts-octets, equal)
 
 before_subsets-so : (at : ℕ) (part : LineGroup) (d : Document) (line : Line) → IsSound line → IsHeaded d → length d.entries < at → HasLineGroups d → d.entries ≡ []
-    → IsTurn (at + 1) (before_subsets part d line)
+    → IsLineStep (at + 1) (before_subsets part d line)
 before_subsets-so at part d line h1 h2 h3 h4 h5 = grind (arith, nat_tests, common_steps)
 
 one-entry : (d : Document) (entry : DraftEntry) → length (with_entry d entry).entries ≡ length d.entries + 1
@@ -373,12 +373,12 @@ one-more at ended d h1 = grind (arith, nat_tests, common_steps, all-more, end-en
 by-number : (subset ended : ℕ) (d : Document) → subset ≡ ended + 1 → HasSubsets (ended + 1) d → HasSubsets subset d
 by-number subset ended d is has = subst (λ (n : ℕ). HasSubsets n d) (sym is) has
 
-filling-so : (at subset : ℕ) (d : Document) (line : Line) → IsSound line → IsHeaded d → length d.entries < at → subset < 65536 → HasLineGroups d
-    → ((ended : ℕ) × (subset ≡ ended + 1) × HasSubsets ended d) → IsTurn (at + 1) (filling at subset d line)
-filling-so at subset d (Begins next) sound h lines few written (ended, is, has) =
+in_subset-so : (at subset : ℕ) (d : Document) (line : Line) → IsSound line → IsHeaded d → length d.entries < at → subset < 65536 → HasLineGroups d
+    → ((ended : ℕ) × (subset ≡ ended + 1) × HasSubsets ended d) → IsLineStep (at + 1) (in_subset at subset d line)
+in_subset-so at subset d (Begins next) sound h lines few written (ended, is, has) =
     beginning-so at subset next (with_entry d (Ends at)) (still-headed d (Ends at) h) (omega (arith, lines, one-entry d (Ends at))) (still-written d (Ends at) written)
     (by-number subset ended (with_entry d (Ends at)) is (one-more at ended d has))
-filling-so at subset d (Item fxy form) sound h lines few written (ended, is, has) = (
+in_subset-so at subset d (ItemLine fxy form) sound h lines few written (ended, is, has) = (
   still-headed d (Holds (draft at fxy form)) h,
   omega (arith, lines, one-entry d (Holds (draft at fxy form))),
   few,
@@ -392,24 +392,24 @@ filling-so at subset d (Item fxy form) sound h lines few written (ended, is, has
     },
   ),
 )
-filling-so at subset d Closes sound h lines few written (ended, is, has) =
+in_subset-so at subset d Closes sound h lines few written (ended, is, has) =
     closing-so at subset (with_entry d (Ends at)) (still-headed d (Ends at) h) (omega (arith, lines, one-entry d (Ends at))) (still-written d (Ends at) written)
     (by-number subset ended (with_entry d (Ends at)) is (one-more at ended d has)) (ends-last d.entries at)
-filling-so at subset d line sound h lines few written has = tt
+in_subset-so at subset d line sound h lines few written has = tt
 
 -- what holds before a line holds after it
-pub turn-holds : (at : ℕ) (parsing : Parsing) (line : Line) → 0 < at → IsSound line → IsParsing at parsing → IsTurn (at + 1) (turn at parsing line)
-unfolding turn
-turn-holds at (Between, d) Passed some sound s = s
-turn-holds at (Between, d) Opens some sound s = (omega arith, refl, omega arith, record { local1 = refl; section2 = refl; descriptors = refl; entries = refl })
-turn-holds at (Heading, d) Passed some sound s = later at (Heading, d) s
-turn-holds at (Heading, d) (Header key value) some sound s = heading-so at key value d s.0 s.1 s.2 s.3
-turn-holds at (BeforeSubsets part, d) Passed some sound s = later at (BeforeSubsets part, d) s
-turn-holds at (BeforeSubsets part, d) line some sound s = before_subsets-so at part d line sound s.0 s.1 s.2 s.3
-turn-holds at (Filling subset, d) Passed some sound s = later at (Filling subset, d) s
-turn-holds at (Filling subset, d) line some sound s = filling-so at subset d line sound s.0 s.1 s.2 s.3 s.4
-turn-holds at (Stopped, d) line some sound s = absurd s
-turn-holds at parsing line some sound s = tt
+pub line_step-holds : (at : ℕ) (parsing : Parsing) (line : Line) → 0 < at → IsSound line → IsParsing at parsing → IsLineStep (at + 1) (line_step at parsing line)
+unfolding line_step
+line_step-holds at (Between, d) Passed some sound s = s
+line_step-holds at (Between, d) Opens some sound s = (omega arith, refl, omega arith, record { local1 = refl; section2 = refl; descriptors = refl; entries = refl })
+line_step-holds at (Heading, d) Passed some sound s = later at (Heading, d) s
+line_step-holds at (Heading, d) (Header key value) some sound s = heading-so at key value d s.0 s.1 s.2 s.3
+line_step-holds at (BeforeSubsets part, d) Passed some sound s = later at (BeforeSubsets part, d) s
+line_step-holds at (BeforeSubsets part, d) line some sound s = before_subsets-so at part d line sound s.0 s.1 s.2 s.3
+line_step-holds at (Filling subset, d) Passed some sound s = later at (Filling subset, d) s
+line_step-holds at (Filling subset, d) line some sound s = in_subset-so at subset d line sound s.0 s.1 s.2 s.3 s.4
+line_step-holds at (Stopped, d) line some sound s = absurd s
+line_step-holds at parsing line some sound s = tt
 
 -- ---- The table of the keys of the header, beside its definition.
 

@@ -8,7 +8,7 @@ use Rattle.std.proofs.lemmas.Grind.{common_steps}
 use Rattle.std.proofs.lemmas.List.{drop_all, drop-drop}
 use Rattle.bufr_bits.proofs.DecimalLemmas.{and_first, and_second}
 use Rattle.bufr_tables.specs.Prelude.{fxy_of, is_fxy, f_in, x_in, y_in}
-use Rattle.bufr_text.specs.Prelude.{prefix_while, suffix_while, without_space, without_prefix, fxy_read, is_number_octet, is_hashed, is_passed_after, hex_read, onto_read, descriptors_read, either_value, pair_value, QuotedToken, Closed, Octet, Nothing, is_unescaped, upper_value, says_pair, escape_of, quoting_of, octet_onto, quoted_on, quoted_read, Describes, Unhexes, Unquotes, value_read, number_value, Passed, Item, Local1, Section2, made, with_one_to, item_line, worded, line_of, is_no_space, Descriptors, Wrong}
+use Rattle.bufr_text.specs.Prelude.{prefix_while, suffix_while, without_space, without_prefix, fxy_read, is_number_octet, is_hashed, is_passed_after, hex_read, onto_read, descriptors_read, either_value, pair_value, QuotedToken, Closed, Octet, Nothing, is_unescaped, upper_value, says_pair, escape_of, quoting_of, octet_onto, quoted_on, quoted_read, Describes, Unhexes, Unquotes, value_read, number_value, Passed, ItemLine, Local1, Section2, made, with_one_to, item_line, worded, line_of, is_no_space, Descriptors, Wrong}
 use Rattle.bufr_fill.specs.Prelude.{number_token, reference_token, DraftValue, text_form, missing_form}
 use Rattle.memchr.specs.Find.{IsFirstByte, is_byte}
 use Rattle.std.specs.Char.{is_ascii_digit}
@@ -287,7 +287,7 @@ begins-by-digit [] fxy h is = absurd (omega arith)
 begins-by-digit (c ∷ more) fxy h is = grind (arith, nat_tests, is-fxy (take 6 (c ∷ more)) fxy is)
 
 pub decimal-line : (line text rest : List ℕ) (fxy : ℕ) (form : DraftValue) → 6 ≤ length line → Some text ≡ without_space (drop 6 line) → value_read text ≡ Some (form, rest)
-    → is_passed_after rest ≡ true → Some fxy ≡ fxy_of (take 6 line) → line_of line ≡ Item fxy form
+    → is_passed_after rest ≡ true → Some fxy ≡ fxy_of (take 6 line) → line_of line ≡ ItemLine fxy form
 decimal-line line text rest fxy form h space value passed is =
     let digit = begins-by-digit line fxy h is in
     line-item line (λ (e : slice_index line 0 ≡ 35). absurd (grind (arith, nat_tests, e, digit))) digit
@@ -295,7 +295,7 @@ decimal-line line text rest fxy form h space value passed is =
 
 -- the line of a missing value
 pub missing-line : (line text rest : List ℕ) (found : Option ℕ) → 6 ≤ length line → Some text ≡ without_space (drop 6 line) → Some rest ≡ without_prefix (codes "MISSING") text
-    → is_passed_after rest ≡ true → found ≡ fxy_of (take 6 line) → IfSome found (λ fxy. line_of line ≡ Item fxy missing_form)
+    → is_passed_after rest ≡ true → found ≡ fxy_of (take 6 line) → IfSome found (λ fxy. line_of line ≡ ItemLine fxy missing_form)
 missing-line line text rest None h space word passed is = tt
 missing-line line text rest (Some fxy) h space word passed is = decimal-line line text rest fxy missing_form h space (value-missing text rest word) passed is
 

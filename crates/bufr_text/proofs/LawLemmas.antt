@@ -5,11 +5,11 @@ use Rattle.std.proofs.lemmas.Bool.Decides.{nat_tests}
 use Rattle.std.proofs.lemmas.List.{map-append}
 use Rattle.bufr_bits.proofs.DecimalLemmas.{and_first}
 use Rattle.bufr_fill.specs.Prelude.{DraftValue, draft, DraftEntry, Holds, Ends}
-use Rattle.bufr_text.specs.Prelude.{Document, edition_in, optional_in, subsets_in, ParserState, Between, Heading, BeforeSubsets, Filling, Stopped, LineEffect, Continues, Completes, Refuses, Parsing, Turn, between, before_subsets, IsTurn, NotAllowed, SubsetCount, HeaderRange, in_range, heading, beginning, closing, with_entry, turn, read_line, parse_lines, parsing_after, reported_at, reported_at_end, lines_of, documents_of, Line, Passed, Opens, Header, Local1, Section2, Descriptors, Begins, Item, Closes, NumberedLine, numbered_line, onto_heard, numbered_lines, header_says, Element, SubsetHeard, subsets_heard, first_at, entries_heard, IsDocument, AreReported, IsProperlyReported, AreProper, IsBare, IsParsing}
+use Rattle.bufr_text.specs.Prelude.{Document, edition_in, optional_in, subsets_in, ParserState, Between, Heading, BeforeSubsets, Filling, Stopped, LineEffect, Continues, Completes, Refuses, Parsing, LineStep, between, before_subsets, IsLineStep, NotAllowed, SubsetCount, HeaderRange, in_range, heading, beginning, closing, with_entry, line_step, read_line, parse_lines, parsing_after, reported_at, reported_at_end, lines_of, documents_of, Line, Passed, Opens, Header, Local1, Section2, Descriptors, Begins, ItemLine, Closes, NumberedLine, numbered_line, onto_heard, numbered_lines, header_says, Element, SubsetHeard, subsets_heard, first_at, entries_heard, IsDocument, AreReported, IsProperlyReported, AreProper, IsBare, IsParsing}
 use Rattle.bufr_text.proofs.ReaderLemmas.{stopped-reports}
 use Rattle.bufr_text.specs.declared.document.LineGroup.{LineGroup}
 use Rattle.bufr_text.specs.declared.document.LineGroup.TheVariants as group
-use Rattle.bufr_text.proofs.HeaderLemmas.{turn-holds, all-more, said-sound, with_value, with_local1, with_section2, with_descriptors, equal}
+use Rattle.bufr_text.proofs.HeaderLemmas.{line_step-holds, all-more, said-sound, with_value, with_local1, with_section2, with_descriptors, equal}
 use Rattle.std.proofs.lemmas.Grind.{common_steps}
 
 abbrev says : List NumberedLine → List Line
@@ -39,7 +39,7 @@ element at fxy form = record { at = at; fxy = fxy; form = form }
 
 -- the line of an item, and its entry
 abbrev item_line : Element → NumberedLine
-item_line i = numbered_line i.at (Item i.fxy i.form)
+item_line i = numbered_line i.at (ItemLine i.fxy i.form)
 
 abbrev item_entry : Element → DraftEntry
 item_entry i = Holds (draft i.at i.fxy i.form)
@@ -130,12 +130,12 @@ IsOpen (BeforeSubsets part, d) own = IsBeforeSubsets part d own
 IsOpen (Filling subset, d) own = IsFilling subset d own
 IsOpen (Stopped, d) own = ⊥
 
-abbrev IsOpenAfter : Turn → List NumberedLine → Type 0
+abbrev IsOpenAfter : LineStep → List NumberedLine → Type 0
 IsOpenAfter (Continues state, d) own = IsOpen (state, d) own
 IsOpenAfter (Completes, d) own = IsDocument d own
 IsOpenAfter (Refuses fault, d) own = Unit {0}
 
-if-open : (own : List NumberedLine) (b : Bool) (x y : Turn) → (b ≡ true → IsOpenAfter x own) → (b ≡ false → IsOpenAfter y own) → IsOpenAfter (if b then x else y) own
+if-open : (own : List NumberedLine) (b : Bool) (x y : LineStep) → (b ≡ true → IsOpenAfter x own) → (b ≡ false → IsOpenAfter y own) → IsOpenAfter (if b then x else y) own
 if-open own true x y p q = p refl
 if-open own false x y p q = q refl
 
@@ -161,8 +161,8 @@ heading-open : (at key value : ℕ) (d : Document) (own : List NumberedLine) →
 heading-open at key value d own is =
     let here = own ++ numbered_line at (Header key value) ∷ [] in
     let next = with_value d value in
-    let taken : Turn = (Continues (if key == 19 then BeforeSubsets group.Local1 else Heading), next) in
-    let ranged : Turn = if not (in_range (edition_in d) key value) then (Refuses HeaderRange, d) else taken in
+    let taken : LineStep = (Continues (if key == 19 then BeforeSubsets group.Local1 else Heading), next) in
+    let ranged : LineStep = if not (in_range (edition_in d) key value) then (Refuses HeaderRange, d) else taken in
     if-open here (not (key == length d.header)) (Refuses NotAllowed, d) ranged (λ e. tt) (λ e.
     if-open here (not (in_range (edition_in d) key value)) (Refuses HeaderRange, d) taken (λ f. tt) (λ f. by (key == 19) (equal key (length d.header) (not-false (key == length d.header) e))))
   where
@@ -409,29 +409,29 @@ section2-after at group.Section2 d octets own is = by-flag at group.Section2 d o
 section2-after at group.Descriptors d octets own is = tt
 
 -- each line keeps it
-turn-opens : (at : ℕ) (parsing : Parsing) (line : Line) (own : List NumberedLine) → IsOpen parsing own → IsOpenAfter (turn at parsing line) (own ++ one at line)
-unfolding turn
-turn-opens at (Between, d) Passed own is = passed (Between, d) own is
-turn-opens at (Between, d) Opens own is = record {
+line_step-opens : (at : ℕ) (parsing : Parsing) (line : Line) (own : List NumberedLine) → IsOpen parsing own → IsOpenAfter (line_step at parsing line) (own ++ one at line)
+unfolding line_step
+line_step-opens at (Between, d) Passed own is = passed (Between, d) own is
+line_step-opens at (Between, d) Opens own is = record {
   header = [];
   are = ap (λ (t : List NumberedLine). t ++ numbered_line at Opens ∷ []) is;
   in_order = refl;
   bare = record { local1 = refl; section2 = refl; descriptors = refl; entries = refl };
 }
-turn-opens at (Heading, d) Passed own is = passed (Heading, d) own is
-turn-opens at (Heading, d) (Header key value) own is = heading-open at key value d own is
-turn-opens at (BeforeSubsets part, d) Passed own is = passed (BeforeSubsets part, d) own is
-turn-opens at (BeforeSubsets part, d) (Local1 octets) own is = by-part at part d octets own is
-turn-opens at (BeforeSubsets part, d) (Section2 octets) own is = section2-after at part d octets own is
-turn-opens at (BeforeSubsets part, d) (Descriptors words) own is = descriptors-open at part d words own is
-turn-opens at (BeforeSubsets part, d) (Begins subset) own is = first-open at subset part d own is
-turn-opens at (BeforeSubsets part, d) Closes own is = none-open at part d own is
-turn-opens at (Filling subset, d) Passed own is = passed (Filling subset, d) own is
-turn-opens at (Filling subset, d) (Begins next) own is = next-open at subset next d own is
-turn-opens at (Filling subset, d) (Item fxy form) own is = item-open at subset d own (element at fxy form) refl is
-turn-opens at (Filling subset, d) Closes own is = end-open at subset d own is
-turn-opens at (Stopped, d) line own is = absurd is
-turn-opens at parsing line own is = tt
+line_step-opens at (Heading, d) Passed own is = passed (Heading, d) own is
+line_step-opens at (Heading, d) (Header key value) own is = heading-open at key value d own is
+line_step-opens at (BeforeSubsets part, d) Passed own is = passed (BeforeSubsets part, d) own is
+line_step-opens at (BeforeSubsets part, d) (Local1 octets) own is = by-part at part d octets own is
+line_step-opens at (BeforeSubsets part, d) (Section2 octets) own is = section2-after at part d octets own is
+line_step-opens at (BeforeSubsets part, d) (Descriptors words) own is = descriptors-open at part d words own is
+line_step-opens at (BeforeSubsets part, d) (Begins subset) own is = first-open at subset part d own is
+line_step-opens at (BeforeSubsets part, d) Closes own is = none-open at part d own is
+line_step-opens at (Filling subset, d) Passed own is = passed (Filling subset, d) own is
+line_step-opens at (Filling subset, d) (Begins next) own is = next-open at subset next d own is
+line_step-opens at (Filling subset, d) (ItemLine fxy form) own is = item-open at subset d own (element at fxy form) refl is
+line_step-opens at (Filling subset, d) Closes own is = end-open at subset d own is
+line_step-opens at (Stopped, d) line own is = absurd is
+line_step-opens at parsing line own is = tt
 
 on : (at : ℕ) (line : List ℕ) (more : List (List ℕ)) (own : List NumberedLine) → (own ++ one at (read_line line)) ++ numbered_lines (at + 1) more ≡ own ++ numbered_lines at (line ∷ more)
 unfolding numbered_lines
@@ -441,7 +441,7 @@ on at line more own = append_assoc own (one at (read_line line)) (numbered_lines
 end-reported : (at : ℕ) (parsing : Parsing) (own : List NumberedLine) → IsOpen parsing own → AreReported (own ++ []) (reported_at_end at parsing.0)
 end-reported at parsing own h1 = grind (arith, nat_tests, common_steps)
 
-reported-on : (at : ℕ) (line : List ℕ) (more : List (List ℕ)) (own : List NumberedLine) (here : Turn) → IsOpenAfter here (own ++ one at (read_line line))
+reported-on : (at : ℕ) (line : List ℕ) (more : List (List ℕ)) (own : List NumberedLine) (here : LineStep) → IsOpenAfter here (own ++ one at (read_line line))
     → ((next : Parsing) (own' : List NumberedLine) → IsOpen next own' → AreReported (own' ++ numbered_lines (at + 1) more) (parse_lines (at + 1) next more))
     → AreReported (own ++ numbered_lines at (line ∷ more)) (reported_at at here ++ parse_lines (at + 1) (parsing_after here) more)
 reported-on at line more own (Continues state, d) opens rest = subst (λ (t : List NumberedLine). AreReported t (parse_lines (at + 1) (state, d) more)) (on at line more own)
@@ -452,7 +452,7 @@ reported-on at line more own (Refuses fault, d) is rest = stopped-reports (at + 
 lines-reported : (at : ℕ) (parsing : Parsing) (lines : List (List ℕ)) (own : List NumberedLine) → IsOpen parsing own → AreReported (own ++ numbered_lines at lines) (parse_lines at parsing lines)
 unfolding parse_lines numbered_lines
 lines-reported at parsing [] own is = end-reported at parsing own is
-lines-reported at parsing (line ∷ more) own is = reported-on at line more own (turn at parsing (read_line line)) (turn-opens at parsing (read_line line) own is)
+lines-reported at parsing (line ∷ more) own is = reported-on at line more own (line_step at parsing (read_line line)) (line_step-opens at parsing (read_line line) own is)
     (λ next own' opens. lines-reported (at + 1) next more own' opens)
 
 pub text-reported : (text : List ℕ) → AreReported (numbered_lines 1 (lines_of text)) (documents_of text)
@@ -463,10 +463,10 @@ text-reported text = lines-reported 1 between (lines_of text) [] refl
 end-proper : (at : ℕ) (state : ParserState) → AreProper (reported_at_end at state)
 end-proper at state = grind (arith, nat_tests, common_steps)
 
-reported-proper : (at : ℕ) (here : Turn) → IsTurn (at + 1) here → AreProper (reported_at at here)
+reported-proper : (at : ℕ) (here : LineStep) → IsLineStep (at + 1) here → AreProper (reported_at at here)
 reported-proper at here h1 = grind (arith, nat_tests, common_steps)
 
-proper-on : (at : ℕ) (here : Turn) (more : List (List ℕ)) → IsTurn at here → ((next : Parsing) → IsParsing at next → AreProper (parse_lines at next more))
+proper-on : (at : ℕ) (here : LineStep) (more : List (List ℕ)) → IsLineStep at here → ((next : Parsing) → IsParsing at next → AreProper (parse_lines at next more))
     → AreProper (parse_lines at (parsing_after here) more)
 proper-on at (Continues state, d) more is rest = rest (state, d) is
 proper-on at (Completes, d) more is rest = rest between refl
@@ -476,8 +476,8 @@ pub spelled-proper : (at : ℕ) (parsing : Parsing) (lines : List (List ℕ)) �
 unfolding parse_lines
 spelled-proper at parsing [] some holds = end-proper at parsing.0
 spelled-proper at parsing (line ∷ more) some holds =
-    let here = turn at parsing (read_line line) in
-    let after = turn-holds at parsing (read_line line) some (said-sound line) holds in
+    let here = line_step at parsing (read_line line) in
+    let after = line_step-holds at parsing (read_line line) some (said-sound line) holds in
     all-more IsProperlyReported (reported_at at here) (parse_lines (at + 1) (parsing_after here) more) (reported-proper at here after)
     (proper-on (at + 1) here more after (λ next holds. spelled-proper (at + 1) next more (omega arith) holds))
 

@@ -7,7 +7,7 @@ use Rattle.bufr_tables.specs.Prelude.{fxy_of, fxy_text, f_of, x_of, y_of, f_in, 
 use Rattle.std.specs.Fmt.{decimal}
 use Rattle.std.proofs.lemmas.Fmt.{decimal_is_IsNumeral_wide, length-decimal-le_wide}
 use Rattle.bufr_bits.proofs.DecimalLemmas.{own, and_first, and_second, all_digits-take, all_digits-drop, zeros_digits}
-use Rattle.bufr_text.specs.Prelude.{prefix_while, suffix_while, hex_digit, upper_value, either_value, pair_value, hex_pair, hex_text, hex_read, fxy_read, descriptors_text, descriptors_read, number_read, is_unescaped, escaped, quoted, octet_onto, quoted_read, is_number_octet, without_prefix, is_hashed, is_passed_after, runs_after, IsOctet, IsDescriptorWord, local1_line, section2_line, descriptors_line, subset_line, comment_text, dump_value_of, form_text, item_text, IsValue, IsComment, IsItem, text_of_lines, Opens, Header, Local1, Section2, Descriptors, Begins, Item, Closes, key_at, keys, made, index_from, number_value, value_read, worded, line_of, Line, lines_of}
+use Rattle.bufr_text.specs.Prelude.{prefix_while, suffix_while, hex_digit, upper_value, either_value, pair_value, hex_pair, hex_text, hex_read, fxy_read, descriptors_text, descriptors_read, number_read, is_unescaped, escaped, quoted, octet_onto, quoted_read, is_number_octet, without_prefix, is_hashed, is_passed_after, runs_after, IsOctet, IsDescriptorWord, local1_line, section2_line, descriptors_line, subset_line, comment_text, dump_value_of, form_text, item_text, IsValue, IsComment, IsItem, text_of_lines, Opens, Header, Local1, Section2, Descriptors, Begins, ItemLine, Closes, key_at, keys, made, index_from, number_value, value_read, worded, line_of, Line, lines_of}
 use Rattle.std.proofs.lemmas.List.{length-replicate, take-append-drop}
 use Rattle.std.proofs.lemmas.List.Folds.{list_all-append}
 use Rattle.bufr_bits.specs.Prelude.{decimal_text_of, unsigned_text, pointed}
@@ -280,7 +280,7 @@ first-digit w h = grind (arith, nat_tests)
 no-hash : (w : ℕ) → w < 65536 → (48 + f_of w == 35) ≡ false
 no-hash w h = grind (arith, nat_tests)
 
-pub item-of : (fxy : ℕ) (text rest : List ℕ) (form : DraftValue) → fxy < 65536 → value_read text ≡ Some (form, rest) → is_passed_after rest ≡ true → line_of (fxy_text fxy ++ 32 ∷ text) ≡ Item fxy form
+pub item-of : (fxy : ℕ) (text rest : List ℕ) (form : DraftValue) → fxy < 65536 → value_read text ≡ Some (form, rest) → is_passed_after rest ≡ true → line_of (fxy_text fxy ++ 32 ∷ text) ≡ ItemLine fxy form
 unfolding line_of without_prefix
 item-of fxy text rest form h read passed = rw (no-hash fxy h, first-digit fxy h, fxy_read_back fxy (32 ∷ text) h, read, passed) refl
 
@@ -299,7 +299,7 @@ reference-value (c ∷ more) rest most token s =
     let one : is_number_octet c ≡ true = and_first (is_number_octet c) (list_all is_number_octet more) token.octets in
     rw (one, prefix-of is_number_octet (c ∷ more) rest token.octets s, after-of is_number_octet (c ∷ more) rest token.octets s) refl
 
-pub reference-of : (fxy : ℕ) (text rest : List ℕ) (form : DraftValue) → fxy < 65536 → number_value reference_token text ≡ Some (form, rest) → is_passed_after rest ≡ true → line_of (codes "R " ++ fxy_text fxy ++ 32 ∷ text) ≡ Item fxy form
+pub reference-of : (fxy : ℕ) (text rest : List ℕ) (form : DraftValue) → fxy < 65536 → number_value reference_token text ≡ Some (form, rest) → is_passed_after rest ≡ true → line_of (codes "R " ++ fxy_text fxy ++ 32 ∷ text) ≡ ItemLine fxy form
 unfolding line_of worded prefix_while suffix_while without_prefix
 reference-of fxy text rest form h read passed = rw (fxy_read_back fxy (32 ∷ text) h, read, passed) refl
 
@@ -455,15 +455,15 @@ header-line k v h n =
 -- items
 form-line : (fxy : ℕ) (text : List ℕ) (form : DraftValue) (comment : Option Row) (most : ℕ) → fxy < 65536 → IsComment comment
     → value_read (text ++ comment_text comment) ≡ Some (form, comment_text comment) → IsClean text most → most ≤ 2000
-    → IsLineOf ((fxy_text fxy ++ 32 ∷ text) ++ comment_text comment) (Item fxy form)
+    → IsLineOf ((fxy_text fxy ++ 32 ∷ text) ++ comment_text comment) (ItemLine fxy form)
 form-line fxy text form comment most word given read c h =
-    line-from ((fxy_text fxy ++ 32 ∷ text) ++ comment_text comment) (Item fxy form) 3047 (item-of fxy (text ++ comment_text comment) (comment_text comment) form word read (comment-passed comment))
+    line-from ((fxy_text fxy ++ 32 ∷ text) ++ comment_text comment) (ItemLine fxy form) 3047 (item-of fxy (text ++ comment_text comment) (comment_text comment) form word read (comment-passed comment))
     (joined-two (fxy_text fxy ++ 32 ∷ text) (comment_text comment) 2007 1040 3047
     (joined-two (fxy_text fxy) (32 ∷ text) 6 2001 2007 (fxy-clean fxy) (one-more 32 text most 2001 (omega arith) c (omega arith)) (omega arith)) (comment-clean comment given) (omega arith))
     (omega arith)
 
 by-value : (fxy : ℕ) (comment : Option Row) (value : ShownValue) → fxy < 65536 → IsComment comment → IsValue value
-    → IsLineOf (form_text fxy (dump_value_of value) ++ comment_text comment) (Item fxy (dump_value_of value))
+    → IsLineOf (form_text fxy (dump_value_of value) ++ comment_text comment) (ItemLine fxy (dump_value_of value))
 by-value fxy comment (shown_number v scale) word c (small, few) =
     let token = number-token v scale small few in
     form-line fxy (decimal_text_of v scale) (number_token (decimal_text_of v scale)) comment 400 word c
@@ -476,12 +476,12 @@ by-value fxy comment shown_missing word c given =
 by-value fxy comment (shown_reference v) word c small =
     let token = number-token v (pos 0) small (omega arith) in
     let text = decimal_text_of v (pos 0) in
-    line-from ((codes "R " ++ fxy_text fxy ++ 32 ∷ text) ++ comment_text comment) (Item fxy (reference_token text)) 1449
+    line-from ((codes "R " ++ fxy_text fxy ++ 32 ∷ text) ++ comment_text comment) (ItemLine fxy (reference_token text)) 1449
     (reference-of fxy (text ++ comment_text comment) (comment_text comment) (reference_token text) word (reference-value text (comment_text comment) 400 token (comment-stops comment))
     (comment-passed comment))
     (joined-two (codes "R " ++ fxy_text fxy ++ 32 ∷ text) (comment_text comment) 409 1040 1449 (joined-two (codes "R " ++ fxy_text fxy) (32 ∷ text) 8 401 409 (joined-two (codes "R ") (fxy_text fxy) 2 6 8 (literal (codes "R ") 2 refl (omega arith)) (fxy-clean fxy) (omega arith)) (one-more 32 text 400 401 (omega arith) (token-clean text 400 token) (omega arith)) (omega arith)) (comment-clean comment c) (omega arith)) (omega arith)
 
-pub item-line : (item : View) → IsItem item → IsLineOf (item_text item) (Item item.fxy (dump_value_of item.value))
+pub item-line : (item : View) → IsItem item → IsLineOf (item_text item) (ItemLine item.fxy (dump_value_of item.value))
 item-line item given = by-value item.fxy item.entry item.value given.word given.comment given.value
 
 -- ---- Lines that were each ended by a line feed are the lines of the text.

@@ -12,7 +12,7 @@ use Rattle.bufr_fill.specs.Prelude.{Subset, subsets_of, Draft, AllHaveOctets, Ar
 use Rattle.bufr_fill.specs.declared.fault.DraftFault.{DraftFault}
 use Rattle.bufr_fill.proofs.BackLaws.{plain_template_back, packed_template_back}
 use Rattle.bufr_fill.proofs.FieldLemmas.{same_ok}
-use Rattle.bufr_text.specs.Prelude.{mosts, Form, Document, optional_in, head_from_values, Complete, documents_of, key_value, compressed_in, section2_in, ◌>>=◌, report_of_template, report_of_items, data_bits, octets_of_bits, parts_as, compressed_as, message_of, encoding_in, DocumentFault, encoding_of, bit, header_lines, local1_line, section2_line, descriptors_line, head_lines, item_text, subset_line, subset_lines, text_of_lines, dump_text_of, subset_entries, lines_before, document_of, IsProper, header_as, normal_head, normal_line, draft_answer, line_and, normal_items, normal_subsets, normal, AreValuesOf, IsReadAs, runs_of, items_shown, dump_items}
+use Rattle.bufr_text.specs.Prelude.{mosts, Form, Document, optional_in, head_from_values, Complete, documents_of, key_value, compressed_in, section2_in, ◌>>=◌, map_err, data_bits, octets_of_bits, parts_as, compressed_as, message_of, encoding_in, DocumentFault, encoding_of, bit, header_lines, local1_line, section2_line, descriptors_line, head_lines, item_text, subset_line, subset_lines, text_of_lines, dump_text_of, subset_entries, lines_before, document_of, IsProper, header_as, normal_head, normal_line, draft_answer, line_and, normal_items, normal_subsets, normal, AreValuesOf, IsReadAs, runs_of, items_shown, dump_items, document_fault}
 use Rattle.bufr_text.proofs.DumpableLemmas.{dumpable, optional_octets}
 use Rattle.bufr_walk.proofs.NextField.{table_read}
 use Rattle.bufr_text.proofs.RoundTripLemmas.{same_form, all_apart, bit_back, parts_back, parts_with, parts_of_document, plain_reading, packed_reading, is_message}
@@ -100,13 +100,13 @@ module _ (form : Form) (records : List Record) (table : List Row) (sequences : L
       (made template bits expands fills (ltb-false max_octets (message_size (head_from_values d).edition (parts_as (compressed_as form d) d (octets_of_bits bits))) p))
 
   by_bits : (template : Tree) → tree_of (tables_of table sequences) d.descriptors ≡ Ok template → (r : Result (List Bool) DraftFault) → data_in template ≡ r
-      → (report_of_items r >>= λ b. message_of d.line (head_from_values d) (parts_as (compressed_as form d) d (octets_of_bits b))) ≡ Ok octets → IsReadAs form table sequences d octets
+      → (map_err document_fault r >>= λ b. message_of d.line (head_from_values d) (parts_as (compressed_as form d) d (octets_of_bits b))) ≡ Ok octets → IsReadAs form table sequences d octets
   by_bits template expands (Err why) p e = absurd cc
   by_bits template expands (Ok bits) p e = by_size template bits expands p (nat_lt max_octets (message_size (head_from_values d).edition (parts_as (compressed_as form d) d (octets_of_bits bits))))
       refl e
 
   by_template : (r : Result Tree TemplateFault) → tree_of (tables_of table sequences) d.descriptors ≡ r
-      → (report_of_template d.line r >>= λ t. report_of_items (data_in t) >>= λ b. message_of d.line (head_from_values d) (parts_as (compressed_as form d) d (octets_of_bits b))) ≡ Ok octets
+      → (map_err (fault.Template d.line) r >>= λ t. map_err document_fault (data_in t) >>= λ b. message_of d.line (head_from_values d) (parts_as (compressed_as form d) d (octets_of_bits b))) ≡ Ok octets
       → IsReadAs form table sequences d octets
   by_template (Err why) p e = absurd cc
   by_template (Ok template) p e = by_bits template p (data_in template) refl e
@@ -302,7 +302,7 @@ module _ (form : Form) (records : List Record) (table : List Row) (sequences : L
 
     -- what is made of the bits of the data
     abbrev message_with : (line : ℕ) → Head → (List ℕ → MessageParts) → Result (List Bool) DraftFault → Result (List ℕ) DocumentFault
-    message_with line head parts r = report_of_items r >>= λ b. message_of line head (parts (octets_of_bits b))
+    message_with line head parts r = map_err document_fault r >>= λ b. message_of line head (parts (octets_of_bits b))
 
     -- the line is in a refusal alone
     other_line : (line : ℕ) (head : Head) (parts : List ℕ → MessageParts) (r : Result (List Bool) DraftFault) → message_with line head parts r ≡ Ok octets → message_with at head parts r ≡ Ok octets
@@ -331,12 +331,12 @@ module _ (form : Form) (records : List Record) (table : List Row) (sequences : L
     encoded_from : encoding_in form table sequences d ≡ message_with d.line (head_from_values d) parts_said (data_bits (compressed_as form d) course (subsets_of d.entries))
     unfolding encoding_in
     encoded_from =
-        ap (λ r. report_of_template d.line r >>= λ t. message_with d.line (head_from_values d) parts_said (data_bits (compressed_as form d) (next_item table t) (subsets_of d.entries)))
+        ap (λ r. map_err (fault.Template d.line) r >>= λ t. message_with d.line (head_from_values d) parts_said (data_bits (compressed_as form d) (next_item table t) (subsets_of d.entries)))
         (ap (tree_of (tables_of table sequences)) (sym h.descriptors) ∙ h.accepted.expands)
 
     again_from : encoding_of table sequences again ≡ message_with at h.sections.head (parts_of_document again) (data_bits (compressed_in again) course drafts_again)
     unfolding encoding_in
-    again_from = ap (λ r. report_of_template at r >>= λ t. message_with at h.sections.head (parts_of_document again) (data_bits (compressed_in again) (next_item table t) drafts_again))
+    again_from = ap (λ r. map_err (fault.Template at) r >>= λ t. message_with at h.sections.head (parts_of_document again) (data_bits (compressed_in again) (next_item table t) drafts_again))
         h.accepted.expands
 
     -- and it is encoded to the same octets

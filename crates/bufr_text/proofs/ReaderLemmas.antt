@@ -3,7 +3,7 @@ use Rattle.bufr_text.proofs.LineLemmas.{both}
 use Rattle.std.proofs.Common.{◌≡◌, ℕ, ◌+◌, ◌<◌, ◌≤◌, ◌==◌, nat_lt, not, Bool, true, false, List, [], ◌∷◌, ◌++◌, length, refl, sym, ap, ◌∙◌, arith, append_assoc, append-nil, length-append, subst, if◌then◌else◌, ◌⊎◌, inl, inr, zero, suc, ◌&&◌, take, drop, Option, Some, None, ◌-◌, length-drop, Result, Ok, Err, OnErr, slice_index}
 use Rattle.std.proofs.lemmas.Bool.Decides.{nat_tests}
 use Rattle.bufr_bits.proofs.DecimalLemmas.{and_first, and_second}
-use Rattle.bufr_text.specs.Prelude.{blank, Line, Passed, Item, Closes, Wrong, line_of, ParserState, Between, Heading, BeforeSubsets, Filling, Stopped, LineEffect, Continues, Completes, Refuses, Parsing, Turn, between, ParseResult, Refused, NotAllowed, turn, read_line, parse_lines, parsing_after, reported_at, reported_at_end, lines_of, prepend_to_line, Split, onto_split, split_of, parse_open_lines, documents_of, open_documents_of, Document, with_entry, has_no_feed, ReaderPosition, parse, parse_open, ContinuesParse, ReaderModel, KeepsUnread, IsMissingFeed, ReadsLines, TakesWholeLines, position_of, parsing_of, IsParsing, IsTurn, position_with, TakesLines, IsTaking, WantsAt, adds, ends_by_feed, IsProgress, IsReader, ParsesHeldLines, WantsHere, stopped, text_of_lines, ReadFault}
+use Rattle.bufr_text.specs.Prelude.{blank, Line, Passed, ItemLine, Closes, Wrong, line_of, ParserState, Between, Heading, BeforeSubsets, Filling, Stopped, LineEffect, Continues, Completes, Refuses, Parsing, LineStep, between, ParseResult, Refused, NotAllowed, line_step, read_line, parse_lines, parsing_after, reported_at, reported_at_end, lines_of, prepend_to_line, Split, onto_split, split_of, parse_open_lines, documents_of, open_documents_of, Document, with_entry, has_no_feed, ReaderPosition, parse, parse_open, ContinuesParse, ReaderModel, KeepsUnread, IsMissingFeed, ReadsLines, TakesWholeLines, position_of, parsing_of, IsParsing, IsLineStep, position_with, TakesLines, IsTaking, WantsAt, adds, ends_by_feed, IsProgress, IsReader, ParsesHeldLines, WantsHere, stopped, text_of_lines, ReadFault}
 use Rattle.std.proofs.lemmas.Bool.{true≢false}
 use Rattle.memchr.specs.Find.{IsFirstByte, is_byte}
 use Rattle.std.proofs.lemmas.List.{take_at, drop-drop}
@@ -11,7 +11,7 @@ use Rattle.bufr_fill.specs.Prelude.{DraftValue, DraftEntry, draft, Holds}
 use Rattle.std.specs.List.{AllByRecursion}
 use Rattle.std.proofs.lemmas.Grind.{common_steps, flat_map-append}
 use Rattle.bufr_text.specs.declared.document.Progress.{Progress}
-use Rattle.bufr_text.proofs.HeaderLemmas.{turn-holds, said-sound}
+use Rattle.bufr_text.proofs.HeaderLemmas.{line_step-holds, said-sound}
 use Rattle.bufr_frame.specs.Prelude.{InputModel}
 use Rattle.bufr_text.specs.declared.fault.ReadFault.TheVariants as fault
 
@@ -30,8 +30,8 @@ HandlesEnd old new (Err (fault.Line line why)) =
 HandlesEnd old new result = ⊥
 
 -- after a fault nothing is reported
-stays-stopped : (at : ℕ) (d : Document) (meaning : Line) → turn at (Stopped, d) meaning ≡ (Continues Stopped, d)
-unfolding turn
+stays-stopped : (at : ℕ) (d : Document) (meaning : Line) → line_step at (Stopped, d) meaning ≡ (Continues Stopped, d)
+unfolding line_step
 stays-stopped at d Passed = refl
 stays-stopped at d meaning = refl
 
@@ -44,7 +44,7 @@ pub stopped-reports-openly : (at : ℕ) (d : Document) (lines : List (List ℕ))
 unfolding parse_open_lines
 stopped-reports-openly at d [] rest = by-length (nat_lt 4096 (length rest))
   where
-    by-length : (b : Bool) → (if b then reported_at at (turn at (Stopped, d) Wrong) else []) ≡ []
+    by-length : (b : Bool) → (if b then reported_at at (line_step at (Stopped, d) Wrong) else []) ≡ []
     by-length true = ap (reported_at at) (stays-stopped at d Wrong)
     by-length false = refl
 stopped-reports-openly at d (line ∷ lines) rest = rw (stays-stopped at d (read_line line)) (stopped-reports-openly (at + 1) d lines rest)
@@ -74,7 +74,7 @@ abbrev openly-from : ℕ → Parsing → Split → List ParseResult
 openly-from at parsing s = parse_open_lines at parsing s.whole s.rest
 
 pub takes-line : (at : ℕ) (parsing : Parsing) (line rest : List ℕ) (ended : Bool) → has_no_feed line ≡ true
-    → let here = turn at parsing (read_line line) in
+    → let here = line_step at parsing (read_line line) in
     ContinuesParse (record { at = at; parsing = parsing; held = line ++ 10 ∷ rest; ended = ended }) (record { at = at + 1; parsing = parsing_after here; held = rest; ended = ended })
     (reported_at at here)
 unfolding parse_lines parse_open_lines
@@ -114,8 +114,8 @@ abbrev pub Reads : ParserState → Type 0
 Reads Stopped = ⊥
 Reads other = Unit {0}
 
-pub wrong-faults : (at : ℕ) (parsing : Parsing) → Reads parsing.0 → turn at parsing Wrong ≡ (Refuses NotAllowed, parsing.1)
-unfolding turn
+pub wrong-faults : (at : ℕ) (parsing : Parsing) → Reads parsing.0 → line_step at parsing Wrong ≡ (Refuses NotAllowed, parsing.1)
+unfolding line_step
 wrong-faults at (Stopped, d) r = absurd r
 wrong-faults at parsing r = refl
 
@@ -301,7 +301,7 @@ lines-prefix : (lines : List (List ℕ)) (at : ℕ) (parsing : Parsing) (rest t 
 unfolding parse_lines parse_open_lines
 lines-prefix [] at parsing rest t clean = any-prefix at parsing rest t clean
 lines-prefix (line ∷ lines) at parsing rest t clean =
-    prefix-more (reported_at at (turn at parsing (read_line line))) _ _ (lines-prefix lines (at + 1) (parsing_after (turn at parsing (read_line line))) rest t clean)
+    prefix-more (reported_at at (line_step at parsing (read_line line))) _ _ (lines-prefix lines (at + 1) (parsing_after (line_step at parsing (read_line line))) rest t clean)
 
 -- the documents that are reported while the end is not known stay the first ones, whatever comes
 -- after
@@ -362,40 +362,40 @@ keeps-same old s new bs (taken, same) held ended = (
 -- ---- Only an `end` line makes a document whole.
 
 -- a line that completes a document is an `end` line
-abbrev IsByEnd : Line → Turn → Type 0
+abbrev IsByEnd : Line → LineStep → Type 0
 IsByEnd line (Continues state, d) = Unit {0}
 IsByEnd line (Completes, d) = line ≡ Closes
 IsByEnd line (Refuses fault, d) = Unit {0}
 
-turn-end : (at : ℕ) (parsing : Parsing) (line : Line) → IsByEnd line (turn at parsing line)
-unfolding turn
-turn-end at parsing line = grind (arith, nat_tests, common_steps)
+line_step-end : (at : ℕ) (parsing : Parsing) (line : Line) → IsByEnd line (line_step at parsing line)
+unfolding line_step
+line_step-end at parsing line = grind (arith, nat_tests, common_steps)
 
-completes-end : (at : ℕ) (parsing : Parsing) (line : Line) (effect : LineEffect) (d : Document) → effect ≡ Completes → (effect, d) ≡ turn at parsing line → line ≡ Closes
-completes-end at parsing line effect d is e = subst (IsByEnd line) (sym e ∙ ap (λ (x : LineEffect). (x, d)) is) (turn-end at parsing line)
+completes-end : (at : ℕ) (parsing : Parsing) (line : Line) (effect : LineEffect) (d : Document) → effect ≡ Completes → (effect, d) ≡ line_step at parsing line → line ≡ Closes
+completes-end at parsing line effect d is e = subst (IsByEnd line) (sym e ∙ ap (λ (x : LineEffect). (x, d)) is) (line_step-end at parsing line)
 
 -- ---- Lines that are taken one after another.
 
 -- a line with an item, in a subset
-item-turn : (at subset : ℕ) (line : List ℕ) (d new : Document) (fxy : ℕ) (form : DraftValue) → length line ≤ 4096 → line_of line ≡ Item fxy form
+item-line_step : (at subset : ℕ) (line : List ℕ) (d new : Document) (fxy : ℕ) (form : DraftValue) → length line ≤ 4096 → line_of line ≡ ItemLine fxy form
     → new ≡ with_entry d (Holds (draft at fxy form))
-    → (Continues (Filling subset), new) ≡ turn at (Filling subset, d) (read_line line)
-unfolding turn
-item-turn at subset line d new fxy form h1 h2 h3 = grind (arith, nat_tests, common_steps)
+    → (Continues (Filling subset), new) ≡ line_step at (Filling subset, d) (read_line line)
+unfolding line_step
+item-line_step at subset line d new fxy form h1 h2 h3 = grind (arith, nat_tests, common_steps)
 
 pub item-taken : (old p : Progress) (line : List ℕ) (entries : List DraftEntry) (subset fxy : ℕ) (form : DraftValue) → p ≡ old → p.state ≡ Filling subset → length line ≤ 4096
-    → line_of line ≡ Item fxy form → entries ≡ p.parts.entries ++ Holds (draft p.at fxy form) ∷ []
-    → (Continues p.state, record p.parts { entries = entries }) ≡ turn old.at (parsing_of old) (read_line line)
+    → line_of line ≡ ItemLine fxy form → entries ≡ p.parts.entries ++ Holds (draft p.at fxy form) ∷ []
+    → (Continues p.state, record p.parts { entries = entries }) ≡ line_step old.at (parsing_of old) (read_line line)
 item-taken old p line entries subset fxy form same inside short says more =
-    let T : Progress → Type 0 = λ x. (Continues x.state, record x.parts { entries = entries }) ≡ turn old.at (parsing_of old) (read_line line) in
+    let T : Progress → Type 0 = λ x. (Continues x.state, record x.parts { entries = entries }) ≡ line_step old.at (parsing_of old) (read_line line) in
     let E : Progress → Type 0 = λ x. entries ≡ x.parts.entries ++ Holds (draft x.at fxy form) ∷ [] in
-    let here : T old = rw (sym (ap (λ x. x.state) same) ∙ inside) (item-turn old.at subset line old.parts (record old.parts { entries = entries }) fxy form short says
+    let here : T old = rw (sym (ap (λ x. x.state) same) ∙ inside) (item-line_step old.at subset line old.parts (record old.parts { entries = entries }) fxy form short says
     (ap (λ es. record old.parts { entries = es }) (subst E same more))) in
     subst T (sym same) here
 
 -- a line is taken
-line-taken : (new : Progress) (held : List ℕ) (from n : ℕ) (t : Turn) (ended : Bool) → FeedAt (drop from held) (Some n)
-    → t ≡ turn new.at (parsing_of new) (read_line (take n (drop from held)))
+line-taken : (new : Progress) (held : List ℕ) (from n : ℕ) (t : LineStep) (ended : Bool) → FeedAt (drop from held) (Some n)
+    → t ≡ line_step new.at (parsing_of new) (read_line (take n (drop from held)))
     → ContinuesParse (position_with new.at (parsing_of new) (drop from held) ended) (position_with (new.at + 1) (parsing_after t) (drop (from + (n + 1)) held) ended) (reported_at new.at t)
 line-taken new held from n t ended h1 h2 = grind (arith, nat_tests, common_steps, before, takes-line, drop-drop)
 
@@ -425,22 +425,22 @@ passes-feed : (at at' : ℕ) (held : List ℕ) (from n : ℕ) → TakesWholeLine
 passes-feed at at' held from n h1 h2 = grind (arith, nat_tests, common_steps, drop-drop, passes-line)
 
 -- what holds after a line
-holds-after : (new : Progress) (t : Turn) (line : List ℕ) → IsParsing new.at (parsing_of new) → 0 < new.at → t ≡ turn new.at (parsing_of new) (read_line line) → IsTurn (new.at + 1) t
-holds-after new t line s some e = subst (IsTurn (new.at + 1)) (sym e) (turn-holds new.at (parsing_of new) (read_line line) some (said-sound line) s)
+holds-after : (new : Progress) (t : LineStep) (line : List ℕ) → IsParsing new.at (parsing_of new) → 0 < new.at → t ≡ line_step new.at (parsing_of new) (read_line line) → IsLineStep (new.at + 1) t
+holds-after new t line s some e = subst (IsLineStep (new.at + 1)) (sym e) (line_step-holds new.at (parsing_of new) (read_line line) some (said-sound line) s)
 
 further : (a b c : ReaderPosition) (x : List ParseResult) → b.ended ≡ c.ended → ContinuesParse a b [] → ContinuesParse b c x → ContinuesParse a c x
 further a b c x same f g = goes-further a b c [] x (λ e. sym same ∙ e) f g
 
 -- lines were taken, and one more
-one-further : (old new : Progress) (held : List ℕ) (from n : ℕ) (t : Turn) (ended : Bool) → IsTaking old new held from → FeedAt (drop from held) (Some n)
-    → t ≡ turn new.at (parsing_of new) (read_line (take n (drop from held)))
+one-further : (old new : Progress) (held : List ℕ) (from n : ℕ) (t : LineStep) (ended : Bool) → IsTaking old new held from → FeedAt (drop from held) (Some n)
+    → t ≡ line_step new.at (parsing_of new) (read_line (take n (drop from held)))
     → ContinuesParse (position_with old.at (parsing_of old) held ended) (position_with (new.at + 1) (parsing_after t) (drop (from + (n + 1)) held) ended) (reported_at new.at t)
 one-further old new held from n t ended is feed e =
     further (position_with old.at (parsing_of old) held ended) (position_with new.at (parsing_of new) (drop from held) ended)
     (position_with (new.at + 1) (parsing_after t) (drop (from + (n + 1)) held) ended) (reported_at new.at t) refl (is.goes ended) (line-taken new held from n t ended feed e)
 
 pub taking-goes : (old new : Progress) (held : List ℕ) (from n : ℕ) (state : ParserState) (d : Document) → IsTaking old new held from → FeedAt (drop from held) (Some n)
-    → (Continues state, d) ≡ turn new.at (parsing_of new) (read_line (take n (drop from held)))
+    → (Continues state, d) ≡ line_step new.at (parsing_of new) (read_line (take n (drop from held)))
     → IsTaking old (record { state = state; at = new.at + 1; parts = d }) held (from + (n + 1))
 taking-goes old new held from n state d is feed e = record {
   goes = λ ended. one-further old new held from n (Continues state, d) ended is feed e;
@@ -453,10 +453,10 @@ taking-goes old new held from n state d is feed e = record {
 
 -- a line that ends a document or is refused is the last
 pub taking-ends : (old new : Progress) (held : List ℕ) (from n : ℕ) (effect : LineEffect) (last : Progress) → IsTaking old new held from → FeedAt (drop from held) (Some n) → last.at ≡ new.at + 1
-    → ((state : ParserState) → effect ≡ Continues state → ⊥) → (effect, last.parts) ≡ turn new.at (parsing_of new) (read_line (take n (drop from held)))
+    → ((state : ParserState) → effect ≡ Continues state → ⊥) → (effect, last.parts) ≡ line_step new.at (parsing_of new) (read_line (take n (drop from held)))
     → TakesLines old last held (from + (n + 1)) effect
 taking-ends old new held from n effect last is feed at ends e =
-    let t : Turn = (effect, last.parts) in
+    let t : LineStep = (effect, last.parts) in
     let rest = drop (from + (n + 1)) held in
     let here : new.at ≡ last.at - 1 = omega (arith, at) in
     record {
@@ -466,7 +466,7 @@ taking-ends old new held from n effect last is feed at ends e =
           (subst (λ (k : ℕ). ContinuesParse old' (position_with k (parsing_after t) rest ended) (reported_at new.at t)) (sym at) (one-further old new held from n t ended is feed e));
       all = λ state goes. absurd (ends state goes);
       within = omega (arith, feed.0, length-drop from held);
-      holds = subst (λ (k : ℕ). IsTurn k t) (sym at) (holds-after new t (take n (drop from held)) is.holds is.some e);
+      holds = subst (λ (k : ℕ). IsLineStep k t) (sym at) (holds-after new t (take n (drop from held)) is.holds is.some e);
       some = omega (arith, at);
       near = omega (arith, is.near, at);
       passes = subst (λ (k : ℕ). TakesWholeLines old.at held k rest) (sym at) (passes-feed old.at new.at held from n is.passes feed);
@@ -611,7 +611,7 @@ room-made zero reads' room room' made order first some = first refl some
 room-made (suc reads) reads' room room' made order first some = omega (arith, made (omega arith), order)
 
 -- each line reports at most one document or fault, and so does the end
-reported-few : (at : ℕ) (t : Turn) → length (reported_at at t) ≤ 1
+reported-few : (at : ℕ) (t : LineStep) → length (reported_at at t) ≤ 1
 reported-few at (Continues state, d) = omega arith
 reported-few at (Completes, d) = omega arith
 reported-few at (Refuses fault, d) = omega arith
@@ -627,7 +627,7 @@ pub spelled-few : (lines : List (List ℕ)) (at : ℕ) (parsing : Parsing) → l
 unfolding parse_lines
 spelled-few [] at parsing = end-few at parsing.0
 spelled-few (line ∷ more) at parsing =
-    let here = turn at parsing (read_line line) in
+    let here = line_step at parsing (read_line line) in
     omega (arith, reported-few at here, spelled-few more (at + 1) (parsing_after here), length-append (reported_at at here) (parse_lines (at + 1) (parsing_after here) more))
 
 -- what closes the goals of single functions

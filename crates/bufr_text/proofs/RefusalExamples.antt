@@ -11,7 +11,7 @@ use Rattle.bufr_fill.specs.Prelude.{number_token, text_form, missing_form, refer
 use Rattle.bufr_fill.specs.declared.fault.ItemFault.TheVariants as wrong
 use Rattle.bufr_text.specs.declared.document.LineGroup.TheVariants as group
 use Rattle.bufr_text.specs.declared.fault.DocumentFault.TheVariants as fault
-use Rattle.bufr_text.specs.Prelude.{leasts, mosts, in_range, prefix_while, suffix_while, without_prefix, hex_read, hex_text, fxy_read, descriptors_read, descriptors_text, quoted_read, is_hashed, Line, Header, Local1, Section2, Descriptors, Begins, Item, Wrong, keys, index_from, value_read, worded, line_of, read_line, ParseResult, Refused, NotAllowed, SubsetCount, HeaderRange, turn, parse_lines, lines_of, documents_of, Document, blank, Heading, BeforeSubsets, open_documents_of, split_of, parse_open_lines, text_of_lines, DocumentFault, encoding_of, encoding_in, message_of}
+use Rattle.bufr_text.specs.Prelude.{leasts, mosts, in_range, prefix_while, suffix_while, without_prefix, hex_read, hex_text, fxy_read, descriptors_read, descriptors_text, quoted_read, is_hashed, Line, Header, Local1, Section2, Descriptors, Begins, ItemLine, Wrong, keys, index_from, value_read, worded, line_of, read_line, ParseResult, Refused, NotAllowed, SubsetCount, HeaderRange, line_step, parse_lines, lines_of, documents_of, Document, blank, Heading, BeforeSubsets, open_documents_of, split_of, parse_open_lines, text_of_lines, DocumentFault, encoding_of, encoding_in, message_of}
 use Rattle.bufr_text.proofs.EncodingExamples.{listed, table, document, number}
 
 -- ---- What one line says, where an octet is on either side of a range.
@@ -42,8 +42,8 @@ most_of_a_line = (refl, refl, refl)
 -- In a text an octet from space to tilde is itself, but a quote and a backslash.
 -- rule: reading-quoted
 octets_of_a_text : said (map (λ c. codes "205001 " ++ 34 ∷ c ∷ 34 ∷ []) (31 ∷ 32 ∷ 33 ∷ 34 ∷ 35 ∷ 91 ∷ 92 ∷ 93 ∷ 126 ∷ 127 ∷ 255 ∷ []))
-    ≡ Wrong ∷ Item 0x8501 (text_form (32 ∷ [])) ∷ Item 0x8501 (text_form (33 ∷ [])) ∷ Wrong ∷ Item 0x8501 (text_form (35 ∷ [])) ∷ Item 0x8501 (text_form (91 ∷ []))
-    ∷ Wrong ∷ Item 0x8501 (text_form (93 ∷ [])) ∷ Item 0x8501 (text_form (126 ∷ [])) ∷ Wrong ∷ Wrong ∷ []
+    ≡ Wrong ∷ ItemLine 0x8501 (text_form (32 ∷ [])) ∷ ItemLine 0x8501 (text_form (33 ∷ [])) ∷ Wrong ∷ ItemLine 0x8501 (text_form (35 ∷ [])) ∷ ItemLine 0x8501 (text_form (91 ∷ []))
+    ∷ Wrong ∷ ItemLine 0x8501 (text_form (93 ∷ [])) ∷ ItemLine 0x8501 (text_form (126 ∷ [])) ∷ Wrong ∷ Wrong ∷ []
 unfolding said
 octets_of_a_text = refl
 
@@ -52,9 +52,9 @@ octets_of_a_text = refl
 -- rule: reading-quoted
 escapes_of_a_text :
     (said (map (λ c. codes "205001 " ++ 34 ∷ 92 ∷ codes "x0" ++ c ∷ 34 ∷ []) (47 ∷ 48 ∷ 57 ∷ 58 ∷ 64 ∷ 65 ∷ 70 ∷ 71 ∷ 97 ∷ 102 ∷ []))
-    ≡ Wrong ∷ Item 0x8501 (text_form (0 ∷ [])) ∷ Item 0x8501 (text_form (9 ∷ [])) ∷ Wrong ∷ Wrong ∷ Item 0x8501 (text_form (10 ∷ [])) ∷ Item 0x8501 (text_form (15 ∷ [])) ∷ Wrong ∷ Wrong ∷ Wrong ∷ [])
+    ≡ Wrong ∷ ItemLine 0x8501 (text_form (0 ∷ [])) ∷ ItemLine 0x8501 (text_form (9 ∷ [])) ∷ Wrong ∷ Wrong ∷ ItemLine 0x8501 (text_form (10 ∷ [])) ∷ ItemLine 0x8501 (text_form (15 ∷ [])) ∷ Wrong ∷ Wrong ∷ Wrong ∷ [])
     × (said (map (λ octets. codes "205001 " ++ 34 ∷ 92 ∷ octets ++ 34 ∷ []) ((34 ∷ []) ∷ (92 ∷ []) ∷ codes "X41" ∷ codes "x4" ∷ codes "x" ∷ codes "y41" ∷ []))
-    ≡ Item 0x8501 (text_form (34 ∷ [])) ∷ Item 0x8501 (text_form (92 ∷ [])) ∷ Wrong ∷ Wrong ∷ Wrong ∷ Wrong ∷ [])
+    ≡ ItemLine 0x8501 (text_form (34 ∷ [])) ∷ ItemLine 0x8501 (text_form (92 ∷ [])) ∷ Wrong ∷ Wrong ∷ Wrong ∷ Wrong ∷ [])
 unfolding said
 escapes_of_a_text = (refl, refl)
 
@@ -62,16 +62,16 @@ escapes_of_a_text = (refl, refl)
 -- rule: reading-number
 octets_of_a_number :
     (said (map (λ c. codes "001001 " ++ c ∷ []) (44 ∷ 45 ∷ 46 ∷ 47 ∷ 48 ∷ 57 ∷ 58 ∷ []))
-    ≡ Wrong ∷ Item 257 (number_token (45 ∷ [])) ∷ Item 257 (number_token (46 ∷ [])) ∷ Wrong ∷ Item 257 (number_token (48 ∷ [])) ∷ Item 257 (number_token (57 ∷ [])) ∷ Wrong ∷ [])
+    ≡ Wrong ∷ ItemLine 257 (number_token (45 ∷ [])) ∷ ItemLine 257 (number_token (46 ∷ [])) ∷ Wrong ∷ ItemLine 257 (number_token (48 ∷ [])) ∷ ItemLine 257 (number_token (57 ∷ [])) ∷ Wrong ∷ [])
     × (said (map (λ c. codes "001001 1" ++ c ∷ []) (44 ∷ 45 ∷ 46 ∷ 47 ∷ 48 ∷ 57 ∷ 58 ∷ []))
-    ≡ Wrong ∷ Item 257 (number_token (49 ∷ 45 ∷ [])) ∷ Item 257 (number_token (49 ∷ 46 ∷ [])) ∷ Wrong ∷ Item 257 (number_token (49 ∷ 48 ∷ [])) ∷ Item 257 (number_token (49 ∷ 57 ∷ [])) ∷ Wrong ∷ [])
+    ≡ Wrong ∷ ItemLine 257 (number_token (49 ∷ 45 ∷ [])) ∷ ItemLine 257 (number_token (49 ∷ 46 ∷ [])) ∷ Wrong ∷ ItemLine 257 (number_token (49 ∷ 48 ∷ [])) ∷ ItemLine 257 (number_token (49 ∷ 57 ∷ [])) ∷ Wrong ∷ [])
 unfolding said
 octets_of_a_number = (refl, refl)
 
 -- An `R` line has a number and nothing else, with one space between.
 -- rule: reading-reference, reading-after-a-value
 lines_of_references : said (codes "R 012101 -400" ∷ codes "R 012101 -400  # x" ∷ codes "R 012101 MISSING" ∷ (codes "R 012101 " ++ 34 ∷ 65 ∷ 34 ∷ []) ∷ codes "R 012101 -400 x" ∷ codes "R  012101 -400" ∷ codes "R 012101  -400" ∷ codes "R 01210 1" ∷ codes "R" ∷ codes "R 012101 " ∷ [])
-    ≡ Item 3173 (reference_token (codes "-400")) ∷ Item 3173 (reference_token (codes "-400")) ∷ replicate 8 Wrong
+    ≡ ItemLine 3173 (reference_token (codes "-400")) ∷ ItemLine 3173 (reference_token (codes "-400")) ∷ replicate 8 Wrong
 unfolding said
 lines_of_references = refl
 
@@ -80,8 +80,8 @@ lines_of_references = refl
 -- rule: reading-after-a-value
 after_a_value :
     (said (codes "001001 MISSING # x" ∷ codes "001001 MISSING#" ∷ codes "001001 MISSING " ∷ codes "001001 MISSINGS" ∷ codes "001001 MISSIN" ∷ codes "001001 missing" ∷ (codes "205001 " ++ 34 ∷ 65 ∷ 34 ∷ codes " #") ∷ (codes "205001 " ++ 34 ∷ 65 ∷ 34 ∷ codes "#") ∷ [])
-    ≡ Item 257 missing_form ∷ Wrong ∷ Wrong ∷ Wrong ∷ Wrong ∷ Wrong ∷ Item 0x8501 (text_form (65 ∷ [])) ∷ Wrong ∷ [])
-    × (said (codes "R 012101 1 #" ∷ codes "R 012101 1#" ∷ codes "R 012101 1 " ∷ []) ≡ Item 3173 (reference_token (codes "1")) ∷ Wrong ∷ Wrong ∷ [])
+    ≡ ItemLine 257 missing_form ∷ Wrong ∷ Wrong ∷ Wrong ∷ Wrong ∷ Wrong ∷ ItemLine 0x8501 (text_form (65 ∷ [])) ∷ Wrong ∷ [])
+    × (said (codes "R 012101 1 #" ∷ codes "R 012101 1#" ∷ codes "R 012101 1 " ∷ []) ≡ ItemLine 3173 (reference_token (codes "1")) ∷ Wrong ∷ Wrong ∷ [])
 unfolding said
 after_a_value = (refl, refl)
 
@@ -118,12 +118,12 @@ greatest_of_the_header = (refl, refl, refl, refl)
 
 -- the documents of lines
 documents_in : List (List ℕ) → List ParseResult
-unfolding line_of worded prefix_while suffix_while without_prefix fxy_read value_read quoted_read is_hashed index_from keys leasts mosts hex_read descriptors_read parse_lines lines_of turn
+unfolding line_of worded prefix_while suffix_while without_prefix fxy_read value_read quoted_read is_hashed index_from keys leasts mosts hex_read descriptors_read parse_lines lines_of line_step
 documents_in lines = documents_of (text_of_lines lines)
 
 -- what lines after a header do, from line 22 on; in the end `x` is on a line
 after_header : (optional subsets : ℕ) → List (List ℕ) → List ParseResult
-unfolding line_of worded prefix_while suffix_while without_prefix fxy_read value_read quoted_read is_hashed index_from keys leasts mosts hex_read descriptors_read parse_lines turn
+unfolding line_of worded prefix_while suffix_while without_prefix fxy_read value_read quoted_read is_hashed index_from keys leasts mosts hex_read descriptors_read parse_lines line_step
 after_header optional subsets lines = parse_lines 22 (BeforeSubsets group.Local1, record (blank 1) { header = 4 ∷ 0 ∷ 98 ∷ 0 ∷ 0 ∷ 0 ∷ 0 ∷ 0 ∷ 14 ∷ 0 ∷ 2024 ∷ 1 ∷ 2 ∷ 3 ∷ 4 ∷ 5 ∷ 1 ∷ 0 ∷ optional ∷ subsets ∷ [] }) (lines ++ codes "x" ∷ [])
 
 abbrev line_at : ℕ → List ParseResult
@@ -137,7 +137,7 @@ range_at n = Refused n HeaderRange ∷ []
 
 -- what lines do that come after `compressed`, from line 20 on; in the end `x` is on a line
 late_header : List (List ℕ) → List ParseResult
-unfolding line_of worded prefix_while suffix_while without_prefix fxy_read value_read quoted_read is_hashed index_from keys leasts mosts hex_read descriptors_read parse_lines turn
+unfolding line_of worded prefix_while suffix_while without_prefix fxy_read value_read quoted_read is_hashed index_from keys leasts mosts hex_read descriptors_read parse_lines line_step
 late_header lines = parse_lines 20 (Heading, record (blank 1) { header = 4 ∷ 0 ∷ 98 ∷ 0 ∷ 0 ∷ 0 ∷ 0 ∷ 0 ∷ 14 ∷ 0 ∷ 2024 ∷ 1 ∷ 2 ∷ 3 ∷ 4 ∷ 5 ∷ 1 ∷ 0 ∷ [] }) (lines ++ codes "x" ∷ [])
 
 -- The header ends with `subsets`, and no sooner.
@@ -220,7 +220,7 @@ longest_line :
     × (documents_of (35 ∷ replicate 4096 120) ≡ line_at 1)
     × (open_documents_of (replicate 4096 120) ≡ [])
     × (open_documents_of (replicate 4097 120) ≡ line_at 1)
-unfolding line_of parse_lines lines_of turn parse_open_lines split_of
+unfolding line_of parse_lines lines_of line_step parse_open_lines split_of
 longest_line = (refl, refl, refl, refl)
 
 -- The text may end between documents alone, and the fault is at the next line; a line that is
@@ -230,7 +230,7 @@ where_a_text_ends :
     (map documents_of ([] ∷ codes "\n" ∷ codes "# x" ∷ codes "message" ∷ codes "message\n" ∷ codes "message\nedition 4\n" ∷ codes "message\nedition 4\n# x" ∷ codes "message\nx\ny\n" ∷ codes "message \n" ∷ codes "messages\n" ∷ [])
     ≡ [] ∷ [] ∷ [] ∷ line_at 2 ∷ line_at 2 ∷ line_at 3 ∷ line_at 4 ∷ line_at 2 ∷ line_at 1 ∷ line_at 1 ∷ [])
     × (map open_documents_of (codes "message" ∷ codes "message\nedition 4\n" ∷ codes "message\nedition 4\nx" ∷ codes "message\nx\n" ∷ []) ≡ [] ∷ [] ∷ [] ∷ line_at 2 ∷ [])
-unfolding line_of worded prefix_while suffix_while without_prefix fxy_read value_read quoted_read is_hashed index_from keys leasts mosts hex_read descriptors_read parse_lines lines_of turn
+unfolding line_of worded prefix_while suffix_while without_prefix fxy_read value_read quoted_read is_hashed index_from keys leasts mosts hex_read descriptors_read parse_lines lines_of line_step
     parse_open_lines split_of
 where_a_text_ends = (refl, refl)
 

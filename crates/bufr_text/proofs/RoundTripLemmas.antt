@@ -5,7 +5,7 @@ use Rattle.std.proofs.lemmas.Bool.Decides.{nat_tests}
 use Rattle.bufr_tables.specs.Prelude.{Row, IsLegal, tree_of, tables_of, Tree, Sequence, places}
 use Rattle.bufr_walk.proofs.NextField.{AreRead}
 use Rattle.bufr_walk.specs.Prelude.{FieldSpec, Content, shown, Course, next_item, data_of, Item, IsPackedReading, IsReading, Values, apart, together, View, subsets_from, IsPlainReading}
-use Rattle.bufr_text.specs.Prelude.{IsDescriptorWord, items_shown, IsOctet, bit, dump_value_of, item_entries, subset_entries, document_of, dump_text_of, lines_before, IsAccepted, dump_items, extra_octets, SaySame, HasSameReading, IsEncodedAgain, Document, head_from_values, compressed_in, ◌>>=◌, report_of_template, report_of_items, data_bits, octets_of_bits, message_of, encoding_in, encoding_of, compressed_as, parts_as, AreOctetsOf, IsData, IsDocumentRefusal, Form, WritesForm, DocumentFault}
+use Rattle.bufr_text.specs.Prelude.{IsDescriptorWord, items_shown, IsOctet, bit, dump_value_of, item_entries, subset_entries, document_of, dump_text_of, lines_before, IsAccepted, dump_items, extra_octets, SaySame, HasSameReading, IsEncodedAgain, Document, head_from_values, compressed_in, ◌>>=◌, map_err, data_bits, octets_of_bits, message_of, encoding_in, encoding_of, compressed_as, parts_as, AreOctetsOf, IsData, IsDocumentRefusal, Form, WritesForm, DocumentFault, document_fault}
 use Rattle.std.proofs.lemmas.List.{take_at, drop_at, length-replicate}
 use Rattle.bufr_bits.specs.Prelude.{bits_of, padding}
 use Rattle.bufr_frame.specs.Prelude.{three_octets, octets_of_words, u24_at, Sections, sections_of, edition_of, section3_begins, section4_begins, IsFitting, MessageParts, even_size, with_even_length, message_octets, message_size, max_octets, section0_octets, section1_octets, section2_octets, section3_octets, section4_octets, data_flags, head_octets, max_extra_octets, parts_in, parts_of, sections_from, min_section_1, FrameAt, has_word_at, stated_length, classify, stream_event, candidate_len, scan_from}
@@ -402,9 +402,9 @@ module _ (form : Form) (table : List Row) (sequences : List Sequence) (d : Docum
       → encoding_in form table sequences d ≡ message_of d.line (head_from_values d) (parts_as (compressed_as form d) d payload)
   unfolding encoding_in
   as_written template bits payload e f p =
-      ap (λ r. report_of_template d.line r >>= λ t. report_of_items (data_bits (compressed_as form d) (next_item table t) (subsets_of d.entries)) >>= λ b. message_of d.line (head_from_values d)
+      ap (λ r. map_err (fault.Template d.line) r >>= λ t. map_err document_fault (data_bits (compressed_as form d) (next_item table t) (subsets_of d.entries)) >>= λ b. message_of d.line (head_from_values d)
       (parts_as (compressed_as form d) d (octets_of_bits b))) e
-      ∙ ap (λ r. report_of_items r >>= λ b. message_of d.line (head_from_values d) (parts_as (compressed_as form d) d (octets_of_bits b))) f
+      ∙ ap (λ r. map_err document_fault r >>= λ b. message_of d.line (head_from_values d) (parts_as (compressed_as form d) d (octets_of_bits b))) f
       ∙ ap (λ o. message_of d.line (head_from_values d) (parts_as (compressed_as form d) d o)) (sym p)
 
   pub whole : (n : ℕ) (template : Tree) (payload octets : List ℕ) (steps : ℕ) → tree_of (tables_of table sequences) d.descriptors ≡ Ok template
@@ -418,23 +418,23 @@ module _ (form : Form) (table : List Row) (sequences : List Sequence) (d : Docum
   not_whole n template payload steps o e h p m = subst (λ r. IsDocumentRefusal o r) (sym (as_written template h.out payload e h.is (p h.out h.octets_are))) m
 
   pub data_refused : (template : Tree) (why : DocumentFault) → tree_of (tables_of table sequences) d.descriptors ≡ Ok template
-      → report_of_items (data_bits (compressed_as form d) (next_item table template) (subsets_of d.entries)) ≡ Err why → encoding_in form table sequences d ≡ Err why
+      → map_err document_fault (data_bits (compressed_as form d) (next_item table template) (subsets_of d.entries)) ≡ Err why → encoding_in form table sequences d ≡ Err why
   unfolding encoding_in
   data_refused template why e h =
-      ap (λ r. report_of_template d.line r >>= λ t. report_of_items (data_bits (compressed_as form d) (next_item table t) (subsets_of d.entries)) >>= λ b. message_of d.line (head_from_values d)
+      ap (λ r. map_err (fault.Template d.line) r >>= λ t. map_err document_fault (data_bits (compressed_as form d) (next_item table t) (subsets_of d.entries)) >>= λ b. message_of d.line (head_from_values d)
       (parts_as (compressed_as form d) d (octets_of_bits b))) e
       ∙ ap (λ r. r >>= λ b. message_of d.line (head_from_values d) (parts_as (compressed_as form d) d (octets_of_bits b))) h
 
   pub no_data : (template : Tree) (o : DocumentFault) → tree_of (tables_of table sequences) d.descriptors ≡ Ok template
-      → IsDocumentRefusal o (report_of_items (data_bits (compressed_as form d) (next_item table template) (subsets_of d.entries))) → IsDocumentRefusal o (encoding_in form table sequences d)
+      → IsDocumentRefusal o (map_err document_fault (data_bits (compressed_as form d) (next_item table template) (subsets_of d.entries))) → IsDocumentRefusal o (encoding_in form table sequences d)
   no_data template o e (inl out) = inl out
   no_data template o e (inr h) = inr (data_refused template o e h)
 
-  pub no_template : (o : DocumentFault) → IsDocumentRefusal o (report_of_template d.line (tree_of (tables_of table sequences) d.descriptors))
+  pub no_template : (o : DocumentFault) → IsDocumentRefusal o (map_err (fault.Template d.line) (tree_of (tables_of table sequences) d.descriptors))
       → IsDocumentRefusal o (encoding_in form table sequences d)
   unfolding encoding_in
   no_template o (inl out) = inl out
-  no_template o (inr h) = inr (ap (λ r. r >>= λ t. report_of_items (data_bits (compressed_as form d) (next_item table t) (subsets_of d.entries)) >>= λ b. message_of d.line (head_from_values d)
+  no_template o (inr h) = inr (ap (λ r. r >>= λ t. map_err document_fault (data_bits (compressed_as form d) (next_item table t) (subsets_of d.entries)) >>= λ b. message_of d.line (head_from_values d)
       (parts_as (compressed_as form d) d (octets_of_bits b))) h)
 
   -- a document whose data are not written is refused
@@ -443,7 +443,7 @@ module _ (form : Form) (table : List Row) (sequences : List Sequence) (d : Docum
   refused_form (Ok template) why steps e h = no_data template why e h.refuses
   refused_form (Err why) w steps e h =
       let R : DocumentFault → Type 0 = λ w. IsDocumentRefusal w (encoding_in form table sequences d) in
-      subst R (sym (same_fault w (fault.Template d.line why) h.0)) (no_template (fault.Template d.line why) (inr (ap (report_of_template d.line) e)))
+      subst R (sym (same_fault w (fault.Template d.line why) h.0)) (no_template (fault.Template d.line why) (inr (ap (map_err (fault.Template d.line)) e)))
     where
       same_fault : (a b : DocumentFault) → ◌≡◌ {A = Result (Vec ℕ Global) DocumentFault} (Err a) (Err b) → a ≡ b
       same_fault a b e = cc

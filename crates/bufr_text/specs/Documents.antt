@@ -4,7 +4,7 @@
 use Rattle.std.specs.Prelude.{ℕ, List, [], slice_index, ◌+◌, ◌==◌, nat_le, nat_lt, Bool, true, false, not, ◌&&◌, if◌then◌else◌, ◌∷◌, ◌++◌, length, ◌≡◌, ◌^◌, Option, Some, None}
 use Rattle.bufr_fill.specs.Prelude.{DraftEntry, draft, Holds, Ends}
 use Rattle.bufr_frame.specs.Prelude.{head_by}
-use Rattle.bufr_text.specs.Line.{Line, Passed, Opens, Header, Local1, Section2, Descriptors, Begins, Item, Closes, Wrong, leasts, mosts, line_of}
+use Rattle.bufr_text.specs.Line.{Line, Passed, Opens, Header, Local1, Section2, Descriptors, Begins, ItemLine, Closes, Wrong, leasts, mosts, line_of}
 use Rattle.bufr_frame.specs.declared.section1.Head.{Head}
 use Rattle.bufr_text.specs.declared.fault.TextLineFault.{TextLineFault}
 use Rattle.bufr_text.specs.declared.fault.TextLineFault.TheVariants.{NotAllowed, SubsetCount, HeaderRange}
@@ -54,8 +54,8 @@ abbrev pub between : Parsing
 between = (Between, blank 0)
 
 -- what a line does, and the document after it
-abbrev pub Turn : Type 0
-Turn = LineEffect × Document
+abbrev pub LineStep : Type 0
+LineStep = LineEffect × Document
 
 -- a document, or the fault that ends the reading, with its line
 pub data ParseResult : Type 0 where
@@ -73,7 +73,7 @@ in_range edition key value = nat_le (slice_index leasts key) value
 
 -- a header line
 -- rule: reading-header-order, fault-61, fault-order-of-a-line
-abbrev pub heading : Document → Line → Turn
+abbrev pub heading : Document → Line → LineStep
 heading d (Header key value) = if not (key == length d.header) then (Refuses NotAllowed, d)
     else if not (in_range (edition_in d) key value) then (Refuses HeaderRange, d) else (
       Continues (if key == 19 then BeforeSubsets group.Local1 else Heading),
@@ -105,7 +105,7 @@ may_be_section2 group.Section2 d = optional_in d == 1
 may_be_section2 group.Descriptors d = false
 
 -- a line after the header and before the first subset
-abbrev pub before_subsets : LineGroup → Document → Line → Turn
+abbrev pub before_subsets : LineGroup → Document → Line → LineStep
 before_subsets part d (Local1 octets) = if may_be_local1 part then (
   Continues (BeforeSubsets group.Local1),
   record d { local1 = d.local1 ++ octets },
@@ -124,23 +124,23 @@ before_subsets part d line = (Refuses NotAllowed, d)
 
 -- a line in a subset
 -- rule: reading-subset-end
-abbrev pub filling : (at subset : ℕ) → Document → Line → Turn
-filling at subset d (Item fxy form) =
+abbrev pub in_subset : (at subset : ℕ) → Document → Line → LineStep
+in_subset at subset d (ItemLine fxy form) =
     (Continues (Filling subset), with_entry d (Holds (draft at fxy form)))
-filling at subset d (Begins next) = (beginning subset d next, with_entry d (Ends at))
-filling at subset d Closes = (closing subset d, with_entry d (Ends at))
-filling at subset d line = (Refuses NotAllowed, d)
+in_subset at subset d (Begins next) = (beginning subset d next, with_entry d (Ends at))
+in_subset at subset d Closes = (closing subset d, with_entry d (Ends at))
+in_subset at subset d line = (Refuses NotAllowed, d)
 
 -- what a line does; between documents only `message` may be
 -- rule: reading-empty-lines, reading-between-documents, fault-50
-unfoldable pub turn : (at : ℕ) → Parsing → Line → Turn
-turn at (state, d) Passed = (Continues state, d)
-turn at (Between, d) Opens = (Continues Heading, blank at)
-turn at (Between, d) line = (Refuses NotAllowed, d)
-turn at (Heading, d) line = heading d line
-turn at (BeforeSubsets part, d) line = before_subsets part d line
-turn at (Filling subset, d) line = filling at subset d line
-turn at (Stopped, d) line = (Continues Stopped, d)
+unfoldable pub line_step : (at : ℕ) → Parsing → Line → LineStep
+line_step at (state, d) Passed = (Continues state, d)
+line_step at (Between, d) Opens = (Continues Heading, blank at)
+line_step at (Between, d) line = (Refuses NotAllowed, d)
+line_step at (Heading, d) line = heading d line
+line_step at (BeforeSubsets part, d) line = before_subsets part d line
+line_step at (Filling subset, d) line = in_subset at subset d line
+line_step at (Stopped, d) line = (Continues Stopped, d)
 
 -- whether a line adds to the document that is being read: octets, descriptors, an item, or the end
 -- of a subset
@@ -148,7 +148,7 @@ abbrev pub adds : ParserState → Line → Bool
 adds (BeforeSubsets part) (Local1 octets) = true
 adds (BeforeSubsets part) (Section2 octets) = true
 adds (BeforeSubsets part) (Descriptors words) = true
-adds (Filling subset) (Item fxy form) = true
+adds (Filling subset) (ItemLine fxy form) = true
 adds (Filling subset) (Begins next) = true
 adds (Filling subset) Closes = true
 adds state line = false
@@ -163,12 +163,12 @@ abbrev pub read_line : List ℕ → Line
 read_line line = if nat_lt max_line (length line) then Wrong else line_of line
 
 -- where the reading is after a line
-abbrev pub parsing_after : Turn → Parsing
+abbrev pub parsing_after : LineStep → Parsing
 parsing_after (Continues state, d) = (state, d)
 parsing_after (Completes, d) = between
 parsing_after (Refuses fault, d) = (Stopped, d)
 
-abbrev pub reported_at : (at : ℕ) → Turn → List ParseResult
+abbrev pub reported_at : (at : ℕ) → LineStep → List ParseResult
 reported_at at (Continues state, d) = []
 reported_at at (Completes, d) = Complete d ∷ []
 reported_at at (Refuses fault, d) = Refused at fault ∷ []
@@ -185,7 +185,7 @@ reported_at_end at state = Refused at NotAllowed ∷ []
 unfoldable pub parse_lines : (at : ℕ) → Parsing → List (List ℕ) → List ParseResult
 parse_lines at p [] = reported_at_end at p.0
 parse_lines at p (line ∷ more) =
-    let here = turn at p (read_line line) in reported_at at here
+    let here = line_step at p (read_line line) in reported_at at here
     ++ parse_lines (at + 1) (parsing_after here) more
 
 -- one more octet before the first line
@@ -207,9 +207,9 @@ documents_of text = parse_lines 1 between (lines_of text)
 unfoldable pub parse_open_lines : (at : ℕ) → Parsing → List (List ℕ) → (rest : List ℕ)
     → List ParseResult
 parse_open_lines at p [] rest =
-    if nat_lt max_line (length rest) then reported_at at (turn at p Wrong) else []
+    if nat_lt max_line (length rest) then reported_at at (line_step at p Wrong) else []
 parse_open_lines at p (line ∷ more) rest =
-    let here = turn at p (read_line line) in reported_at at here
+    let here = line_step at p (read_line line) in reported_at at here
     ++ parse_open_lines (at + 1) (parsing_after here) more rest
 
 -- the lines of a text that end by a line feed, and what is after the last of them

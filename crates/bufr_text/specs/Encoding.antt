@@ -3,11 +3,11 @@
 -- Cited by public contracts.
 use Rattle.std.specs.Prelude.{◌==◌, Bool, true, false, ℕ, ◌+◌, ◌/◌, nat_lt, if◌then◌else◌, List, ◌++◌, length, Result, Ok, Err, ◌≡◌, Option, Some, None, ◌≤◌, [], ◌∷◌, Vec, ◌*◌, ◌≢◌, ◌⊎◌, codes, decimal}
 use Rattle.bufr_text.specs.declared.encode.Form.{Form}
-use Rattle.bufr_bits.specs.Prelude.{◌>>=◌, padding, bits_of}
+use Rattle.bufr_bits.specs.Prelude.{◌>>=◌, padding, bits_of, map_err}
 use Rattle.bufr_tables.specs.declared.fault.TemplateFault.{TemplateFault}
 use Rattle.bufr_tables.specs.Prelude.{tree_of, tables_of, template_report, Row, Sequence, Tree, places}
 use Rattle.bufr_frame.specs.declared.section1.Head.{Head}
-use Rattle.bufr_frame.specs.Prelude.{MessageParts, parts_of, message_octets, message_size, max_octets}
+use Rattle.bufr_frame.specs.Prelude.{MessageParts, message_octets, message_size, max_octets}
 use Rattle.bufr_walk.specs.Prelude.{octets_in, Course, next_item, ticked}
 use Rattle.bufr_fill.specs.Prelude.{Writing, bits_of_writing, writing_of, Subset, subsets_of, item_report, walk_refused, at_line}
 use Rattle.bufr_text.specs.declared.encode.Form.TheVariants.{AsWritten}
@@ -57,16 +57,6 @@ line_of_fault (fault.Template line why) = Some line
 line_of_fault (fault.TooLong line) = Some line
 line_of_fault fault.Memory = None
 
--- a fault of the template is reported at the line of `message`
--- rule: fault-56
-abbrev pub report_of_template : ℕ → Result Tree TemplateFault → Result Tree DocumentFault
-report_of_template line (Ok template) = Ok template
-report_of_template line (Err why) = Err (fault.Template line why)
-
-abbrev pub report_of_items : Result (List Bool) DraftFault → Result (List Bool) DocumentFault
-report_of_items (Ok bits) = Ok bits
-report_of_items (Err why) = Err (document_fault why)
-
 -- the bits of the data
 abbrev pub data_bits : (compressed : Bool) → Course → List Subset → Result (List Bool) DraftFault
 data_bits compressed course subsets = bits_of_writing (writing_of compressed course subsets)
@@ -79,8 +69,16 @@ octets_of_bits bits = octets_in ((length bits + 7) / 8) (bits ++ padding (length
 -- what is written besides the head
 -- rule: writes-local-use
 abbrev pub parts_as : (compressed : Bool) → Document → (payload : List ℕ) → MessageParts
-parts_as compressed d payload = parts_of d.local1 (section2_in d) d.descriptors (subsets_in d)
-    (key_value d 16 == 1) compressed payload
+parts_as compressed d payload =
+    record {
+      local1 = d.local1;
+      section2 = section2_in d;
+      descriptors = d.descriptors;
+      subsets = subsets_in d;
+      observed = key_value d 16 == 1;
+      compressed = compressed;
+      payload = payload;
+    }
 
 -- whether the data of a document are compressed in a form
 -- rule: form-option
@@ -94,13 +92,14 @@ message_of line head parts =
     if nat_lt max_octets (message_size head.edition parts) then Err (fault.TooLong line)
     else Ok (message_octets head parts)
 
--- a document's message, or its first fault: of the template, of the items in order, of the length
--- rule: fault-56-first-60-last
+-- a document's message, or its first fault: of the template, which is reported at the line of
+-- `message`, of the items in order, of the length
+-- rule: fault-56, fault-56-first-60-last
 unfoldable pub encoding_in : Form → List Row → List Sequence → Document
     → Result (List ℕ) DocumentFault
 encoding_in form table sequences d = do
-  template ← report_of_template d.line (tree_of (tables_of table sequences) d.descriptors)
-  bits ← report_of_items
+  template ← map_err (fault.Template d.line) (tree_of (tables_of table sequences) d.descriptors)
+  bits ← map_err document_fault
       (data_bits (compressed_as form d) (next_item table template) (subsets_of d.entries))
   message_of d.line (head_from_values d) (parts_as (compressed_as form d) d (octets_of_bits bits))
 
@@ -176,7 +175,7 @@ pub record IsData (places : ℕ) (compressed : Bool) (course : Course) (subsets 
 pub record IsNoData (places : ℕ) (compressed : Bool) (course : Course) (subsets : List Subset)
     (why : DocumentFault) (steps : ℕ) : Type 0 where
   pub refuses : IsDocumentRefusal why
-      (report_of_items (data_bits compressed course subsets))
+      (map_err document_fault (data_bits compressed course subsets))
   pub made : CountsSteps (why ≡ fault.Memory) 0 (writing_of compressed course subsets).turns
       steps
   pub few : steps ≤ places * (length (writing_of compressed course subsets).bits + 1)

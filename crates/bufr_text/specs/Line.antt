@@ -67,7 +67,7 @@ hex_pair octet = hex_digit (octet / 16) ∷ hex_digit (octet % 16) ∷ []
 -- rule: text-hexadecimal
 unfoldable pub hex_text : List ℕ → List ℕ
 hex_text [] = []
-hex_text (octet ∷ more) = hex_digit (octet / 16) ∷ hex_digit (octet % 16) ∷ hex_text more
+hex_text (octet ∷ more) = hex_pair octet ++ hex_text more
 
 -- one more element before a list that was read
 abbrev pub onto_read : {X : Type 0} → Option X → Option (List X) → Option (List X)
@@ -181,7 +181,7 @@ pub data Line : Type 0 where
   Section2 : (octets : List ℕ) → Line
   Descriptors : (words : List ℕ) → Line
   Begins : (subset : ℕ) → Line
-  Item : (fxy : ℕ) (form : DraftValue) → Line
+  ItemLine : (fxy : ℕ) (form : DraftValue) → Line
   Closes : Line
   Wrong : Line
 
@@ -226,7 +226,7 @@ with_one_to most line xs =
 
 -- nothing but a comment is after a value
 abbrev pub item_if_comment : (fxy : ℕ) → DraftValue × List ℕ → Line
-item_if_comment fxy (form, rest) = if is_passed_after rest then Item fxy form else Wrong
+item_if_comment fxy (form, rest) = if is_passed_after rest then ItemLine fxy form else Wrong
 
 -- a number by its form, and the rest after it
 abbrev pub number_value : (List ℕ → DraftValue) → List ℕ → Option (DraftValue × List ℕ)

@@ -1,5 +1,5 @@
--- An accepted message and the message that its dump text is encoded to, in either form.
--- Cited by public contracts.
+-- Only contracts need this file. An accepted message and the message that its dump text is encoded
+-- to, in either form.
 use Rattle.std.specs.Prelude.{◌≡◌, ℕ, ◌+◌, ◌%◌, ◌≤◌, ◌==◌, ◌&&◌, ◌||◌, Bool, List, ◌∷◌, ◌++◌, length, if◌then◌else◌, Ok, Vec, Result, Err, [], take, drop, flat_map, ◌⊎◌}
 use Rattle.std.specs.List.{AllByRecursion}
 use Rattle.bufr_tables.specs.Prelude.{tree_of, tables_of, Row, Sequence, Tree}

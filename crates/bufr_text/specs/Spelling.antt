@@ -1,13 +1,12 @@
--- What the lines of a document are, in order, and the one spelling that a dump has.
--- (A choice of this project)
--- Cited by public contracts.
+-- Only contracts need this file. What the lines of a document are, in order, and the one spelling
+-- that a dump has. (A choice of this project)
 use Rattle.std.specs.Prelude.{◌≡◌, ◌==◌, false, List, [], ◌∷◌, length, ◌≤◌, ◌⊎◌, ℕ, ◌+◌, ◌++◌, map, if◌then◌else◌, take, drop, codes, None, Result, Ok, Err}
 use Rattle.std.specs.List.{AllByRecursion, concat}
 use Rattle.bufr_fill.specs.Prelude.{AllHaveOctets, DraftEntry, Holds, Ends, subsets_of, DraftValue, draft, Draft, Subset, content_of, normal_form}
 use Rattle.bufr_fill.specs.declared.fault.ItemFault.{ItemFault}
 use Rattle.bufr_text.specs.Documents.{Document, optional_in, subsets_in, IsHeaded, ParseResult, Complete, Refused, most_entries, read_line}
 use Rattle.bufr_text.specs.Dump.{IsOctet, IsDescriptorWord, header_lines, local1_line, section2_line, descriptors_line, form_text, comment_text, subset_line, text_of_lines}
-use Rattle.bufr_text.specs.Line.{Line, Passed, Opens, Header, Local1, Section2, Descriptors, Begins, Item, Closes, runs_of}
+use Rattle.bufr_text.specs.Line.{Line, Passed, Opens, Header, Local1, Section2, Descriptors, Begins, ItemLine, Closes, runs_of}
 use Rattle.bufr_tables.specs.Prelude.{Row, entry_of, Tree}
 use Rattle.bufr_walk.specs.declared.spec.Taken.{Taken}
 use Rattle.bufr_walk.specs.Prelude.{FieldSpec, Content, answer_of, Course, Next, take_next, next_item}
@@ -89,7 +88,7 @@ pub record SubsetHeard : Type 0 where
 abbrev pub subsets_heard : (subset : ℕ) → List SubsetHeard → List NumberedLine
 subsets_heard subset [] = []
 subsets_heard subset (part ∷ more) =
-    numbered_line part.at (Begins subset) ∷ map (λ i. numbered_line i.at (Item i.fxy i.form))
+    numbered_line part.at (Begins subset) ∷ map (λ i. numbered_line i.at (ItemLine i.fxy i.form))
     part.items ++ subsets_heard (subset + 1) more
 
 -- what they are as entries: a subset ends at the line that begins the next one, or at `end`

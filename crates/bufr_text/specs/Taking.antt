@@ -1,5 +1,5 @@
--- Private: how a document is kept while it is read, and what taking held lines comes to.
--- Cited by private steps only.
+-- Only contracts need this file. How a document is kept while it is read, and what taking held
+-- lines comes to.
 use Rattle.std.specs.Prelude.{◌≡◌, ◌≤◌, length, take, ◌<◌, ◌+◌, ◌==◌, ℕ, true, false, [], List, ◌∷◌, ◌++◌, drop, Bool, Option, None, Some, ◌⊎◌, ◌*◌, ◌-◌, Result, Ok, Err}
 use Rattle.bufr_text.specs.declared.document.DocumentParts.TheInside.{Inside}
 use Rattle.std.specs.List.{AllByRecursion}
@@ -8,7 +8,7 @@ use Rattle.bufr_text.specs.declared.document.ParserState.{ParserState}
 use Rattle.bufr_text.specs.declared.document.ParserState.TheVariants.{Between, Heading, BeforeSubsets, Filling, Stopped}
 use Rattle.bufr_text.specs.declared.document.LineEffect.{LineEffect}
 use Rattle.bufr_text.specs.declared.document.LineEffect.TheVariants.{Continues, Completes, Refuses}
-use Rattle.bufr_text.specs.Documents.{max_line, are_in_range, IsHeaded, adds, read_line, Document, Parsing, Turn, parsing_after, reported_at, blank, ParseResult, Complete, Refused, edition_in, optional_in}
+use Rattle.bufr_text.specs.Documents.{max_line, are_in_range, IsHeaded, adds, read_line, Document, Parsing, LineStep, parsing_after, reported_at, blank, ParseResult, Complete, Refused, edition_in, optional_in}
 use Rattle.bufr_text.specs.Dump.{IsOctet, IsDescriptorWord}
 use Rattle.bufr_text.specs.Spelling.{IsProper}
 use Rattle.bufr_text.specs.declared.document.ParsedLine.{ParsedLine}
@@ -43,7 +43,7 @@ meaning (said.Local1 octets) = line.Local1 octets.now
 meaning (said.Section2 octets) = line.Section2 octets.now
 meaning (said.Descriptors words) = line.Descriptors words.now
 meaning (said.Begins subset) = line.Begins subset
-meaning (said.Item fxy form) = line.Item fxy (form_in form)
+meaning (said.Item fxy form) = line.ItemLine fxy (form_in form)
 meaning said.Closes = line.Closes
 meaning said.Wrong = line.Wrong
 
@@ -87,10 +87,10 @@ IsParsing at (Filling subset, d) =
 IsParsing at (Stopped, d) = ⊥
 
 -- what holds after a line; a document that is whole has a line for each entry
-abbrev pub IsTurn : (at : ℕ) → Turn → Type 0
-IsTurn at (Continues state, d) = IsParsing at (state, d)
-IsTurn at (Completes, d) = IsProper d × (length d.entries < at)
-IsTurn at (Refuses fault, d) = Unit {0}
+abbrev pub IsLineStep : (at : ℕ) → LineStep → Type 0
+IsLineStep at (Continues state, d) = IsParsing at (state, d)
+IsLineStep at (Completes, d) = IsProper d × (length d.entries < at)
+IsLineStep at (Refuses fault, d) = Unit {0}
 
 -- ---- What taking the lines that are held comes to.
 
@@ -110,7 +110,7 @@ pub record TakesLines (old new : Progress) (held : List ℕ) (offset : ℕ)
   pub all : (state : ParserState) → effect ≡ Continues state
       → (state ≡ new.state) × (has_no_feed (drop offset held) ≡ true)
   pub within : offset ≤ length held
-  pub holds : IsTurn new.at (effect, new.parts)
+  pub holds : IsLineStep new.at (effect, new.parts)
   pub some : 0 < new.at
   pub near : new.at ≤ old.at + offset
   pub passes : TakesWholeLines old.at held new.at (drop offset held)

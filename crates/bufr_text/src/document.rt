@@ -2,7 +2,7 @@
 ghost use Rattle.std.specs.Prelude.{◌==◌, ◌≡◌, ◌+◌, ◌<◌, ◌≤◌, length, IsTrue, slice_index, option_map, true, IfOk, OnErr, ◌^◌, false};
 ghost use Rattle.bufr_fill.specs.Prelude.{subsets_of};
 ghost use Rattle.bufr_frame.specs.Prelude.{is_writable};
-ghost use Rattle.bufr_text.specs.Prelude.{subsets_in, beginning, closing, turn, adds, read_line, head_from_values, key_value, compressed_in, section2_in, most_entries, IsWhole, mosts, meaning, IsParsing, parsing_of, TakesLines, WantsAt, has_no_feed, Header, blank};
+ghost use Rattle.bufr_text.specs.Prelude.{subsets_in, beginning, closing, line_step, adds, read_line, head_from_values, key_value, compressed_in, section2_in, most_entries, IsWhole, mosts, meaning, IsParsing, parsing_of, TakesLines, WantsAt, has_no_feed, Header, blank};
 
 use crate::fault::TextLineFault;
 use crate::header::{MOST_WORDS, in_range};
@@ -288,10 +288,10 @@ fn closing(parts: &DocumentParts, read: u32) -> LineEffect
 }
 
 /// A line in a state, for the document that is being read.
-#[tactic(auto, unfolding(crate::specs::Documents::turn))]
+#[tactic(auto, unfolding(crate::specs::Documents::line_step))]
 // rule: fault-50, fault-61, fault-order-of-a-line, reading-header-order, reading-section2
 // rule: reading-subset-end, reading-between-documents
-pub(crate) fn turn(
+pub(crate) fn line_step(
     state: ParserState,
     parts: &mut DocumentParts,
     at: u64,
@@ -299,7 +299,7 @@ pub(crate) fn turn(
 ) -> Result<LineEffect, AllocError>
     requires { IsParsing at (state, parts.old) }
     ensures turns { IfOk result
-        (λ effect. (effect, parts.new) ≡ turn at (state, parts.old) (meaning said.entry)) }
+        (λ effect. (effect, parts.new) ≡ line_step at (state, parts.old) (meaning said.entry)) }
     ensures wants { OnErr result (adds state (meaning said.entry) ≡ true) }
 {
     if matches!(said, ParsedLine::Passed) {
@@ -390,7 +390,7 @@ fn take_line(
     words: &mut [u16; MOST_WORDS],
 ) -> Result<LineEffect, AllocError>
     requires holds { IsParsing progress.old.at (parsing_of progress.old) }
-    ensures turns { IfOk result (λ effect. (effect, progress.new.parts) ≡ turn progress.old.at
+    ensures turns { IfOk result (λ effect. (effect, progress.new.parts) ≡ line_step progress.old.at
         (parsing_of progress.old) (read_line line.now)) }
     ensures at { progress.new.at ≡ progress.old.at }
     ensures wants { OnErr result (adds progress.old.state (read_line line.now) ≡ true) }
@@ -417,7 +417,7 @@ fn take_line(
         return Ok(LineEffect::Continues(progress.state));
     }
     let said = read_line(line, progress.parts.known, octets, words);
-    turn(progress.state, &mut progress.parts, progress.at, said)
+    line_step(progress.state, &mut progress.parts, progress.at, said)
 }
 
 /// Takes held lines, up to the first that ends a document or is refused: how many octets they took,

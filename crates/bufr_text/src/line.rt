@@ -1,7 +1,7 @@
 //! What a line says: its first word, numbers, items, texts in quotes and octets.
 ghost use Rattle.std.specs.Prelude.{◌≡◌, ℕ, ◌<◌, ◌≤◌, ◌==◌, IfSome, List, length, take, drop, option_map, if◌then◌else◌, min, ◌+◌, ◌-◌, slice_index, Some, ◌*◌};
 ghost use Rattle.std.specs.Str.{bytes_eq};
-ghost use Rattle.bufr_text.specs.Prelude.{max_line, read_line, prefix_while, suffix_while, without_space, hex_read, number_read, without_prefix, is_number_octet, is_hashed, is_passed_after, is_unescaped, upper_value, quoting_of, either_value, Line, made, with_one_to, worded, line_of, value_read, item_line, number_value, Item, Unquotes, Unhexes, meaning, Wrong};
+ghost use Rattle.bufr_text.specs.Prelude.{max_line, read_line, prefix_while, suffix_while, without_space, hex_read, number_read, without_prefix, is_number_octet, is_hashed, is_passed_after, is_unescaped, upper_value, quoting_of, either_value, Line, made, with_one_to, worded, line_of, value_read, item_line, number_value, ItemLine, Unquotes, Unhexes, meaning, Wrong};
 ghost use Rattle.bufr_bits.specs.Prelude.{short_text};
 ghost use Rattle.bufr_fill.specs.Prelude.{number_token, reference_token, missing_form, form_in};
 
@@ -217,7 +217,7 @@ fn is_passed_after(text: &[u8]) -> bool
 #[inline(always)]
 pub(crate) fn decimal_item(line: &[u8]) -> Option<(Fxy, ShortDecimal)>
     ensures { IfSome result
-        (λ read. line_of line.now ≡ Item read.0 (number_token (short_text read.1))) }
+        (λ read. line_of line.now ≡ ItemLine read.0 (number_token (short_text read.1))) }
 {
     if line.len() < 6 {
         return None;
@@ -237,7 +237,7 @@ pub(crate) fn decimal_item(line: &[u8]) -> Option<(Fxy, ShortDecimal)>
 /// The descriptor of an item line whose value is missing, as half of the items of reports are.
 #[inline(always)]
 pub(crate) fn missing_item(line: &[u8]) -> Option<Fxy>
-    ensures { IfSome result (λ fxy. line_of line.now ≡ Item fxy missing_form) }
+    ensures { IfSome result (λ fxy. line_of line.now ≡ ItemLine fxy missing_form) }
 {
     if line.len() < 6 {
         return None;

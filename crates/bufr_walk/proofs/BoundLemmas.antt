@@ -2,7 +2,7 @@
 use Rattle.std.proofs.Common.{◌≡◌, ℕ, zero, suc, ◌+◌, ◌-◌, ◌*◌, ◌<◌, ◌≤◌, List, [], ◌∷◌, length, Bool, true, false, ◌||◌, Result, Ok, Err, refl, ap, subst, arith, ◌++◌, inl, inr, drop, sym, ◌∙◌, if◌then◌else◌}
 use Rattle.std.proofs.Math.Nat.{mul-le-mul_left}
 use Rattle.bufr_tables.specs.Prelude.{Tree, bare, element, operator, fixed, delayed, size, places, consumes, is_inserted_text, Row, EveryGroupConsumes, IsSound}
-use Rattle.bufr_walk.specs.Prelude.{Taken, TurnRefusal, FieldSpec, Content, OperatorModel, begin, after_operator, after_field, element_spec, factor_spec, inserted_spec, Turns, finish, operator_turn, Rest, unroll, passes, pass_end, at_end, astray, NextTurn, ahead, asked, operated, stop, Course, next_item, counts_of, TakenField, Takes, oks, answers_of, Walked, ticked, WalkStop, ShowFault, Call, Timed, item_calls, subset_calls, calls_for, items_called, turns_for, Shows, IsStoredReading, PaysBits, items_in, Read, course_of, Item, plain, item_answer, after, next_after, turns_after, turns_in, ReadsSubsets, Values, apart, together, IsReading, IsPackedReading, max_values, items_of_subset, subsets_from, each_subset, without_turns, walk_shown, group}
+use Rattle.bufr_walk.specs.Prelude.{Taken, TurnRefusal, FieldSpec, Content, OperatorModel, begin, after_operator, after_field, element_spec, factor_spec, inserted_spec, Turns, finish, operator_turn, Rest, unroll, passes, pass_end, at_end, astray, NextTurn, ahead, asked, operated, in_one_turn, Course, next_item, counts_of, TakenField, Takes, oks, answers_of, Walked, ticked, WalkStop, ShowFault, Call, Timed, item_calls, subset_calls, calls_for, items_called, turns_for, Shows, IsStoredReading, PaysBits, items_in, Read, course_of, Item, plain, item_answer, after, next_after, turns_after, turns_in, ReadsSubsets, Values, apart, together, IsReading, IsPackedReading, max_values, items_of_subset, subsets_from, each_subset, without_turns, walk_shown, group}
 use Rattle.bufr_walk.specs.declared.reading.StoredItems.{StoredItems}
 use Rattle.bufr_walk.specs.Pass.{values_read, calls_of, turns_shown}
 use Rattle.bufr_walk.proofs.WalkLemmas.{stop_cases}
@@ -65,7 +65,7 @@ module _ (table : List Row) (n : ℕ) where
   delayed_turns : (fxy : ℕ) (body more : Tree) (rest : Rest) (a : ℕ) → ((c : ℕ) → Bounded (size body + (size more + a)) (passes c (unroll body) (unroll more rest)))
       → (counts : List ℕ) (s : OperatorModel) (items : List Taken) → (ahead table (unroll (delayed fxy body more) rest counts) s items).turns ≤ 3 + size body + size more + (a - n) + n * length items
   delayed_turns fxy body more rest a h [] s items =
-      omega (arith, asked_turns (factor_spec table s fxy) (λ t more_items. stop astray) items 1 (λ t more_items. omega arith))
+      omega (arith, asked_turns (factor_spec table s fxy) (λ t more_items. in_one_turn astray) items 1 (λ t more_items. omega arith))
   delayed_turns fxy body more rest a h (c ∷ counts) s items =
       omega (
         arith,
@@ -157,7 +157,7 @@ module _ (table : List Row) (n : ℕ) where
   delayed_longer : (fxy : ℕ) (body more : Tree) (rest rest' : Rest) → ((k : ℕ) → Longer (passes k (unroll body) (unroll more rest)) (passes k (unroll body) (unroll more rest')))
       → Longer (unroll (delayed fxy body more) rest) (unroll (delayed fxy body more) rest')
   delayed_longer fxy body more rest rest' h [] s items e =
-      omega (arith, asked_longer (factor_spec table s fxy) (λ t answers. stop astray) (λ t answers. stop astray) items (λ t answers q. cc) e)
+      omega (arith, asked_longer (factor_spec table s fxy) (λ t answers. in_one_turn astray) (λ t answers. in_one_turn astray) items (λ t answers q. cc) e)
   delayed_longer fxy body more rest rest' h (k ∷ counts) s items e =
       let go : Rest → Taken → List Taken → NextTurn = λ end t answers. ahead table (passes k (unroll body) (unroll more end) counts) (after_field s fxy t) answers in
       omega (arith, asked_longer (factor_spec table s fxy) (go rest) (go rest') items (λ t answers. h k counts (after_field s fxy t) answers) e)

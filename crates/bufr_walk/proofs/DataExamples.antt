@@ -3,12 +3,13 @@ use Rattle.std.proofs.Common.{◌≡◌, ℕ, Bool, true, false, List, [], ◌�
 use Rattle.bufr_bits.specs.Prelude.{bits_of}
 use Rattle.bufr_tables.specs.Prelude.{Tree, bare, element, operator, fixed}
 use Rattle.bufr_walk.specs.Prelude.{next_item, Stop, data_in, Course, DataCoding, plain, packed, Content, FieldSpec, FieldRead, FieldFault, unequal_factor, data_end, increment, Next, take_next, at_end, astray, refused, would_be_many, fault_at, Data, fault_of}
-use Rattle.bufr_walk.specs.Pass.{reading_of, reading_in, Pass, Place, Step, DataPass, pass, pass_next, pass_field, read_field, reading, place_at, read_pass, first_stop, stop_of, passes_apart, unless_stopped}
+use Rattle.bufr_walk.specs.Pass.{reading_of, reading_in, Pass, Place, Step, DataPass, pass, pass_next, pass_field, read_field, reading, place_at, read_pass, stop_of, passes_apart}
 use Rattle.bufr_walk.specs.declared.walker.WalkStop.TheVariants as stops
 use Rattle.bufr_walk.specs.declared.fault.DataFault.TheVariants as wrong
 use Rattle.bufr_walk.specs.declared.fault.WalkFault.TheVariants as fault
 use Rattle.bufr_walk.specs.declared.spec.TurnRefusal.TheVariants as turn
 use Rattle.bufr_walk.proofs.ExampleTables.{fxy, table}
+use Rattle.std.specs.Prelude.{is_none, is_some}
 
 -- how a reading of so many subsets ends: what stops it, in which subset, with how many bits left,
 -- and after how many turns
@@ -121,7 +122,7 @@ pass_stop {C} form many (suc more) course s = by (course []).next (pass_stop for
     by (refused (turn.Width fxy)) rest = tt
     by (refused (turn.Defining fxy)) rest = tt
 
-first_of : (first later : Option Stop) → IsNoneOrOther first → IsNoneOrOther later → IsNoneOrOther (first_stop first later)
+first_of : (first later : Option Stop) → IsNoneOrOther first → IsNoneOrOther later → IsNoneOrOther (if is_some first then first else later)
 first_of None later h g = g
 first_of (Some why) later h g = h
 
@@ -131,7 +132,7 @@ apart_stop course (suc n) bits =
     let p = read_pass plain (λ items. false) course bits in
     first_of p.stop _ (pass_stop plain (λ items. false) (suc (length bits)) course (place_at 0 bits)) (unless p.stop (passes_apart course n p.state.left) (apart_stop course n p.state.left))
   where
-    unless : (o : Option Stop) (passes : List (DataPass Content)) → IsNoneOrOther (stop_of passes) → IsNoneOrOther (stop_of (unless_stopped o passes))
+    unless : (o : Option Stop) (passes : List (DataPass Content)) → IsNoneOrOther (stop_of passes) → IsNoneOrOther (stop_of (if is_none o then passes else []))
     unless None passes h = h
     unless (Some why) passes h = tt
 

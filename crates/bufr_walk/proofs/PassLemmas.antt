@@ -7,10 +7,11 @@ use Rattle.bufr_tables.specs.Prelude.{Row, Tree, IsLegal, Record, AreRows}
 use Rattle.bufr_walk.specs.Prelude.{packed_field, increment_bits_of, are_increments_valid, equal_in, contents_of, FieldSpec, Content, FieldFault, FieldRead, found, Course, Next, take_next, at_end, astray, refused, next_item, Item, DataCoding, plain, packed, item_answer, after, ReadsItems, ReadsPass, next_after, turns_after, ReadsSubsets, IsPackedReading, Data, Values, apart, together, IsReading, Stop, would_be_many, max_values, wrong_of, stop_by}
 use Rattle.bufr_walk.specs.declared.walker.WalkStop.TheVariants as stops
 use Rattle.bufr_walk.specs.declared.fault.DataFault.TheVariants as wrong
-use Rattle.bufr_walk.specs.Pass.{Step, Pass, last_turn, item_then, pass_field, pass_next, pass, Place, place_at, read_field, reading, read_pass, DataPass, unless_stopped, passes_apart, passes_together, first_stop, stop_of, left_after, turns_in_all, DataReading, reading_in, reading_of, items_by_pass, first_items, EndsPass, ReadsTo}
+use Rattle.bufr_walk.specs.Pass.{Step, Pass, last_turn, item_then, pass_field, pass_next, pass, Place, place_at, read_field, reading, read_pass, DataPass, passes_apart, passes_together, stop_of, left_after, turns_in_all, DataReading, reading_in, reading_of, items_by_pass, first_items, EndsPass, ReadsTo}
 use Rattle.std.proofs.lemmas.Grind.{common_steps}
 use Rattle.std.proofs.lemmas.List.{drop-drop}
 use Rattle.bufr_walk.proofs.CourseLemmas.{IsSane, Forth, plain_forth, packed_forth, rows_within, template_sane}
+use Rattle.std.specs.Prelude.{is_none, is_some}
 
 no_stop : (s : Stop) → ◌≡◌ {A = Option Stop} None (Some s) → ⊥
 no_stop s e = cc
@@ -286,7 +287,7 @@ module _ (course : Course) (sane : (m : ℕ) → IsSane m course) where
   subsets_are (x ∷ xs) zero bits left h e = absurd (omega (arith, e))
   subsets_are (x ∷ xs) (suc n) bits left h e =
       let more = subsets_are xs n h.0 left h.2 (omega (arith, e)) in
-      subst (λ (p : DataPass Content). let ps = p ∷ unless_stopped p.stop (passes_apart course n p.state.left) in (stop_of ps ≡ None) × (items_by_pass ps ≡ x ∷ xs) × (left_after bits ps ≡ left))
+      subst (λ (p : DataPass Content). let ps = p ∷ (if is_none p.stop then passes_apart course n p.state.left else []) in (stop_of ps ≡ None) × (items_by_pass ps ≡ x ∷ xs) × (left_after bits ps ≡ left))
       (sym (subset_ends x bits h.0 h.1))
       (more.0, ap (λ ys. x ∷ ys) more.1, more.2)
 
@@ -310,7 +311,7 @@ module _ (course : Course) (sane : (m : ℕ) → IsSane m course) where
       by (read_pass plain (λ items. false) course bits).stop refl h so (subsets_so n (read_pass plain (λ items. false) course bits).state.left)
     where
       by : (o : Option Stop) → (read_pass plain (λ items. false) course bits).stop ≡ o
-          → first_stop o (stop_of (unless_stopped o (passes_apart course n (read_pass plain (λ items. false) course bits).state.left))) ≡ None
+          → (if is_some o then o else stop_of (if is_none o then passes_apart course n (read_pass plain (λ items. false) course bits).state.left else [])) ≡ None
           → ReadsSo plain (λ items. false) course 0 bits (read_pass plain (λ items. false) course bits)
           → (stop_of (passes_apart course n (read_pass plain (λ items. false) course bits).state.left) ≡ None
           → ReadsSubsets course (items_by_pass (passes_apart course n (read_pass plain (λ items. false) course bits).state.left)) (read_pass plain (λ items. false) course bits).state.left
@@ -318,7 +319,7 @@ module _ (course : Course) (sane : (m : ℕ) → IsSane m course) where
           × (length (items_by_pass (passes_apart course n (read_pass plain (λ items. false) course bits).state.left)) ≡ n)
           × IsSuffix (read_pass plain (λ items. false) course bits).state.left
           (left_after (read_pass plain (λ items. false) course bits).state.left (passes_apart course n (read_pass plain (λ items. false) course bits).state.left)))
-          → let ps = read_pass plain (λ items. false) course bits ∷ unless_stopped o (passes_apart course n (read_pass plain (λ items. false) course bits).state.left) in
+          → let ps = read_pass plain (λ items. false) course bits ∷ (if is_none o then passes_apart course n (read_pass plain (λ items. false) course bits).state.left else []) in
           ReadsSubsets course (items_by_pass ps) bits (left_after bits ps) × (length (items_by_pass ps) ≡ suc n) × IsSuffix bits (left_after bits ps)
       by None e h so more =
           let p = read_pass plain (λ items. false) course bits in
@@ -337,7 +338,7 @@ module _ (course : Course) (sane : (m : ℕ) → IsSane m course) where
       let ends = at_its_end (packed (suc n)) (would_be_many (suc n)) (next_after (packed (suc n)) course p.items) p.state p.stop (only p.stop h) so.0.ends in
       (((so.0.reads, ends), few_all (suc n) (length p.items) so.0.few), so.1)
     where
-      only : (o : Option Stop) → first_stop o None ≡ None → o ≡ None
+      only : (o : Option Stop) → (if is_some o then o else None) ≡ None → o ≡ None
       only None e = refl
       only (Some why) e = absurd cc
 

@@ -19,9 +19,10 @@ use Rattle.bufr_walk.specs.declared.fault.DataFault.TheVariants as wrong
 use Rattle.bufr_walk.specs.declared.spec.Taken.TheVariants as taken
 use Rattle.bufr_walk.proofs.WalkLemmas.{stop_cases}
 use Rattle.std.proofs.lemmas.List.{map-append, append-nil, length-map}
-use Rattle.bufr_walk.specs.Pass.{DataPass, read_pass, passes_apart, unless_stopped, stop_of, first_stop, left_after, turns_in_all, items_by_pass, values_read, calls_of, turns_shown, ReadsData, ReadsTo, place_at, EndsPass, reading}
+use Rattle.bufr_walk.specs.Pass.{DataPass, read_pass, passes_apart, stop_of, left_after, turns_in_all, items_by_pass, values_read, calls_of, turns_shown, ReadsData, ReadsTo, place_at, EndsPass, reading}
 use Rattle.bufr_walk.proofs.PassLemmas.{passed, pass_is, pass_prefix, ended}
 use Rattle.bufr_walk.specs.declared.reading.StoredItems.TheVariants as kept
+use Rattle.std.specs.Prelude.{is_none, is_some}
 
 -- ---- Subsets that are read one after another.
 
@@ -46,7 +47,7 @@ stop_append : (a b : List (DataPass Content)) → stop_of a ≡ None → stop_of
 stop_append [] b e = refl
 stop_append (p ∷ a) b e = by p.stop e (λ z. stop_append a b z)
   where
-    by : (o : Option Stop) → first_stop o (stop_of a) ≡ None → (stop_of a ≡ None → stop_of (a ++ b) ≡ stop_of b) → first_stop o (stop_of (a ++ b)) ≡ stop_of b
+    by : (o : Option Stop) → (if is_some o then o else stop_of a) ≡ None → (stop_of a ≡ None → stop_of (a ++ b) ≡ stop_of b) → (if is_some o then o else stop_of (a ++ b)) ≡ stop_of b
     by None e go = go e
     by (Some why) e go = absurd cc
 
@@ -111,7 +112,7 @@ one_more n course bits i s s' c c' h p few within forth =
       within = omega (arith, within, ap length same);
       passes = h.passes ++ pass ∷ [];
       goes = λ more. ap (λ k. passes_apart course k bits) (counted i more) ∙ h.goes (suc more)
-          ∙ ap (λ (q : DataPass Content). h.passes ++ (q ∷ unless_stopped q.stop (passes_apart course more q.state.left))) is
+          ∙ ap (λ (q : DataPass Content). h.passes ++ (q ∷ (if is_none q.stop then passes_apart course more q.state.left else []))) is
           ∙ sym (append_assoc h.passes (pass ∷ []) (passes_apart course more (rest_of s')));
       none = stop_append h.passes (pass ∷ []) h.none;
       left = left_append bits h.passes (pass ∷ []);
@@ -175,8 +176,8 @@ pub stopped_there : (n : ℕ) (course : Course) (octets : List ℕ) (total i : �
 stopped_there n course octets total i s s' c c' why h more p within = by p
   where
     goes : passes_apart course total (bits_of octets) ≡ h.passes ++
-        (read_pass plain (λ items. false) course (rest_of s) ∷ unless_stopped (read_pass plain (λ items. false) course (rest_of s)).stop
-        (passes_apart course (total - (i + 1)) (read_pass plain (λ items. false) course (rest_of s)).state.left))
+        (read_pass plain (λ items. false) course (rest_of s) ∷ (if is_none (read_pass plain (λ items. false) course (rest_of s)).stop
+        then passes_apart course (total - (i + 1)) (read_pass plain (λ items. false) course (rest_of s)).state.left else []))
     goes = ap (λ k. passes_apart course k (bits_of octets)) (others total i more) ∙ h.goes (suc (total - (i + 1)))
       where
         others : (total i : ℕ) → i < total → total ≡ i + suc (total - (i + 1))
@@ -198,7 +199,8 @@ stopped_there n course octets total i s s' c c' why h more p within = by p
           record {
             done = h.passes;
             here = read_pass plain (λ items. false) course (rest_of s);
-            later = unless_stopped (read_pass plain (λ items. false) course (rest_of s)).stop (passes_apart course (total - (i + 1)) (read_pass plain (λ items. false) course (rest_of s)).state.left);
+            later = if is_none (read_pass plain (λ items. false) course (rest_of s)).stop
+                then passes_apart course (total - (i + 1)) (read_pass plain (λ items. false) course (rest_of s)).state.left else [];
             among = goes;
             items = m.items;
             more = begins.0;
@@ -222,7 +224,7 @@ stopped_there n course octets total i s s' c c' why h more p within = by p
           turns = refl;
         }) in
         let all : passes_apart course total (bits_of octets) ≡ h.passes ++ pass ∷ [] =
-        goes ∙ ap (λ (z : DataPass Content). h.passes ++ (z ∷ unless_stopped z.stop (passes_apart course (total - (i + 1)) z.state.left))) is in
+        goes ∙ ap (λ (z : DataPass Content). h.passes ++ (z ∷ (if is_none z.stop then passes_apart course (total - (i + 1)) z.state.left else []))) is in
         let at : s'.at + length (rest_of s') ≡ length (bits_of octets) = here s' (bits_of octets) (m.same ∙ h.same) (omega (arith, within, ap length (m.same ∙ h.same))) in
         let count : length (h.passes ++ pass ∷ []) ≡ i + 1 = omega
         (arith, length-append h.passes (pass ∷ []), h.count_is, ap length h.items, length-map h.passes (λ (z : DataPass Content). z.items)) in

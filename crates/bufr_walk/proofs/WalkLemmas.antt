@@ -2,7 +2,7 @@
 use Rattle.std.proofs.lemmas.Grind.{common_steps}
 use Rattle.std.proofs.Common.{◌≡◌, ℕ, ◌+◌, List, [], ◌∷◌, ◌++◌, Result, refl, sym, ◌∙◌, ap, subst, zero-add, add_assoc, arith, ◌*◌, append-nil, Bool, true, false, Option, Some, None, Ok, Err, zero, suc, ◌-◌, ◌^◌, ◌<◌, length, drop, get_or, add-zero, ◌≤◌, length-append, ◌==◌, nat_lt, nat_le, if◌then◌else◌}
 use Rattle.bufr_tables.specs.Prelude.{Row, entry_of, x_of, Tree, delayed, is_inserted_text, bare, element, operator, fixed, size, depth, is_legal_operator, cells_of, AreCellsOf, IsLegal}
-use Rattle.bufr_walk.specs.Prelude.{Kind, Taken, FieldSpec, IsFor, IsForRole, is_reference, OperatorModel, after_field, after_operator, is_defining, element_spec, factor_spec, inserted_spec, if_valid_width, spec_by_kind, new_reference_spec, defined_field, numeric_spec, coded_spec, text_spec, text_width, local_width_spec, listed_by, unsigned_field, begin, Rest, Course, NextTurn, later, ahead, counts_of, finish, open_end, operator_turn, unroll, passes, turns_of, asked, operated, counts_in, stop, at_end, refused, next_item, TakenField, Takes, oks, answers_of, StopsWalk, ticked, Walked, TakesField, stop_by, WalkStop, Role, TurnRefusal, Next, take_next, astray}
+use Rattle.bufr_walk.specs.Prelude.{Kind, Taken, FieldSpec, IsFor, IsForRole, is_reference, OperatorModel, after_field, after_operator, is_defining, element_spec, factor_spec, inserted_spec, if_valid_width, spec_by_kind, new_reference_spec, defined_field, numeric_spec, coded_spec, text_spec, text_width, local_width_spec, listed_by, unsigned_field, begin, Rest, Course, NextTurn, later, ahead, counts_of, finish, open_end, operator_turn, unroll, passes, turns_of, asked, operated, counts_in, in_one_turn, at_end, refused, next_item, TakenField, Takes, oks, answers_of, StopsWalk, ticked, Walked, TakesField, stop_by, WalkStop, Role, TurnRefusal, Next, take_next, astray}
 use Rattle.bufr_walk.proofs.WalkProgress.{WalkGoes, Stops, HasWalked, StopsIn, course, tail_of, costs, owed, OpenGroup, frames_of, turns_after_pass, AllGroupsFit, IsAtNodes, IsAtCell, weight, Turned}
 use Rattle.std.proofs.lemmas.Bool.Decides.{nat_tests}
 use Rattle.std.proofs.lemmas.List.{drop-drop}
@@ -298,7 +298,7 @@ module _ {S E : Type 0} (takes : S → FieldSpec → Result Taken E → S → Ty
     turns = 1;
     ticks = tick;
     way = λ rest.
-        let h : course table (over rest) s [] ≡ stop (refused why) = operator_is over left fxy s x is rest [] [] ∙ ap (λ r. operated r (λ s2. ahead table (left rest []) s2 [])) e in
+        let h : course table (over rest) s [] ≡ in_one_turn (refused why) = operator_is over left fxy s x is rest [] [] ∙ ap (λ r. operated r (λ s2. ahead table (left rest []) s2 [])) e in
         record { items = []; mid = f; taken = refl; stops = subst (λ x. StopsWalk takes x f (stop_by why) f) (sym (ap (λ x. x.next) h)) (refl, refl); turns = ap (λ x. x.turns) h };
   }
 
@@ -307,7 +307,7 @@ module _ {S E : Type 0} (takes : S → FieldSpec → Result Taken E → S → Ty
       → Walked takes (course table (turns_of template) s) f c (Ok tt) f' c''
   whole template s s' f f' c c' c'' w tick =
       let way : WalkGoes takes (course table (turns_of template) s) f w.turns (course table (λ _. finish) s') f' = w.way (λ _. finish) in
-      let last : course table (turns_of template) s (answers_of way.items) ≡ later w.turns (stop at_end) =
+      let last : course table (turns_of template) s (answers_of way.items) ≡ later w.turns (in_one_turn at_end) =
       ap (λ answers. course table (turns_of template) s answers) (sym (append-nil (answers_of way.items))) ∙ way.leads [] in
       (way.items, way.taken, ap (λ x. x.next) last, tick ∙ ap (λ k. ticked k 1) w.ticks ∙ ticked_twice c w.turns 1 ∙ ap (ticked c) (sym (ap (λ x. x.turns) last)))
 

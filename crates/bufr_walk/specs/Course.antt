@@ -75,26 +75,26 @@ abbrev pub later : ℕ → NextTurn → NextTurn
 later n a = record { turns = n + a.turns; next = a.next }
 
 -- what comes next, in one turn
-abbrev pub stop : Next → NextTurn
-stop next = record { turns = 1; next = next }
+abbrev pub in_one_turn : Next → NextTurn
+in_one_turn next = record { turns = 1; next = next }
 
 -- a field: an item was taken there, or it comes next
 abbrev pub asked : Result FieldSpec TurnRefusal → (Taken → List Taken → NextTurn) → List Taken
     → NextTurn
-asked (Err why) go answers = stop (refused why)
-asked (Ok spec) go [] = stop (take_next spec)
+asked (Err why) go answers = in_one_turn (refused why)
+asked (Ok spec) go [] = in_one_turn (take_next spec)
 asked (Ok spec) go (t ∷ answers) = later 1 (go t answers)
 
 -- an operator: it is applied, or refused
 abbrev pub operated : Result OperatorModel TurnRefusal → (OperatorModel → NextTurn) → NextTurn
-operated (Err why) go = stop (refused why)
+operated (Err why) go = in_one_turn (refused why)
 operated (Ok settings) go = later 1 (go settings)
 
 -- what comes next in these turns, after items that returned `answers`
 -- rule: defining-fixed-groups, 2-03-255-alone
 abbrev pub ahead : List Row → Turns → OperatorModel → List Taken → NextTurn
-ahead table finish s answers = stop at_end
-ahead table open_end s answers = stop astray
+ahead table finish s answers = in_one_turn at_end
+ahead table open_end s answers = in_one_turn astray
 ahead table (group next) s answers = later 1 (ahead table next s answers)
 ahead table (pass_end next) s answers = later 1 (ahead table next s answers)
 ahead table (factor_turn fxy next) s answers =

@@ -1,5 +1,5 @@
--- That a walk meets no element that Table B lacks. (WMO-No. 306, Volume I.2, FM 94: section 3)
--- Cited by public contracts.
+-- Only laws need this file. That a walk meets no element that Table B lacks. (WMO-No. 306, Volume
+-- I.2, FM 94: section 3)
 use Rattle.std.specs.Prelude.{◌≡◌, true, false, List, [], ◌∷◌, Result, Ok, Err, is_some}
 use Rattle.bufr_tables.specs.Prelude.{Row, entry_of, is_inserted_text}
 use Rattle.bufr_walk.specs.Content.{Taken, FieldSpec}

@@ -2,7 +2,7 @@
 -- and the reading of data, which is made of passes. (WMO-No. 306, Volume I.2, FM 94: sections 3 and
 -- 4; the order of the faults at one item is a choice of this project)
 -- Cited by public contracts.
-use Rattle.std.specs.Prelude.{ℕ, zero, suc, ◌+◌, ◌-◌, Bool, true, false, List, [], ◌∷◌, length, Result, Ok, Err, Option, Some, None, option_map, map, if◌then◌else◌, ◌≡◌, ◌<◌, ◌++◌, ◌%◌, ◌⊎◌, ◌==◌}
+use Rattle.std.specs.Prelude.{ℕ, zero, suc, ◌+◌, ◌-◌, Bool, true, false, List, [], ◌∷◌, length, Result, Ok, Err, Option, Some, None, option_map, map, if◌then◌else◌, ◌≡◌, ◌<◌, ◌++◌, ◌%◌, ◌⊎◌, ◌==◌, is_none, is_some}
 use Rattle.bufr_walk.specs.Content.{Taken, FieldSpec, Content, FieldFault, FieldRead}
 use Rattle.bufr_walk.specs.Rules.{TurnRefusal}
 use Rattle.bufr_walk.specs.Course.{stop_by, Course, Next, take_next, at_end, astray, refused, ticked, next_item}
@@ -43,12 +43,7 @@ last_turn turn state stop = record { items = []; turns = turn; state = state; st
 -- an item, and the pass after it
 abbrev pub item_then : {S C E : Type 0} → FieldSpec → C → Pass S C E → Pass S C E
 item_then spec content p =
-    record {
-      items = record { spec = spec; content = content } ∷ p.items;
-      turns = p.turns;
-      state = p.state;
-      stop = p.stop;
-    }
+    record p { items = record { spec = spec; content = content } ∷ p.items }
 
 module _ {S C E : Type 0} (how : Passing S C E) where
   -- a field: its step stops the pass, or the rest of the pass follows it
@@ -126,20 +121,15 @@ read_pass form many course bits =
 abbrev pub DataPass : Type 0 → Type 0
 DataPass C = Pass Place C Stop
 
--- what follows a pass, unless that is stopped
-abbrev pub unless_stopped : {C : Type 0} → Option Stop → List (DataPass C) → List (DataPass C)
-unless_stopped None rest = rest
-unless_stopped (Some why) rest = []
-
 -- a pass for each of n subsets, from the beginning of the template, up to one that is stopped
 -- rule: operators-end-with-subset, subsets-without-padding
 abbrev pub passes_apart : Course → (n : ℕ) → List Bool → List (DataPass Content)
 passes_apart course zero bits = []
 passes_apart course (suc n) bits =
     let p = read_pass plain (λ items. false) course bits in
-    p ∷ unless_stopped p.stop (passes_apart course n p.state.left)
+    p ∷ (if is_none p.stop then passes_apart course n p.state.left else [])
 
--- one pass for n compressed subsets; with no subset there is none
+-- one pass for n compressed subsets; with no subset there is none (own)
 -- rule: no-subsets
 abbrev pub passes_together : Course → (n : ℕ) → List Bool → List (DataPass (List Content))
 passes_together course zero bits = []
@@ -147,13 +137,9 @@ passes_together course (suc n) bits =
     read_pass (packed (suc n)) (would_be_many (suc n)) course bits ∷ []
 
 -- what stops passes, if anything
-abbrev pub first_stop : Option Stop → Option Stop → Option Stop
-first_stop None later = later
-first_stop (Some why) later = Some why
-
 abbrev pub stop_of : {C : Type 0} → List (DataPass C) → Option Stop
 stop_of [] = None
-stop_of (p ∷ passes) = first_stop p.stop (stop_of passes)
+stop_of (p ∷ passes) = if is_some p.stop then p.stop else stop_of passes
 
 -- the bits that are left after passes over bits
 abbrev pub left_after : {C : Type 0} → List Bool → List (DataPass C) → List Bool

@@ -1,6 +1,5 @@
--- The readers of data, compressed or not: one pass over them, fields shown at once, an item as the
--- code reads it, and what a reading keeps.
--- Cited by public contracts.
+-- Only contracts need this file. The readers of data, compressed or not: one pass over them, fields
+-- shown at once, an item as the code reads it, and what a reading keeps.
 use Rattle.std.specs.Prelude.{ℕ, ◌≡◌, ◌≤◌, ◌+◌, Bool, List, drop, Result, Ok, Err, ◌++◌, ◌<◌, ◌*◌, ◌%◌, ◌==◌, ◌&&◌, ◌||◌, true, false, [], ◌∷◌, length, take, ◌/◌, ◌-◌, map, get_or}
 use Rattle.bufr_walk.specs.Content.{Taken, FieldSpec, Content, answer_of, plain_field, found, data_end, FieldFault, FieldRead, packed_field, answer_first}
 use Rattle.bufr_walk.specs.Reading.{wrong_of, Item, plain, turns_after, ReadsPass, Read, course_of, max_values, items_at_once, Data, Values, apart, together, IsReading, ShowFault, Call, item_call, view_of, Timed, item_calls, Shows, content_at, PackedValues}

@@ -85,7 +85,7 @@ ReadsSubsets course (items ∷ subsets) bits suffix =
     (mid : List Bool) × ReadsPass plain course items bits mid
     × ReadsSubsets course subsets mid suffix
 
--- the most values of a compressed message
+-- the most values of a compressed message (own)
 -- rule: too-many-values
 abbrev pub max_values : ℕ
 max_values = 134217728

@@ -76,14 +76,14 @@ with_operator x y s =
     else if x == 8 then record s { character_octets = y }
     else s
 
--- the operators in force after one; while references are being defined only their end is allowed
+-- the operators in force after one; only their end is allowed while references are defined (own)
 -- rule: defining-no-other-operator, fault-32-before-31
 abbrev pub after_operator : OperatorModel → ℕ → Result OperatorModel TurnRefusal
 after_operator s fxy =
     if is_defining s && not (x_of fxy == 3 && y_of fxy == 255) then Err (refusal.Defining fxy)
     else Ok (with_operator (x_of fxy) (y_of fxy) s)
 
--- the references, with that of an element in place of the one before
+-- the references, with that of an element in place of the one before (own)
 -- rule: last-reference-counts
 abbrev pub with_reference : (fxy : ℕ) → (reference : ℤ) → List Redefined → List Redefined
 with_reference fxy reference [] = record { fxy = fxy; reference = reference } ∷ []
@@ -122,7 +122,7 @@ operator_width width precision change =
     let wider = width + (10 * precision + 2) / 3 in
     if change == 0 then wider else (wider + change) - 128
 
--- an unsigned number of a given width; in class 31 none is missing
+-- an unsigned number of a given width; in class 31 none is missing (own)
 -- rule: 2-06-y-of-class-31, class-31-never-missing
 abbrev pub unsigned_field : (fxy width : ℕ) → FieldSpec
 unsigned_field fxy width =
@@ -137,7 +137,7 @@ unsigned_field fxy width =
       listed = false;
     }
 
--- a figure of a code table: only a redefined reference changes it
+-- a figure of a code table: only a redefined reference changes it (own)
 -- rule: new-reference-of-figures, figures-unchanged
 abbrev pub coded_spec : OperatorModel → Row → FieldSpec
 coded_spec s row = record (unsigned_field row.fxy row.width) {
@@ -147,7 +147,7 @@ coded_spec s row = record (unsigned_field row.fxy row.width) {
   listed = true;
 }
 
--- a quantity, by its row or the latest redefined reference, with the changes in force
+-- a quantity, by its row or the latest redefined reference, with the changes in force (own)
 -- rule: 2-07-y, 2-01-2-02-2-07-add-up, 2-07-y-of-a-new-reference, new-reference-of-quantities
 abbrev pub numeric_spec : OperatorModel → Row → FieldSpec
 numeric_spec s row = record (coded_spec s row) {
@@ -180,13 +180,13 @@ abbrev pub defined_field : OperatorModel → ℕ → FieldSpec
 defined_field s fxy = record (unsigned_field fxy s.new_reference_width)
     { role = role.Reference; may_be_missing = false }
 
--- an element whose reference is being defined; no text has one
+-- an element whose reference is being defined; no text has one (own)
 -- rule: defining-no-text
 abbrev pub new_reference_spec : Kind → OperatorModel → ℕ → Result FieldSpec TurnRefusal
 new_reference_spec kind.Character s fxy = Err (refusal.Defining fxy)
 new_reference_spec _ s fxy = if_valid_width (defined_field s fxy)
 
--- an element of a given width: by its row alone where Table B has that width, else unsigned
+-- an element of a given width: by its row alone where Table B has that width, else unsigned (own)
 -- rule: 2-06-y, 2-06-y-width-of-table-b, 2-06-y-other-width
 abbrev pub local_width_spec : Option Row → OperatorModel → ℕ → Result FieldSpec TurnRefusal
 local_width_spec None s fxy = if_valid_width (unsigned_field fxy s.local_width)
@@ -207,7 +207,7 @@ element_spec table s fxy =
     if nat_lt 0 s.local_width then local_width_spec (entry_of table fxy) s fxy
     else listed_by (entry_of table fxy) s fxy
 
--- the factor of a delayed replication, by its row alone
+-- the factor of a delayed replication, by its row alone (own)
 abbrev pub factor_field : Row → ℕ → FieldSpec
 factor_field row fxy = record (coded_spec begin row)
     { fxy = fxy; role = role.Factor; kind = kind.Numeric; may_be_missing = false }

@@ -1,5 +1,5 @@
 use Rattle.std.proofs.Common.{◌∙◌, true, false, sym, ap, Err}
-use Rattle.bufr_fill.specs.Prelude.{draft, value_by, at_line_if_fault}
+use Rattle.bufr_fill.specs.Prelude.{draft, value_by, map_err, at_line}
 use Rattle.bufr_fill.proofs.FieldLemmas.{marks, entry_is}
 use Rattle.bufr_fill.proofs.field_value.field_content.Goals as goal
 
@@ -20,12 +20,12 @@ pub returns-in-Ok-clause-is : goal.returns-in-Ok-clause-is
 returns-in-Ok-clause-is c =
     let e = c.args.entry.now in
     let octets = c.args.octets.now in
-    ap (at_line_if_fault e.line) c.in-Ok.ensures.is
+    ap (map_err (at_line e.line)) c.in-Ok.ensures.is
     ∙ sym (entry_is c.args.spec.now e octets c.in-Some.kind true c.in-Some.is (sym (c.is_of.ensures e.line e.start octets) ∙ c.if-not-is_of.false))
 
 pub returns-in-Err-clause-is : goal.returns-in-Err-clause-is
 returns-in-Err-clause-is c =
     let e = c.args.entry.now in
     let octets = c.args.octets.now in
-    ap (at_line_if_fault e.line) c.in-Err.ensures.is
+    ap (map_err (at_line e.line)) c.in-Err.ensures.is
     ∙ sym (entry_is c.args.spec.now e octets c.in-Some.kind true c.in-Some.is (sym (c.is_of.ensures e.line e.start octets) ∙ c.if-not-is_of.false))
