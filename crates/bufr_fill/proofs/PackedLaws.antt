@@ -14,6 +14,10 @@ use Rattle.bufr_walk.specs.declared.spec.Role.{Role}
 use Rattle.bufr_tables.specs.Prelude.{is_character}
 use Rattle.bufr_walk.specs.Prelude.{FieldSpec, IsSpec, HasRole, HasWidth, Content, number, text, missing, content_in, bits_for, FieldFault, increment, FieldRead, found, increments, padded_text, kind_step, increment_bits_of, is_missing, stays_within, all_within, are_number_increments_valid, are_increments_valid_by, are_increments_valid, all_equal, equal_in, increased_to, number_from, content_from, contents_of, packed_field}
 use Rattle.bufr_walk.proofs.PackedLemmas.{item_tested, item_ok, neither}
+use Rattle.bufr_walk.specs.Prelude.{is_reference}
+use Rattle.bufr_fill.proofs.PackingLemmas.{kinds_over_same}
+use Rattle.bufr_walk.proofs.CodingLemmas.{packed_same, item_parts, equal_is}
+use Rattle.bufr_walk.specs.Prelude.{step_of, coding_of, contents_across, if_equal}
 use Rattle.bufr_fill.specs.Prelude.{raw_limit, same, are_same, lowest, has_bits, has_octets, least_k, increment_bits, octet_bits, packed_bits, numbers_over, packed_by, packed_unlike, packing, k_of, HasLeastK, first_from, FitsNumber, FitsText, FitsKind, FitsRole, Fits, AllFit, Role, Kind}
 use Rattle.bufr_fill.proofs.FieldLemmas.{number_again, number_back, top_below, same_ok}
 use Rattle.bufr_fill.proofs.LeastLemmas.{first_least, first_passes, first_from_start, content_same, are_same_copies, AreNumbers, AreOver, none_over, lowest_over, lowest_fits, under_lowest, octets_self, top_some}
@@ -33,7 +37,34 @@ pub record IsUnpacked (n : ℕ) (spec : FieldSpec) (bits : List Bool) (cs : List
   pub contents : contents_of spec k n (take spec.width bits) (drop (spec.width + 6) bits) ≡ cs
   pub used : spec.width + 6 + n * increment_bits_of spec.role spec.kind k + length mid ≡ length bits
 
-module _ (n : ℕ) (spec : FieldSpec) where
+-- with some contents there is some subset
+none_across : (spec : FieldSpec) (k : ℕ) (base suffix : List Bool) → contents_across (coding_of spec) k zero base suffix ≡ Some []
+none_across spec k base suffix = by (k == 0)
+  where
+    by : (b : Bool) → ◌≡◌ {A = Option (List Content)} (if b then Some (replicate zero (content_in spec base)) else Some []) (Some [])
+    by true = refl
+    by false = refl
+
+none_read : (spec : FieldSpec) (bits : List Bool) (cs : List Content) (mid : List Bool) → packed_field zero spec bits ≡ Ok (found cs mid) → [] ≡ cs
+none_read spec bits cs mid e =
+    let k = number_of (take 6 (drop spec.width bits)) in
+    let base = take spec.width bits in
+    let suffix = drop (spec.width + 6) bits in
+    let used = zero * step_of (coding_of spec) k in
+    let t = item_parts (nat_lt (length bits) (spec.width + 6) || nat_lt (length suffix) used) (contents_across (coding_of spec) k zero base suffix) (if_equal spec.role) (drop used suffix) cs mid e in
+    some_same [] t.1 (sym (none_across spec k base suffix) ∙ t.2) ∙ equal_is spec.role t.1 cs t.3
+  where
+    some_same : (a b : List Content) → ◌≡◌ {A = Option (List Content)} (Some a) (Some b) → a ≡ b
+    some_same a b e = cc
+
+some_read : (n : ℕ) (spec : FieldSpec) (c : Content) (cs : List Content) (bits mid : List Bool) → packed_field n spec bits ≡ Ok (found (c ∷ cs) mid) → 1 ≤ n
+some_read zero spec c cs bits mid e = let no = none_read spec bits (c ∷ cs) mid e in absurd cc
+some_read (suc n) spec c cs bits mid e = omega arith
+
+some_long : (c : Content) (cs : List Content) (n : ℕ) → length (c ∷ cs) ≡ n → 1 ≤ n
+some_long c cs n h = omega (arith, h)
+
+module _ (n : ℕ) (spec : FieldSpec) (good : IsSpec spec) (some : 1 ≤ n) where
   k_small : (bits : List Bool) → number_of (take 6 bits) ≤ 63
   k_small bits =
       let l : length (take 6 bits) ≤ 6 = omega (arith, length-take 6 bits) in
@@ -46,7 +77,7 @@ module _ (n : ℕ) (spec : FieldSpec) where
       let suffix = drop (spec.width + 6) bits in
       let used = n * increment_bits_of spec.role spec.kind k in
       let t = item_ok (nat_lt (length bits) (spec.width + 6) || nat_lt (length suffix) used) (k == 0 || are_increments_valid spec.role spec k n (take spec.width bits) suffix)
-      (k == 0 || equal_in spec.role k n suffix) (contents_of spec k n (take spec.width bits) suffix) (drop used suffix) cs mid e in
+      (k == 0 || equal_in spec.role k n suffix) (contents_of spec k n (take spec.width bits) suffix) (drop used suffix) cs mid (sym (packed_same n spec bits good some) ∙ e) in
       let ends = neither (nat_lt (length bits) (spec.width + 6)) (nat_lt (length suffix) used) t.0 in
       let long : spec.width + 6 ≤ length bits = ltb-false (length bits) (spec.width + 6) ends.0 in
       let enough : used ≤ length suffix = ltb-false (length suffix) used ends.1 in
@@ -83,7 +114,7 @@ module _ (n : ℕ) (spec : FieldSpec) where
       omega (arith, ap length turned, length-append base (bits_in k 6 ++ (pieces ++ more)), length-append (bits_in k 6) (pieces ++ more), length-append pieces more, lb, length-bits_in k 6) in
       let none : nat_lt (length all) (w + 6) ≡ false = le-ltb (length all) (w + 6) (omega (arith, size)) in
       let enough : nat_lt (length (pieces ++ more)) (n * step) ≡ false = le-ltb (length (pieces ++ more)) (n * step) (omega (arith, length-append pieces more, lp)) in
-      ap (λ j. tested all j (take w all) (drop (w + 6) all)) is_k ∙ ap (λ x. tested all k x (drop (w + 6) all)) first ∙ ap (λ x. tested all k base x) suffix
+      packed_same n spec all good some ∙ ap (λ j. tested all j (take w all) (drop (w + 6) all)) is_k ∙ ap (λ x. tested all k x (drop (w + 6) all)) first ∙ ap (λ x. tested all k base x) suffix
       ∙ rw (none, enough, holds, equal, e, drop_at pieces more (n * step) lp) refl
 
 -- ---- contents that differ
@@ -294,29 +325,34 @@ increments_count : (n k : ℕ) (bits : List Bool) → length (increments n k bit
 increments_count zero k bits = refl
 increments_count (suc n) k bits = ap suc (increments_count n k (drop k bits))
 
+varied_kinds : (kd : Kind) (m : Bool) (w k : ℕ) (cs : List Content) → IsVaried kd m w k cs → AllByRecursion (λ (c : Content). FitsKind kd m w c) cs
+varied_kinds kind.Character m w k cs v = v.0
+varied_kinds kind.Coded m w k cs v = v.0
+varied_kinds kind.Numeric m w k cs v = v.0
+
 -- an element or an inserted text: its increments are those of its kind
 record IsOpen (spec : FieldSpec) : Type 0 where
   holds : (k n : ℕ) (base suffix : List Bool) → are_increments_valid spec.role spec k n base suffix ≡ are_increments_valid_by spec.kind spec k n base suffix
   equal : (k n : ℕ) (suffix : List Bool) → equal_in spec.role k n suffix ≡ true
   steps : (k : ℕ) → increment_bits_of spec.role spec.kind k ≡ kind_step spec.kind k
-  packings : (cs : List Content) → packed_unlike spec.role spec cs ≡ packed_by (is_character spec.kind) spec cs
+  packings : (cs : List Content) → AllByRecursion (λ (c : Content). FitsKind spec.kind spec.may_be_missing spec.width c) cs → packed_unlike spec.role spec cs ≡ packed_by (is_character spec.kind) spec cs
   fit : (c : Content) → FitsKind spec.kind spec.may_be_missing spec.width c → Fits spec c
 
-open_element : (spec : FieldSpec) → spec.role ≡ role.Element → IsOpen spec
-open_element spec e = record {
+open_element : (spec : FieldSpec) → IsSpec spec → spec.role ≡ role.Element → IsOpen spec
+open_element spec good e = record {
   holds = λ k n b s. ap (λ r. are_increments_valid r spec k n b s) e;
   equal = λ k n s. ap (λ r. equal_in r k n s) e;
   steps = λ k. ap (λ r. increment_bits_of r spec.kind k) e;
-  packings = λ cs. ap (λ r. packed_unlike r spec cs) e;
+  packings = λ cs fit. ap (λ r. packed_unlike r spec cs) e ∙ kinds_over_same spec good (ap is_reference e) cs fit;
   fit = λ c f. subst (λ r. FitsRole r spec c) (sym e) f;
 }
 
-open_inserted : (spec : FieldSpec) → spec.role ≡ role.Inserted → IsOpen spec
-open_inserted spec e = record {
+open_inserted : (spec : FieldSpec) → IsSpec spec → spec.role ≡ role.Inserted → IsOpen spec
+open_inserted spec good e = record {
   holds = λ k n b s. ap (λ r. are_increments_valid r spec k n b s) e;
   equal = λ k n s. ap (λ r. equal_in r k n s) e;
   steps = λ k. ap (λ r. increment_bits_of r spec.kind k) e;
-  packings = λ cs. ap (λ r. packed_unlike r spec cs) e;
+  packings = λ cs fit. ap (λ r. packed_unlike r spec cs) e ∙ kinds_over_same spec good (ap is_reference e) cs fit;
   fit = λ c f. subst (λ r. FitsRole r spec c) (sym e) f;
 }
 
@@ -334,7 +370,7 @@ module _ (n : ℕ) (spec : FieldSpec) (good : IsSpec spec) where
       record {
         out = packed_bits base 0 [];
         is = ap (λ b. if b then Ok (packed_bits base 0 []) else packed_unlike spec.role spec (c ∷ cs)) same_all;
-        again = λ more. packed_reads n spec base 0 [] more (c ∷ cs) lb (omega arith) (omega (arith, none)) refl refl
+        again = λ more. packed_reads n spec good (some_long c cs n count) base 0 [] more (c ∷ cs) lb (omega arith) (omega (arith, none)) refl refl
             (ap (replicate n) (content_back spec good c fits) ∙ ap (λ j. replicate j c) (sym count) ∙ ap (λ xs. c ∷ xs) (sym (same_copies c cs same_all)));
         short = omega (arith, room, lb, length-append base (bits_in 0 6 ++ []), length-append (bits_in 0 6) [], length-bits_in 0 6);
         fits = (fits, subst (AllFit spec) (sym (same_copies c cs same_all)) (copies_fit spec c (length cs) fits));
@@ -349,8 +385,8 @@ module _ (n : ℕ) (spec : FieldSpec) (good : IsSpec spec) where
       let no_zero : (w.k == 0) ≡ false = not_zero w.k w.some in
       record {
         out = packed_bits w.base w.k w.pieces;
-        is = ap (λ b. if b then Ok (packed_bits (bits_for spec.width c) 0 []) else packed_unlike spec.role spec (c ∷ cs)) unlike ∙ o.packings (c ∷ cs) ∙ w.is;
-        again = λ more. packed_reads n spec w.base w.k w.pieces more (c ∷ cs) w.long w.small (size ∙ ap (λ s. n * s) (sym (o.steps w.k)))
+        is = ap (λ b. if b then Ok (packed_bits (bits_for spec.width c) 0 []) else packed_unlike spec.role spec (c ∷ cs)) unlike ∙ o.packings (c ∷ cs) (varied_kinds spec.kind spec.may_be_missing spec.width k (c ∷ cs) varies) ∙ w.is;
+        again = λ more. packed_reads n spec good (some_long c cs n count) w.base w.k w.pieces more (c ∷ cs) w.long w.small (size ∙ ap (λ s. n * s) (sym (o.steps w.k)))
             (rw no_zero (o.holds w.k n w.base (w.pieces ++ more) ∙ ap (λ j. are_increments_valid_by spec.kind spec w.k j w.base (w.pieces ++ more)) (sym count) ∙ w.holds more))
             (rw no_zero (o.equal w.k n (w.pieces ++ more)))
             (rw no_zero (ap (λ j. map (content_from spec.kind spec w.k w.base) (increments j (kind_step spec.kind w.k) (w.pieces ++ more))) (sym count) ∙ w.back more));
@@ -395,8 +431,8 @@ module _ (n : ℕ) (spec : FieldSpec) (good : IsSpec spec) where
     -- what was read with k above 0, for each role
     by_role : (r : Role) → spec.role ≡ r → n * increment_bits_of spec.role spec.kind k ≤ length suffix → are_increments_valid spec.role spec k n base suffix ≡ true
         → equal_in spec.role k n suffix ≡ true → PacksWithin n spec (c ∷ cs) (spec.width + 6 + n * increment_bits_of spec.role spec.kind k)
-    by_role role.Element er enough h q = of_open (open_element spec er) enough h
-    by_role role.Inserted er enough h q = of_open (open_inserted spec er) enough h
+    by_role role.Element er enough h q = of_open (open_element spec good er) enough h
+    by_role role.Inserted er enough h q = of_open (open_inserted spec good er) enough h
     by_role role.Reference er enough h q = let no : false ≡ true = ap (λ r. are_increments_valid r spec k n base suffix) (sym er) ∙ h in absurd cc
     by_role role.Factor er enough h q =
         let as_number : spec.kind ≡ kind.Numeric = (subst (λ r. HasRole r spec.kind spec.may_be_missing) er good.role).0 in
@@ -422,7 +458,7 @@ module _ (n : ℕ) (spec : FieldSpec) (good : IsSpec spec) where
       → (most : ℕ) × (most + length mid ≤ length bits) × PacksWithin n spec (c ∷ cs) most
   packed_again c cs bits mid e =
       let k = number_of (take 6 (drop spec.width bits)) in
-      let u = unpacked n spec bits (c ∷ cs) mid e in (
+      let u = unpacked n spec good (some_read n spec c cs bits mid e) bits (c ∷ cs) mid e in (
         spec.width + 6 + n * increment_bits_of spec.role spec.kind k,
         omega (arith, u.used),
         by_k (k == 0) k refl c cs (take spec.width bits) (drop (spec.width + 6) bits) u.base u.small u.enough u.holds u.equal u.contents,
@@ -430,15 +466,19 @@ module _ (n : ℕ) (spec : FieldSpec) (good : IsSpec spec) where
 
   -- an item has a content for each subset
   pub packed_count : (cs : List Content) (bits mid : List Bool) → packed_field n spec bits ≡ Ok (found cs mid) → length cs ≡ n
-  packed_count cs bits mid e =
-      let k = number_of (take 6 (drop spec.width bits)) in
-      let u = unpacked n spec bits cs mid e in
-      ap length (sym u.contents) ∙ by (k == 0) k (take spec.width bits) (drop (spec.width + 6) bits)
+  packed_count cs bits mid e = count_by n e
     where
-      by : (b : Bool) (k : ℕ) (base suffix : List Bool) → length (if b then replicate n (content_in spec base) else map (content_from spec.kind spec k base)
+      by : (n : ℕ) (b : Bool) (k : ℕ) (base suffix : List Bool) → length (if b then replicate n (content_in spec base) else map (content_from spec.kind spec k base)
           (increments n (kind_step spec.kind k) suffix)) ≡ n
-      by true k base suffix = length-replicate n (content_in spec base)
-      by false k base suffix = length-map (increments n (kind_step spec.kind k) suffix) (content_from spec.kind spec k base) ∙ increments_count n (kind_step spec.kind k) suffix
+      by n true k base suffix = length-replicate n (content_in spec base)
+      by n false k base suffix = length-map (increments n (kind_step spec.kind k) suffix) (content_from spec.kind spec k base) ∙ increments_count n (kind_step spec.kind k) suffix
+
+      count_by : (n : ℕ) → packed_field n spec bits ≡ Ok (found cs mid) → length cs ≡ n
+      count_by zero e = ap length (sym (none_read spec bits cs mid e))
+      count_by (suc n) e =
+          let k = number_of (take 6 (drop spec.width bits)) in
+          let u = unpacked (suc n) spec good (omega arith) bits cs mid e in
+          ap length (sym u.contents) ∙ by (suc n) (k == 0) k (take spec.width bits) (drop (spec.width + 6) bits)
 
 -- An item is packed with the least k of all that its contents are read from. Bits of one item with
 -- the same contents differ in length by their k alone. So an item is packed in no more bits than
@@ -458,11 +498,11 @@ module _ (n : ℕ) (spec : FieldSpec) (some : 1 ≤ n) where
   lesser_k r false k j base suffix p e h = lesser_step spec.kind k j (le_of_mul-le-mul_left h some)
 
   -- of two items with the same contents the one that is no longer has no greater k
-  shorter : (out bits : List Bool) (cs : List Content) (suffix : List Bool) → packed_field n spec out ≡ Ok (found cs []) → packed_field n spec bits ≡ Ok (found cs suffix)
+  shorter : IsSpec spec → (out bits : List Bool) (cs : List Content) (suffix : List Bool) → packed_field n spec out ≡ Ok (found cs []) → packed_field n spec bits ≡ Ok (found cs suffix)
       → length out + length suffix ≤ length bits → k_of spec out ≤ k_of spec bits
-  shorter out bits cs suffix e f h =
-      let a = unpacked n spec out cs [] e in
-      let b = unpacked n spec bits cs suffix f in
+  shorter good out bits cs suffix e f h =
+      let a = unpacked n spec good some out cs [] e in
+      let b = unpacked n spec good some bits cs suffix f in
       lesser_k spec.role (k_of spec out == 0) (k_of spec out) (k_of spec bits) _ _ refl a.holds (omega (arith, h, a.used, b.used))
 
   module _ (good : IsSpec spec) where
@@ -482,7 +522,7 @@ module _ (n : ℕ) (spec : FieldSpec) (some : 1 ≤ n) where
           out = p.out;
           is = p.is;
           again = p.again;
-          least = λ bs mid f. shorter p.out bs (c ∷ cs) mid alone f (no_longer c cs p.out bs mid p.is f);
+          least = λ bs mid f. shorter good p.out bs (c ∷ cs) mid alone f (no_longer c cs p.out bs mid p.is f);
           short = λ bs mid f. no_longer c cs p.out bs mid p.is f;
         }
 
@@ -568,15 +608,15 @@ module _ (n : ℕ) (spec : FieldSpec) (good : IsSpec spec) where
   unlike_open : IsOpen spec → (c : Content) (cs : List Content) (out : List Bool) → AllKind spec.kind spec.may_be_missing spec.width (c ∷ cs) → length (c ∷ cs) ≡ n → are_same c cs ≡ false
       → packed_unlike spec.role spec (c ∷ cs) ≡ Ok out → (most : ℕ) × PacksWithin n spec (c ∷ cs) most
   unlike_open o c cs out fits count unlike e =
-      let v = kind_varies spec.kind spec (c ∷ cs) out good.width fits (sym (o.packings (c ∷ cs)) ∙ e) in
+      let v = kind_varies spec.kind spec (c ∷ cs) out good.width fits (sym (o.packings (c ∷ cs) fits) ∙ e) in
       let most = spec.width + 6 + n * kind_step spec.kind v.0 in
       (most, differing n spec good o c cs v.0 most v.1 v.2 v.3 unlike count (omega arith))
 
   unlike_by_role : (r : Role) → spec.role ≡ r → (c : Content) (cs : List Content) (out : List Bool) → AllFit spec (c ∷ cs) → length (c ∷ cs) ≡ n → are_same c cs ≡ false
       → packed_unlike r spec (c ∷ cs) ≡ Ok out → (most : ℕ) × PacksWithin n spec (c ∷ cs) most
-  unlike_by_role role.Element er c cs out fits count unlike e = unlike_open (open_element spec er) c cs out (kinds_of role.Element er (λ x f. f) (c ∷ cs) fits) count unlike
+  unlike_by_role role.Element er c cs out fits count unlike e = unlike_open (open_element spec good er) c cs out (kinds_of role.Element er (λ x f. f) (c ∷ cs) fits) count unlike
       (ap (λ r. packed_unlike r spec (c ∷ cs)) er ∙ e)
-  unlike_by_role role.Inserted er c cs out fits count unlike e = unlike_open (open_inserted spec er) c cs out (kinds_of role.Inserted er (λ x f. f) (c ∷ cs) fits) count unlike
+  unlike_by_role role.Inserted er c cs out fits count unlike e = unlike_open (open_inserted spec good er) c cs out (kinds_of role.Inserted er (λ x f. f) (c ∷ cs) fits) count unlike
       (ap (λ r. packed_unlike r spec (c ∷ cs)) er ∙ e)
   unlike_by_role r er c cs out fits count unlike e = absurd cc
 

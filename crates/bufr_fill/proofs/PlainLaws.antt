@@ -1,6 +1,7 @@
 -- A plain field that was read is written from the item that a dump writes, and read again.
 use Rattle.std.proofs.lemmas.Grind.{common_steps}
 use Rattle.std.proofs.lemmas.Bool.{eqb-true, le-ltb, lt-ltb, eq-eqb}
+use Rattle.bufr_walk.proofs.CodingLemmas.{said_same}
 use Rattle.bufr_walk.specs.Prelude.{FieldSpec, IsSpec, HasWidth, HasRole, HasMissing, is_reference, Content, found, number, text, missing, reference, content_by, content_in, bits_for, data_end, FieldRead, plain_field, signed_by, said_by, sign_bit, max_values, Item, DataCoding, ReadsItems, ReadsPass, after, Course, take_next}
 use Rattle.bufr_fill.specs.Prelude.{ItemFault, Role, Kind, Draft, DraftValue, number_token, text_form, missing_form, reference_token, draft_value_of, content_of, content_by_form, raw_within, raw_of, reference_of, text_within, is_marked, wrong_for, IsMinusZero, is_of, decimal_again, normal_form, raw_limit, ItemRow, written_item, Filler, fill, with_bits_before, AreDrafts, contents_here, FitsText, FitsKind, FitsRole, Fits}
 use Rattle.bufr_fill.specs.declared.fault.ItemFault.TheVariants as wrong
@@ -189,7 +190,7 @@ module _ (spec : FieldSpec) (good : IsSpec spec) where
 
   -- the bits of a content that fits have that content
   pub content_back : (c : Content) → Fits spec c → content_in spec (bits_for spec.width c) ≡ c
-  content_back c h = role_back spec.role c h
+  content_back c h = said_same spec (bits_for spec.width c) good ∙ role_back spec.role c h
 
   role_length : (r : Role) (c : Content) → FitsRole r spec c → length (bits_for spec.width c) ≡ spec.width
   role_length role.Reference (reference v) h = omega (arith, length-bits_in (nat_abs v) (spec.width - 1), width_least spec.kind spec.width good.width)
@@ -205,7 +206,7 @@ module _ (spec : FieldSpec) (good : IsSpec spec) where
 
   -- the content of bits fits
   pub content_fits : (bits : List Bool) → length bits ≡ spec.width → Fits spec (content_in spec bits)
-  content_fits bits l = role_fits spec.role bits l
+  content_fits bits l = subst (Fits spec) (sym (said_same spec bits good)) (role_fits spec.role bits l)
 
   -- a content that fits is read from its bits, whatever follows them
   pub plain_again : (c : Content) → Fits spec c → (more : List Bool) → plain_field spec (bits_for spec.width c ++ more) ≡ Ok (found c more)
@@ -269,7 +270,7 @@ role_same role.Reference spec good bits l h = signed_same bits spec.width l (wid
 role_same r spec good bits l h = kind_same (are_all_ones bits && spec.may_be_missing) spec.may_be_missing spec.kind spec.width bits l good.width refl
 
 pub same_bits : (spec : FieldSpec) → IsSpec spec → (bits : List Bool) → length bits ≡ spec.width → (IsMinusZero spec.role bits → ⊥) → bits_for spec.width (content_in spec bits) ≡ bits
-same_bits spec good bits l h = role_same spec.role spec good bits l h
+same_bits spec good bits l h = ap (bits_for spec.width) (said_same spec bits good) ∙ role_same spec.role spec good bits l h
 
 -- ---- The one spelling of an item is the value of its content.
 

@@ -1,7 +1,7 @@
 //! The writer of compressed data, from the items of a dump text.
 ghost use Rattle.std.specs.Prelude.{◌≡◌, ◌==◌, ◌≤◌, ◌<◌, ◌+◌, ◌*◌, ◌/◌, ◌^◌, IfOk, Ok, length, ℕ, slice_get, Some, List, ◌-◌, ◌++◌, ◌∷◌, [], true, false, take, unwrap_or, vec_len};
 ghost use Rattle.bufr_walk.specs.Prelude.{IsFor, is_reference, max_values};
-ghost use Rattle.bufr_fill.specs.Prelude.{item_row, cells_at, contents_here, RowCell, unlike_line, same, are_same, lowest, increment_bits, octet_bits, packed_by, subsets_of, AreContentsOf, padded_contents, IsRangeOf, entry_or_end, cell_line, ReturnsRow, PutAcross, number_or, spread, trimmed, most_need, PacksItem, FitsIncrement, AreShort, least_from, ends_of, first_line_at, EndsAllSubsets, entry_with, padded_content, IsContentOf, raw_limit, FieldContent, StartsPackedOut, PackedFills, spaced};
+ghost use Rattle.bufr_fill.specs.Prelude.{item_row, cells_at, contents_here, RowCell, unlike_line, same, are_same, lowest, increment_bits, octet_bits, packed_over, subsets_of, AreContentsOf, padded_contents, IsRangeOf, entry_or_end, cell_line, ReturnsRow, PutAcross, number_or, spread, trimmed, most_need, PacksItem, FitsIncrement, AreShort, least_from, ends_of, first_line_at, EndsAllSubsets, entry_with, padded_content, IsContentOf, raw_limit, FieldContent, StartsPackedOut, PackedFills, spaced};
 ghost use Rattle.std.specs.Str.{bytes_eq};
 ghost use Rattle.std.specs.List.{flat_map, list_all};
 ghost use Rattle.bufr_bits.specs.Prelude.{bits_in, bits_of, padding};
@@ -478,7 +478,7 @@ fn pack_numbers(
     requires contents { AreContentsOf spec.now contents.now }
     requires range { IsRangeOf range contents.now }
     requires room { length out.old.bits + (69 + 63 * length contents.now) ≤ 2 ^ 63 }
-    ensures { PacksItem out.old.bits out.new.bits (packed_by (is_character spec.now.kind) spec.now
+    ensures { PacksItem out.old.bits out.new.bits (packed_over spec.now
         (padded_contents (spec.now.width / 8) contents.now)) (69 + 63 * length contents.now)
         result }
 {
@@ -578,7 +578,7 @@ fn pack_texts(
     requires element { is_reference spec.now.role ≡ false }
     requires contents { AreContentsOf spec.now contents.now }
     requires room { length out.old.bits + (2046 + 504 * length contents.now) ≤ 2 ^ 63 }
-    ensures { PacksItem out.old.bits out.new.bits (packed_by (is_character spec.now.kind) spec.now
+    ensures { PacksItem out.old.bits out.new.bits (packed_over spec.now
         (padded_contents (spec.now.width / 8) contents.now)) (2046 + 504 * length contents.now)
         result }
 {

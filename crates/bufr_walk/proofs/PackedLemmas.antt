@@ -9,7 +9,7 @@ use Rattle.std.proofs.Math.Nat.{pow-le-pow_right, mul-le-mul_right}
 use Rattle.std.proofs.lemmas.Bool.Decides.{nat_tests}
 use Rattle.bufr_bits.specs.Prelude.{number_of, are_all_ones, bits_of, bits_at}
 use Rattle.bufr_bits.proofs.BitLemmas.{number_of-below, length-bits_at}
-use Rattle.bufr_walk.specs.Prelude.{increments, ones, padded_text, increment_bits_of, contents_of, packed_field, are_increments_valid, equal_in, FieldSpec, Content, content_in, FieldFault, increment, unequal_factor, FieldRead, found, data_end, stays_within, all_within, is_missing, are_number_increments_valid, are_increments_valid_by, number_from, content_from, kind_step, content_kept, contents_found, was_found, has_base, fits_at, Role, IndexedItem, content_at, Kind}
+use Rattle.bufr_walk.specs.Prelude.{increments, ones, padded_text, increment_bits_of, contents_of, tested_field, are_increments_valid, equal_in, FieldSpec, Content, content_in, FieldFault, increment, unequal_factor, FieldRead, found, data_end, stays_within, all_within, is_missing, are_number_increments_valid, are_increments_valid_by, number_from, content_from, kind_step, content_kept, contents_found, was_found, has_base, fits_at, Role, IndexedItem, content_at, Kind}
 use Rattle.bufr_tables.specs.declared.table_b.Kind.{Kind}
 use Rattle.bufr_bits.proofs.DecimalLemmas.{and_first, and_second}
 use Rattle.bufr_tables.specs.Prelude.{is_character}
@@ -105,16 +105,16 @@ pub neither : (a b : Bool) → (a || b) ≡ false → (a ≡ false) × (b ≡ fa
 neither true b h = absurd cc
 neither false b h = (refl, h)
 
-pub parts : (bits : List Bool) (at n : ℕ) (a : FieldSpec) (k : ℕ) → was_found (packed_field n a (drop at bits)) ≡ true → k ≡ number_of (take 6 (drop (at + a.width) bits))
-    → IsAt bits at n a k (contents_found (packed_field n a (drop at bits)))
+pub parts : (bits : List Bool) (at n : ℕ) (a : FieldSpec) (k : ℕ) → was_found (tested_field n a (drop at bits)) ≡ true → k ≡ number_of (take 6 (drop (at + a.width) bits))
+    → IsAt bits at n a k (contents_found (tested_field n a (drop at bits)))
 parts bits at n a k h is =
     let here = drop at bits in
     let read = number_of (take 6 (drop a.width here)) in
     let suffix = drop (a.width + 6) here in
-    let there = found_by (packed_field n a here) h in
+    let there = found_by (tested_field n a here) h in
     let t = item_ok (nat_lt (length here) (a.width + 6) || nat_lt (length suffix) (n * increment_bits_of a.role a.kind read))
     (read == 0 || are_increments_valid a.role a read n (take a.width here) suffix) (read == 0 || equal_in a.role read n suffix) (contents_of a read n (take a.width here) suffix)
-    (drop (n * increment_bits_of a.role a.kind read) suffix) (contents_found (packed_field n a here)) there.0 there.1 in
+    (drop (n * increment_bits_of a.role a.kind read) suffix) (contents_found (tested_field n a here)) there.0 there.1 in
     let ends = neither (nat_lt (length here) (a.width + 6)) (nat_lt (length suffix) (n * increment_bits_of a.role a.kind read)) t.0 in
     let same_k : read ≡ k = ap (λ bs. number_of (take 6 bs)) (drop-drop a.width at bits) ∙ sym is in
     let same : suffix ≡ drop (at + (a.width + 6)) bits = drop-drop (a.width + 6) at bits in
@@ -136,9 +136,9 @@ pub kept_base : (bits : List Bool) (n : ℕ) (e : IndexedItem) → fits_at bits 
 kept_base bits n e h k = grind (arith, common_steps, and_second, eqb-true)
 
 -- the parts of a kept item
-pub kept_parts : (bits : List Bool) (n : ℕ) (e : IndexedItem) → fits_at bits n e ≡ true → IsAt bits e.at n e.spec e.step (contents_found (packed_field n e.spec (drop e.at bits)))
+pub kept_parts : (bits : List Bool) (n : ℕ) (e : IndexedItem) → fits_at bits n e ≡ true → IsAt bits e.at n e.spec e.step (contents_found (tested_field n e.spec (drop e.at bits)))
 kept_parts bits n e h =
-    parts bits e.at n e.spec e.step (and_first (was_found (packed_field n e.spec (drop e.at bits))) ((e.step == number_of (take 6 (drop (e.at + e.spec.width) bits))) && has_base bits e) h)
+    parts bits e.at n e.spec e.step (and_first (was_found (tested_field n e.spec (drop e.at bits))) ((e.step == number_of (take 6 (drop (e.at + e.spec.width) bits))) && has_base bits e) h)
     (kept_step bits n e h)
 
 -- one content of increments

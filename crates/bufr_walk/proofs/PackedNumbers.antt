@@ -6,7 +6,7 @@ use Rattle.bufr_walk.specs.Prelude.{number_from, Content, number, missing, Field
 use Rattle.bufr_tables.specs.Prelude.{is_character}
 use Rattle.std.proofs.lemmas.Bool.Decides.{nat_tests}
 use Rattle.bufr_walk.proofs.PackedLemmas.{base_content, kept_base, kept_ones, kept_parts, number_holds, varied_parts, number_content}
-use Rattle.bufr_walk.proofs.ShownLemmas.{value_by, said_number}
+use Rattle.bufr_walk.proofs.PlainLemmas.{number_said}
 
 -- with no increments it is the base
 base_content_is : (octets : List ℕ) (n : ℕ) (e : IndexedItem) (j : ℕ) → fits_at (bits_of octets) n e ≡ true → e.step ≡ 0 → j < n → is_character e.spec.kind ≡ false → is_reference e.spec.role ≡ false
@@ -14,8 +14,8 @@ base_content_is : (octets : List ℕ) (n : ℕ) (e : IndexedItem) (j : ℕ) → 
 base_content_is octets n e j h none below k r b is =
     let base = bits_at octets e.at e.spec.width in
     ap (λ x. if x && e.spec.may_be_missing then missing else number e.base) (sym is ∙ kept_ones octets n e h k)
-    ∙ ap (λ x. if are_all_ones base && e.spec.may_be_missing then missing else x) (ap number (kept_base (bits_of octets) n e h k) ∙ sym (said_number e.spec.kind e.spec.width base k))
-    ∙ sym (value_by e.spec.role e.spec base r) ∙ sym (base_content (bits_of octets) n e j h none below)
+    ∙ ap (λ x. if are_all_ones base && e.spec.may_be_missing then missing else x) (ap number (kept_base (bits_of octets) n e h k))
+    ∙ sym (number_said e.spec base k r) ∙ sym (base_content (bits_of octets) n e j h none below)
 
 pub base_missing : (octets : List ℕ) (n : ℕ) (e : IndexedItem) (j : ℕ) → fits_at (bits_of octets) n e ≡ true → e.step ≡ 0 → j < n → is_character e.spec.kind ≡ false → is_reference e.spec.role ≡ false
     → e.spec.may_be_missing ≡ true → e.base ≡ 2 ^ e.spec.width - 1 → missing ≡ content_kept (bits_of octets) n e j

@@ -8,7 +8,7 @@ use Rattle.bufr_bits.specs.Prelude.{number_of}
 use Rattle.bufr_tables.specs.Prelude.{is_character, Row, Tree}
 use Rattle.bufr_walk.specs.declared.compressed.ItemBits.{ItemBits}
 use Rattle.bufr_walk.specs.declared.fault.DataFault.{DataFault}
-use Rattle.bufr_walk.specs.Prelude.{FieldSpec, data_end, FieldFault, increment, unequal_factor, Content, FieldRead, increment_bits_of, contents_of, are_increments_valid, answer_first, equal_in, packed_field, IsSeen, IsUnseen, HasSpecAt, IsPut, no_field, item_at_location, indexed_items, IsStoredReading, PackedCursor, item_at, items_at, contents_found, fits_at, packed_view, IsPackedTaken, wrong_of, PackedTakes, remaining_bits, refuses_packed, new_packed_in, fault_at, IndexedItem, max_values, items_at_once, Item, packed, ReadsItems, ReadsPass, next_after, turns_after, after, Data, together, IsPackedReading, spot, fault_at, bits_before, IsReading, KeepsValues, Stop, would_be_many, data_in, data_of, read_by, WalkStop, Course, Next, take_next, refused, next_item, TakenField, Takes, ticked, oks, answers_of, Walked, TurnRefusal, stop_by}
+use Rattle.bufr_walk.specs.Prelude.{FieldSpec, data_end, FieldFault, increment, unequal_factor, Content, FieldRead, increment_bits_of, contents_of, tested_field, IsSpec, are_increments_valid, answer_first, equal_in, packed_field, IsSeen, IsUnseen, HasSpecAt, IsPut, no_field, item_at_location, indexed_items, IsStoredReading, PackedCursor, item_at, items_at, contents_found, fits_at, packed_view, IsPackedTaken, wrong_of, PackedTakes, remaining_bits, refuses_packed, new_packed_in, fault_at, IndexedItem, max_values, items_at_once, Item, packed, ReadsItems, ReadsPass, next_after, turns_after, after, Data, together, IsPackedReading, spot, fault_at, bits_before, IsReading, KeepsValues, Stop, would_be_many, data_in, data_of, read_by, WalkStop, Course, Next, take_next, refused, next_item, TakenField, Takes, ticked, oks, answers_of, Walked, TurnRefusal, stop_by}
 use Rattle.std.specs.Ordering.{int_eq}
 use Rattle.std.proofs.Math.Bool.{beq}
 use Rattle.std.specs.List.{All, list_all}
@@ -17,6 +17,7 @@ use Rattle.std.proofs.Math.Nat.{mul-le-mul_left}
 use Rattle.bufr_frame.specs.Prelude.{Sections}
 use Rattle.bufr_walk.proofs.PlainLemmas.{used_most}
 use Rattle.bufr_walk.proofs.PackedLemmas.{item_tested}
+use Rattle.bufr_walk.proofs.CodingLemmas.{packed_same}
 use Rattle.bufr_walk.specs.declared.fault.DataFault.TheVariants as wrong
 use Rattle.bufr_walk.specs.declared.spec.Role.TheVariants as role
 use Rattle.bufr_walk.specs.declared.walker.WalkStop.TheVariants as stops
@@ -36,7 +37,11 @@ IsReadAndKept course d entries used steps =
 pub none_read : (course : Course) (bits : List Bool) → IsReadAndKept course (record { compressed = true; subsets = 0; bits = bits }) [] 0 0
 none_read course bits = ((refl, omega arith, (refl, refl)), (refl, omega arith, refl), (refl, refl))
 
-module _ (bits : List Bool) (at n : ℕ) (a : FieldSpec) where
+module _ (bits : List Bool) (at n : ℕ) (a : FieldSpec) (good : IsSpec a) (some_subset : 1 ≤ n) where
+  -- the item is the same by its tests
+  same_item : packed_field n a (drop at bits) ≡ tested_field n a (drop at bits)
+  same_item = packed_same n a (drop at bits) good some_subset
+
   -- the k that is read there
   k_here : (k : ℕ) → k ≡ number_of (take 6 (drop (at + a.width) bits)) → number_of (take 6 (drop a.width (drop at bits))) ≡ k
   k_here k is = ap (λ bs. number_of (take 6 bs)) (drop-drop a.width at bits) ∙ sym is
@@ -48,14 +53,14 @@ module _ (bits : List Bool) (at n : ℕ) (a : FieldSpec) where
       (k == 0 || are_increments_valid a.role a k n (take a.width (drop at bits)) suffix) (k == 0 || equal_in a.role k n suffix) (contents_of a k n (take a.width (drop at bits)) suffix)
       (drop (n * increment_bits_of a.role a.kind k) suffix)
 
-  field_is : (k : ℕ) → k ≡ number_of (take 6 (drop (at + a.width) bits)) → packed_field n a (drop at bits) ≡ tested k (drop (at + (a.width + 6)) bits)
+  field_is : (k : ℕ) → k ≡ number_of (take 6 (drop (at + a.width) bits)) → tested_field n a (drop at bits) ≡ tested k (drop (at + (a.width + 6)) bits)
   field_is k is = ap (λ x. tested x (drop (a.width + 6) (drop at bits))) (k_here k is) ∙ ap (tested k) (drop-drop (a.width + 6) at bits)
 
   -- an item that the data end in
   pub ends_first : (f : ℕ) → f ≡ a.fxy → at ≤ length bits → length bits < at + (a.width + 6) → IsUnseen bits at n a (wrong.DataEnd f)
   ends_first f g within short = record {
     why = data_end;
-    field = rw (lt-ltb (length (drop at bits)) (a.width + 6) (omega (arith, length-drop at bits))) refl;
+    field = same_item ∙ rw (lt-ltb (length (drop at bits)) (a.width + 6) (omega (arith, length-drop at bits))) refl;
     fault = ap wrong.DataEnd g;
   }
 
@@ -66,7 +71,7 @@ module _ (bits : List Bool) (at n : ℕ) (a : FieldSpec) where
       let s = increment_bits_of a.role a.kind k in
       record {
         why = data_end;
-        field = field_is k is ∙ rw (
+        field = same_item ∙ field_is k is ∙ rw (
           le-ltb (length (drop at bits)) (a.width + 6) (omega (arith, length-drop at bits)),
           lt-ltb (length suffix) (n * s) (omega (arith, length-drop (at + (a.width + 6)) bits)),
         ) refl;
@@ -75,7 +80,7 @@ module _ (bits : List Bool) (at n : ℕ) (a : FieldSpec) where
 
   -- an item that is there whole
   whole : (k size : ℕ) → at + size ≤ length bits → k ≡ number_of (take 6 (drop (at + a.width) bits)) → size ≡ a.width + 6 + n * increment_bits_of a.role a.kind k
-      → packed_field n a (drop at bits) ≡ item_tested false (k == 0 || are_increments_valid a.role a k n (take a.width (drop at bits)) (drop (at + (a.width + 6)) bits))
+      → tested_field n a (drop at bits) ≡ item_tested false (k == 0 || are_increments_valid a.role a k n (take a.width (drop at bits)) (drop (at + (a.width + 6)) bits))
       (k == 0 || equal_in a.role k n (drop (at + (a.width + 6)) bits)) (contents_of a k n (take a.width (drop at bits)) (drop (at + (a.width + 6)) bits)) (drop (at + size) bits)
   whole k size within is size_is =
       let suffix = drop (at + (a.width + 6)) bits in
@@ -93,7 +98,8 @@ module _ (bits : List Bool) (at n : ℕ) (a : FieldSpec) where
       → (is_character a.kind ≡ false → seen.base ≡ number_of (take a.width (drop at bits))) → IsSeen bits at n a seen
   seen_here seen size some end_is within is size_is holds equal gives based = record {
     contents = contents_of a seen.step n (take a.width (drop at bits)) (drop (at + (a.width + 6)) bits);
-    field = whole seen.step size within is size_is ∙ rw (holds, equal, end_is) refl;
+    field = same_item ∙ whole seen.step size within is size_is ∙ rw (holds, equal, end_is) refl;
+    tested = whole seen.step size within is size_is ∙ rw (holds, equal, end_is) refl;
     gives = gives;
     step = is;
     base = based;
@@ -103,12 +109,12 @@ module _ (bits : List Bool) (at n : ℕ) (a : FieldSpec) where
 
   pub invalid_here : (k size f : ℕ) → f ≡ a.fxy → at + size ≤ length bits → k ≡ number_of (take 6 (drop (at + a.width) bits)) → size ≡ a.width + 6 + n * increment_bits_of a.role a.kind k
       → (k == 0 || are_increments_valid a.role a k n (take a.width (drop at bits)) (drop (at + (a.width + 6)) bits)) ≡ false → IsUnseen bits at n a (wrong.Increment f)
-  invalid_here k size f g within is size_is h = record { why = increment; field = whole k size within is size_is ∙ rw h refl; fault = ap wrong.Increment g }
+  invalid_here k size f g within is size_is h = record { why = increment; field = same_item ∙ whole k size within is size_is ∙ rw h refl; fault = ap wrong.Increment g }
 
   pub unequal_here : (k size f : ℕ) → f ≡ a.fxy → at + size ≤ length bits → k ≡ number_of (take 6 (drop (at + a.width) bits)) → size ≡ a.width + 6 + n * increment_bits_of a.role a.kind k
       → (k == 0 || are_increments_valid a.role a k n (take a.width (drop at bits)) (drop (at + (a.width + 6)) bits)) ≡ true → (k == 0 || equal_in a.role k n (drop (at + (a.width + 6)) bits)) ≡ false
       → IsUnseen bits at n a (wrong.UnequalFactor f)
-  unequal_here k size f g within is size_is h e = record { why = unequal_factor; field = whole k size within is size_is ∙ rw (h, e) refl; fault = ap wrong.UnequalFactor g }
+  unequal_here k size f g within is size_is h e = record { why = unequal_factor; field = same_item ∙ whole k size within is size_is ∙ rw (h, e) refl; fault = ap wrong.UnequalFactor g }
 
 -- the bits of an item, part by part
 pub size_same : (x w y n z s : ℕ) → x ≡ w → y ≡ n → z ≡ s → x + 6 + y * z ≡ w + 6 + n * s
@@ -176,7 +182,7 @@ takes_one bits at n kept kept' e seen here few look is = record {
   bits = refl;
   subsets = refl;
   items = ap (items_at bits n) is ∙ items_at-append bits n kept e ∙ ap (λ x. items_at bits n kept ++ (let i : Item (List Content) = record { spec = e.spec; content = x } in i) ∷ [])
-      (ap (λ j. contents_found (packed_field n e.spec (drop j bits))) here ∙ ap contents_found look.field);
+      (ap (λ j. contents_found (tested_field n e.spec (drop j bits))) here ∙ ap contents_found look.tested);
   forth = look.least;
 }
 

@@ -5,7 +5,8 @@ use Rattle.bufr_fill.specs.Prelude.{padded_contents, increment_bits, packed_bits
 use Rattle.bufr_tables.specs.Prelude.{is_character}
 use Rattle.bufr_walk.specs.Prelude.{FieldSpec, is_reference}
 use Rattle.bufr_fill.specs.declared.packed_out.NumberRange.{NumberRange}
-use Rattle.bufr_fill.proofs.LeastLemmas.{base_under, numbers_packed, parts_put, parts_length, k_narrow, k_short, spread_over}
+use Rattle.bufr_fill.proofs.PackingLemmas.{numbers_over_same}
+use Rattle.bufr_fill.proofs.LeastLemmas.{numbers_fit, base_under, numbers_packed, parts_put, parts_length, k_narrow, k_short, spread_over}
 use Rattle.bufr_fill.proofs.RowLemmas.{few_bits}
 use Rattle.bufr_fill.proofs.packed_out.pack_numbers.Goals as goal
 
@@ -106,7 +107,8 @@ returns c =
     (c.width-width.ensures.narrow c.requires.number) c.requires.contents c.requires.range (c.base-base.ensures 0 c.args.contents.now c.requires.range) c.saturating_sub.ensures c.may_be_missing.ensures
     c.least_bits-k.ensures).narrow in (
       packed_bits (bits_in base c.args.spec.now.width) k (flat_map (increment_bits base k) (padded_contents count c.args.contents.now)),
-      numbers_packed c.args.spec.now count c.args.contents.now base k c.requires.number (c.base-base.ensures count c.args.contents.now c.requires.range)
+      numbers_over_same c.args.spec.now (padded_contents count c.args.contents.now) narrow c.requires.number c.requires.element (numbers_fit c.args.spec.now c.requires.number c.requires.element count c.args.contents.now c.requires.contents)
+          ∙ numbers_packed c.args.spec.now count c.args.contents.now base k c.requires.number (c.base-base.ensures count c.args.contents.now c.requires.range)
           (is_width c.args.spec.now c.args.range c.args.contents.now _ _ _ _ c.requires.number c.requires.element c.width-width.ensures.some (c.width-width.ensures.narrow c.requires.number)
           c.requires.contents c.requires.range (c.base-base.ensures 0 c.args.contents.now c.requires.range) c.saturating_sub.ensures c.may_be_missing.ensures c.least_bits-k.ensures).value,
       put,

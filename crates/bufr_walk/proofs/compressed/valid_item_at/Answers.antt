@@ -36,7 +36,7 @@ pub returns-then-left-width-clause-seen : goal.returns-then-left-width-clause-se
 returns-then-left-width-clause-seen c =
     let all = bits_length (octets_of c.args.bits.now) in
     let wide : c.from-width.result ≡ c.args.spec.now.width = c.from-width.ensures ∙ c.width.ensures.value in
-    ends_first (bits_of (octets_of c.args.bits.now)) c.args.at c.args.subsets c.args.spec.now _ c.fxy.ensures (omega (arith, all, c.requires.within))
+    ends_first (bits_of (octets_of c.args.bits.now)) c.args.at c.args.subsets c.args.spec.now c.width.ensures.spec c.requires.subsets _ c.fxy.ensures (omega (arith, all, c.requires.within))
     (omega (arith, all, wide, c.len_bits.ensures, c.if-left-width.true, c.requires.within))
 
 pub returns-then-left-size-clause-seen : goal.returns-then-left-size-clause-seen
@@ -45,7 +45,7 @@ returns-then-left-size-clause-seen c =
     let all = bits_length (octets_of c.args.bits.now) in
     let wide : c.from-width.result ≡ c.args.spec.now.width = c.from-width.ensures ∙ c.width.ensures.value in
     let size = c.from-width.result + 6 + c.from.result * c.from-2.result in
-    ends_after bits c.args.at c.args.subsets c.args.spec.now c.number_at-k.result size _ c.fxy-then-left-size.ensures
+    ends_after bits c.args.at c.args.subsets c.args.spec.now c.width.ensures.spec c.requires.subsets c.number_at-k.result size _ c.fxy-then-left-size.ensures
     (omega (arith, all, wide, c.len_bits.ensures, c.if-left-width.false, c.requires.within)) (omega (arith, all, c.len_bits.ensures, c.if-left-size.true, c.requires.within))
     (c.number_at-k.ensures.value ∙ ap (λ w. number_of (take 6 (drop (c.args.at + w) bits))) wide)
     (size_same _ _ _ _ _ _ wide c.from.ensures (c.from-2.ensures ∙ c.increment_bits_of.ensures.value))
@@ -60,7 +60,7 @@ returns-clause-seen c =
       | then-is_text w ↦ let no : false ≡ true = sym number ∙ sym c.is_text.ensures ∙ w.if-is_text.true in absurd cc
       | else-is_text w ↦ w.result-is ∙ w.number_at-else-is_text.ensures.value ∙ ap (λ x. number_of (take x (drop c.args.at bits))) w.width-else-is_text.ensures.value
     ] in
-    let seen = seen_here bits c.args.at c.args.subsets c.args.spec.now
+    let seen = seen_here bits c.args.at c.args.subsets c.args.spec.now c.width.ensures.spec c.requires.subsets
     (record { answer = c.if-k-eq0.answer; step = c.number_at-k.result; base = c.if-is_text.result; end = c.args.at + (c.from-width.result + 6 + c.from.result * c.from-2.result) })
     (c.from-width.result + 6 + c.from.result * c.from-2.result) c.width.ensures.some refl
     (omega (arith, all, c.len_bits.ensures, c.if-left-size.false, c.requires.within))
@@ -83,7 +83,7 @@ returns-then-reference-clause-seen c =
     let bits = bits_of (octets_of c.args.bits.now) in
     let all = bits_length (octets_of c.args.bits.now) in
     let wide : c.from-width.result ≡ c.args.spec.now.width = c.from-width.ensures ∙ c.width.ensures.value in
-    invalid_here bits c.args.at c.args.subsets c.args.spec.now c.number_at-k.result (c.from-width.result + 6 + c.from.result * c.from-2.result) _ c.fxy-then-reference.ensures
+    invalid_here bits c.args.at c.args.subsets c.args.spec.now c.width.ensures.spec c.requires.subsets c.number_at-k.result (c.from-width.result + 6 + c.from.result * c.from-2.result) _ c.fxy-then-reference.ensures
     (omega (arith, all, c.len_bits.ensures, c.if-left-size.false, c.requires.within))
     (c.number_at-k.ensures.value ∙ ap (λ w. number_of (take 6 (drop (c.args.at + w) bits))) wide)
     (size_same _ _ _ _ _ _ wide c.from.ensures (c.from-2.ensures ∙ c.increment_bits_of.ensures.value)) (search rules)
@@ -93,7 +93,7 @@ returns-then-not-valid-clause-seen c =
     let bits = bits_of (octets_of c.args.bits.now) in
     let all = bits_length (octets_of c.args.bits.now) in
     let wide : c.from-width.result ≡ c.args.spec.now.width = c.from-width.ensures ∙ c.width.ensures.value in
-    invalid_here bits c.args.at c.args.subsets c.args.spec.now c.number_at-k.result (c.from-width.result + 6 + c.from.result * c.from-2.result) _ c.fxy-then-not-valid.ensures
+    invalid_here bits c.args.at c.args.subsets c.args.spec.now c.width.ensures.spec c.requires.subsets c.number_at-k.result (c.from-width.result + 6 + c.from.result * c.from-2.result) _ c.fxy-then-not-valid.ensures
     (omega (arith, all, c.len_bits.ensures, c.if-left-size.false, c.requires.within))
     (c.number_at-k.ensures.value ∙ ap (λ w. number_of (take 6 (drop (c.args.at + w) bits))) wide)
     (size_same _ _ _ _ _ _ wide c.from.ensures (c.from-2.ensures ∙ c.increment_bits_of.ensures.value)) (search rules)
@@ -103,7 +103,7 @@ returns-then-not-equal-clause-seen c =
     let bits = bits_of (octets_of c.args.bits.now) in
     let all = bits_length (octets_of c.args.bits.now) in
     let wide : c.from-width.result ≡ c.args.spec.now.width = c.from-width.ensures ∙ c.width.ensures.value in
-    unequal_here bits c.args.at c.args.subsets c.args.spec.now c.number_at-k.result (c.from-width.result + 6 + c.from.result * c.from-2.result) _ c.fxy-then-not-equal.ensures
+    unequal_here bits c.args.at c.args.subsets c.args.spec.now c.width.ensures.spec c.requires.subsets c.number_at-k.result (c.from-width.result + 6 + c.from.result * c.from-2.result) _ c.fxy-then-not-equal.ensures
     (omega (arith, all, c.len_bits.ensures, c.if-left-size.false, c.requires.within))
     (c.number_at-k.ensures.value ∙ ap (λ w. number_of (take 6 (drop (c.args.at + w) bits))) wide)
     (size_same _ _ _ _ _ _ wide c.from.ensures (c.from-2.ensures ∙ c.increment_bits_of.ensures.value)) (search rules) (search rules)
