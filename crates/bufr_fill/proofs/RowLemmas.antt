@@ -11,7 +11,6 @@ use Rattle.bufr_bits.specs.Prelude.{bits_of}
 use Rattle.std.specs.Str.{bytes_eq}
 use Rattle.bufr_fill.specs.Prelude.{spaced, Taken, Role, FieldContent, padded_content, IsContentOf, raw_limit, AreContentsOf, padded_contents, need_of, most_need, FitsIncrement, AreShort, least_from, entry_or_end, entry_here, and_end, all_at_end, IsPutWithin, trimmed, same, are_same, first_from, packing, packed_bits, packed_over, packed_unlike, RowCell, content_here, contents_here, first_unlike, unlike_line, cell_line, line_in, first_line, ◌>>=◌, item_row, cells_at, packed_to, pack_across, written_item, Draft, DraftEntry, Holds, Ends, Subset, DraftFault, at_line, item_too_many, too_many_values, IfDraftFault, is_end}
 use Rattle.bufr_fill.specs.declared.fault.ItemFault.TheVariants as wrong
-use Rattle.bufr_tables.specs.Prelude.{is_character}
 use Rattle.bufr_walk.specs.Prelude.{is_reference}
 use Rattle.bufr_walk.specs.Prelude.{FieldSpec, Content, reference, answer_of, bits_for, increment, unequal_factor, answer_first, max_values}
 use Rattle.bufr_fill.proofs.EntryLemmas.{entry_line}

@@ -4,12 +4,11 @@
 -- Cited by public contracts.
 use Rattle.std.specs.Prelude.{Bool, List, [], ◌∷◌, ◌++◌, Result, Ok, Err, ℕ, zero, suc, ◌+◌, ◌-◌, ◌*◌, ◌==◌, ◌&&◌, nat_lt, nat_le, min, not, true, false, if◌then◌else◌, take, replicate, length, Option, Some, None, unwrap_or, ◌≡◌, ◌≤◌, drop, max, slice_get}
 pub use Rattle.bufr_walk.specs.declared.spec.Taken.{Taken}
-use Rattle.bufr_walk.specs.Prelude.{Coding, numbers, texts, coding_of, step_of, same, FieldSpec, Content, number, text, missing, reference, bits_for, FieldFault, increment, unequal_factor, found, answer_of, packed_field, answer_first, Course, Item, Step, Passing, Pass, pass, max_values}
+use Rattle.bufr_walk.specs.Prelude.{Coding, numbers, texts, coding_of, step_of, same, FieldSpec, Content, number, text, missing, bits_for, FieldFault, increment, unequal_factor, found, answer_of, packed_field, answer_first, Course, Item, Step, Passing, Pass, pass, max_values}
 use Rattle.std.specs.List.{list_all, flat_map}
 use Rattle.std.specs.Str.{bytes_eq}
 use Rattle.bufr_bits.specs.Prelude.{◌>>=◌, bits_of, bits_in, number_of}
 pub use Rattle.bufr_tables.specs.declared.table_b.Kind.{Kind}
-use Rattle.bufr_tables.specs.Prelude.{is_character}
 use Rattle.bufr_walk.specs.declared.spec.Role.TheVariants as role
 use Rattle.bufr_fill.specs.Draft.{TurnRefusal, Draft, Subset, ItemFault, DraftFault, at_line, item_too_many, walk_refused, too_many_values, Role, content_of, wrong_for, raw_limit}
 use Rattle.bufr_fill.specs.declared.fault.ItemFault.TheVariants as wrong

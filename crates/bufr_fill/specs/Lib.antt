@@ -2,8 +2,6 @@
 pub mod Draft
 -- the data bits of a document, in both forms, and how one item is packed
 pub mod Encoding
--- the increments of one item as the code finds them
-pub mod Increments
 -- what is written of a reading, of its other form, or of any drafts is read back the same
 pub mod RoundTrip
 -- the writers of data, compressed or not

@@ -6,8 +6,6 @@ pub mod Course
 pub mod KnownRows
 -- a field: its specification, its content, what it shows, and how it is read
 pub mod Content
--- one item of compressed data as the code tests it
-pub mod Increments
 -- the reading of data by a template, why data cannot be read, and the calls that show a reading
 pub mod Reading
 -- a pass over a template, the reading of data, which is made of passes, and what reading answers

@@ -1,9 +1,8 @@
 -- The readers of data, compressed or not: one pass over them, fields shown at once, an item as the
 -- code reads it, and what a reading keeps.
 -- Cited by public contracts.
-use Rattle.std.specs.Prelude.{ℕ, ◌≡◌, ◌≤◌, ◌+◌, Bool, List, drop, Result, Ok, Err, ◌++◌, ◌<◌, ◌*◌, ◌%◌, ◌==◌, ◌&&◌, ◌||◌, true, false, [], ◌∷◌, length, take, ◌/◌, ◌-◌, map, get_or}
-use Rattle.bufr_walk.specs.Content.{Taken, FieldSpec, Content, answer_of, plain_field, found, data_end, FieldFault, FieldRead, packed_field, answer_first}
-use Rattle.bufr_walk.specs.Increments.{tested_field}
+use Rattle.std.specs.Prelude.{ℕ, ◌≡◌, ◌≤◌, ◌+◌, Bool, List, drop, Result, Ok, Err, ◌++◌, ◌<◌, ◌*◌, ◌%◌, ◌==◌, ◌&&◌, ◌||◌, true, false, [], ◌∷◌, length, take, ◌/◌, ◌-◌, map, get_or, is_some}
+use Rattle.bufr_walk.specs.Content.{Taken, Coding, step_of, increments, increased, FieldSpec, Content, answer_of, plain_field, found, data_end, FieldFault, FieldRead, packed_field, answer_first}
 use Rattle.bufr_walk.specs.Reading.{wrong_of, Item, plain, turns_after, ReadsPass, Read, course_of, max_values, items_at_once, Data, Values, apart, together, IsReading, ShowFault, Call, item_call, view_of, Timed, item_calls, Shows, content_at, PackedValues}
 use Rattle.bufr_walk.specs.Pass.{reading_of, values_read}
 use Rattle.bufr_walk.specs.Course.{Course, ticked}
@@ -155,7 +154,7 @@ was_found (Err why) = false
 abbrev pub item_at : (bits : List Bool) (subsets : ℕ) → IndexedItem → Item (List Content)
 item_at bits n e = record {
   spec = e.spec;
-  content = contents_found (tested_field n e.spec (drop e.at bits));
+  content = contents_found (packed_field n e.spec (drop e.at bits));
 }
 
 -- the items at the locations of entries
@@ -169,10 +168,15 @@ abbrev pub has_base : (bits : List Bool) → IndexedItem → Bool
 has_base bits e =
     is_character e.spec.kind || (e.base == number_of (take e.spec.width (drop e.at bits)))
 
+-- whether each increment is valid
+abbrev pub are_valid : Coding → (k subsets : ℕ) → (base suffix : List Bool) → Bool
+are_valid c k n base suffix =
+    list_all (λ i. is_some (increased c k base i)) (increments n (step_of c k) suffix)
+
 -- whether an item is at the location of an entry, with its k and base
 abbrev pub fits_at : (bits : List Bool) (subsets : ℕ) → IndexedItem → Bool
 fits_at bits n e =
-    was_found (tested_field n e.spec (drop e.at bits))
+    was_found (packed_field n e.spec (drop e.at bits))
     && ((e.step == number_of (take 6 (drop (e.at + e.spec.width) bits))) && has_base bits e)
 
 -- compressed data with these entries, as they are shown
@@ -238,7 +242,6 @@ refuses_packed s spec (wrong.UnequalFactor fxy) s' h = h.1
 pub record IsSeen (bits : List Bool) (at n : ℕ) (spec : FieldSpec) (s : ItemBits) : Type 0 where
   pub contents : List Content
   pub field : packed_field n spec (drop at bits) ≡ Ok (found contents (drop s.end bits))
-  pub tested : tested_field n spec (drop at bits) ≡ Ok (found contents (drop s.end bits))
   pub gives : s.answer ≡ answer_first spec contents
   pub step : s.step ≡ number_of (take 6 (drop (at + spec.width) bits))
   pub base : is_character spec.kind ≡ false → s.base ≡ number_of (take spec.width (drop at bits))
@@ -253,7 +256,7 @@ AreKept d entries items =
 
 -- the content of a kept item for one subset, counted from 0
 abbrev pub content_kept : (bits : List Bool) (subsets : ℕ) → IndexedItem → (subset : ℕ) → Content
-content_kept bits n e j = content_at j (contents_found (tested_field n e.spec (drop e.at bits)))
+content_kept bits n e j = content_at j (contents_found (packed_field n e.spec (drop e.at bits)))
 
 -- the call that shows a kept item
 abbrev pub call_kept : List Row → (bits : List Bool) (subsets : ℕ) → IndexedItem → (subset : ℕ)
