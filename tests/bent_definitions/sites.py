@@ -115,13 +115,14 @@ class Definition:
         first, and a condition with what is checked if it holds."""
         steps, bound, is_open = [], [], False
         for line in self.text.split("\n") if "Result" in self.words[: self.body] else []:
-            told = re.match(r"  (?:(\S+) ← )?(\S.*)$", line)
+            told = re.match(r"( +)(?:(\S+) ← )?(\S.*)$", line)
             if re.search(r"(^|\s)do$", line):
                 steps, bound, is_open = [], [], True
-            elif is_open and told:
-                steps.append(WORD.findall(told[2]))
-                bound.append(told[1] or (steps[-1][1] if steps[-1][0] == "let" else "_"))
-            elif is_open and line.startswith("   "):
+            elif is_open and told and (not steps or told[1] == indent):
+                indent = told[1]
+                steps.append(WORD.findall(told[3]))
+                bound.append(told[2] or (steps[-1][1] if steps[-1][0] == "let" else "_"))
+            elif is_open and told and told[1] > indent:
                 steps[-1] += WORD.findall(line)
         for name, one, other in zip(bound, steps, steps[1:]):
             needs = {part for word in other for part in word.split(".")}

@@ -9,13 +9,24 @@ use Rattle.std.proofs.lemmas.Bool.Decides.{nat_tests}
 use Rattle.std.proofs.lemmas.Nat.{shr_high}
 use Rattle.bufr_bits.specs.Prelude.{bits_of, bits_of_octet, bits_in, number_after_bits, number_of, are_all_ones}
 use Rattle.bufr_bits.proofs.BitLemmas.{are_all_ones-bits_of, bit, number_after_bits-is, number_of-below, number-bits_of_octet, length-bits_of, bits_in-above, bits_in-octet, length-bits_in, number_of-bits_in, are_all_ones-number, and_false}
-use Rattle.bufr_walk.specs.Prelude.{HasWidth, HasMissing, FieldSpec, is_reference, Content, number, text, missing, octets_in, signed_by, said_by, sign_bit, bits_for, answer_of, answer_by_role, count_in, reference_in}
-use Rattle.bufr_fill.specs.Prelude.{Kind, AreOctets, FitsKind, raw_limit, is_of, is_marked, wrong_for, content_by_form, Draft, draft, ValueKind, value_by, entry_by, entry_with, entry_here, map_err, at_line}
+use Rattle.bufr_walk.specs.Prelude.{HasWidth, FieldSpec, is_reference, Content, number, text, missing, octets_in, signed_by, said, Coding, coding_by, numbers, texts, sign_bit, bits_for, answer_of, answer_by_role, count_in, reference_in}
+use Rattle.bufr_fill.specs.Prelude.{Role, Kind, AreOctets, FitsKind, FitsNumber, FitsText, raw_limit, is_of, is_marked, wrong_for, content_by_form, Draft, draft, ValueKind, value_by, entry_by, entry_with, entry_here, map_err, at_line}
 use Rattle.std.proofs.lemmas.Int.{ints}
 use Rattle.std.proofs.lemmas.Bool.{false≢true, eq-eqb, eqb-true}
 use Rattle.bufr_tables.specs.declared.table_b.Kind.TheVariants as kind
 use Rattle.bufr_walk.specs.declared.spec.Role.TheVariants as role
 use Rattle.bufr_walk.specs.declared.spec.Taken.TheVariants as taken
+
+-- the coding of a number or a text, by its kind
+abbrev pub coded : Kind → ℕ → Bool → Coding
+coded kind.Character w m = texts (w / 8)
+coded _ w m = numbers w m
+
+pub coding_is : (r : Role) (k : Kind) (spec : FieldSpec) → is_reference r ≡ false → coding_by r k spec ≡ coded k spec.width spec.may_be_missing
+coding_is role.Reference k spec h = absurd cc
+coding_is _ kind.Character spec h = refl
+coding_is _ kind.Coded spec h = refl
+coding_is _ kind.Numeric spec h = refl
 
 -- a number that fits its bits is written in them
 pub number_again : (v w : ℕ) → v < 2 ^ w → number_of (bits_in v w) ≡ v
@@ -123,10 +134,6 @@ module _ (w : ℕ) where
   number_back m raw h = not_missing m w raw (are_all_ones (bits_in raw w)) h
       (λ e. sym (ones_test (bits_in raw w) w (length-bits_in raw w)) ∙ ap (λ n. eqb n (2 ^ w - 1)) (number_again raw w (top_below m w raw h)))
 
-  -- a text
-  text_back : (m : Bool) (octets : List ℕ) → AreOctets octets → list_all (λ octet. octet == 255) octets ≡ false → (are_all_ones (bits_of octets) && m) ≡ false
-  text_back m octets h e = ap (λ b. b && m) (full_test octets h ∙ e)
-
   -- a missing value
   missing_back : (m : Bool) → m ≡ true → (are_all_ones (replicate w true) && m) ≡ true
   missing_back m e = ap (λ b. b && m) (ones_set w) ∙ e
@@ -141,16 +148,16 @@ module _ (w : ℕ) where
   chosen_yes b c e = ap (λ x. if x then missing else c) e
 
   -- what is written by kind reads the same
-  pub kind_back : (k : Kind) (m : Bool) (c : Content) → HasWidth k w → HasMissing k m → FitsKind k m w c → (if are_all_ones (bits_for w c) && m then missing else said_by k w (bits_for w c)) ≡ c
-  kind_back kind.Character m missing hw hm h = chosen_yes (are_all_ones (replicate w true) && m) _ (missing_back m hm)
-  kind_back kind.Character m (text octets) hw hm h =
-      chosen_no (are_all_ones (bits_of octets) && m) (text (octets_in (w / 8) (bits_of octets))) (text octets) (text_back m octets h.1 h.2)
+  pub kind_back : (k : Kind) (m : Bool) (c : Content) → HasWidth k w → FitsKind k m w c → said (coded k w m) (bits_for w c) ≡ c
+  kind_back kind.Character m missing hw h = chosen_yes (are_all_ones (replicate w true)) _ (ones_set w)
+  kind_back kind.Character m (text octets) hw h =
+      chosen_no (are_all_ones (bits_of octets)) (text (octets_in (w / 8) (bits_of octets))) (text octets) (full_test octets h.1 ∙ h.2)
       (ap (λ n. text (octets_in n (bits_of octets))) (sym h.0) ∙ ap text (octets_again octets h.1))
-  kind_back kind.Character m c hw hm h = absurd h
-  kind_back k m (number raw) hw hm h = chosen_no (are_all_ones (bits_in raw w) && m) (number (number_of (bits_in raw w))) (number raw) (number_back m raw h)
+  kind_back kind.Character m c hw h = absurd h
+  kind_back k m (number raw) hw h = chosen_no (are_all_ones (bits_in raw w) && m) (number (number_of (bits_in raw w))) (number raw) (number_back m raw h)
       (ap number (number_again raw w (top_below m w raw h)))
-  kind_back k m missing hw hm h = chosen_yes (are_all_ones (replicate w true) && m) _ (missing_back m h)
-  kind_back k m c hw hm h = absurd h
+  kind_back k m missing hw h = chosen_yes (are_all_ones (replicate w true) && m) _ (missing_back m h)
+  kind_back k m c hw h = absurd h
 
   eighths : w % 8 ≡ 0 → 8 * (w / 8) ≡ w
   eighths h = omega arith
@@ -163,24 +170,22 @@ module _ (w : ℕ) where
   kind_length k m missing hw h = length-replicate w true
   kind_length k m c hw h = absurd h
 
-  fits_said : (b : Bool) (k : Kind) (m : Bool) (bits : List Bool) → length bits ≡ w → HasWidth k w → HasMissing k m → (are_all_ones bits && m) ≡ b
-      → FitsKind k m w (if b then missing else said_by k w bits)
-  fits_said true kind.Character m bits l hw hm e = tt
-  fits_said true k m bits l hw hm e = and_second (are_all_ones bits) m e
-  fits_said false kind.Character m bits l hw hm e =
-      let whole : length bits ≡ 8 * (w / 8) = l ∙ sym (eighths hw.2) in
-      let are : AreOctets (octets_in (w / 8) bits) = octets_in-are (w / 8) bits whole in
-      let set : are_all_ones bits ≡ false = and_true (are_all_ones bits) ∙ ap (λ b. are_all_ones bits && b) (sym hm) ∙ e in
-      (length-octets_in (w / 8) bits, are, sym (full_test (octets_in (w / 8) bits) are) ∙ ap are_all_ones (octet_bits_again (w / 8) bits whole) ∙ set)
-    where
-      and_true : (b : Bool) → b ≡ (b && true)
-      and_true true = refl
-      and_true false = refl
-  fits_said false k m bits l hw hm e = below_top m bits w l e
+  text_fits : (b : Bool) (bits : List Bool) → length bits ≡ w → w % 8 ≡ 0 → are_all_ones bits ≡ b → FitsText (w / 8) (if b then missing else text (octets_in (w / 8) bits))
+  text_fits true bits l whole e = tt
+  text_fits false bits l whole e =
+      let long : length bits ≡ 8 * (w / 8) = l ∙ sym (eighths whole) in
+      let are : AreOctets (octets_in (w / 8) bits) = octets_in-are (w / 8) bits long in
+      (length-octets_in (w / 8) bits, are, sym (full_test (octets_in (w / 8) bits) are) ∙ ap are_all_ones (octet_bits_again (w / 8) bits long) ∙ e)
+
+  number_fits : (b m : Bool) (bits : List Bool) → length bits ≡ w → (are_all_ones bits && m) ≡ b → FitsNumber m w (if b then missing else number (number_of bits))
+  number_fits true m bits l e = and_second (are_all_ones bits) m e
+  number_fits false m bits l e = below_top m bits w l e
 
   -- the content of bits is one that the field can have
-  pub kind_fits : (k : Kind) (m : Bool) (bits : List Bool) → length bits ≡ w → HasWidth k w → HasMissing k m → FitsKind k m w (if are_all_ones bits && m then missing else said_by k w bits)
-  kind_fits k m bits l hw hm = fits_said (are_all_ones bits && m) k m bits l hw hm refl
+  pub kind_fits : (k : Kind) (m : Bool) (bits : List Bool) → length bits ≡ w → HasWidth k w → FitsKind k m w (said (coded k w m) bits)
+  kind_fits kind.Character m bits l hw = text_fits (are_all_ones bits) bits l hw.2 refl
+  kind_fits kind.Coded m bits l hw = number_fits (are_all_ones bits && m) m bits l refl
+  kind_fits kind.Numeric m bits l hw = number_fits (are_all_ones bits && m) m bits l refl
 
 -- a number with a sign, there and back
 pub signed_back : (v : ℤ) (w : ℕ) → nat_abs v < 2 ^ (w - 1) → signed_by (sign_bit v ∷ bits_in (nat_abs v) (w - 1)) ≡ v

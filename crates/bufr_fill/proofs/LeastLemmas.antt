@@ -1,13 +1,15 @@
 -- The least base and the least k of numbers and of texts.
 use Rattle.std.proofs.lemmas.Grind.{common_steps}
-use Rattle.std.proofs.Common.{◌≡◌, ℕ, zero, suc, ◌+◌, ◌<◌, ◌≤◌, ◌≢◌, ◌&&◌, min, Bool, true, false, List, [], ◌∷◌, Option, Some, None, refl, sym, ◌∙◌, ap, arith, ◌-◌, ◌^◌, max, ◌++◌, length, Ok, pow_mono, append_assoc, subst, ◌/◌, not, take, replicate, Err, ◌==◌, if◌then◌else◌, nat_lt, unwrap_or, nat_le}
+use Rattle.std.proofs.Common.{Result, ◌≡◌, ℕ, zero, suc, ◌+◌, ◌<◌, ◌≤◌, ◌≢◌, ◌&&◌, min, Bool, true, false, List, [], ◌∷◌, Option, Some, None, refl, sym, ◌∙◌, ap, arith, ◌-◌, ◌^◌, max, ◌++◌, length, Ok, pow_mono, append_assoc, subst, ◌/◌, not, take, replicate, Err, ◌==◌, if◌then◌else◌, nat_lt, unwrap_or, nat_le}
 use Rattle.std.proofs.lemmas.Bool.{false≢true, eqb-true, le-leb, le-ltb, leb-false, leb-true, lt-leb, lt-ltb, ltb-false, ltb-true, eq-eqb}
 use Rattle.bufr_bits.proofs.DecimalLemmas.{and_first, and_second}
-use Rattle.bufr_walk.specs.Prelude.{Content, number, text, missing, reference, increment, FieldSpec, is_reference}
+use Rattle.bufr_walk.specs.Prelude.{Coding, numbers, texts, coding_of, Content, number, text, missing, reference, FieldFault, increment, FieldSpec, is_reference}
+use Rattle.bufr_walk.proofs.PlainLemmas.{number_coding, text_coding}
+use Rattle.bufr_bits.proofs.BitLemmas.{bits_in-zero}
 use Rattle.std.specs.Str.{bytes_eq}
 use Rattle.std.proofs.lemmas.Slice.Eq.{bytes_eq-Decides}
 use Rattle.std.proofs.lemmas.Bool.Decides.{Decides-int_eq}
-use Rattle.bufr_fill.specs.Prelude.{raw_limit, spaced, padded_content, same, are_same, smaller, lowest, first_from, has_bits, least_k, increment_bits, packed_bits, numbers_over, packed_by, has_octets, octet_bits, packed_texts, FitsNumber, FieldContent, AreContentsOf, padded_contents, spread, least_from, AreShort, trimmed, need, most_need, over_of, number_or, least_number}
+use Rattle.bufr_fill.specs.Prelude.{raw_limit, spaced, padded_content, same, are_same, smaller, lowest, first_from, has_increment, least_k, increment_for, packed_bits, packed_over, FitsNumber, FieldContent, AreContentsOf, padded_contents, spread, least_from, AreShort, trimmed, need, most_need, over_of, number_or, least_number}
 use Rattle.std.specs.List.{list_all, flat_map, AllByRecursion}
 use Rattle.std.proofs.lemmas.List.{length-append, take_all}
 use Rattle.bufr_bits.specs.Prelude.{bits_in}
@@ -182,19 +184,22 @@ max_test a b t = grind (arith, common_steps, nat_lt, lt-ltb, ltb-true, le-ltb, l
 zero_max : (s t : ℕ) → nat_lt s t ≡ nat_lt (max 0 s) t
 zero_max s t = let e : s ≡ max 0 s = omega arith in ap (λ n. nat_lt n t) e
 
-all_have : (m : Bool) (base k count : ℕ) (ds : List FieldContent) → 1 ≤ k → list_all (has_bits m base k) (padded_contents count ds) ≡ nat_lt (spread base ds) (raw_limit m k)
-all_have m base k count [] h = sym (lt-ltb 0 (raw_limit m k) (omega (arith, top_some m k h)))
-all_have m base k count (field_content.Number n ∷ ds) h = ap (λ b. nat_lt (n - base) (raw_limit m k) && b) (all_have m base k count ds h) ∙ sym (max_test (n - base) (spread base ds) (raw_limit m k))
-all_have m base k count (d ∷ ds) h = all_have m base k count ds h ∙ zero_max (spread base ds) (raw_limit m k)
+all_have : (w : ℕ) (m : Bool) (base k count : ℕ) (ds : List FieldContent) → 1 ≤ k
+    → list_all (has_increment (numbers w m) base k) (padded_contents count ds) ≡ nat_lt (spread base ds) (raw_limit m k)
+all_have w m base k count [] h = sym (lt-ltb 0 (raw_limit m k) (omega (arith, top_some m k h)))
+all_have w m base k count (field_content.Number n ∷ ds) h =
+    ap (λ b. nat_lt (n - base) (raw_limit m k) && b) (all_have w m base k count ds h) ∙ sym (max_test (n - base) (spread base ds) (raw_limit m k))
+all_have w m base k count (d ∷ ds) h = all_have w m base k count ds h ∙ zero_max (spread base ds) (raw_limit m k)
 
 pub first_same : (p q : ℕ → Bool) (fuel from : ℕ) → ((k : ℕ) → from ≤ k → p k ≡ q k) → first_from p fuel from ≡ first_from q fuel from
 first_same p q zero from h = refl
 first_same p q (suc fuel) from h =
     ap (λ b. if b then from else first_from p fuel (from + 1)) (h from (omega arith)) ∙ ap (λ n. if q from then from else n) (first_same p q fuel (from + 1) (λ k g. h k (omega (arith, g))))
 
-pub least_is : (m : Bool) (base count : ℕ) (ds : List FieldContent) → least_k (has_bits m base) (padded_contents count ds) ≡ least_from m (spread base ds) 1
+pub least_is : (w : ℕ) (m : Bool) (base count : ℕ) (ds : List FieldContent) → least_k (has_increment (numbers w m) base) (padded_contents count ds) ≡ least_from m (spread base ds) 1
 unfolding least_from
-least_is m base count ds = first_same (λ k. list_all (has_bits m base k) (padded_contents count ds)) (λ k. nat_lt (spread base ds) (raw_limit m k)) (64 - 1) 1 (λ k h. all_have m base k count ds h)
+least_is w m base count ds =
+    first_same (λ k. list_all (has_increment (numbers w m) base k) (padded_contents count ds)) (λ k. nat_lt (spread base ds) (raw_limit m k)) (64 - 1) 1 (λ k h. all_have w m base k count ds h)
 
 -- the least k of numbers has at most 63 bits, and writes each increment
 pub k_narrow : (spec : FieldSpec) → is_character spec.kind ≡ false → is_reference spec.role ≡ false → (base : ℕ) (ds : List FieldContent) (k : ℕ) → 1 ≤ spec.width → spec.width ≤ 63
@@ -214,14 +219,29 @@ k_short spec numeric element base ds k some narrow all e =
     subst (λ n. AreShort base n ds) (sym e) (all_short spec.may_be_missing base (least_from spec.may_be_missing (spread base ds) 1) ds
     (least_fits spec.may_be_missing (spread base ds) spec.width some narrow (spread_under spec numeric element base ds some all)))
 
+-- contents that differ, over a base, with a k
+abbrev pub over_at : FieldSpec → List Content → Coding → (base k : ℕ) → Result (List Bool) FieldFault
+over_at spec cs c base k = if nat_le k 63 then Ok (packed_bits (bits_in base spec.width) k (flat_map (increment_for c base k) cs)) else Err increment
+
+pub over_is : (spec : FieldSpec) (cs : List Content) (c : Coding) (base k : ℕ) → coding_of spec ≡ c → unwrap_or (lowest cs) 0 ≡ base → least_k (has_increment c base) cs ≡ k
+    → packed_over spec cs ≡ over_at spec cs c base k
+over_is spec cs c base k e b l =
+    ap (λ d. over_at spec cs d (unwrap_or (lowest cs) 0) (least_k (has_increment d (unwrap_or (lowest cs) 0)) cs)) e
+    ∙ ap (λ a. over_at spec cs c a (least_k (has_increment c a) cs)) b ∙ ap (over_at spec cs c base) l
+
+pub over_written : (spec : FieldSpec) (cs : List Content) (c : Coding) (base k : ℕ) → coding_of spec ≡ c → unwrap_or (lowest cs) 0 ≡ base → least_k (has_increment c base) cs ≡ k → k ≤ 63
+    → packed_over spec cs ≡ Ok (packed_bits (bits_in base spec.width) k (flat_map (increment_for c base k) cs))
+over_written spec cs c base k e b l small =
+    over_is spec cs c base k e b l ∙ ap (λ t. if t then Ok (packed_bits (bits_in base spec.width) k (flat_map (increment_for c base k) cs)) else Err increment) (le-leb k 63 small)
+
 -- the bits of numbers
-pub numbers_packed : (spec : FieldSpec) (count : ℕ) (ds : List FieldContent) (base k : ℕ) → is_character spec.kind ≡ false → base ≡ unwrap_or (lowest (padded_contents count ds)) 0
-    → k ≡ least_from spec.may_be_missing (spread base ds) 1
-    → packed_by (is_character spec.kind) spec (padded_contents count ds) ≡ Ok (packed_bits (bits_in base spec.width) k (flat_map (increment_bits base k) (padded_contents count ds)))
-numbers_packed spec count ds base k numeric b l =
-    ap (λ b. packed_by b spec (padded_contents count ds)) numeric
-    ∙ ap (λ n. Ok (numbers_over spec.may_be_missing spec.width n (padded_contents count ds))) (sym b)
-    ∙ ap (λ n. Ok (packed_bits (bits_in base spec.width) n (flat_map (increment_bits base n) (padded_contents count ds)))) (least_is spec.may_be_missing base count ds ∙ sym l)
+pub numbers_packed : (spec : FieldSpec) (count : ℕ) (ds : List FieldContent) (base k : ℕ) → is_character spec.kind ≡ false → is_reference spec.role ≡ false
+    → base ≡ unwrap_or (lowest (padded_contents count ds)) 0 → k ≡ least_from spec.may_be_missing (spread base ds) 1 → k ≤ 63
+    → packed_over spec (padded_contents count ds)
+    ≡ Ok (packed_bits (bits_in base spec.width) k (flat_map (increment_for (numbers spec.width spec.may_be_missing) base k) (padded_contents count ds)))
+numbers_packed spec count ds base k numeric element b l small =
+    over_written spec (padded_contents count ds) (numbers spec.width spec.may_be_missing) base k (number_coding spec numeric element) (sym b)
+    (least_is spec.width spec.may_be_missing base count ds ∙ sym l) small
 
 -- what was written, one part after another
 pub parts_put : (old one two three base k rest : List Bool) → one ≡ old ++ base → two ≡ one ++ k → three ≡ two ++ rest → three ≡ old ++ (base ++ (k ++ rest))
@@ -313,8 +333,8 @@ not_full (o ∷ os) (suc k) f h = by (o == 255) refl f (λ g l. not_full os k g 
 need_least : (os : List ℕ) → trimmed os ≤ need os
 need_least os = grind (arith, common_steps)
 
-gives_is : (os : List ℕ) (k : ℕ) → full os ≡ false → has_octets k (text os) ≡ nat_le (need os) k
-gives_is os k f = grind (arith, common_steps, nat_le, not, again_is, not_full, leb-true, lt-leb, leb-false, need_least)
+gives_is : (count : ℕ) (os : List ℕ) (k : ℕ) → full os ≡ false → has_increment (texts count) 0 k (text os) ≡ nat_le (need os) k
+gives_is count os k f = grind (arith, common_steps, nat_le, not, again_is, not_full, leb-true, lt-leb, leb-false, need_least)
 
 -- spaces after a text do not count
 trimmed_none : (n : ℕ) → trimmed (replicate n 32) ≡ 0
@@ -378,10 +398,12 @@ max_le a b k = grind (arith, common_steps, nat_le, le-leb, leb-true, lt-leb, leb
 one_le : (s k : ℕ) → 1 ≤ k → nat_le s k ≡ nat_le (max 1 s) k
 one_le s k h = sym (max_le 1 s k ∙ ap (λ b. b && nat_le s k) (le-leb 1 k h))
 
-texts_pass : (spec : FieldSpec) (ds : List FieldContent) (k : ℕ) → 1 ≤ k → AreContentsOf spec ds → list_all (has_octets k) (padded_contents (spec.width / 8) ds) ≡ nat_le (most_need ds) k
+texts_pass : (spec : FieldSpec) (ds : List FieldContent) (k : ℕ) → 1 ≤ k → AreContentsOf spec ds
+    → list_all (has_increment (texts (spec.width / 8)) 0 k) (padded_contents (spec.width / 8) ds) ≡ nat_le (most_need ds) k
 texts_pass spec [] k h all = sym (le-leb 1 k h)
 texts_pass spec (field_content.Text t ∷ ds) k h all =
-    ap (λ b. b && list_all (has_octets k) (padded_contents (spec.width / 8) ds)) (gives_is (spaced (spec.width / 8) t.now) k all.0.2.1 ∙ ap (λ n. nat_le n k) (need_spaced (spec.width / 8) t.now))
+    ap (λ b. b && list_all (has_increment (texts (spec.width / 8)) 0 k) (padded_contents (spec.width / 8) ds))
+    (gives_is (spec.width / 8) (spaced (spec.width / 8) t.now) k all.0.2.1 ∙ ap (λ n. nat_le n k) (need_spaced (spec.width / 8) t.now))
     ∙ ap (λ b. nat_le (need t.now) k && b) (texts_pass spec ds k h all.1) ∙ sym (max_le (need t.now) (most_need ds) k)
 texts_pass spec (d ∷ ds) k h all = texts_pass spec ds k h all.1 ∙ one_le (most_need ds) k h
 
@@ -398,24 +420,37 @@ first_at m (suc fuel) from h = by (nat_le m from) refl (λ g. first_at m fuel (f
 least_of : (p q : ℕ → Bool) (fuel m : ℕ) → ((k : ℕ) → 1 ≤ k → p k ≡ q k) → (first_from q fuel 1 ≡ min m (1 + fuel)) → first_from p fuel 1 ≡ min m (1 + fuel)
 least_of p q fuel m h e = first_same p q fuel 1 h ∙ e
 
-pub texts_least : (spec : FieldSpec) (ds : List FieldContent) → 1 ≤ most_need ds → AreContentsOf spec ds → least_k has_octets (padded_contents (spec.width / 8) ds) ≡ min (most_need ds) 64
+pub texts_least : (spec : FieldSpec) (ds : List FieldContent) → 1 ≤ most_need ds → AreContentsOf spec ds
+    → least_k (has_increment (texts (spec.width / 8)) 0) (padded_contents (spec.width / 8) ds) ≡ min (most_need ds) 64
 texts_least spec ds some all =
-    least_of (λ k. list_all (has_octets k) (padded_contents (spec.width / 8) ds)) (λ k. nat_le (most_need ds) k) 63 (most_need ds) (λ k h. texts_pass spec ds k h all)
-    (first_at (most_need ds) 63 1 some)
+    least_of (λ k. list_all (has_increment (texts (spec.width / 8)) 0 k) (padded_contents (spec.width / 8) ds)) (λ k. nat_le (most_need ds) k) 63 (most_need ds)
+    (λ k h. texts_pass spec ds k h all) (first_at (most_need ds) 63 1 some)
 
-texts_by : (w k : ℕ) (cs : List Content) (b : Bool) → nat_le k 63 ≡ b → packed_texts w k cs ≡ (if b then Ok (packed_bits (replicate w false) k (flat_map (octet_bits k) cs)) else Err increment)
-texts_by w k cs b e = ap (λ t. if t then Ok (packed_bits (replicate w false) k (flat_map (octet_bits k) cs)) else Err increment) e
+-- no text is a number
+texts_lowest : (spec : FieldSpec) (count : ℕ) (ds : List FieldContent) → is_character spec.kind ≡ true → AreContentsOf spec ds → lowest (padded_contents count ds) ≡ None
+texts_lowest spec count [] e all = refl
+texts_lowest spec count (field_content.Number n ∷ ds) e all = let no : true ≡ false = sym e ∙ all.0.0 in absurd cc
+texts_lowest spec count (field_content.Text t ∷ ds) e all = texts_lowest spec count ds e all.1
+texts_lowest spec count (field_content.Missing ∷ ds) e all = texts_lowest spec count ds e all.1
+texts_lowest spec count (field_content.Reference v ∷ ds) e all = texts_lowest spec count ds e all.1
 
-pub texts_packed : (spec : FieldSpec) (ds : List FieldContent) (k : ℕ) → is_character spec.kind ≡ true → 1 ≤ most_need ds → AreContentsOf spec ds → k ≡ most_need ds → k ≤ 63
-    → packed_by (is_character spec.kind) spec (padded_contents (spec.width / 8) ds) ≡ Ok (packed_bits (replicate spec.width false) k (flat_map (octet_bits k) (padded_contents (spec.width / 8) ds)))
-texts_packed spec ds k char some all is few =
-    let least : least_k has_octets (padded_contents (spec.width / 8) ds) ≡ k = texts_least spec ds some all ∙ (let q : min (most_need ds) 64 ≡ k = omega (arith, is, few) in q) in
-    ap (λ b. packed_by b spec (padded_contents (spec.width / 8) ds)) char ∙ ap (λ n. packed_texts spec.width n (padded_contents (spec.width / 8) ds)) least
-    ∙ texts_by spec.width k (padded_contents (spec.width / 8) ds) true (le-leb k 63 few)
+pub texts_packed : (spec : FieldSpec) (ds : List FieldContent) (k : ℕ) → is_character spec.kind ≡ true → is_reference spec.role ≡ false → 1 ≤ most_need ds → AreContentsOf spec ds → k ≡ most_need ds
+    → k ≤ 63
+    → packed_over spec (padded_contents (spec.width / 8) ds)
+    ≡ Ok (packed_bits (replicate spec.width false) k (flat_map (increment_for (texts (spec.width / 8)) 0 k) (padded_contents (spec.width / 8) ds)))
+texts_packed spec ds k char element some all is few =
+    let cs = padded_contents (spec.width / 8) ds in
+    let same_k : min (most_need ds) 64 ≡ k = omega (arith, is, few) in
+    over_written spec cs (texts (spec.width / 8)) 0 k (text_coding spec char element) (ap (λ o. unwrap_or o 0) (texts_lowest spec (spec.width / 8) ds char all))
+    (texts_least spec ds some all ∙ same_k) few
+    ∙ ap (λ base. Ok (packed_bits base k (flat_map (increment_for (texts (spec.width / 8)) 0 k) cs))) (bits_in-zero spec.width)
 
-pub texts_apart : (spec : FieldSpec) (ds : List FieldContent) (k : ℕ) → is_character spec.kind ≡ true → 1 ≤ most_need ds → AreContentsOf spec ds → k ≡ most_need ds → 63 < k
-    → packed_by (is_character spec.kind) spec (padded_contents (spec.width / 8) ds) ≡ Err increment
-texts_apart spec ds k char some all is many = grind (arith, common_steps, texts_least, texts_by, lt-leb)
+pub texts_apart : (spec : FieldSpec) (ds : List FieldContent) (k : ℕ) → is_character spec.kind ≡ true → is_reference spec.role ≡ false → 1 ≤ most_need ds → AreContentsOf spec ds → k ≡ most_need ds
+    → 63 < k → packed_over spec (padded_contents (spec.width / 8) ds) ≡ Err increment
+texts_apart spec ds k char element some all is many =
+    let greatest : min (most_need ds) 64 ≡ 64 = omega (arith, is, many) in
+    over_is spec (padded_contents (spec.width / 8) ds) (texts (spec.width / 8)) 0 64 (text_coding spec char element) (ap (λ o. unwrap_or o 0) (texts_lowest spec (spec.width / 8) ds char all))
+    (texts_least spec ds some all ∙ greatest)
 
 -- ---- The least and the greatest number of an item, gathered content after content.
 

@@ -1,16 +1,17 @@
 -- The bits of a packed item read as its contents.
-use Rattle.std.proofs.Common.{◌≡◌, ℕ, zero, suc, ◌+◌, ◌-◌, ◌*◌, ◌^◌, ◌<◌, ◌≤◌, ◌≢◌, ◌&&◌, ◌||◌, eqb, Bool, true, false, not, List, [], ◌∷◌, ◌++◌, length, take, drop, map, replicate, refl, sym, ◌∙◌, ap, arith, append_assoc, subst, pow_mono, ◌==◌, nat_lt, if◌then◌else◌}
-use Rattle.std.proofs.lemmas.Bool.{le-ltb, lt-ltb, ltb-false, ltb-true, ne_eqb, eq-eqb}
+use Rattle.std.proofs.Common.{◌≡◌, ℕ, zero, suc, ◌+◌, ◌-◌, ◌*◌, ◌^◌, ◌<◌, ◌≤◌, ◌≢◌, ◌&&◌, ◌||◌, Bool, true, false, not, List, [], ◌∷◌, ◌++◌, length, take, drop, map, replicate, Option, Some, None, option_map, refl, sym, ◌∙◌, ap, arith, append_assoc, subst, pow_mono, ◌==◌, nat_lt, if◌then◌else◌}
+use Rattle.std.proofs.lemmas.Bool.{le-ltb, lt-ltb, ltb-false, ltb-true, ne_eqb}
 use Rattle.std.specs.List.{list_all, flat_map, AllByRecursion}
 use Rattle.std.proofs.lemmas.List.{take_at, drop_at, length-append, length-replicate, length-take-le, length-drop}
 use Rattle.std.proofs.lemmas.Bool.Decides.{nat_tests}
 use Rattle.bufr_bits.specs.Prelude.{bits_of, bits_in, number_of, are_all_ones}
 use Rattle.bufr_bits.proofs.BitLemmas.{length-bits_of, length-bits_in, number_of-below, list_all-append}
 use Rattle.bufr_bits.proofs.DecimalLemmas.{and_first, and_second}
-use Rattle.bufr_walk.specs.Prelude.{Content, number, text, missing, reference, octets_in, ones, stays_within, increased_to, increments, padded_text}
+use Rattle.bufr_walk.specs.Prelude.{Content, number, text, missing, reference, numbers, texts, increased, sum_within, all_there, octets_in, ones, increments}
+use Rattle.bufr_walk.proofs.PackedLemmas.{ones_same, some_same, next_there, padded_text}
 use Rattle.std.specs.Str.{bytes_eq}
-use Rattle.bufr_fill.specs.Prelude.{raw_limit, has_bits, has_octets, increment_bits, octet_bits, AreOctets, FitsNumber, FitsText}
-use Rattle.bufr_fill.proofs.FieldLemmas.{number_again, ones_test, ones_set, octets_again, full_test, length-octets_in, octets_in-are, octet_bits_again, top_below}
+use Rattle.bufr_fill.specs.Prelude.{raw_limit, has_increment, increment_for, AreOctets, FitsNumber, FitsText}
+use Rattle.bufr_fill.proofs.FieldLemmas.{number_again, number_back, ones_set, octets_again, full_test, length-octets_in, octets_in-are, octet_bits_again, top_below}
 use Rattle.bufr_fill.proofs.LeastLemmas.{AreNumbers, IsOver, AreOver, octets_same, octets_self}
 
 -- pieces of one length, one for each of a list
@@ -37,52 +38,67 @@ not_both : (m : Bool) (a b : ℕ) → (m ≡ true → a ≢ b) → (m && (a == b
 not_both true a b h = ne_eqb a b (h refl)
 not_both false a b h = refl
 
--- an increment that is valid, and what it gives
-abbrev Gives : Bool → (w base k i : ℕ) → Content → Type 0
-Gives m w base k i c = (stays_within m w base k i ≡ true) × (increased_to m w base k i ≡ c)
-
 top_ones : (m : Bool) (k v : ℕ) → v < raw_limit m k → m ≡ true → v < ones k
 top_ones true k v h e = h
 top_ones false k v h e = absurd cc
 
-module _ (m : Bool) (w base k : ℕ) where
-  number_increased : (n : ℕ) → base ≤ n → n < raw_limit m w → n - base < raw_limit m k → Gives m w base k (number_of (bits_in (n - base) k)) (number n)
-  number_increased n increment_over fits short =
-      let i : number_of (bits_in (n - base) k) ≡ n - base = number_again (n - base) k (top_below m k (n - base) short) in
+-- one more content that is there
+there_more : (o : Option Content) (os : List (Option Content)) (c : Content) (cs : List Content) → o ≡ Some c → all_there os ≡ Some cs → all_there (o ∷ os) ≡ Some (c ∷ cs)
+there_more o os c cs e f = ap (λ x. all_there (x ∷ os)) e ∙ ap (option_map (λ others. c ∷ others)) f
+
+any_not : (m full last : Bool) → (full && m) ≡ false → (m && last) ≡ false → (m && (full || last)) ≡ false
+any_not true true last h g = h
+any_not true false last h g = g
+any_not false full last h g = refl
+
+any_last : (m full : Bool) → m ≡ true → (m && (full || true)) ≡ true
+any_last true true e = refl
+any_last true false e = refl
+any_last false full e = e
+
+module _ (m : Bool) (w base k : ℕ) (fits : base < raw_limit m w) where
+  number_increased : (n : ℕ) → base ≤ n → n < raw_limit m w → n - base < raw_limit m k → increased (numbers w m) k (bits_in base w) (bits_in (n - base) k) ≡ Some (number n)
+  number_increased n increment_over below short =
+      let at = bits_in base w in
+      let incr = bits_in (n - base) k in
+      let i : number_of incr ≡ n - base = number_again (n - base) k (top_below m k (n - base) short) in
       let e : base + (n - base) ≡ n = omega arith in
-      let last = not_both m (n - base) (ones k) (λ t. let s = top_ones m k (n - base) short t in λ q. omega (arith, s, q)) in
-      let past = le-ltb (ones w) n (let p = top_below m w n fits in omega (arith, p)) in
-      let whole = not_both m n (ones w) (λ t. let s = top_ones m w n fits t in λ q. omega (arith, s, q)) in
-      (rw (i, last, e, past) refl, rw (i, last, e, whole) refl)
+      let last : (m && are_all_ones incr) ≡ false = ap (λ b. m && b) (ones_same k incr (length-bits_in (n - base) k) ∙ ap (λ x. x == ones k) i)
+      ∙ not_both m (n - base) (ones k) (λ t. let s = top_ones m k (n - base) short t in λ q. omega (arith, s, q)) in
+      let past : nat_lt (ones w) n ≡ false = le-ltb (ones w) n (let p = top_below m w n below in omega (arith, p)) in
+      let whole : (m && (n == ones w)) ≡ false = not_both m n (ones w) (λ t. let s = top_ones m w n below t in λ q. omega (arith, s, q)) in
+      ap (λ b. if b then Some missing else sum_within w m (number_of at + number_of incr)) (any_not m (are_all_ones at) (are_all_ones incr) (number_back w m base fits) last)
+      ∙ ap (λ x. sum_within w m (x + number_of incr)) (number_again base w (top_below m w base fits)) ∙ ap (λ x. sum_within w m (base + x)) i ∙ ap (sum_within w m) e
+      ∙ ap (λ b. if b then None else Some (if m && (n == ones w) then missing else number n)) past ∙ ap (λ b. Some (if b then missing else number n)) whole
 
-  ones_number : number_of (replicate k true) ≡ ones k
-  ones_number =
-      let t : eqb (number_of (replicate k true)) (2 ^ k - 1) ≡ true = ones_test (replicate k true) k (length-replicate k true) ∙ ones_set k in
-      grind (arith, nat_tests)
+  missing_increased : m ≡ true → increased (numbers w m) k (bits_in base w) (replicate k true) ≡ Some missing
+  missing_increased e =
+      ap (λ b. if m && (are_all_ones (bits_in base w) || b) then Some missing else sum_within w m (number_of (bits_in base w) + number_of (replicate k true))) (ones_set k)
+      ∙ ap (λ b. if b then Some missing else sum_within w m (number_of (bits_in base w) + number_of (replicate k true))) (any_last m (are_all_ones (bits_in base w)) e)
 
-  missing_increased : m ≡ true → Gives m w base k (number_of (replicate k true)) missing
-  missing_increased e = let same = eq-eqb (ones k) (ones k) refl in (rw (ones_number, e, same) refl, rw (ones_number, e, same) refl)
-
-  one_increased : (c : Content) → FitsNumber m w c → IsOver base c → has_bits m base k c ≡ true → Gives m w base k (number_of (increment_bits base k c)) c
+  one_increased : (c : Content) → FitsNumber m w c → IsOver base c → has_increment (numbers w m) base k c ≡ true
+      → increased (numbers w m) k (bits_in base w) (increment_for (numbers w m) base k c) ≡ Some c
   one_increased (number n) h o p = number_increased n o h (ltb-true (n - base) (raw_limit m k) p)
   one_increased (text os) h o p = absurd h
   one_increased missing h o p = missing_increased h
   one_increased (reference v) h o p = absurd h
 
   -- numbers over a base are read again from their increments
-  pub numbers_back : (cs : List Content) → AreNumbers m w cs → AreOver base cs → list_all (has_bits m base k) cs ≡ true
-      → (list_all (λ i. stays_within m w base k (number_of i)) (map (increment_bits base k) cs) ≡ true) × (map (λ i. increased_to m w base k (number_of i)) (map (increment_bits base k) cs) ≡ cs)
-  numbers_back [] h o p = (refl, refl)
+  pub numbers_back : (cs : List Content) → AreNumbers m w cs → AreOver base cs → list_all (has_increment (numbers w m) base k) cs ≡ true
+      → all_there (map (increased (numbers w m) k (bits_in base w)) (map (increment_for (numbers w m) base k) cs)) ≡ Some cs
+  numbers_back [] h o p = refl
   numbers_back (c ∷ cs) h o p =
-      let one = one_increased c h.0 o.0 (and_first (has_bits m base k c) (list_all (has_bits m base k) cs) p) in
-      let more = numbers_back cs h.1 o.1 (and_second (has_bits m base k c) (list_all (has_bits m base k) cs) p) in
-      (rw (one.0) more.0, rw (one.1, more.1) refl)
+      there_more (increased (numbers w m) k (bits_in base w) (increment_for (numbers w m) base k c))
+      (map (increased (numbers w m) k (bits_in base w)) (map (increment_for (numbers w m) base k) cs)) c cs
+      (one_increased c h.0 o.0 (and_first (has_increment (numbers w m) base k c) (list_all (has_increment (numbers w m) base k) cs) p))
+      (numbers_back cs h.1 o.1 (and_second (has_increment (numbers w m) base k c) (list_all (has_increment (numbers w m) base k) cs) p))
 
-  pub increment_length : (c : Content) → length (increment_bits base k c) ≡ k
+module _ (m : Bool) (w base k : ℕ) where
+  pub increment_length : (c : Content) → length (increment_for (numbers w m) base k c) ≡ k
   increment_length (number n) = length-bits_in (n - base) k
   increment_length c = length-replicate k true
 
-  pub increments_long : (cs : List Content) → AreLong (increment_bits base k) k cs
+  pub increments_long : (cs : List Content) → AreLong (increment_for (numbers w m) base k) k cs
   increments_long [] = tt
   increments_long (c ∷ cs) = (increment_length c, increments_long cs)
 
@@ -100,17 +116,17 @@ AreOctets-take (suc k) [] h = tt
 AreOctets-take (suc k) (o ∷ os) h = (h.0, AreOctets-take k os h.1)
 
 module _ (count k : ℕ) (short : k ≤ count) where
-  pub octets_length : (c : Content) → FitsText count c → length (octet_bits k c) ≡ 8 * k
+  pub octets_length : (c : Content) → FitsText count c → length (increment_for (texts count) 0 k c) ≡ 8 * k
   octets_length (text os) h = length-bits_of (take k os) ∙ ap (λ n. 8 * n) (length-take-le k os (omega (arith, h.0)))
   octets_length missing h = length-replicate (8 * k) true
   octets_length (number n) h = absurd h
   octets_length (reference v) h = absurd h
 
-  pub octets_long : (cs : List Content) → AreTexts count cs → AreLong (octet_bits k) (8 * k) cs
+  pub octets_long : (cs : List Content) → AreTexts count cs → AreLong (increment_for (texts count) 0 k) (8 * k) cs
   octets_long [] h = tt
   octets_long (c ∷ cs) h = (octets_length c h.0, octets_long cs h.1)
 
-  one_text : (c : Content) → FitsText count c → has_octets k c ≡ true → padded_text count k (octet_bits k c) ≡ c
+  one_text : (c : Content) → FitsText count c → has_increment (texts count) 0 k c ≡ true → padded_text count k (increment_for (texts count) 0 k c) ≡ c
   one_text (number n) h p = absurd h
   one_text (reference v) h p = absurd h
   one_text missing h p = ap (λ b. if b then missing else text (octets_in k (replicate (8 * k) true) ++ replicate (count - k) 32)) (ones_set (8 * k))
@@ -129,11 +145,14 @@ module _ (count k : ℕ) (short : k ≤ count) where
       ∙ ap text whole
 
   -- texts are read again from their octets
-  pub texts_back : (cs : List Content) → AreTexts count cs → list_all (has_octets k) cs ≡ true → map (padded_text count k) (map (octet_bits k) cs) ≡ cs
-  texts_back [] h p = refl
-  texts_back (c ∷ cs) h p =
-      ap (λ x. x ∷ map (padded_text count k) (map (octet_bits k) cs)) (one_text c h.0 (and_first (has_octets k c) (list_all (has_octets k) cs) p))
-      ∙ ap (λ xs. c ∷ xs) (texts_back cs h.1 (and_second (has_octets k c) (list_all (has_octets k) cs) p))
+  pub texts_back : (base : List Bool) (cs : List Content) → AreTexts count cs → list_all (has_increment (texts count) 0 k) cs ≡ true
+      → all_there (map (increased (texts count) k base) (map (increment_for (texts count) 0 k) cs)) ≡ Some cs
+  texts_back base [] h p = refl
+  texts_back base (c ∷ cs) h p =
+      there_more (increased (texts count) k base (increment_for (texts count) 0 k c)) (map (increased (texts count) k base) (map (increment_for (texts count) 0 k) cs)) c cs
+      (ap (λ b. if b then None else Some (padded_text count k (increment_for (texts count) 0 k c))) (le-ltb count k short)
+      ∙ ap Some (one_text c h.0 (and_first (has_increment (texts count) 0 k c) (list_all (has_increment (texts count) 0 k) cs) p)))
+      (texts_back base cs h.1 (and_second (has_increment (texts count) 0 k c) (list_all (has_increment (texts count) 0 k) cs) p))
 
 -- ---- The contents that were read, by their k.
 
@@ -162,10 +181,6 @@ pub record IsIncreased (m : Bool) (w base k : ℕ) (c : Content) : Type 0 where
   pub increment_over : IsOver base c
   pub short : IsShort m base k c
 
-both_not : (m : Bool) (a b : ℕ) → (m && (a == b)) ≡ false → m ≡ true → a ≢ b
-both_not true a b h e = grind (arith, nat_tests)
-both_not false a b h e = absurd cc
-
 top_from : (m : Bool) (w v : ℕ) → v < 2 ^ w → (m ≡ true → v ≢ ones w) → v < raw_limit m w
 top_from true w v h e = let a : v ≢ ones w = e refl in omega arith
 top_from false w v h e = h
@@ -176,20 +191,40 @@ power_pos w = let p : 2 ^ 0 ≤ 2 ^ w = pow_mono (zero_least w) in omega arith
     zero_least : (w : ℕ) → 0 ≤ w
     zero_least w = omega arith
 
-read_by_tests : (m a b c : Bool) (w base k i : ℕ) → i < 2 ^ k → (m && (i == ones k)) ≡ a → nat_lt (ones w) (base + i) ≡ b → (m && (base + i == ones w)) ≡ c → (a || not b) ≡ true
-    → IsIncreased m w base k (if a then missing else if c then missing else number (base + i))
-read_by_tests m true b c w base k i small p q r h = record { fits = and_first m (i == ones k) p; increment_over = tt; short = tt }
-read_by_tests m false true c w base k i small p q r h = absurd cc
-read_by_tests m false false true w base k i small p q r h = record { fits = and_first m (base + i == ones w) r; increment_over = tt; short = tt }
-read_by_tests m false false false w base k i small p q r h =
+number_read : (m : Bool) (w base k i : ℕ) → i < 2 ^ k → nat_lt (ones w) (base + i) ≡ false → (m ≡ true → i ≢ ones k) → (m ≡ true → base + i ≢ ones w) → IsIncreased m w base k (number (base + i))
+number_read m w base k i small q last whole =
     let most : base + i ≤ ones w = ltb-false (ones w) (base + i) q in
     let pos : 0 < 2 ^ w = power_pos w in
     let back : (base + i) - base ≡ i = omega arith in
     record {
-      fits = top_from m w (base + i) (omega arith) (both_not m (base + i) (ones w) r);
+      fits = top_from m w (base + i) (omega arith) whole;
       increment_over = omega arith;
-      short = subst (λ j. j < raw_limit m k) (sym back) (top_from m k i small (both_not m i (ones k) p));
+      short = subst (λ j. j < raw_limit m k) (sym back) (top_from m k i small last);
     }
+
+missing_read : (w base k : ℕ) → IsIncreased true w base k missing
+missing_read w base k = record { fits = refl; increment_over = tt; short = tt }
+
+differ : (a b : ℕ) → (a == b) ≡ false → a ≢ b
+differ a b h = grind (arith, nat_tests)
+
+-- by its tests: the base is all ones, the increment is, their sum exceeds the width, and is all ones
+read_by_tests : (m full last past whole : Bool) (w base k i : ℕ) (c : Content) → i < 2 ^ k → (i == ones k) ≡ last → nat_lt (ones w) (base + i) ≡ past → (base + i == ones w) ≡ whole
+    → (if m && (full || last) then Some missing else if past then None else Some (if m && whole then missing else number (base + i))) ≡ Some c → IsIncreased m w base k c
+read_by_tests true true last past whole w base k i c small p q r e = subst (IsIncreased true w base k) (some_same missing c e) (missing_read w base k)
+read_by_tests true false true past whole w base k i c small p q r e = subst (IsIncreased true w base k) (some_same missing c e) (missing_read w base k)
+read_by_tests true false false true whole w base k i c small p q r e = absurd cc
+read_by_tests true false false false true w base k i c small p q r e = subst (IsIncreased true w base k) (some_same missing c e) (missing_read w base k)
+read_by_tests true false false false false w base k i c small p q r e =
+    subst (IsIncreased true w base k) (some_same (number (base + i)) c e) (number_read true w base k i small q (λ t. differ i (ones k) p) (λ t. differ (base + i) (ones w) r))
+read_by_tests false full last true whole w base k i c small p q r e = absurd cc
+read_by_tests false full last false whole w base k i c small p q r e =
+    subst (IsIncreased false w base k) (some_same (number (base + i)) c e) (number_read false w base k i small q (λ t. absurd cc) (λ t. absurd cc))
+
+read_one : (m : Bool) (w k : ℕ) (base i : List Bool) (c : Content) → length i ≡ k → increased (numbers w m) k base i ≡ Some c → IsIncreased m w (number_of base) k c
+read_one m w k base i c long e =
+    read_by_tests m (are_all_ones base) (are_all_ones i) (nat_lt (ones w) (number_of base + number_of i)) (number_of base + number_of i == ones w) w (number_of base) k (number_of i) c
+    (subst (λ n. number_of i < 2 ^ n) long (number_of-below i)) (sym (ones_same k i long)) refl refl e
 
 -- the same of all numbers
 pub record AreIncreased (m : Bool) (w base k : ℕ) (cs : List Content) : Type 0 where
@@ -197,24 +232,23 @@ pub record AreIncreased (m : Bool) (w base k : ℕ) (cs : List Content) : Type 0
   pub increment_over : AreOver base cs
   pub short : AreShort m base k cs
 
-pub numbers_read : (m : Bool) (w base k : ℕ) (is : List (List Bool)) → AllLong k is → list_all (λ i. stays_within m w base k (number_of i)) is ≡ true
-    → AreIncreased m w base k (map (λ i. increased_to m w base k (number_of i)) is)
-numbers_read m w base k [] long h = record { fits = tt; increment_over = tt; short = tt }
-numbers_read m w base k (i ∷ is) long h =
-    let v = number_of i in
-    let a = read_by_tests m (m && (v == ones k)) (nat_lt (ones w) (base + v)) (m && (base + v == ones w)) w base k v (subst (λ n. v < 2 ^ n) long.0 (number_of-below i)) refl refl refl
-    (and_first (stays_within m w base k v) (list_all (λ i. stays_within m w base k (number_of i)) is) h) in
-    let b = numbers_read m w base k is long.1 (and_second (stays_within m w base k v) (list_all (λ i. stays_within m w base k (number_of i)) is) h) in
-    record { fits = (a.fits, b.fits); increment_over = (a.increment_over, b.increment_over); short = (a.short, b.short) }
+pub numbers_read : (m : Bool) (w k : ℕ) (base : List Bool) (is : List (List Bool)) (cs : List Content) → AllLong k is → all_there (map (increased (numbers w m) k base) is) ≡ Some cs
+    → AreIncreased m w (number_of base) k cs
+numbers_read m w k base [] cs long e = subst (AreIncreased m w (number_of base) k) (some_same [] cs e) (record { fits = tt; increment_over = tt; short = tt })
+numbers_read m w k base (i ∷ is) cs long e =
+    let t = next_there (increased (numbers w m) k base i) (map (increased (numbers w m) k base) is) cs e in
+    let a = read_one m w k base i t.0 long.0 t.2 in
+    let b = numbers_read m w k base is t.1 long.1 t.3 in
+    subst (AreIncreased m w (number_of base) k) t.4 (record { fits = (a.fits, b.fits); increment_over = (a.increment_over, b.increment_over); short = (a.short, b.short) })
 
 -- over a greater base increments are no longer
-has_over : (m : Bool) (base low k : ℕ) (c : Content) → base ≤ low → IsShort m base k c → has_bits m low k c ≡ true
-has_over m base low k (number n) h s = lt-ltb (n - low) (raw_limit m k) (omega (arith, s))
-has_over m base low k c h s = refl
+has_over : (m : Bool) (w base low k : ℕ) (c : Content) → base ≤ low → IsShort m base k c → has_increment (numbers w m) low k c ≡ true
+has_over m w base low k (number n) h s = lt-ltb (n - low) (raw_limit m k) (omega (arith, s))
+has_over m w base low k c h s = refl
 
-pub all_over : (m : Bool) (base low k : ℕ) (cs : List Content) → base ≤ low → AreShort m base k cs → list_all (has_bits m low k) cs ≡ true
-all_over m base low k [] h s = refl
-all_over m base low k (c ∷ cs) h s = ap (λ b. b && list_all (has_bits m low k) cs) (has_over m base low k c h s.0) ∙ all_over m base low k cs h s.1
+pub all_over : (m : Bool) (w base low k : ℕ) (cs : List Content) → base ≤ low → AreShort m base k cs → list_all (has_increment (numbers w m) low k) cs ≡ true
+all_over m w base low k [] h s = refl
+all_over m w base low k (c ∷ cs) h s = ap (λ b. b && list_all (has_increment (numbers w m) low k) cs) (has_over m w base low k c h s.0) ∙ all_over m w base low k cs h s.1
 
 -- texts
 pub AreOctets-append : (xs ys : List ℕ) → AreOctets xs → AreOctets ys → AreOctets (xs ++ ys)
@@ -231,7 +265,7 @@ and_false a b e = ap (λ x. x && b) e
 -- a text that was read from k octets fits, and k octets are the text again
 pub record IsFromOctets (count k : ℕ) (c : Content) : Type 0 where
   pub fits : FitsText count c
-  pub again : has_octets k c ≡ true
+  pub again : has_increment (texts count) 0 k c ≡ true
 
 text_read : (count k : ℕ) (i : List Bool) (b : Bool) → k ≤ count → length i ≡ 8 * k → are_all_ones i ≡ b
     → IsFromOctets count k (if b then missing else text (octets_in k i ++ replicate (count - k) 32))
@@ -258,11 +292,27 @@ text_read count k i false short long e =
           ∙ ap not some;
     }
 
-pub texts_fit : (count k : ℕ) (is : List (List Bool)) → k ≤ count → AllLong (8 * k) is → AreTexts count (map (padded_text count k) is)
-texts_fit count k [] short long = tt
-texts_fit count k (i ∷ is) short long = ((text_read count k i (are_all_ones i) short long.0 refl).fits, texts_fit count k is short long.1)
+-- what holds of texts that were read
+pub record AreFromOctets (count k : ℕ) (cs : List Content) : Type 0 where
+  pub fits : AreTexts count cs
+  pub again : list_all (has_increment (texts count) 0 k) cs ≡ true
 
-pub texts_again : (count k : ℕ) (is : List (List Bool)) → k ≤ count → AllLong (8 * k) is → list_all (has_octets k) (map (padded_text count k) is) ≡ true
-texts_again count k [] short long = refl
-texts_again count k (i ∷ is) short long =
-    ap (λ b. b && list_all (has_octets k) (map (padded_text count k) is)) (text_read count k i (are_all_ones i) short long.0 refl).again ∙ texts_again count k is short long.1
+text_there : (past : Bool) (a c : Content) → (if past then None else Some a) ≡ Some c → (past ≡ false) × (a ≡ c)
+text_there true a c e = absurd cc
+text_there false a c e = (refl, some_same a c e)
+
+pub texts_read : (count k : ℕ) (base : List Bool) (is : List (List Bool)) (cs : List Content) → AllLong (8 * k) is → all_there (map (increased (texts count) k base) is) ≡ Some cs
+    → AreFromOctets count k cs
+texts_read count k base [] cs long e = subst (AreFromOctets count k) (some_same [] cs e) (record { fits = tt; again = refl })
+texts_read count k base (i ∷ is) cs long e =
+    let t = next_there (increased (texts count) k base i) (map (increased (texts count) k base) is) cs e in
+    let one = text_there (nat_lt count k) (padded_text count k i) t.0 t.2 in
+    let a = subst (IsFromOctets count k) one.1 (text_read count k i (are_all_ones i) (ltb-false count k one.0) long.0 refl) in
+    let b = texts_read count k base is t.1 long.1 t.3 in
+    subst (AreFromOctets count k) t.4 (record { fits = (a.fits, b.fits); again = ap (λ x. x && list_all (has_increment (texts count) 0 k) t.1) a.again ∙ b.again })
+
+pub texts_short : (count k : ℕ) (base : List Bool) (is : List (List Bool)) (c : Content) (cs : List Content) → all_there (map (increased (texts count) k base) is) ≡ Some (c ∷ cs) → k ≤ count
+texts_short count k base [] c cs e = let none = some_same [] (c ∷ cs) e in absurd cc
+texts_short count k base (i ∷ is) c cs e =
+    let t = next_there (increased (texts count) k base i) (map (increased (texts count) k base) is) (c ∷ cs) e in
+    ltb-false count k (text_there (nat_lt count k) (padded_text count k i) t.0 t.2).0

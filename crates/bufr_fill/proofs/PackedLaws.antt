@@ -1,23 +1,22 @@
 -- An item of compressed data that was read is packed and read again, in no more bits.
 use Rattle.std.proofs.lemmas.Grind.{common_steps}
 use Rattle.std.proofs.Common.{◌≡◌, ℕ, ◌+◌, ◌*◌, ◌/◌, ◌^◌, ◌<◌, ◌≤◌, ◌&&◌, Bool, true, false, List, [], ◌∷◌, ◌++◌, length, take, drop, map, replicate, Option, Some, None, Result, Ok, Err, refl, sym, ◌∙◌, ap, subst, arith, append_assoc, pow_mono, zero, suc, ◌-◌, not, ◌==◌, nat_lt, nat_le, if◌then◌else◌, unwrap_or, ◌||◌}
-use Rattle.std.proofs.lemmas.Bool.{le-leb, le-ltb, leb-true, lt-ltb, ltb-false, eqb-true}
+use Rattle.std.proofs.lemmas.Bool.{le-ltb, leb-true, lt-ltb, ltb-false, eqb-true}
 use Rattle.std.specs.List.{list_all, flat_map, AllByRecursion}
-use Rattle.std.proofs.lemmas.List.{take_at, drop_at, drop-drop, length-append, length-replicate, length-take, length-take-le, length-drop, length-map, append-nil, take_all}
+use Rattle.std.proofs.lemmas.List.{take_at, drop_at, drop-drop, length-append, length-replicate, length-take, length-take-le, length-drop, append-nil, take_all}
 use Rattle.std.proofs.lemmas.Bool.Decides.{nat_tests}
 use Rattle.std.proofs.Math.Nat.{mul-le-mul_left, le_of_mul-le-mul_left}
-use Rattle.bufr_bits.specs.Prelude.{bits_in, number_of, are_all_ones}
+use Rattle.bufr_bits.specs.Prelude.{bits_in, number_of, ◌>>=◌}
 use Rattle.bufr_bits.proofs.BitLemmas.{number_of-below, length-bits_in}
 use Rattle.bufr_bits.proofs.DecimalLemmas.{and_first, and_second}
 use Rattle.bufr_tables.specs.declared.table_b.Kind.{Kind}
 use Rattle.bufr_walk.specs.declared.spec.Role.{Role}
-use Rattle.bufr_tables.specs.Prelude.{is_character}
-use Rattle.bufr_walk.specs.Prelude.{FieldSpec, IsSpec, HasRole, HasWidth, Content, number, text, missing, content_in, bits_for, FieldFault, increment, FieldRead, found, increments, padded_text, kind_step, increment_bits_of, is_missing, stays_within, all_within, are_number_increments_valid, are_increments_valid_by, are_increments_valid, all_equal, equal_in, increased_to, number_from, content_from, contents_of, packed_field}
-use Rattle.bufr_walk.proofs.PackedLemmas.{item_tested, item_ok, neither}
-use Rattle.bufr_fill.specs.Prelude.{raw_limit, same, are_same, lowest, has_bits, has_octets, least_k, increment_bits, octet_bits, packed_bits, numbers_over, packed_by, packed_unlike, packing, k_of, HasLeastK, first_from, FitsNumber, FitsText, FitsKind, FitsRole, Fits, AllFit, Role, Kind}
-use Rattle.bufr_fill.proofs.FieldLemmas.{number_again, number_back, top_below, same_ok}
-use Rattle.bufr_fill.proofs.LeastLemmas.{first_least, first_passes, first_from_start, content_same, are_same_copies, AreNumbers, AreOver, none_over, lowest_over, lowest_fits, under_lowest, octets_self, top_some}
-use Rattle.bufr_fill.proofs.PackedBack.{not_true, pieces_length, pieces_found, numbers_back, increments_long, AreTexts, octets_long, texts_back, AllLong, increments_all, numbers_read, all_over, texts_fit, texts_again}
+use Rattle.bufr_walk.specs.Prelude.{Coding, numbers, texts, references, coding_by, coding_of, step_of, increased, all_there, contents_across, if_equal, said, is_reference, FieldSpec, IsSpec, HasWidth, Content, number, text, missing, content_in, bits_for, FieldFault, increment, FieldRead, found, increments, packed_field}
+use Rattle.bufr_walk.proofs.PackedLemmas.{item_by, item_parts, neither, varied, copied, copies_equal, next_there, some_same, equal_or}
+use Rattle.bufr_fill.specs.Prelude.{raw_limit, same, are_same, lowest, has_increment, increment_for, least_k, packed_bits, packed_over, packed_unlike, packing, k_of, HasLeastK, first_from, FitsNumber, FitsText, FitsKind, FitsRole, Fits, AllFit, Role, Kind}
+use Rattle.bufr_fill.proofs.FieldLemmas.{coded, coding_is, number_again, same_ok}
+use Rattle.bufr_fill.proofs.LeastLemmas.{first_least, first_passes, first_from_start, content_same, are_same_copies, AreNumbers, AreOver, none_over, lowest_over, lowest_fits, under_lowest, octets_self, top_some, over_at, over_is, over_written}
+use Rattle.bufr_fill.proofs.PackedBack.{pieces_length, pieces_found, numbers_back, increments_long, AreTexts, octets_long, texts_back, AllLong, increments_all, numbers_read, all_over, texts_read, texts_short}
 use Rattle.bufr_fill.proofs.PlainLaws.{content_back, content_length, content_fits}
 use Rattle.bufr_tables.specs.declared.table_b.Kind.TheVariants as kind
 use Rattle.bufr_walk.specs.declared.spec.Role.TheVariants as role
@@ -27,11 +26,10 @@ use Rattle.bufr_walk.specs.declared.spec.Role.TheVariants as role
 pub record IsUnpacked (n : ℕ) (spec : FieldSpec) (bits : List Bool) (cs : List Content) (mid : List Bool) (k : ℕ) : Type 0 where
   pub small : k ≤ 63
   pub base : length (take spec.width bits) ≡ spec.width
-  pub enough : n * increment_bits_of spec.role spec.kind k ≤ length (drop (spec.width + 6) bits)
-  pub holds : (k == 0 || are_increments_valid spec.role spec k n (take spec.width bits) (drop (spec.width + 6) bits)) ≡ true
-  pub equal : (k == 0 || equal_in spec.role k n (drop (spec.width + 6) bits)) ≡ true
-  pub contents : contents_of spec k n (take spec.width bits) (drop (spec.width + 6) bits) ≡ cs
-  pub used : spec.width + 6 + n * increment_bits_of spec.role spec.kind k + length mid ≡ length bits
+  pub enough : n * step_of (coding_of spec) k ≤ length (drop (spec.width + 6) bits)
+  pub across : contents_across (coding_of spec) k n (take spec.width bits) (drop (spec.width + 6) bits) ≡ Some cs
+  pub equal : if_equal spec.role cs ≡ Ok cs
+  pub used : spec.width + 6 + n * step_of (coding_of spec) k + length mid ≡ length bits
 
 module _ (n : ℕ) (spec : FieldSpec) where
   k_small : (bits : List Bool) → number_of (take 6 bits) ≤ 63
@@ -44,9 +42,9 @@ module _ (n : ℕ) (spec : FieldSpec) where
   unpacked bits cs mid e =
       let k = number_of (take 6 (drop spec.width bits)) in
       let suffix = drop (spec.width + 6) bits in
-      let used = n * increment_bits_of spec.role spec.kind k in
-      let t = item_ok (nat_lt (length bits) (spec.width + 6) || nat_lt (length suffix) used) (k == 0 || are_increments_valid spec.role spec k n (take spec.width bits) suffix)
-      (k == 0 || equal_in spec.role k n suffix) (contents_of spec k n (take spec.width bits) suffix) (drop used suffix) cs mid e in
+      let used = n * step_of (coding_of spec) k in
+      let t = item_parts spec.role (nat_lt (length bits) (spec.width + 6) || nat_lt (length suffix) used) (contents_across (coding_of spec) k n (take spec.width bits) suffix)
+      (drop used suffix) cs mid e in
       let ends = neither (nat_lt (length bits) (spec.width + 6)) (nat_lt (length suffix) used) t.0 in
       let long : spec.width + 6 ≤ length bits = ltb-false (length bits) (spec.width + 6) ends.0 in
       let enough : used ≤ length suffix = ltb-false (length suffix) used ends.1 in
@@ -54,24 +52,22 @@ module _ (n : ℕ) (spec : FieldSpec) where
         small = k_small (drop spec.width bits);
         base = length-take-le spec.width bits (omega (arith, long));
         enough = enough;
-        holds = t.1;
+        across = t.1;
         equal = t.2;
-        contents = t.3;
-        used = omega (arith, long, enough, length-drop (spec.width + 6) bits, length-drop used suffix, ap length t.4);
+        used = omega (arith, long, enough, length-drop (spec.width + 6) bits, length-drop used suffix, ap length t.3);
       }
 
   -- ---- bits that are packed are read by their parts
-  abbrev tested : (bits : List Bool) (k : ℕ) (base suffix : List Bool) → Result (FieldRead (List Content)) FieldFault
-  tested bits k base suffix = item_tested (nat_lt (length bits) (spec.width + 6) || nat_lt (length suffix) (n * increment_bits_of spec.role spec.kind k))
-      (k == 0 || are_increments_valid spec.role spec k n base suffix) (k == 0 || equal_in spec.role k n suffix) (contents_of spec k n base suffix)
-      (drop (n * increment_bits_of spec.role spec.kind k) suffix)
+  abbrev by_parts : (bits : List Bool) (k : ℕ) (base suffix : List Bool) → Result (FieldRead (List Content)) FieldFault
+  by_parts bits k base suffix = item_by spec.role (nat_lt (length bits) (spec.width + 6) || nat_lt (length suffix) (n * step_of (coding_of spec) k))
+      (contents_across (coding_of spec) k n base suffix) (drop (n * step_of (coding_of spec) k) suffix)
 
-  pub packed_reads : (base : List Bool) (k : ℕ) (pieces more : List Bool) (cs : List Content) → length base ≡ spec.width → k ≤ 63 → length pieces ≡ n * increment_bits_of spec.role spec.kind k
-      → (k == 0 || are_increments_valid spec.role spec k n base (pieces ++ more)) ≡ true → (k == 0 || equal_in spec.role k n (pieces ++ more)) ≡ true → contents_of spec k n base (pieces ++ more) ≡ cs
+  pub packed_reads : (base : List Bool) (k : ℕ) (pieces more : List Bool) (cs : List Content) → length base ≡ spec.width → k ≤ 63 → length pieces ≡ n * step_of (coding_of spec) k
+      → contents_across (coding_of spec) k n base (pieces ++ more) ≡ Some cs → if_equal spec.role cs ≡ Ok cs
       → packed_field n spec (packed_bits base k pieces ++ more) ≡ Ok (found cs more)
-  packed_reads base k pieces more cs lb small lp holds equal e =
+  packed_reads base k pieces more cs lb small lp across equal =
       let w = spec.width in
-      let step = increment_bits_of spec.role spec.kind k in
+      let used = n * step_of (coding_of spec) k in
       let all = packed_bits base k pieces ++ more in
       let turned : all ≡ base ++ (bits_in k 6 ++ (pieces ++ more)) = append_assoc base (bits_in k 6 ++ pieces) more ∙ ap (λ x. base ++ x) (append_assoc (bits_in k 6) pieces more) in
       let first : take w all ≡ base = ap (take w) turned ∙ take_at base (bits_in k 6 ++ (pieces ++ more)) w lb in
@@ -82,65 +78,61 @@ module _ (n : ℕ) (spec : FieldSpec) where
       let size : length all ≡ w + 6 + (length pieces + length more) =
       omega (arith, ap length turned, length-append base (bits_in k 6 ++ (pieces ++ more)), length-append (bits_in k 6) (pieces ++ more), length-append pieces more, lb, length-bits_in k 6) in
       let none : nat_lt (length all) (w + 6) ≡ false = le-ltb (length all) (w + 6) (omega (arith, size)) in
-      let enough : nat_lt (length (pieces ++ more)) (n * step) ≡ false = le-ltb (length (pieces ++ more)) (n * step) (omega (arith, length-append pieces more, lp)) in
-      ap (λ j. tested all j (take w all) (drop (w + 6) all)) is_k ∙ ap (λ x. tested all k x (drop (w + 6) all)) first ∙ ap (λ x. tested all k base x) suffix
-      ∙ rw (none, enough, holds, equal, e, drop_at pieces more (n * step) lp) refl
+      let enough : nat_lt (length (pieces ++ more)) used ≡ false = le-ltb (length (pieces ++ more)) used (omega (arith, length-append pieces more, lp)) in
+      ap (λ j. by_parts all j (take w all) (drop (w + 6) all)) is_k ∙ ap (λ x. by_parts all k x (drop (w + 6) all)) first ∙ ap (λ x. by_parts all k base x) suffix
+      ∙ ap (λ b. item_by spec.role (b || nat_lt (length (pieces ++ more)) used) (contents_across (coding_of spec) k n base (pieces ++ more)) (drop used (pieces ++ more))) none
+      ∙ ap (λ b. item_by spec.role b (contents_across (coding_of spec) k n base (pieces ++ more)) (drop used (pieces ++ more))) enough
+      ∙ ap (λ o. item_by spec.role false o (drop used (pieces ++ more))) across
+      ∙ ap (λ r. r >>= λ y. Ok (found y (drop used (pieces ++ more)))) equal ∙ ap (λ s. Ok (found cs s)) (drop_at pieces more used lp)
 
 -- ---- contents that differ
 
 -- what holds of contents that were read with k above 0: they fit, and so many bits or octets of
 -- each are enough
 abbrev pub IsVaried : Kind → Bool → (w k : ℕ) → List Content → Type 0
-IsVaried kind.Character m w k cs = AreTexts (w / 8) cs × (list_all (has_octets k) cs ≡ true) × (k ≤ w / 8)
-IsVaried kd m w k cs = AreNumbers m w cs × ((low : ℕ) → lowest cs ≡ Some low → list_all (has_bits m low k) cs ≡ true)
+IsVaried kind.Character m w k cs = AreTexts (w / 8) cs × (list_all (has_increment (texts (w / 8)) 0 k) cs ≡ true) × (k ≤ w / 8)
+IsVaried kd m w k cs = AreNumbers m w cs × ((low : ℕ) → lowest cs ≡ Some low → list_all (has_increment (numbers w m) low k) cs ≡ true)
 
-missing_numbers : {X : Type 0} (m : Bool) (w : ℕ) (is : List X) → m ≡ true → AreNumbers m w (map (λ i. missing) is)
-missing_numbers m w [] e = tt
-missing_numbers m w (i ∷ is) e = (e, missing_numbers m w is e)
+numbers_varied : (m : Bool) (w k : ℕ) (base : List Bool) (is : List (List Bool)) (cs : List Content) → AllLong k is → all_there (map (increased (numbers w m) k base) is) ≡ Some cs
+    → IsVaried kind.Numeric m w k cs
+numbers_varied m w k base is cs long e =
+    let r = numbers_read m w k base is cs long e in
+    (r.fits, λ low q. all_over m w (number_of base) low k cs (under_lowest cs (number_of base) low r.increment_over q) r.short)
 
-missing_has : {X : Type 0} (m : Bool) (low k : ℕ) (is : List X) → list_all (has_bits m low k) (map (λ i. missing) is) ≡ true
-missing_has m low k [] = refl
-missing_has m low k (i ∷ is) = missing_has m low k is
-
-module _ (spec : FieldSpec) (k n : ℕ) (base suffix : List Bool) where
-  numbers_varied : (b : Bool) → AllLong k (increments n k suffix) → is_missing spec base ≡ b → (b || all_within spec.may_be_missing spec.width (number_of base) k n suffix) ≡ true
-      → IsVaried kind.Numeric spec.may_be_missing spec.width k (map (λ i. if b then missing else increased_to spec.may_be_missing spec.width (number_of base) k (number_of i)) (increments n k suffix))
-  numbers_varied true long p h = (
-    missing_numbers spec.may_be_missing spec.width (increments n k suffix) (and_second (are_all_ones base) spec.may_be_missing p),
-    λ low q. missing_has spec.may_be_missing low k (increments n k suffix),
-  )
-  numbers_varied false long p h =
-      let r = numbers_read spec.may_be_missing spec.width (number_of base) k (increments n k suffix) long h in
-      let cs = map (λ i. increased_to spec.may_be_missing spec.width (number_of base) k (number_of i)) (increments n k suffix) in
-      (r.fits, λ low q. all_over spec.may_be_missing (number_of base) low k cs (under_lowest cs (number_of base) low r.increment_over q) r.short)
-
-  spec_by_kind : (kd : Kind) → AllLong (kind_step kd k) (increments n (kind_step kd k) suffix) → are_increments_valid_by kd spec k n base suffix ≡ true
-      → IsVaried kd spec.may_be_missing spec.width k (map (content_from kd spec k base) (increments n (kind_step kd k) suffix))
-  spec_by_kind kind.Character long h =
-      let short : k ≤ spec.width / 8 = ltb-false (spec.width / 8) k (not_true (nat_lt (spec.width / 8) k) h) in
-      (texts_fit (spec.width / 8) k (increments n (8 * k) suffix) short long, texts_again (spec.width / 8) k (increments n (8 * k) suffix) short long, short)
-  spec_by_kind k long h = numbers_varied (is_missing spec base) long refl h
+varied_by_kind : (kd : Kind) (m : Bool) (w k : ℕ) (base : List Bool) (is : List (List Bool)) (c : Content) (cs : List Content) → AllLong (step_of (coded kd w m) k) is
+    → all_there (map (increased (coded kd w m) k base) is) ≡ Some (c ∷ cs) → IsVaried kd m w k (c ∷ cs)
+varied_by_kind kind.Character m w k base is c cs long e =
+    let r = texts_read (w / 8) k base is (c ∷ cs) long e in (r.fits, r.again, texts_short (w / 8) k base is c cs e)
+varied_by_kind kind.Coded m w k base is c cs long e = numbers_varied m w k base is (c ∷ cs) long e
+varied_by_kind kind.Numeric m w k base is c cs long e = numbers_varied m w k base is (c ∷ cs) long e
 
 -- ---- contents that differ are written
 
-none_has : (m : Bool) (low k : ℕ) (cs : List Content) → lowest cs ≡ None → list_all (has_bits m low k) cs ≡ true
-none_has m low k [] e = refl
-none_has m low k (number n ∷ cs) e = absurd cc
-none_has m low k (c ∷ cs) e = none_has m low k cs e
+none_has : (w : ℕ) (m : Bool) (low k : ℕ) (cs : List Content) → lowest cs ≡ None → list_all (has_increment (numbers w m) low k) cs ≡ true
+none_has w m low k [] e = refl
+none_has w m low k (number n ∷ cs) e = absurd cc
+none_has w m low k (c ∷ cs) e = none_has w m low k cs e
 
--- what holds of contents that differ, by kind
-pub record IsWritten (kd : Kind) (spec : FieldSpec) (cs : List Content) (most : ℕ) : Type 0 where
+-- what holds of contents that differ, by their coding
+pub record IsWritten (d : Coding) (spec : FieldSpec) (cs : List Content) (most : ℕ) : Type 0 where
   pub base : List Bool
   pub k : ℕ
   pub pieces : List Bool
-  pub is : packed_by (is_character kd) spec cs ≡ Ok (packed_bits base k pieces)
+  pub is : packed_over spec cs ≡ Ok (packed_bits base k pieces)
   pub long : length base ≡ spec.width
   pub some : 1 ≤ k
   pub small : k ≤ 63
   pub least : k ≤ most
-  pub size : length pieces ≡ length cs * kind_step kd k
-  pub holds : (more : List Bool) → are_increments_valid_by kd spec k (length cs) base (pieces ++ more) ≡ true
-  pub back : (more : List Bool) → map (content_from kd spec k base) (increments (length cs) (kind_step kd k) (pieces ++ more)) ≡ cs
+  pub size : length pieces ≡ length cs * step_of d k
+  pub across : (more : List Bool) → all_there (map (increased d k base) (increments (length cs) (step_of d k) (pieces ++ more))) ≡ Some cs
+
+-- no text is a number
+texts_none : (count : ℕ) (cs : List Content) → AreTexts count cs → lowest cs ≡ None
+texts_none count [] h = refl
+texts_none count (text os ∷ cs) h = texts_none count cs h.1
+texts_none count (missing ∷ cs) h = texts_none count cs h.1
+texts_none count (number n ∷ cs) h = absurd h.0
+texts_none count (c ∷ cs) h = absurd h.0
 
 module _ (spec : FieldSpec) (cs : List Content) (most : ℕ) (some : 1 ≤ most) (small : most ≤ 63) where
   -- the least k passes
@@ -155,90 +147,62 @@ module _ (spec : FieldSpec) (cs : List Content) (most : ℕ) (some : 1 ≤ most)
     least_passes = first_passes (λ k. list_all (passes k) cs) 63 1 most some (omega arith) pass
 
   -- numbers over a base that none is under
-  numbers_written : (base : ℕ) → base < raw_limit spec.may_be_missing spec.width → AreNumbers spec.may_be_missing spec.width cs → AreOver base cs
-      → (pass : list_all (has_bits spec.may_be_missing base most) cs ≡ true)
-      → (k : ℕ) → k ≡ least_k (has_bits spec.may_be_missing base) cs → (more : List Bool)
-      → (are_number_increments_valid spec k (length cs) (bits_in base spec.width) (flat_map (increment_bits base k) cs ++ more) ≡ true)
-      × (map (number_from spec k (bits_in base spec.width)) (increments (length cs) k (flat_map (increment_bits base k) cs ++ more)) ≡ cs)
-  numbers_written base fits are increment_over pass k e more =
+  number_item : (base : ℕ) → coding_of spec ≡ numbers spec.width spec.may_be_missing → base < raw_limit spec.may_be_missing spec.width → AreNumbers spec.may_be_missing spec.width cs → AreOver base cs
+      → (pass : list_all (has_increment (numbers spec.width spec.may_be_missing) base most) cs ≡ true) → unwrap_or (lowest cs) 0 ≡ base
+      → IsWritten (numbers spec.width spec.may_be_missing) spec cs most
+  number_item base coding fits are increment_over pass e =
       let m = spec.may_be_missing in
-      let w = spec.width in
-      let f = increment_bits base k in
-      let passed : list_all (has_bits m base k) cs ≡ true = ap (λ j. list_all (has_bits m base j) cs) e ∙ least_passes (has_bits m base) pass in
-      let there = pieces_found f k cs more (increments_long m w base k cs) in
-      let some = number_back w m base fits in
-      let again = number_again base w (top_below m w base fits) in
-      let b = numbers_back m w base k cs are increment_over passed in
-      let at = bits_in base w in (
-        ap (λ is. is_missing spec at || list_all (λ i. stays_within m w (number_of at) k (number_of i)) is) there
-            ∙ ap (λ b. b || list_all (λ i. stays_within m w (number_of at) k (number_of i)) (map f cs)) some
-            ∙ ap (λ v. list_all (λ i. stays_within m w v k (number_of i)) (map f cs)) again ∙ b.0,
-        ap (map (number_from spec k at)) there
-            ∙ ap (λ b. map (λ i. if b then missing else increased_to m w (number_of at) k (number_of i)) (map f cs)) some
-            ∙ ap (λ v. map (λ i. increased_to m w v k (number_of i)) (map f cs)) again ∙ b.1,
-      )
-
-  number_item : (base : ℕ) → base < raw_limit spec.may_be_missing spec.width → AreNumbers spec.may_be_missing spec.width cs → AreOver base cs
-      → (pass : list_all (has_bits spec.may_be_missing base most) cs ≡ true)
-      → unwrap_or (lowest cs) 0 ≡ base → IsWritten kind.Numeric spec cs most
-  number_item base fits are increment_over pass e =
-      let m = spec.may_be_missing in
-      let k = least_k (has_bits m base) cs in
+      let d = numbers spec.width m in
+      let k = least_k (has_increment d base) cs in
+      let least : k ≤ most = least_most (has_increment d base) pass in
+      let long = increments_long m spec.width base k cs in
       record {
         base = bits_in base spec.width;
         k = k;
-        pieces = flat_map (increment_bits base k) cs;
-        is = ap (λ b. numbers_at b) e;
+        pieces = flat_map (increment_for d base k) cs;
+        is = over_written spec cs d base k coding e refl (omega (arith, least));
         long = length-bits_in base spec.width;
-        some = least_some (has_bits m base) pass;
-        small = omega (arith, least_most (has_bits m base) pass);
-        least = least_most (has_bits m base) pass;
-        size = pieces_length (increment_bits base k) k cs (increments_long m spec.width base k cs);
-        holds = λ more. (numbers_written base fits are increment_over pass k refl more).0;
-        back = λ more. (numbers_written base fits are increment_over pass k refl more).1;
-      }
-    where
-      numbers_at : ℕ → Result (List Bool) FieldFault
-      numbers_at b = Ok (numbers_over spec.may_be_missing spec.width b cs)
-
-  number_item_of : (o : Option ℕ) → lowest cs ≡ o → 1 ≤ spec.width → IsVaried kind.Numeric spec.may_be_missing spec.width most cs → IsWritten kind.Numeric spec cs most
-  number_item_of None e h v = number_item 0 (top_some spec.may_be_missing spec.width h) v.0 (none_over cs 0 e) (none_has spec.may_be_missing 0 most cs e) (ap (λ o. unwrap_or o 0) e)
-  number_item_of (Some low) e h v = number_item low (lowest_fits spec.may_be_missing spec.width cs low v.0 e) v.0 (lowest_over cs low e) (v.1 low e) (ap (λ o. unwrap_or o 0) e)
-
-  as_coded : IsWritten kind.Numeric spec cs most → IsWritten kind.Coded spec cs most
-  as_coded r = record { base = r.base; k = r.k; pieces = r.pieces; is = r.is; long = r.long; some = r.some; small = r.small; least = r.least; size = r.size; holds = r.holds; back = r.back }
-
-  texts_written : (pass : list_all (has_octets most) cs ≡ true) → AreTexts (spec.width / 8) cs → most ≤ spec.width / 8 → (k : ℕ) → k ≡ least_k has_octets cs → (more : List Bool)
-      → (not (nat_lt (spec.width / 8) k) ≡ true) × (map (padded_text (spec.width / 8) k) (increments (length cs) (8 * k) (flat_map (octet_bits k) cs ++ more)) ≡ cs)
-  texts_written pass are wide k e more =
-      let count = spec.width / 8 in
-      let least : k ≤ most = omega (arith, e, least_most has_octets pass) in
-      let short : k ≤ count = omega (arith, least, wide) in
-      let passed : list_all (has_octets k) cs ≡ true = ap (λ j. list_all (has_octets j) cs) e ∙ least_passes has_octets pass in
-      (ap not (le-ltb count k short), ap (map (padded_text count k)) (pieces_found (octet_bits k) (8 * k) cs more (octets_long count k short cs are)) ∙ texts_back count k short cs are passed)
-
-  text_item : IsVaried kind.Character spec.may_be_missing spec.width most cs → IsWritten kind.Character spec cs most
-  text_item v =
-      let k = least_k has_octets cs in
-      let least : k ≤ most = least_most has_octets v.1 in
-      record {
-        base = replicate spec.width false;
-        k = k;
-        pieces = flat_map (octet_bits k) cs;
-        is = ap (λ b. if b then Ok (packed_bits (replicate spec.width false) k (flat_map (octet_bits k) cs)) else Err increment) (le-leb k 63 (omega (arith, least)));
-        long = length-replicate spec.width false;
-        some = least_some has_octets v.1;
+        some = least_some (has_increment d base) pass;
         small = omega (arith, least);
         least = least;
-        size = pieces_length (octet_bits k) (8 * k) cs (octets_long (spec.width / 8) k (omega (arith, least, v.2)) cs v.0);
-        holds = λ more. (texts_written v.1 v.0 v.2 k refl more).0;
-        back = λ more. (texts_written v.1 v.0 v.2 k refl more).1;
+        size = pieces_length (increment_for d base k) k cs long;
+        across = λ more. ap (λ is. all_there (map (increased d k (bits_in base spec.width)) is)) (pieces_found (increment_for d base k) k cs more long)
+            ∙ numbers_back m spec.width base k fits cs are increment_over (least_passes (has_increment d base) pass);
       }
 
-  pub item_written : (kd : Kind) → HasWidth kd spec.width → IsVaried kd spec.may_be_missing spec.width most cs → IsWritten kd spec cs most
-  item_written kind.Character h v = text_item v
-  item_written kind.Coded h v = as_coded (number_item_of (lowest cs) refl h.0 v)
-  item_written kind.Numeric h v = number_item_of (lowest cs) refl h.0 v
+  number_item_of : (o : Option ℕ) → lowest cs ≡ o → 1 ≤ spec.width → coding_of spec ≡ numbers spec.width spec.may_be_missing → IsVaried kind.Numeric spec.may_be_missing spec.width most cs
+      → IsWritten (numbers spec.width spec.may_be_missing) spec cs most
+  number_item_of None e h coding v =
+      number_item 0 coding (top_some spec.may_be_missing spec.width h) v.0 (none_over cs 0 e) (none_has spec.width spec.may_be_missing 0 most cs e) (ap (λ o. unwrap_or o 0) e)
+  number_item_of (Some low) e h coding v =
+      number_item low coding (lowest_fits spec.may_be_missing spec.width cs low v.0 e) v.0 (lowest_over cs low e) (v.1 low e) (ap (λ o. unwrap_or o 0) e)
+
+  text_item : coding_of spec ≡ texts (spec.width / 8) → IsVaried kind.Character spec.may_be_missing spec.width most cs → IsWritten (texts (spec.width / 8)) spec cs most
+  text_item coding v =
+      let d = texts (spec.width / 8) in
+      let k = least_k (has_increment d 0) cs in
+      let least : k ≤ most = least_most (has_increment d 0) v.1 in
+      let short : k ≤ spec.width / 8 = omega (arith, least, v.2) in
+      let long = octets_long (spec.width / 8) k short cs v.0 in
+      record {
+        base = bits_in 0 spec.width;
+        k = k;
+        pieces = flat_map (increment_for d 0 k) cs;
+        is = over_written spec cs d 0 k coding (ap (λ o. unwrap_or o 0) (texts_none (spec.width / 8) cs v.0)) refl (omega (arith, least));
+        long = length-bits_in 0 spec.width;
+        some = least_some (has_increment d 0) v.1;
+        small = omega (arith, least);
+        least = least;
+        size = pieces_length (increment_for d 0 k) (8 * k) cs long;
+        across = λ more. ap (λ is. all_there (map (increased d k (bits_in 0 spec.width)) is)) (pieces_found (increment_for d 0 k) (8 * k) cs more long)
+            ∙ texts_back (spec.width / 8) k short (bits_in 0 spec.width) cs v.0 (least_passes (has_increment d 0) v.1);
+      }
+
+  pub item_written : (kd : Kind) → HasWidth kd spec.width → coding_of spec ≡ coded kd spec.width spec.may_be_missing → IsVaried kd spec.may_be_missing spec.width most cs
+      → IsWritten (coded kd spec.width spec.may_be_missing) spec cs most
+  item_written kind.Character h e v = text_item e v
+  item_written kind.Coded h e v = number_item_of (lowest cs) refl h.0 e v
+  item_written kind.Numeric h e v = number_item_of (lowest cs) refl h.0 e v
 
 -- ---- the whole item
 
@@ -275,47 +239,58 @@ copies_are (suc n) x c cs h = let f = heads x c (replicate n x) cs h in (f.0, ap
     heads : (x c : Content) (xs cs : List Content) → x ∷ xs ≡ c ∷ cs → (x ≡ c) × (xs ≡ cs)
     heads x c xs cs h = (cc, cc)
 
-step_none : (r : Role) (kd : Kind) → increment_bits_of r kd 0 ≡ 0
-step_none role.Reference kd = refl
-step_none r kind.Character = refl
-step_none r kd = refl
-
--- equal increments of numbers give the same contents
-equal_numbers : (spec : FieldSpec) (k first : ℕ) (base : List Bool) (is : List (List Bool)) → list_all (λ i. number_of i == first) is ≡ true
-    → map (number_from spec k base) is ≡ replicate (length is) (if is_missing spec base then missing else increased_to spec.may_be_missing spec.width (number_of base) k first)
-equal_numbers spec k first base [] h = refl
-equal_numbers spec k first base (i ∷ is) h =
-    ap (λ v. (if is_missing spec base then missing else increased_to spec.may_be_missing spec.width (number_of base) k v) ∷ map (number_from spec k base) is)
-    (eqb-true (number_of i) first (and_first (number_of i == first) (list_all (λ i. number_of i == first) is) h))
-    ∙ ap (λ xs. (if is_missing spec base then missing else increased_to spec.may_be_missing spec.width (number_of base) k first) ∷ xs)
-    (equal_numbers spec k first base is (and_second (number_of i == first) (list_all (λ i. number_of i == first) is) h))
+step_none : (d : Coding) → step_of d 0 ≡ 0
+step_none (numbers w m) = refl
+step_none (texts count) = refl
+step_none references = refl
 
 increments_count : (n k : ℕ) (bits : List Bool) → length (increments n k bits) ≡ n
 increments_count zero k bits = refl
 increments_count (suc n) k bits = ap suc (increments_count n k (drop k bits))
 
--- an element or an inserted text: its increments are those of its kind
+-- as many contents as increments
+count_there : (f : List Bool → Option Content) (is : List (List Bool)) (cs : List Content) → all_there (map f is) ≡ Some cs → length cs ≡ length is
+count_there f [] cs e = ap length (sym (some_same [] cs e))
+count_there f (i ∷ is) cs e = let t = next_there (f i) (map f is) cs e in ap length (sym t.4) ∙ ap suc (count_there f is t.1 t.3)
+
+count_across : (d : Coding) (k n : ℕ) (base suffix : List Bool) (cs : List Content) → contents_across d k n base suffix ≡ Some cs → length cs ≡ n
+count_across d k n base suffix cs e = by (k == 0) e
+  where
+    by : (b : Bool) → (if b then Some (replicate n (said d base)) else all_there (map (increased d k base) (increments n (step_of d k) suffix))) ≡ Some cs → length cs ≡ n
+    by true e = ap length (sym (some_same (replicate n (said d base)) cs e)) ∙ length-replicate n (said d base)
+    by false e = count_there (increased d k base) (increments n (step_of d k) suffix) cs e ∙ increments_count n (step_of d k) suffix
+
+-- a reference has no k but 0
+no_k : (k n : ℕ) (base suffix : List Bool) (cs : List Content) → 1 ≤ n → contents_across references k n base suffix ≡ Some cs → k ≡ 0
+no_k k zero base suffix cs some e = absurd (omega (arith, some))
+no_k k (suc n) base suffix cs some e = by (k == 0) refl
+  where
+    none : ◌≡◌ {A = Option (List Content)} None (Some cs) → ⊥
+    none e = cc
+
+    by : (b : Bool) → (k == 0) ≡ b → k ≡ 0
+    by true p = eqb-true k 0 p
+    by false p = absurd (none (sym (varied references k (suc n) base suffix p) ∙ e))
+
+-- an element or an inserted text
 record IsOpen (spec : FieldSpec) : Type 0 where
-  holds : (k n : ℕ) (base suffix : List Bool) → are_increments_valid spec.role spec k n base suffix ≡ are_increments_valid_by spec.kind spec k n base suffix
-  equal : (k n : ℕ) (suffix : List Bool) → equal_in spec.role k n suffix ≡ true
-  steps : (k : ℕ) → increment_bits_of spec.role spec.kind k ≡ kind_step spec.kind k
-  packings : (cs : List Content) → packed_unlike spec.role spec cs ≡ packed_by (is_character spec.kind) spec cs
+  coding : coding_of spec ≡ coded spec.kind spec.width spec.may_be_missing
+  equal : (cs : List Content) → if_equal spec.role cs ≡ Ok cs
+  packings : (cs : List Content) → packed_unlike spec.role spec cs ≡ packed_over spec cs
   fit : (c : Content) → FitsKind spec.kind spec.may_be_missing spec.width c → Fits spec c
 
 open_element : (spec : FieldSpec) → spec.role ≡ role.Element → IsOpen spec
 open_element spec e = record {
-  holds = λ k n b s. ap (λ r. are_increments_valid r spec k n b s) e;
-  equal = λ k n s. ap (λ r. equal_in r k n s) e;
-  steps = λ k. ap (λ r. increment_bits_of r spec.kind k) e;
+  coding = coding_is spec.role spec.kind spec (ap is_reference e);
+  equal = λ cs. ap (λ r. if_equal r cs) e;
   packings = λ cs. ap (λ r. packed_unlike r spec cs) e;
   fit = λ c f. subst (λ r. FitsRole r spec c) (sym e) f;
 }
 
 open_inserted : (spec : FieldSpec) → spec.role ≡ role.Inserted → IsOpen spec
 open_inserted spec e = record {
-  holds = λ k n b s. ap (λ r. are_increments_valid r spec k n b s) e;
-  equal = λ k n s. ap (λ r. equal_in r k n s) e;
-  steps = λ k. ap (λ r. increment_bits_of r spec.kind k) e;
+  coding = coding_is spec.role spec.kind spec (ap is_reference e);
+  equal = λ cs. ap (λ r. if_equal r cs) e;
   packings = λ cs. ap (λ r. packed_unlike r spec cs) e;
   fit = λ c f. subst (λ r. FitsRole r spec c) (sym e) f;
 }
@@ -323,49 +298,51 @@ open_inserted spec e = record {
 zero_or_some : (k : ℕ) (b : Bool) → (k == 0) ≡ b → b ≡ false → 1 ≤ k
 zero_or_some k b p q = grind (arith, nat_tests)
 
+not_zero : (k : ℕ) → 1 ≤ k → (k == 0) ≡ false
+not_zero k h = grind (arith, nat_tests)
+
 module _ (n : ℕ) (spec : FieldSpec) (good : IsSpec spec) where
   -- contents that are all the same
   pub uniform : (c : Content) (cs : List Content) (most : ℕ) → Fits spec c → are_same c cs ≡ true → length (c ∷ cs) ≡ n → spec.width + 6 ≤ most → PacksWithin n spec (c ∷ cs) most
   uniform c cs most fits same_all count room =
       let base = bits_for spec.width c in
       let lb : length base ≡ spec.width = content_length spec good c fits in
-      let step = increment_bits_of spec.role spec.kind 0 in
-      let none : n * step ≡ 0 = ap (λ s. n * s) (step_none spec.role spec.kind) ∙ omega arith in
+      let none : n * step_of (coding_of spec) 0 ≡ 0 = ap (λ s. n * s) (step_none (coding_of spec)) ∙ omega arith in
+      let copies : replicate n c ≡ c ∷ cs = ap (λ j. replicate j c) (sym count) ∙ ap (λ xs. c ∷ xs) (sym (same_copies c cs same_all)) in
       record {
         out = packed_bits base 0 [];
         is = ap (λ b. if b then Ok (packed_bits base 0 []) else packed_unlike spec.role spec (c ∷ cs)) same_all;
-        again = λ more. packed_reads n spec base 0 [] more (c ∷ cs) lb (omega arith) (omega (arith, none)) refl refl
-            (ap (replicate n) (content_back spec good c fits) ∙ ap (λ j. replicate j c) (sym count) ∙ ap (λ xs. c ∷ xs) (sym (same_copies c cs same_all)));
+        again = λ more. packed_reads n spec base 0 [] more (c ∷ cs) lb (omega arith) (omega (arith, none))
+            (copied (coding_of spec) 0 n base ([] ++ more) refl ∙ ap Some (ap (replicate n) (content_back spec good c fits) ∙ copies))
+            (subst (λ xs. if_equal spec.role xs ≡ Ok xs) copies (copies_equal spec.role c n));
         short = omega (arith, room, lb, length-append base (bits_in 0 6 ++ []), length-append (bits_in 0 6) [], length-bits_in 0 6);
         fits = (fits, subst (AllFit spec) (sym (same_copies c cs same_all)) (copies_fit spec c (length cs) fits));
       }
 
   -- contents that differ, of an element
   differing : IsOpen spec → (c : Content) (cs : List Content) (k most : ℕ) → 1 ≤ k → k ≤ 63 → IsVaried spec.kind spec.may_be_missing spec.width k (c ∷ cs) → are_same c cs ≡ false
-      → length (c ∷ cs) ≡ n → spec.width + 6 + n * kind_step spec.kind k ≤ most → PacksWithin n spec (c ∷ cs) most
+      → length (c ∷ cs) ≡ n → spec.width + 6 + n * step_of (coding_of spec) k ≤ most → PacksWithin n spec (c ∷ cs) most
   differing o c cs k most some small varies unlike count room =
-      let w = item_written spec (c ∷ cs) k some small spec.kind good.width varies in
-      let size : length w.pieces ≡ n * kind_step spec.kind w.k = w.size ∙ ap (λ l. l * kind_step spec.kind w.k) count in
-      let no_zero : (w.k == 0) ≡ false = not_zero w.k w.some in
+      let w = item_written spec (c ∷ cs) k some small spec.kind good.width o.coding varies in
+      let d = coded spec.kind spec.width spec.may_be_missing in
+      let size : length w.pieces ≡ n * step_of (coding_of spec) w.k = w.size ∙ ap (λ l. l * step_of d w.k) count ∙ ap (λ x. n * step_of x w.k) (sym o.coding) in
       record {
         out = packed_bits w.base w.k w.pieces;
         is = ap (λ b. if b then Ok (packed_bits (bits_for spec.width c) 0 []) else packed_unlike spec.role spec (c ∷ cs)) unlike ∙ o.packings (c ∷ cs) ∙ w.is;
-        again = λ more. packed_reads n spec w.base w.k w.pieces more (c ∷ cs) w.long w.small (size ∙ ap (λ s. n * s) (sym (o.steps w.k)))
-            (rw no_zero (o.holds w.k n w.base (w.pieces ++ more) ∙ ap (λ j. are_increments_valid_by spec.kind spec w.k j w.base (w.pieces ++ more)) (sym count) ∙ w.holds more))
-            (rw no_zero (o.equal w.k n (w.pieces ++ more)))
-            (rw no_zero (ap (λ j. map (content_from spec.kind spec w.k w.base) (increments j (kind_step spec.kind w.k) (w.pieces ++ more))) (sym count) ∙ w.back more));
+        again = λ more. packed_reads n spec w.base w.k w.pieces more (c ∷ cs) w.long w.small size
+            (ap (λ x. contents_across x w.k n w.base (w.pieces ++ more)) o.coding ∙ varied d w.k n w.base (w.pieces ++ more) (not_zero w.k w.some)
+            ∙ ap (λ j. all_there (map (increased d w.k w.base) (increments j (step_of d w.k) (w.pieces ++ more)))) (sym count) ∙ w.across more)
+            (o.equal (c ∷ cs));
         short =
-            let grows : n * kind_step spec.kind w.k ≤ n * kind_step spec.kind k = mul-le-mul_left n (step_grows spec.kind w.k k w.least) in
+            let grows : n * step_of (coding_of spec) w.k ≤ n * step_of (coding_of spec) k = mul-le-mul_left n (step_grows (coding_of spec) w.k k w.least) in
             omega (arith, room, grows, size, w.long, length-append w.base (bits_in w.k 6 ++ w.pieces), length-append (bits_in w.k 6) w.pieces, length-bits_in w.k 6);
         fits = varied_fit spec spec.kind spec.may_be_missing spec.width k (c ∷ cs) o.fit varies;
       }
     where
-      not_zero : (k : ℕ) → 1 ≤ k → (k == 0) ≡ false
-      not_zero k h = grind (arith, nat_tests)
-
-      step_grows : (kd : Kind) (a b : ℕ) → a ≤ b → kind_step kd a ≤ kind_step kd b
-      step_grows kind.Character a b h = omega arith
-      step_grows k a b h = h
+      step_grows : (d : Coding) (a b : ℕ) → a ≤ b → step_of d a ≤ step_of d b
+      step_grows (numbers w m) a b h = h
+      step_grows (texts count) a b h = omega (arith, h)
+      step_grows references a b h = omega arith
 
   first_fits_kind : (kd : Kind) (k : ℕ) (c : Content) (cs : List Content) → IsVaried kd spec.may_be_missing spec.width k (c ∷ cs) → FitsKind kd spec.may_be_missing spec.width c
   first_fits_kind kind.Character k c cs v = v.0.0
@@ -373,49 +350,49 @@ module _ (n : ℕ) (spec : FieldSpec) (good : IsSpec spec) where
 
   -- either all the same, or not
   of_element : IsOpen spec → (c : Content) (cs : List Content) (k most : ℕ) (b : Bool) → are_same c cs ≡ b → 1 ≤ k → k ≤ 63 → IsVaried spec.kind spec.may_be_missing spec.width k (c ∷ cs)
-      → length (c ∷ cs) ≡ n → spec.width + 6 + n * kind_step spec.kind k ≤ most → PacksWithin n spec (c ∷ cs) most
+      → length (c ∷ cs) ≡ n → spec.width + 6 + n * step_of (coding_of spec) k ≤ most → PacksWithin n spec (c ∷ cs) most
   of_element o c cs k most true e some small varies count room = uniform c cs most (o.fit c (first_fits_kind spec.kind k c cs varies)) e count (omega (arith, room))
   of_element o c cs k most false e some small varies count room = differing o c cs k most some small varies e count room
 
-  module _ (c : Content) (cs : List Content) (k : ℕ) (base suffix : List Bool) (some : 1 ≤ k) (small : k ≤ 63)
-      (are : map (content_from spec.kind spec k base) (increments n (kind_step spec.kind k) suffix) ≡ c ∷ cs) where
+  module _ (c : Content) (cs : List Content) (k : ℕ) (base suffix : List Bool) (some : 1 ≤ k) (small : k ≤ 63) (enough : n * step_of (coding_of spec) k ≤ length suffix)
+      (across : contents_across (coding_of spec) k n base suffix ≡ Some (c ∷ cs)) where
     count_is : length (c ∷ cs) ≡ n
-    count_is = ap length (sym are) ∙ length-map (increments n (kind_step spec.kind k) suffix) (content_from spec.kind spec k base) ∙ increments_count n (kind_step spec.kind k) suffix
+    count_is = count_across (coding_of spec) k n base suffix (c ∷ cs) across
 
-    varies_so : n * kind_step spec.kind k ≤ length suffix → are_increments_valid_by spec.kind spec k n base suffix ≡ true → IsVaried spec.kind spec.may_be_missing spec.width k (c ∷ cs)
-    varies_so enough h = subst (IsVaried spec.kind spec.may_be_missing spec.width k) are (spec_by_kind spec k n base suffix spec.kind (increments_all n (kind_step spec.kind k) suffix enough).0 h)
+    varies_so : coding_of spec ≡ coded spec.kind spec.width spec.may_be_missing → IsVaried spec.kind spec.may_be_missing spec.width k (c ∷ cs)
+    varies_so coding =
+        let d = coded spec.kind spec.width spec.may_be_missing in
+        varied_by_kind spec.kind spec.may_be_missing spec.width k base (increments n (step_of d k) suffix) c cs
+        (increments_all n (step_of d k) suffix (subst (λ x. n * step_of x k ≤ length suffix) coding enough)).0
+        (sym (varied d k n base suffix (not_zero k some)) ∙ ap (λ x. contents_across x k n base suffix) (sym coding) ∙ across)
 
-    of_open : IsOpen spec → n * increment_bits_of spec.role spec.kind k ≤ length suffix → are_increments_valid spec.role spec k n base suffix ≡ true
-        → PacksWithin n spec (c ∷ cs) (spec.width + 6 + n * increment_bits_of spec.role spec.kind k)
-    of_open o enough h =
-        let same_step = ap (λ s. n * s) (o.steps k) in
-        of_element o c cs k (spec.width + 6 + n * increment_bits_of spec.role spec.kind k) (are_same c cs) refl some small
-        (varies_so (omega (arith, enough, same_step)) (sym (o.holds k n base suffix) ∙ h)) count_is (omega (arith, same_step))
+    of_open : IsOpen spec → PacksWithin n spec (c ∷ cs) (spec.width + 6 + n * step_of (coding_of spec) k)
+    of_open o = of_element o c cs k (spec.width + 6 + n * step_of (coding_of spec) k) (are_same c cs) refl some small (varies_so o.coding) count_is (omega arith)
 
     -- what was read with k above 0, for each role
-    by_role : (r : Role) → spec.role ≡ r → n * increment_bits_of spec.role spec.kind k ≤ length suffix → are_increments_valid spec.role spec k n base suffix ≡ true
-        → equal_in spec.role k n suffix ≡ true → PacksWithin n spec (c ∷ cs) (spec.width + 6 + n * increment_bits_of spec.role spec.kind k)
-    by_role role.Element er enough h q = of_open (open_element spec er) enough h
-    by_role role.Inserted er enough h q = of_open (open_inserted spec er) enough h
-    by_role role.Reference er enough h q = let no : false ≡ true = ap (λ r. are_increments_valid r spec k n base suffix) (sym er) ∙ h in absurd cc
-    by_role role.Factor er enough h q =
-        let as_number : spec.kind ≡ kind.Numeric = (subst (λ r. HasRole r spec.kind spec.may_be_missing) er good.role).0 in
-        let same_step = ap (λ r. n * increment_bits_of r spec.kind k) er in
-        let v = varies_so (omega (arith, enough, same_step)) (ap (λ r. are_increments_valid r spec k n base suffix) (sym er) ∙ h) in
-        let equal : all_equal k n (number_of (take k suffix)) suffix ≡ true = ap (λ r. equal_in r k n suffix) (sym er) ∙ q in
-        let copies = sym (equal_numbers spec k (number_of (take k suffix)) base (increments n k suffix) equal)
-        ∙ ap (λ kd. map (content_from kd spec k base) (increments n (kind_step kd k) suffix)) (sym as_number) ∙ are in
-        uniform c cs _ (subst (λ r. FitsRole r spec c) (sym er) (first_fits_kind spec.kind k c cs v)) (copies_are (length (increments n k suffix)) _ c cs copies).1 count_is (omega arith)
+    by_role : (r : Role) → spec.role ≡ r → if_equal spec.role (c ∷ cs) ≡ Ok (c ∷ cs) → PacksWithin n spec (c ∷ cs) (spec.width + 6 + n * step_of (coding_of spec) k)
+    by_role role.Element er q = of_open (open_element spec er)
+    by_role role.Inserted er q = of_open (open_inserted spec er)
+    by_role role.Reference er q =
+        let none : k ≡ 0 = no_k k n base suffix (c ∷ cs) (omega (arith, count_is)) (ap (λ r. contents_across (coding_by r spec.kind spec) k n base suffix) (sym er) ∙ across) in
+        absurd (omega (arith, none, some))
+    by_role role.Factor er q =
+        let v = varies_so (coding_is spec.role spec.kind spec (ap is_reference er)) in
+        uniform c cs _ (subst (λ r. FitsRole r spec c) (sym er) (first_fits_kind spec.kind k c cs v)) (same_of (are_same c cs) (ap (λ r. if_equal r (c ∷ cs)) (sym er) ∙ q)) count_is (omega arith)
+      where
+        same_of : (b : Bool) → equal_or b (c ∷ cs) ≡ Ok (c ∷ cs) → b ≡ true
+        same_of true e = refl
+        same_of false e = absurd cc
 
   -- what was read with any k
   by_k : (b : Bool) (k : ℕ) → (k == 0) ≡ b → (c : Content) (cs : List Content) (base suffix : List Bool) → length base ≡ spec.width → k ≤ 63
-      → n * increment_bits_of spec.role spec.kind k ≤ length suffix → (b || are_increments_valid spec.role spec k n base suffix) ≡ true → (b || equal_in spec.role k n suffix) ≡ true
-      → (if b then replicate n (content_in spec base) else map (content_from spec.kind spec k base) (increments n (kind_step spec.kind k) suffix)) ≡ c ∷ cs
-      → PacksWithin n spec (c ∷ cs) (spec.width + 6 + n * increment_bits_of spec.role spec.kind k)
-  by_k true k p c cs base suffix lb small enough h q e =
-      let f = copies_are n (content_in spec base) c cs e in
-      uniform c cs _ (subst (Fits spec) f.0 (content_fits spec good base lb)) f.1 (ap length (sym e) ∙ length-replicate n (content_in spec base)) (omega arith)
-  by_k false k p c cs base suffix lb small enough h q e = by_role c cs k base suffix (zero_or_some k false p refl) small e spec.role refl enough h q
+      → n * step_of (coding_of spec) k ≤ length suffix → contents_across (coding_of spec) k n base suffix ≡ Some (c ∷ cs) → if_equal spec.role (c ∷ cs) ≡ Ok (c ∷ cs)
+      → PacksWithin n spec (c ∷ cs) (spec.width + 6 + n * step_of (coding_of spec) k)
+  by_k true k p c cs base suffix lb small enough e q =
+      let copies = some_same (replicate n (content_in spec base)) (c ∷ cs) (sym (copied (coding_of spec) k n base suffix (eqb-true k 0 p)) ∙ e) in
+      let f = copies_are n (content_in spec base) c cs copies in
+      uniform c cs _ (subst (Fits spec) f.0 (content_fits spec good base lb)) f.1 (count_across (coding_of spec) k n base suffix (c ∷ cs) e) (omega arith)
+  by_k false k p c cs base suffix lb small enough e q = by_role c cs k base suffix (zero_or_some k false p refl) small enough e spec.role refl q
 
   -- an item that was read is packed so that it is read again, in no more bits
   pub packed_again : (c : Content) (cs : List Content) (bits mid : List Bool) → packed_field n spec bits ≡ Ok (found (c ∷ cs) mid)
@@ -423,47 +400,35 @@ module _ (n : ℕ) (spec : FieldSpec) (good : IsSpec spec) where
   packed_again c cs bits mid e =
       let k = number_of (take 6 (drop spec.width bits)) in
       let u = unpacked n spec bits (c ∷ cs) mid e in (
-        spec.width + 6 + n * increment_bits_of spec.role spec.kind k,
+        spec.width + 6 + n * step_of (coding_of spec) k,
         omega (arith, u.used),
-        by_k (k == 0) k refl c cs (take spec.width bits) (drop (spec.width + 6) bits) u.base u.small u.enough u.holds u.equal u.contents,
+        by_k (k == 0) k refl c cs (take spec.width bits) (drop (spec.width + 6) bits) u.base u.small u.enough u.across u.equal,
       )
 
   -- an item has a content for each subset
   pub packed_count : (cs : List Content) (bits mid : List Bool) → packed_field n spec bits ≡ Ok (found cs mid) → length cs ≡ n
   packed_count cs bits mid e =
       let k = number_of (take 6 (drop spec.width bits)) in
-      let u = unpacked n spec bits cs mid e in
-      ap length (sym u.contents) ∙ by (k == 0) k (take spec.width bits) (drop (spec.width + 6) bits)
-    where
-      by : (b : Bool) (k : ℕ) (base suffix : List Bool) → length (if b then replicate n (content_in spec base) else map (content_from spec.kind spec k base)
-          (increments n (kind_step spec.kind k) suffix)) ≡ n
-      by true k base suffix = length-replicate n (content_in spec base)
-      by false k base suffix = length-map (increments n (kind_step spec.kind k) suffix) (content_from spec.kind spec k base) ∙ increments_count n (kind_step spec.kind k) suffix
+      count_across (coding_of spec) k n (take spec.width bits) (drop (spec.width + 6) bits) cs (unpacked n spec bits cs mid e).across
 
 -- An item is packed with the least k of all that its contents are read from. Bits of one item with
 -- the same contents differ in length by their k alone. So an item is packed in no more bits than
 -- any that were read.
 
--- where an increment is no longer, its k is no greater
-lesser_step : (kd : Kind) (k j : ℕ) → kind_step kd k ≤ kind_step kd j → k ≤ j
-lesser_step kind.Character k j g = omega (arith, g)
-lesser_step kd k j g = g
-
 module _ (n : ℕ) (spec : FieldSpec) (some : 1 ≤ n) where
-  -- a reference has no k but 0
-  lesser_k : (r : Role) (b : Bool) (k j : ℕ) (base suffix : List Bool) → (k == 0) ≡ b → (b || are_increments_valid r spec k n base suffix) ≡ true
-      → n * increment_bits_of r spec.kind k ≤ n * increment_bits_of r spec.kind j → k ≤ j
-  lesser_k r true k j base suffix p e h = omega (arith, eqb-true k 0 p)
-  lesser_k role.Reference false k j base suffix p e h = absurd cc
-  lesser_k r false k j base suffix p e h = lesser_step spec.kind k j (le_of_mul-le-mul_left h some)
+  -- where an increment is no longer, its k is no greater; a reference has no k but 0
+  lesser_k : (d : Coding) (k j : ℕ) (base suffix : List Bool) (cs : List Content) → contents_across d k n base suffix ≡ Some cs → n * step_of d k ≤ n * step_of d j → k ≤ j
+  lesser_k (numbers w m) k j base suffix cs e h = le_of_mul-le-mul_left h some
+  lesser_k (texts count) k j base suffix cs e h = let g : 8 * k ≤ 8 * j = le_of_mul-le-mul_left h some in omega (arith, g)
+  lesser_k references k j base suffix cs e h = let none = no_k k n base suffix cs some e in omega (arith, none)
 
   -- of two items with the same contents the one that is no longer has no greater k
-  shorter : (out bits : List Bool) (cs : List Content) (suffix : List Bool) → packed_field n spec out ≡ Ok (found cs []) → packed_field n spec bits ≡ Ok (found cs suffix)
+  shorter : IsSpec spec → (out bits : List Bool) (cs : List Content) (suffix : List Bool) → packed_field n spec out ≡ Ok (found cs []) → packed_field n spec bits ≡ Ok (found cs suffix)
       → length out + length suffix ≤ length bits → k_of spec out ≤ k_of spec bits
-  shorter out bits cs suffix e f h =
+  shorter good out bits cs suffix e f h =
       let a = unpacked n spec out cs [] e in
       let b = unpacked n spec bits cs suffix f in
-      lesser_k spec.role (k_of spec out == 0) (k_of spec out) (k_of spec bits) _ _ refl a.holds (omega (arith, h, a.used, b.used))
+      lesser_k (coding_of spec) (k_of spec out) (k_of spec bits) _ _ cs a.across (omega (arith, h, a.used, b.used))
 
   module _ (good : IsSpec spec) where
     -- the same bits are packed, whatever the contents were read from
@@ -482,7 +447,7 @@ module _ (n : ℕ) (spec : FieldSpec) (some : 1 ≤ n) where
           out = p.out;
           is = p.is;
           again = p.again;
-          least = λ bs mid f. shorter p.out bs (c ∷ cs) mid alone f (no_longer c cs p.out bs mid p.is f);
+          least = λ bs mid f. shorter good p.out bs (c ∷ cs) mid alone f (no_longer c cs p.out bs mid p.is f);
           short = λ bs mid f. no_longer c cs p.out bs mid p.is f;
         }
 
@@ -505,29 +470,29 @@ found_from p (suc fuel) from h = found_step p (p from) from (first_from p fuel (
 -- ---- numbers
 
 -- the whole width is enough
-number_has : (m : Bool) (w low : ℕ) (c : Content) → FitsNumber m w c → has_bits m low w c ≡ true
+number_has : (m : Bool) (w low : ℕ) (c : Content) → FitsNumber m w c → has_increment (numbers w m) low w c ≡ true
 number_has m w low (number n) h = lt-ltb (n - low) (raw_limit m w) (omega (arith, h))
 number_has m w low missing h = refl
 number_has m w low c h = absurd h
 
-numbers_have : (m : Bool) (w low : ℕ) (cs : List Content) → AreNumbers m w cs → list_all (has_bits m low w) cs ≡ true
+numbers_have : (m : Bool) (w low : ℕ) (cs : List Content) → AreNumbers m w cs → list_all (has_increment (numbers w m) low w) cs ≡ true
 numbers_have m w low [] h = refl
-numbers_have m w low (c ∷ cs) h = ap (λ b. b && list_all (has_bits m low w) cs) (number_has m w low c h.0) ∙ numbers_have m w low cs h.1
+numbers_have m w low (c ∷ cs) h = ap (λ b. b && list_all (has_increment (numbers w m) low w) cs) (number_has m w low c h.0) ∙ numbers_have m w low cs h.1
 
 -- ---- texts
 
 -- all octets are enough
-whole_again : (count : ℕ) (os : List ℕ) → length os ≡ count → list_all (λ octet. octet == 255) os ≡ false → has_octets count (text os) ≡ true
+whole_again : (count : ℕ) (os : List ℕ) → length os ≡ count → list_all (λ octet. octet == 255) os ≡ false → has_increment (texts count) 0 count (text os) ≡ true
 whole_again count os l none = grind (arith, common_steps, take_all, not, append-nil, octets_self)
 
-text_has : (count : ℕ) (c : Content) → FitsText count c → has_octets count c ≡ true
+text_has : (count : ℕ) (c : Content) → FitsText count c → has_increment (texts count) 0 count c ≡ true
 text_has count (text os) h = whole_again count os h.0 h.2
 text_has count missing h = refl
 text_has count c h = absurd h
 
-texts_have : (count : ℕ) (cs : List Content) → AreTexts count cs → list_all (has_octets count) cs ≡ true
+texts_have : (count : ℕ) (cs : List Content) → AreTexts count cs → list_all (has_increment (texts count) 0 count) cs ≡ true
 texts_have count [] h = refl
-texts_have count (c ∷ cs) h = ap (λ b. b && list_all (has_octets count) cs) (text_has count c h.0) ∙ texts_have count cs h.1
+texts_have count (c ∷ cs) h = ap (λ b. b && list_all (has_increment (texts count) 0 count) cs) (text_has count c h.0) ∙ texts_have count cs h.1
 
 -- ---- contents that differ
 
@@ -538,24 +503,33 @@ AllKind k m w cs = AllByRecursion (λ (c : Content). FitsKind k m w c) cs
 abbrev Varies : Kind → Bool → ℕ → List Content → Type 0
 Varies kd m w cs = (k : ℕ) × (1 ≤ k) × (k ≤ 63) × IsVaried kd m w k cs
 
-text_varies : (b : Bool) (m : Bool) (w : ℕ) (cs : List Content) (out : List Bool) → 8 ≤ w → AreTexts (w / 8) cs → nat_le (least_k has_octets cs) 63 ≡ b
-    → (if b then Ok (packed_bits (replicate w false) (least_k has_octets cs) (flat_map (octet_bits (least_k has_octets cs)) cs)) else Err increment) ≡ Ok out → Varies kind.Character m w cs
-text_varies false m w cs out wide are q e = absurd cc
-text_varies true m w cs out wide are q e =
-    let k = least_k has_octets cs in
-    let few : k ≤ 63 = leb-true k 63 q in
-    let some : 1 ≤ w / 8 = omega (arith, wide) in
-    let passes : list_all (has_octets k) cs ≡ true = found_from (λ k. list_all (has_octets k) cs) 63 1 (omega (arith, few)) in
-    let least : k ≤ w / 8 = first_least (λ k. list_all (has_octets k) cs) 63 1 (w / 8) some (texts_have (w / 8) cs are) in
-    (k, first_from_start (λ k. list_all (has_octets k) cs) 63 1, few, (are, passes, least))
+text_varies : (b : Bool) (spec : FieldSpec) (cs : List Content) (out : List Bool) → 8 ≤ spec.width → AreTexts (spec.width / 8) cs
+    → nat_le (least_k (has_increment (texts (spec.width / 8)) 0) cs) 63 ≡ b
+    → over_at spec cs (texts (spec.width / 8)) 0 (least_k (has_increment (texts (spec.width / 8)) 0) cs) ≡ Ok out → Varies kind.Character spec.may_be_missing spec.width cs
+text_varies b spec cs out wide are q e =
+    let count = spec.width / 8 in
+    let passes = has_increment (texts count) 0 in
+    let k = least_k passes cs in
+    let few : k ≤ 63 = leb-true k 63 (q ∙ written b (packed_bits (bits_in 0 spec.width) k (flat_map (increment_for (texts count) 0 k) cs))
+    (sym (ap (λ t. if t then Ok (packed_bits (bits_in 0 spec.width) k (flat_map (increment_for (texts count) 0 k) cs)) else Err increment) q) ∙ e)) in
+    let some : 1 ≤ count = omega (arith, wide) in
+    let pass : list_all (passes k) cs ≡ true = found_from (λ k. list_all (passes k) cs) 63 1 (omega (arith, few)) in
+    let least : k ≤ count = first_least (λ k. list_all (passes k) cs) 63 1 count some (texts_have count cs are) in
+    (k, first_from_start (λ k. list_all (passes k) cs) 63 1, few, (are, pass, least))
+  where
+    written : (b : Bool) (x : List Bool) → (if b then Ok x else Err increment) ≡ Ok out → b ≡ true
+    written true x e = refl
+    written false x e = absurd cc
 
-kind_varies : (kd : Kind) (spec : FieldSpec) (cs : List Content) (out : List Bool) → HasWidth kd spec.width → AllKind kd spec.may_be_missing spec.width cs
-    → packed_by (is_character kd) spec cs ≡ Ok out
-    → Varies kd spec.may_be_missing spec.width cs
-kind_varies kind.Character spec cs out hw h e = text_varies (nat_le (least_k has_octets cs) 63) spec.may_be_missing spec.width cs out hw.0 h refl e
-kind_varies kind.Coded spec cs out hw h e =
+kind_varies : (kd : Kind) (spec : FieldSpec) (cs : List Content) (out : List Bool) → HasWidth kd spec.width → coding_of spec ≡ coded kd spec.width spec.may_be_missing
+    → AllKind kd spec.may_be_missing spec.width cs → packed_over spec cs ≡ Ok out → Varies kd spec.may_be_missing spec.width cs
+kind_varies kind.Character spec cs out hw coding h e =
+    let d = texts (spec.width / 8) in
+    text_varies (nat_le (least_k (has_increment d 0) cs) 63) spec cs out hw.0 h refl
+    (sym (over_is spec cs d 0 (least_k (has_increment d 0) cs) coding (ap (λ o. unwrap_or o 0) (texts_none (spec.width / 8) cs h)) refl) ∙ e)
+kind_varies kind.Coded spec cs out hw coding h e =
     (spec.width, hw.0, hw.1, (h, λ low q. numbers_have spec.may_be_missing spec.width low cs h))
-kind_varies kind.Numeric spec cs out hw h e =
+kind_varies kind.Numeric spec cs out hw coding h e =
     (spec.width, hw.0, hw.1, (h, λ low q. numbers_have spec.may_be_missing spec.width low cs h))
 
 -- ---- the item
@@ -568,8 +542,8 @@ module _ (n : ℕ) (spec : FieldSpec) (good : IsSpec spec) where
   unlike_open : IsOpen spec → (c : Content) (cs : List Content) (out : List Bool) → AllKind spec.kind spec.may_be_missing spec.width (c ∷ cs) → length (c ∷ cs) ≡ n → are_same c cs ≡ false
       → packed_unlike spec.role spec (c ∷ cs) ≡ Ok out → (most : ℕ) × PacksWithin n spec (c ∷ cs) most
   unlike_open o c cs out fits count unlike e =
-      let v = kind_varies spec.kind spec (c ∷ cs) out good.width fits (sym (o.packings (c ∷ cs)) ∙ e) in
-      let most = spec.width + 6 + n * kind_step spec.kind v.0 in
+      let v = kind_varies spec.kind spec (c ∷ cs) out good.width o.coding fits (sym (o.packings (c ∷ cs)) ∙ e) in
+      let most = spec.width + 6 + n * step_of (coding_of spec) v.0 in
       (most, differing n spec good o c cs v.0 most v.1 v.2 v.3 unlike count (omega arith))
 
   unlike_by_role : (r : Role) → spec.role ≡ r → (c : Content) (cs : List Content) (out : List Bool) → AllFit spec (c ∷ cs) → length (c ∷ cs) ≡ n → are_same c cs ≡ false

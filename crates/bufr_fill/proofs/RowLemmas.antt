@@ -9,9 +9,9 @@ use Rattle.std.proofs.Math.Seq.{drop-cons}
 use Rattle.std.proofs.lemmas.List.{append-nil, take-replicate, length-append, drop_all}
 use Rattle.bufr_bits.specs.Prelude.{bits_of}
 use Rattle.std.specs.Str.{bytes_eq}
-use Rattle.bufr_fill.specs.Prelude.{spaced, Taken, Role, FieldContent, padded_content, IsContentOf, raw_limit, AreContentsOf, padded_contents, need_of, most_need, FitsIncrement, AreShort, least_from, entry_or_end, entry_here, and_end, all_at_end, IsPutWithin, trimmed, same, are_same, first_from, packing, packed_bits, packed_by, packed_unlike, RowCell, content_here, contents_here, first_unlike, unlike_line, cell_line, line_in, first_line, ◌>>=◌, item_row, cells_at, packed_to, pack_across, written_item, Draft, DraftEntry, Holds, Ends, Subset, DraftFault, at_line, item_too_many, too_many_values, IfDraftFault, is_end}
+use Rattle.bufr_fill.specs.Prelude.{spaced, Taken, Role, FieldContent, padded_content, IsContentOf, raw_limit, AreContentsOf, padded_contents, need_of, most_need, FitsIncrement, AreShort, least_from, entry_or_end, entry_here, and_end, all_at_end, IsPutWithin, trimmed, same, are_same, first_from, packing, packed_bits, packed_over, packed_unlike, RowCell, content_here, contents_here, first_unlike, unlike_line, cell_line, line_in, first_line, ◌>>=◌, item_row, cells_at, packed_to, pack_across, written_item, Draft, DraftEntry, Holds, Ends, Subset, DraftFault, at_line, item_too_many, too_many_values, IfDraftFault, is_end}
 use Rattle.bufr_fill.specs.declared.fault.ItemFault.TheVariants as wrong
-use Rattle.bufr_tables.specs.Prelude.{is_character}
+use Rattle.bufr_walk.specs.Prelude.{is_reference}
 use Rattle.bufr_walk.specs.Prelude.{FieldSpec, Content, reference, answer_of, bits_for, increment, unequal_factor, answer_first, max_values}
 use Rattle.bufr_fill.proofs.EntryLemmas.{entry_line}
 use Rattle.bufr_fill.proofs.LeastLemmas.{octets_self, content_same, content_self}
@@ -342,7 +342,7 @@ packed_apart spec count (d ∷ ds) z h e = grind (arith, common_steps, content_s
 
 -- elements that differ go by their kind
 pub apart_by : (spec : FieldSpec) (cs : List Content) (r : Role) → r ≡ spec.role → (r ≡ role.Element) ⊎ (r ≡ role.Inserted)
-    → packed_unlike spec.role spec cs ≡ packed_by (is_character spec.kind) spec cs
+    → packed_unlike spec.role spec cs ≡ packed_over spec cs
 apart_by spec cs r is (inl e) = ap (λ a. packed_unlike a spec cs) (sym is ∙ e)
 apart_by spec cs r is (inr e) = ap (λ a. packed_unlike a spec cs) (sym is ∙ e)
 
@@ -367,8 +367,8 @@ put_within spec index subsets ds z t old new bits most few given some gives pack
 pub put_packed : (spec : FieldSpec) (index : ℕ) (subsets : List Subset) (ds : List FieldContent) (z : FieldContent) (t : Taken) (old new : List Bool) (few most : ℕ)
     → (index + 1) * length (cells_at index subsets) ≤ max_values
     → contents_here spec (cells_at index subsets) ≡ Ok (padded_contents (spec.width / 8) ds) → 0 < length ds → t ≡ answer_of spec (padded_content (spec.width / 8) (get_or ds 0 z))
-    → packing spec (padded_contents (spec.width / 8) ds) ≡ packed_by (is_character spec.kind) spec (padded_contents (spec.width / 8) ds) → few ≤ most
-    → (bits : List Bool) × (packed_by (is_character spec.kind) spec (padded_contents (spec.width / 8) ds) ≡ Ok bits) × (new ≡ old ++ bits) × (length bits ≤ few) × (length old < length new)
+    → packing spec (padded_contents (spec.width / 8) ds) ≡ packed_over spec (padded_contents (spec.width / 8) ds) → few ≤ most
+    → (bits : List Bool) × (packed_over spec (padded_contents (spec.width / 8) ds) ≡ Ok bits) × (new ≡ old ++ bits) × (length bits ≤ few) × (length old < length new)
     → IsPutWithin old new spec (item_row index subsets) most t
 put_packed spec index subsets ds z t old new few most values given some gives apart within (bits, packed, is, fits, forth) =
     put_within spec index subsets ds z t old new bits most values given some gives (apart ∙ packed) is (omega (arith, fits, within)) forth
@@ -456,3 +456,8 @@ trimmed_later os spaces x z h e is inv = grind (arith, common_steps, trimmed_spa
 
 pub trimmed_all : (os : List ℕ) (spaces : ℕ) → length os ≤ spaces → trimmed (take (length os - spaces) os) ≡ trimmed os → 0 ≡ trimmed os
 trimmed_all os spaces h inv = let n : 0 ≡ length os - spaces = omega (arith, h) in ap (λ k. trimmed (take k os)) n ∙ inv
+
+-- an element or an inserted text is no reference
+pub no_reference : (spec : FieldSpec) (r : Role) → r ≡ spec.role → (r ≡ role.Element) ⊎ (r ≡ role.Inserted) → is_reference spec.role ≡ false
+no_reference spec r is (inl e) = ap is_reference (sym is ∙ e)
+no_reference spec r is (inr e) = ap is_reference (sym is ∙ e)

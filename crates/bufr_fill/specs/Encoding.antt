@@ -4,13 +4,11 @@
 -- Cited by public contracts.
 use Rattle.std.specs.Prelude.{Bool, List, [], ◌∷◌, ◌++◌, Result, Ok, Err, ℕ, zero, suc, ◌+◌, ◌-◌, ◌*◌, ◌==◌, ◌&&◌, nat_lt, nat_le, min, not, true, false, if◌then◌else◌, take, replicate, length, Option, Some, None, unwrap_or, ◌≡◌, ◌≤◌, drop, max, slice_get}
 pub use Rattle.bufr_walk.specs.declared.spec.Taken.{Taken}
-use Rattle.bufr_walk.specs.Prelude.{FieldSpec, Content, number, text, missing, reference, bits_for, FieldFault, increment, unequal_factor, found, answer_of, packed_field, answer_first, Course, Item, Step, Passing, Pass, pass, max_values, would_be_many}
+use Rattle.bufr_walk.specs.Prelude.{Coding, numbers, texts, coding_of, step_of, same, FieldSpec, Content, number, text, missing, bits_for, FieldFault, increment, unequal_factor, found, answer_of, packed_field, answer_first, Course, Item, Step, Passing, Pass, pass, max_values, would_be_many}
 use Rattle.std.specs.List.{list_all, flat_map}
 use Rattle.std.specs.Str.{bytes_eq}
-use Rattle.std.specs.Ordering.{int_eq}
 use Rattle.bufr_bits.specs.Prelude.{◌>>=◌, bits_of, bits_in, number_of, map_err}
 pub use Rattle.bufr_tables.specs.declared.table_b.Kind.{Kind}
-use Rattle.bufr_tables.specs.Prelude.{is_character}
 use Rattle.bufr_walk.specs.declared.spec.Role.TheVariants as role
 use Rattle.bufr_fill.specs.Draft.{TurnRefusal, Draft, Subset, ItemFault, DraftFault, at_line, item_too_many, walk_refused, too_many_values, Role, content_of, wrong_for, raw_limit}
 use Rattle.bufr_fill.specs.declared.fault.ItemFault.TheVariants as wrong
@@ -114,14 +112,6 @@ bits_of_writing w = bits_or w.bits w.stop
 abbrev pub fill : {D C E : Type 0} → Filler D C E → Course → List D → Result (List Bool) E
 fill filler course drafts = bits_of_writing (pass_writing (fill_pass filler course drafts))
 
--- whether two contents are the same
-abbrev pub same : Content → Content → Bool
-same (number a) (number b) = a == b
-same (text a) (text b) = bytes_eq a b
-same missing missing = true
-same (reference a) (reference b) = int_eq a b
-same _ _ = false
-
 -- whether each is the same as the first
 abbrev pub are_same : Content → List Content → Bool
 are_same c cs = list_all (same c) cs
@@ -138,18 +128,16 @@ lowest [] = None
 lowest (number n ∷ cs) = Some (smaller n (lowest cs))
 lowest (_ ∷ cs) = lowest cs
 
--- whether a content's increment over a base has k bits, and is not all ones where that is missing
-abbrev pub has_bits : Bool → (base k : ℕ) → Content → Bool
-has_bits m base k (number n) = nat_lt (n - base) (raw_limit m k)
-has_bits m base k _ = true
-
--- whether the first k octets of a text, then spaces, are the text again, and are not all 255
--- rule: packs-texts-not-missing
-abbrev pub has_octets : (k : ℕ) → Content → Bool
-has_octets k (text octets) =
+-- whether a content can be read back from its increment: a number minus the base has k bits, and is
+-- not all ones if that means missing; k octets of a text and then spaces are the text, and those k
+-- octets are not all 255
+-- rule: packs-numbers, packs-texts-not-missing
+abbrev pub has_increment : Coding → (base k : ℕ) → Content → Bool
+has_increment (numbers width m) base k (number n) = nat_lt (n - base) (raw_limit m k)
+has_increment (texts count) base k (text octets) =
     bytes_eq (take k octets ++ replicate (length octets - k) 32) octets
     && not (list_all (λ octet. octet == 255) (take k octets))
-has_octets k _ = true
+has_increment c base k _ = true
 
 -- the first number from one on, of so many, that passes a test
 abbrev pub first_from : (ℕ → Bool) → ℕ → ℕ → ℕ
@@ -161,45 +149,32 @@ first_from p (suc fuel) k = if p k then k else first_from p fuel (k + 1)
 abbrev pub least_k : (ℕ → Content → Bool) → List Content → ℕ
 least_k passes cs = first_from (λ k. list_all (passes k) cs) 63 1
 
--- the bits of one increment
-abbrev pub increment_bits : (base k : ℕ) → Content → List Bool
-increment_bits base k (number n) = bits_in (n - base) k
-increment_bits base k _ = replicate k true
-
--- the bits of k octets of a text
-abbrev pub octet_bits : (k : ℕ) → Content → List Bool
-octet_bits k (text octets) = bits_of (take k octets)
-octet_bits k _ = replicate (8 * k) true
+-- the bits of the increment of a content
+abbrev pub increment_for : Coding → (base k : ℕ) → Content → List Bool
+increment_for (numbers width m) base k (number n) = bits_in (n - base) k
+increment_for (texts count) base k (text octets) = bits_of (take k octets)
+increment_for c base k _ = replicate (step_of c k) true
 
 -- a base, k, and what follows
 abbrev pub packed_bits : (base : List Bool) (k : ℕ) (more : List Bool) → List Bool
 packed_bits base k more = base ++ (bits_in k 6 ++ more)
 
--- numbers that differ, over a base, with the least k
-abbrev pub numbers_over : (m : Bool) (width base : ℕ) → List Content → List Bool
-numbers_over m width base cs =
-    let k = least_k (has_bits m base) cs in
-    packed_bits (bits_in base width) k (flat_map (increment_bits base k) cs)
-
--- texts that differ: the base is zero bits
--- rule: packs-texts, fault-59
-abbrev pub packed_texts : (width k : ℕ) → List Content → Result (List Bool) FieldFault
-packed_texts width k cs =
-    if nat_le k 63
-    then Ok (packed_bits (replicate width false) k (flat_map (octet_bits k) cs)) else Err increment
-
--- contents that differ, of texts or of numbers
-abbrev pub packed_by : (are_texts : Bool) → FieldSpec → List Content → Result (List Bool) FieldFault
-packed_by true spec cs = packed_texts spec.width (least_k has_octets cs) cs
-packed_by false spec cs =
-    Ok (numbers_over spec.may_be_missing spec.width (unwrap_or (lowest cs) 0) cs)
+-- contents that differ, with the least k; the base is the least number, or zero if there is none
+-- rule: packs-numbers, packs-texts, fault-59
+abbrev pub packed_over : FieldSpec → List Content → Result (List Bool) FieldFault
+packed_over spec cs =
+    let c = coding_of spec in
+    let base = unwrap_or (lowest cs) 0 in
+    let k = least_k (has_increment c base) cs in
+    let increments = flat_map (increment_for c base k) cs in
+    if nat_le k 63 then Ok (packed_bits (bits_in base spec.width) k increments) else Err increment
 
 -- contents that differ, by role: counts and references must not
 -- rule: packs-factors-and-references, fault-59
 abbrev pub packed_unlike : Role → FieldSpec → List Content → Result (List Bool) FieldFault
 packed_unlike role.Factor spec cs = Err unequal_factor
 packed_unlike role.Reference spec cs = Err increment
-packed_unlike _ spec cs = packed_by (is_character spec.kind) spec cs
+packed_unlike _ spec cs = packed_over spec cs
 
 -- the contents of one item for all subsets, where they can be packed
 -- rule: packs-equal, packs-all-missing

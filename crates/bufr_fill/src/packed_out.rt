@@ -1,7 +1,7 @@
 //! The writer of compressed data, from the items of a dump text.
-ghost use Rattle.std.specs.Prelude.{◌≡◌, ◌==◌, ◌≤◌, ◌<◌, ◌+◌, ◌*◌, ◌/◌, ◌^◌, IfOk, Ok, length, ℕ, slice_get, Some, List, ◌-◌, ◌++◌, ◌∷◌, [], true, false, take, unwrap_or, vec_len};
-ghost use Rattle.bufr_walk.specs.Prelude.{IsFor, is_reference, max_values};
-ghost use Rattle.bufr_fill.specs.Prelude.{item_row, cells_at, contents_here, RowCell, unlike_line, same, are_same, lowest, increment_bits, octet_bits, packed_by, subsets_of, AreContentsOf, padded_contents, IsRangeOf, entry_or_end, cell_line, ReturnsRow, PutAcross, number_or, spread, trimmed, most_need, PacksItem, FitsIncrement, AreShort, least_from, ends_of, first_line_at, EndsAllSubsets, entry_with, padded_content, IsContentOf, raw_limit, FieldContent, StartsPackedOut, PackedFills, spaced};
+ghost use Rattle.std.specs.Prelude.{◌≡◌, ◌==◌, ◌≤◌, ◌<◌, ◌+◌, ◌*◌, ◌/◌, ◌^◌, IfOk, Ok, length, ℕ, Bool, slice_get, Some, List, ◌-◌, ◌++◌, ◌∷◌, [], true, false, take, unwrap_or, vec_len};
+ghost use Rattle.bufr_walk.specs.Prelude.{IsFor, is_reference, max_values, numbers, texts};
+ghost use Rattle.bufr_fill.specs.Prelude.{item_row, cells_at, contents_here, RowCell, unlike_line, same, are_same, lowest, increment_for, packed_over, subsets_of, AreContentsOf, padded_contents, IsRangeOf, entry_or_end, cell_line, ReturnsRow, PutAcross, number_or, spread, trimmed, most_need, PacksItem, FitsIncrement, AreShort, least_from, ends_of, first_line_at, EndsAllSubsets, entry_with, padded_content, IsContentOf, raw_limit, FieldContent, StartsPackedOut, PackedFills, spaced};
 ghost use Rattle.std.specs.Str.{bytes_eq};
 ghost use Rattle.std.specs.List.{flat_map, list_all};
 ghost use Rattle.bufr_bits.specs.Prelude.{bits_in, bits_of, padding};
@@ -438,8 +438,8 @@ fn least_bits(spread: u64, may_be_missing: bool) -> u32
 fn increment_of(content: FieldContent<'_>, base: u64, k: u32) -> u64
     requires narrow { k ≤ 63 }
     requires short { FitsIncrement base k content }
-    ensures bits { (count : ℕ)
-        → bits_in result k ≡ increment_bits base k (padded_content count content.entry) }
+    ensures bits { (width count : ℕ) (m : Bool) → bits_in result k
+        ≡ increment_for (numbers width m) base k (padded_content count content.entry) }
     ensures below { result < 2 ^ k }
 {
     match content {
@@ -456,8 +456,8 @@ fn put_increments(out: &mut BitWriter, contents: &[FieldContent<'_>], base: u64,
     requires narrow { k ≤ 63 }
     requires short { AreShort base k contents.now }
     requires room { length contents.now * k ≤ out.old.room }
-    ensures bits { (count : ℕ) → out.new.bits
-        ≡ out.old.bits ++ flat_map (increment_bits base k) (padded_contents count contents.now) }
+    ensures bits { (width count : ℕ) (m : Bool) → out.new.bits ≡ out.old.bits
+        ++ flat_map (increment_for (numbers width m) base k) (padded_contents count contents.now) }
     ensures len { length out.new.bits ≡ length out.old.bits + length contents.now * k }
 {
     for content in contents {
@@ -478,7 +478,7 @@ fn pack_numbers(
     requires contents { AreContentsOf spec.now contents.now }
     requires range { IsRangeOf range contents.now }
     requires room { length out.old.bits + (69 + 63 * length contents.now) ≤ 2 ^ 63 }
-    ensures { PacksItem out.old.bits out.new.bits (packed_by (is_character spec.now.kind) spec.now
+    ensures { PacksItem out.old.bits out.new.bits (packed_over spec.now
         (padded_contents (spec.now.width / 8) contents.now)) (69 + 63 * length contents.now)
         result }
 {
@@ -536,8 +536,8 @@ fn put_prefix(out: &mut BitWriter, content: FieldContent<'_>, k: usize, spec: &S
     requires few { k ≤ spec.now.width / 8 }
     requires content { IsContentOf spec.now content }
     requires room { 8 * k ≤ out.old.room }
-    ensures bits { out.new.bits
-        ≡ out.old.bits ++ octet_bits k (padded_content (spec.now.width / 8) content.entry) }
+    ensures bits { out.new.bits ≡ out.old.bits ++ increment_for (texts (spec.now.width / 8)) 0 k
+        (padded_content (spec.now.width / 8) content.entry) }
     ensures len { length out.new.bits ≡ length out.old.bits + 8 * k }
     ensures room { out.old.room ≤ out.new.room + 8 * k }
 {
@@ -555,7 +555,8 @@ fn put_prefixes(out: &mut BitWriter, contents: &[FieldContent<'_>], k: usize, sp
     requires contents { AreContentsOf spec.now contents.now }
     requires room { length contents.now * (8 * k) ≤ out.old.room }
     ensures bits { out.new.bits ≡ out.old.bits
-        ++ flat_map (octet_bits k) (padded_contents (spec.now.width / 8) contents.now) }
+        ++ flat_map (increment_for (texts (spec.now.width / 8)) 0 k)
+        (padded_contents (spec.now.width / 8) contents.now) }
     ensures len { length out.new.bits ≡ length out.old.bits + length contents.now * (8 * k) }
 {
     for content in contents {
@@ -578,7 +579,7 @@ fn pack_texts(
     requires element { is_reference spec.now.role ≡ false }
     requires contents { AreContentsOf spec.now contents.now }
     requires room { length out.old.bits + (2046 + 504 * length contents.now) ≤ 2 ^ 63 }
-    ensures { PacksItem out.old.bits out.new.bits (packed_by (is_character spec.now.kind) spec.now
+    ensures { PacksItem out.old.bits out.new.bits (packed_over spec.now
         (padded_contents (spec.now.width / 8) contents.now)) (2046 + 504 * length contents.now)
         result }
 {

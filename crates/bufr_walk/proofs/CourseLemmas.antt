@@ -1,14 +1,14 @@
 -- What comes next in a legal template takes bits of the data, and its counts match its factors.
 use Rattle.std.proofs.lemmas.Grind.{common_steps}
-use Rattle.std.proofs.Common.{◌≡◌, ℕ, zero, suc, ◌*◌, ◌≤◌, Bool, true, false, List, [], ◌∷◌, Option, Some, None, Result, Ok, Err, refl, sym, ◌∙◌, ap, subst, arith, ◌+◌, ◌-◌, length, drop, take, map, ◌==◌, nat_le, nat_lt, if◌then◌else◌, replicate, ◌||◌}
+use Rattle.std.proofs.Common.{◌≡◌, ℕ, zero, suc, ◌*◌, ◌≤◌, Bool, true, false, List, [], ◌∷◌, Option, Some, None, Result, Ok, Err, refl, sym, ◌∙◌, ap, subst, arith, ◌+◌, ◌-◌, length, drop, take, map, ◌==◌, nat_le, nat_lt, if◌then◌else◌, ◌||◌}
 use Rattle.std.proofs.lemmas.Bool.{leb-true, ltb-false}
 use Rattle.std.proofs.lemmas.Bool.Decides.{nat_tests}
 use Rattle.bufr_bits.proofs.DecimalLemmas.{and_first}
 use Rattle.bufr_tables.specs.Prelude.{y_of, IsLegal, is_legal_operator, Tree, bare, element, operator, fixed, delayed, is_inserted_text, Row, entry_of, allows_width, row_of, Record}
-use Rattle.bufr_walk.specs.Prelude.{Role, TurnRefusal, Taken, FieldSpec, IsFor, IsForRole, Content, content_in, answer_by_role, FieldFault, data_end, FieldRead, found, plain_field, increments, increment_bits_of, kind_step, content_from, are_increments_valid, equal_in, contents_of, packed_field, answer_first, Course, Next, take_next, astray, refused, at_end, NextTurn, asked, operated, ahead, counts_of, next_item, finish, open_end, group, pass_end, operator_turn, Rest, passes, unroll, if_valid_width, numeric_spec, coded_spec, text_spec, text_width, spec_by_kind, defined_field, new_reference_spec, unsigned_field, begin, element_spec, factor_field, factor_by, factor_spec, inserted_spec, OperatorModel, is_defining, after_operator, after_field, DataCoding, plain, packed, Kind}
+use Rattle.bufr_walk.specs.Prelude.{Role, TurnRefusal, Taken, FieldSpec, IsFor, IsForRole, Content, content_in, answer_by_role, FieldFault, data_end, FieldRead, found, plain_field, packed_field, answer_first, Course, Next, take_next, astray, refused, at_end, NextTurn, asked, operated, ahead, counts_of, next_item, finish, open_end, group, pass_end, operator_turn, Rest, passes, unroll, if_valid_width, numeric_spec, coded_spec, text_spec, text_width, spec_by_kind, defined_field, new_reference_spec, unsigned_field, begin, element_spec, factor_field, factor_by, factor_spec, inserted_spec, OperatorModel, is_defining, after_operator, after_field, DataCoding, plain, packed, Kind, step_of, coding_of, contents_across}
 use Rattle.bufr_walk.proofs.SpecLemmas.{inserted_width}
 use Rattle.bufr_walk.proofs.WalkLemmas.{no_count, element_cases}
-use Rattle.bufr_walk.proofs.PackedLemmas.{item_ok, neither}
+use Rattle.bufr_walk.proofs.PackedLemmas.{item_parts, some_across, neither}
 use Rattle.std.proofs.lemmas.List.{length-drop, drop-drop}
 use Rattle.bufr_bits.specs.Prelude.{number_of}
 use Rattle.bufr_tables.proofs.TableBLemmas.{row-limits}
@@ -241,14 +241,6 @@ plain_forth spec bits c mid some e = by (nat_lt (length bits) spec.width) refl e
       left_is = suffix_is (content_in spec (take spec.width bits)) c (drop spec.width bits) mid q;
     }
 
--- some subsets have some contents
-some_contents : (spec : FieldSpec) (k n : ℕ) (base suffix : List Bool) → contents_of spec k (suc n) base suffix ≡ [] → ⊥
-some_contents spec k n base suffix e = by (k == 0) e
-  where
-    by : (b : Bool) → (if b then replicate (suc n) (content_in spec base) else map (content_from spec.kind spec k base) (increments (suc n) (kind_step spec.kind k) suffix)) ≡ [] → ⊥
-    by true q = cc
-    by false q = cc
-
 first_for : (spec : FieldSpec) (cs : List Content) → (cs ≡ [] → ⊥) → IsFor spec (answer_first spec cs)
 first_for spec [] h = absurd (h refl)
 first_for spec (c ∷ cs) h = answer_for spec.role c
@@ -259,16 +251,15 @@ packed_forth n spec bits cs mid some e =
     let k = number_of (take 6 (drop spec.width bits)) in
     let base = take spec.width bits in
     let suffix = drop (spec.width + 6) bits in
-    let used = suc n * increment_bits_of spec.role spec.kind k in
-    let t = item_ok (nat_lt (length bits) (spec.width + 6) || nat_lt (length suffix) used) (k == 0 || are_increments_valid spec.role spec k (suc n) base suffix)
-    (k == 0 || equal_in spec.role k (suc n) suffix) (contents_of spec k (suc n) base suffix) (drop used suffix) cs mid e in
+    let used = suc n * step_of (coding_of spec) k in
+    let t = item_parts spec.role (nat_lt (length bits) (spec.width + 6) || nat_lt (length suffix) used) (contents_across (coding_of spec) k (suc n) base suffix) (drop used suffix) cs mid e in
     let ends = neither (nat_lt (length bits) (spec.width + 6)) (nat_lt (length suffix) used) t.0 in
     record {
-      gives = first_for spec cs (λ none. some_contents spec k n base suffix (t.3 ∙ none));
+      gives = first_for spec cs (λ none. some_across (coding_of spec) k n base suffix (t.1 ∙ ap Some none));
       size = spec.width + 6 + used;
       some = positive spec.width used;
       within = within (spec.width + 6) used (length bits) (length suffix) (ltb-false (length bits) (spec.width + 6) ends.0) (ltb-false (length suffix) used ends.1) (length-drop (spec.width + 6) bits);
-      left_is = sym t.4 ∙ drop-drop used (spec.width + 6) bits;
+      left_is = sym t.3 ∙ drop-drop used (spec.width + 6) bits;
     }
   where
     positive : (w x : ℕ) → 1 ≤ w + 6 + x

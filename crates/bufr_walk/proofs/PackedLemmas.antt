@@ -1,21 +1,23 @@
 -- The contents of an item of compressed data, by its increments.
 use Rattle.std.proofs.lemmas.Grind.{common_steps}
-use Rattle.std.proofs.Common.{◌≡◌, ℕ, zero, suc, ◌+◌, ◌^◌, ◌<◌, ◌≤◌, ◌&&◌, ◌||◌, ◌%◌, Bool, true, false, List, ◌∷◌, length, take, drop, refl, sym, ◌∙◌, ap, subst, arith, ◌*◌, map, Result, Ok, Err, ◌-◌, ◌==◌, nat_lt, not, ◌/◌, if◌then◌else◌, replicate}
+use Rattle.std.proofs.Common.{◌≡◌, ℕ, zero, suc, ◌+◌, ◌^◌, ◌<◌, ◌≤◌, ◌&&◌, ◌||◌, ◌%◌, Bool, true, false, List, [], ◌∷◌, length, take, drop, refl, sym, ◌∙◌, ap, subst, arith, ◌*◌, map, Option, Some, None, option_map, Result, Ok, Err, ◌-◌, ◌==◌, nat_lt, not, ◌/◌, if◌then◌else◌, replicate, ◌++◌}
+use Rattle.std.specs.Prelude.{is_some, ok_or}
 use Rattle.std.proofs.lemmas.Bool.{eq-eqb, eqb-true, le-ltb, ltb-false, ne_eqb}
 use Rattle.std.specs.List.{list_all}
 use Rattle.std.proofs.lemmas.Nat.{shl_whole}
 use Rattle.std.proofs.lemmas.List.{drop-drop, length-take, length-drop}
 use Rattle.std.proofs.Math.Nat.{pow-le-pow_right, mul-le-mul_right}
-use Rattle.std.proofs.lemmas.Bool.Decides.{nat_tests}
-use Rattle.bufr_bits.specs.Prelude.{number_of, are_all_ones, bits_of, bits_at}
-use Rattle.bufr_bits.proofs.BitLemmas.{number_of-below, length-bits_at}
-use Rattle.bufr_walk.specs.Prelude.{increments, ones, padded_text, increment_bits_of, contents_of, packed_field, are_increments_valid, equal_in, FieldSpec, Content, content_in, FieldFault, increment, unequal_factor, FieldRead, found, data_end, stays_within, all_within, is_missing, are_number_increments_valid, are_increments_valid_by, number_from, content_from, kind_step, content_kept, contents_found, was_found, has_base, fits_at, Role, IndexedItem, content_at, Kind}
-use Rattle.bufr_tables.specs.declared.table_b.Kind.{Kind}
+use Rattle.std.proofs.lemmas.Bool.Decides.{nat_tests, Decides-int_eq}
+use Rattle.std.proofs.lemmas.Slice.Eq.{bytes_eq-Decides}
+use Rattle.bufr_bits.specs.Prelude.{number_of, are_all_ones, bits_of, bits_at, ◌>>=◌}
+use Rattle.bufr_bits.proofs.BitLemmas.{number_of-below, length-bits_at, are_all_ones-number}
+use Rattle.bufr_walk.specs.Prelude.{numbers, texts, Coding, coding_of, coding_by, said, step_of, sum_within, increased, all_there, contents_across, same, if_equal, are_valid, increments, ones, octets_in, packed_field, FieldSpec, IsSpec, HasRole, Content, number, text, missing, reference, content_in, answer_by_role, answer_first, FieldFault, increment, unequal_factor, FieldRead, found, data_end, is_reference, content_kept, contents_found, was_found, has_base, fits_at, Role, IndexedItem, content_at}
 use Rattle.bufr_bits.proofs.DecimalLemmas.{and_first, and_second}
 use Rattle.bufr_tables.specs.Prelude.{is_character}
-use Rattle.bufr_walk.proofs.PlainLemmas.{bits_length, ones_by_number}
+use Rattle.bufr_walk.proofs.PlainLemmas.{bits_length, ones_by_number, number_coding, text_coding}
 use Rattle.bufr_tables.specs.declared.table_b.Kind.TheVariants as kind
 use Rattle.bufr_walk.specs.declared.spec.Role.TheVariants as role
+use Rattle.bufr_walk.specs.declared.spec.Taken.TheVariants as taken
 
 -- the greatest number of w bits
 pub all_ones : (w v : ℕ) → w ≡ v → v ≤ 63 → 1 * 2 ^ w % 18446744073709551616 - 1 ≡ 2 ^ v - 1
@@ -42,17 +44,53 @@ is_other n first m e h = let g : m ≡ first → ⊥ = λ x. h (e ∙ x) in ne_e
 pub is_first : (n first m : ℕ) → n ≡ m → n ≡ first → (m == first) ≡ true
 is_first n first m e h = eq-eqb m first (sym e ∙ h)
 
-pub stays_here : (m : Bool) (w base k n i : ℕ) (stays b : Bool) → n ≡ i → stays ≡ stays_within m w base k n → stays ≡ b → stays_within m w base k i ≡ b
-stays_here m w base k n i stays b e h g = ap (stays_within m w base k) (sym e) ∙ sym h ∙ g
+-- ---- Whether increments are valid.
 
--- all increments are valid where the greatest fits
-pub all_fit : (m : Bool) (w base k : ℕ) (n : ℕ) (bits : List Bool) → base + ones k ≤ ones w → all_within m w base k n bits ≡ true
-all_fit m w base k zero bits h = refl
-all_fit m w base k (suc n) bits h =
-    let low : number_of (take k bits) < 2 ^ k = below_pow k bits in
-    ap (λ b. b && all_within m w base k n (drop k bits)) (fits m (number_of (take k bits) == ones k) (nat_lt (ones w) (base + number_of (take k bits)))
-    (le-ltb (ones w) (base + number_of (take k bits)) (omega (arith, h, low))))
-    ∙ all_fit m w base k n (drop k bits) h
+pub ones_same : (k : ℕ) (i : List Bool) → length i ≡ k → are_all_ones i ≡ (number_of i == ones k)
+ones_same k i h = sym (ap (λ n. number_of i == ones n) (sym h) ∙ are_all_ones-number i)
+
+-- by its tests: the base is all ones, the increment is, and their sum exceeds the width
+valid_by : (m full last past : Bool) (c : Content) → is_some (if m && (full || last) then Some missing else if past then None else Some c) ≡ (full && m || (m && last || not past))
+valid_by true true last past c = refl
+valid_by true false true past c = refl
+valid_by true false false true c = refl
+valid_by true false false false c = refl
+valid_by false true last true c = refl
+valid_by false true last false c = refl
+valid_by false false last true c = refl
+valid_by false false last false c = refl
+
+pub stays_here : (w k : ℕ) (m : Bool) (base i : List Bool) (low more : ℕ) (stays b : Bool) → length i ≡ k → low ≡ number_of base → more ≡ number_of i → (are_all_ones base && m) ≡ false
+    → stays ≡ (m && (more == ones k) || not (nat_lt (ones w) (low + more))) → stays ≡ b → is_some (increased (numbers w m) k base i) ≡ b
+stays_here w k m base i low more stays b long l r none is e =
+    ap (λ last. is_some (if m && (are_all_ones base || last) then Some missing else sum_within w m (number_of base + number_of i))) (ones_same k i long)
+    ∙ valid_by m (are_all_ones base) (number_of i == ones k) (nat_lt (ones w) (number_of base + number_of i))
+    (if m && (number_of base + number_of i == ones w) then missing else number (number_of base + number_of i))
+    ∙ ap (λ f. f || (m && (number_of i == ones k) || not (nat_lt (ones w) (number_of base + number_of i)))) none
+    ∙ ap (λ x. m && (x == ones k) || not (nat_lt (ones w) (number_of base + x))) (sym r) ∙ ap (λ x. m && (more == ones k) || not (nat_lt (ones w) (x + more))) (sym l) ∙ sym is ∙ e
+
+-- all are valid if the base is missing
+pub missing_valid : (w k n : ℕ) (m : Bool) (base suffix : List Bool) → (are_all_ones base && m) ≡ true → are_valid (numbers w m) k n base suffix ≡ true
+missing_valid w k zero m base suffix h = refl
+missing_valid w k (suc n) m base suffix h =
+    ap (λ b. b && are_valid (numbers w m) k n base (drop k suffix)) (one m (are_all_ones base) (are_all_ones (take k suffix)) (sum_within w m (number_of base + number_of (take k suffix))) h)
+    ∙ missing_valid w k n m base (drop k suffix) h
+  where
+    one : (m full last : Bool) (o : Option Content) → (full && m) ≡ true → is_some (if m && (full || last) then Some missing else o) ≡ true
+    one true true last o h = refl
+    one false true last o h = absurd cc
+    one m false last o h = absurd cc
+
+-- or if the greatest fits
+pub all_fit : (w k n : ℕ) (m : Bool) (base suffix : List Bool) → number_of base + ones k ≤ ones w → are_valid (numbers w m) k n base suffix ≡ true
+all_fit w k zero m base suffix h = refl
+all_fit w k (suc n) m base suffix h =
+    let sum = number_of base + number_of (take k suffix) in
+    let low : number_of (take k suffix) < 2 ^ k = below_pow k suffix in
+    ap (λ b. b && are_valid (numbers w m) k n base (drop k suffix)) (fits (m && (are_all_ones base || are_all_ones (take k suffix))) (nat_lt (ones w) sum)
+    (if m && (sum == ones w) then missing else number sum)
+    (le-ltb (ones w) sum (omega (arith, h, low))))
+    ∙ all_fit w k n m base (drop k suffix) h
   where
     below_pow : (k : ℕ) (bits : List Bool) → number_of (take k bits) < 2 ^ k
     below_pow k bits =
@@ -60,42 +98,212 @@ all_fit m w base k (suc n) bits h =
         let top : 2 ^ length (take k bits) ≤ 2 ^ k = pow-le-pow_right {n = 2} (omega arith) short in
         omega (arith, number_of-below (take k bits), top)
 
-    fits : (m is_missing past : Bool) → past ≡ false → (m && is_missing || not past) ≡ true
-    fits true true past e = refl
-    fits true false past e = ap not e
-    fits false is_missing past e = ap not e
+    fits : (any past : Bool) (c : Content) → past ≡ false → is_some (if any then Some missing else if past then None else Some c) ≡ true
+    fits true past c e = refl
+    fits false true c e = absurd cc
+    fits false false c e = refl
 
-pub numbers_fit : (a : FieldSpec) (k n value width : ℕ) (base suffix : List Bool) → value ≡ number_of base → width ≡ a.width → value + ones k ≤ ones width
-    → are_number_increments_valid a k n base suffix ≡ true
-numbers_fit a k n value width base suffix e f h = grind (arith, common_steps, all_fit)
+-- texts are valid if k fits the width
+texts_valid : (octets k n : ℕ) (base suffix : List Bool) → 1 ≤ n → are_valid (texts octets) k n base suffix ≡ not (nat_lt octets k)
+texts_valid octets k n base suffix some = by (nat_lt octets k) (λ i. if are_all_ones i then missing else text (octets_in k i ++ replicate (octets - k) 32)) n suffix some
+  where
+    all : (f : List Bool → Content) (n : ℕ) (suffix : List Bool) → list_all (λ i. is_some (Some (f i))) (increments n (8 * k) suffix) ≡ true
+    all f zero suffix = refl
+    all f (suc n) suffix = all f n (drop (8 * k) suffix)
 
--- ---- What an item returns to the walk, or its fault, by tests of its increments.
+    by : (past : Bool) (f : List Bool → Content) (n : ℕ) (suffix : List Bool) → 1 ≤ n → list_all (λ i. is_some (if past then None else Some (f i))) (increments n (8 * k) suffix) ≡ not past
+    by past f zero suffix some = absurd (omega arith)
+    by true f (suc n) suffix some = refl
+    by false f (suc n) suffix some = all f n (drop (8 * k) suffix)
 
-not_zero : (k : ℕ) → 1 ≤ k → (k == 0) ≡ false
+-- ---- Contents that are there.
+
+pub some_same : {A : Type 0} (a b : A) → ◌≡◌ {A = Option A} (Some a) (Some b) → a ≡ b
+some_same a b e = cc
+
+mapped : (c : Content) (r : Option (List Content)) → is_some (option_map (λ others. c ∷ others) r) ≡ is_some r
+mapped c None = refl
+mapped c (Some cs) = refl
+
+there_by : (o : Option Content) (os : List (Option Content)) (rest : Bool) → is_some (all_there os) ≡ rest → is_some (all_there (o ∷ os)) ≡ (is_some o && rest)
+there_by None os rest e = refl
+there_by (Some c) os rest e = mapped c (all_there os) ∙ e
+
+there_all : (f : List Bool → Option Content) (is : List (List Bool)) → is_some (all_there (map f is)) ≡ list_all (λ i. is_some (f i)) is
+there_all f [] = refl
+there_all f (i ∷ is) = there_by (f i) (map f is) (list_all (λ i. is_some (f i)) is) (there_all f is)
+
+rest_there : (c : Content) (r : Option (List Content)) (os : List (Option Content)) (cs : List Content) → all_there os ≡ r → option_map (λ others. c ∷ others) r ≡ Some cs
+    → (d : Content) × (ds : List Content) × (◌≡◌ {A = Option Content} (Some c) (Some d)) × (all_there os ≡ Some ds) × (d ∷ ds ≡ cs)
+rest_there c None os cs q e = absurd cc
+rest_there c (Some ds) os cs q e = (c, ds, refl, q, some_same (c ∷ ds) cs e)
+
+-- the first of some contents, and those after it
+pub next_there : (o : Option Content) (os : List (Option Content)) (cs : List Content) → all_there (o ∷ os) ≡ Some cs
+    → (c : Content) × (ds : List Content) × (o ≡ Some c) × (all_there os ≡ Some ds) × (c ∷ ds ≡ cs)
+next_there None os cs e = absurd cc
+next_there (Some c) os cs e = rest_there c (all_there os) os cs refl e
+
+pub not_zero : (k : ℕ) → 1 ≤ k → (k == 0) ≡ false
 not_zero k h = grind (arith, nat_tests)
 
--- ---- An item of compressed data by its tests.
+-- an item has increments if k is above 0
+pub varied : (c : Coding) (k n : ℕ) (base suffix : List Bool) → (k == 0) ≡ false → contents_across c k n base suffix ≡ all_there (map (increased c k base) (increments n (step_of c k) suffix))
+varied c k n base suffix some = ap (λ b. if b then Some (replicate n (said c base)) else all_there (map (increased c k base) (increments n (step_of c k) suffix))) some
 
--- an item by its tests, at the bits that have them
-abbrev pub item_tested : (ends holds equal : Bool) → List Content → List Bool → Result (FieldRead (List Content)) FieldFault
-item_tested ends holds equal cs suffix = if ends then Err data_end else if not holds then Err increment else if not equal then Err unequal_factor else Ok (found cs suffix)
+pub copied : (c : Coding) (k n : ℕ) (base suffix : List Bool) → k ≡ 0 → contents_across c k n base suffix ≡ Some (replicate n (said c base))
+copied c k n base suffix none = ap (λ j. contents_across c j n base suffix) none
 
-pub item_ok : (ends holds equal : Bool) (cs : List Content) (suffix : List Bool) (ds : List Content) (mid : List Bool) → item_tested ends holds equal cs suffix ≡ Ok (found ds mid)
-    → (ends ≡ false) × (holds ≡ true) × (equal ≡ true) × (cs ≡ ds) × (suffix ≡ mid)
-item_ok true holds equal cs suffix ds mid e = absurd cc
-item_ok false false equal cs suffix ds mid e = absurd cc
-item_ok false true false cs suffix ds mid e = absurd cc
-item_ok false true true cs suffix ds mid e = let f = same_read (found cs suffix) (found ds mid) e in
-    (refl, refl, refl, ap (λ (r : FieldRead (List Content)). r.content) f, ap (λ (r : FieldRead (List Content)). r.suffix) f)
+-- whether an item with increments has contents
+each_valid : (c : Coding) (k n : ℕ) (base suffix : List Bool) → (k == 0) ≡ false → is_some (contents_across c k n base suffix) ≡ are_valid c k n base suffix
+each_valid c k n base suffix nonzero = ap is_some (varied c k n base suffix nonzero) ∙ there_all (increased c k base) (increments n (step_of c k) suffix)
+
+pub text_valid : (a : FieldSpec) (k n : ℕ) (base suffix : List Bool) → (k == 0) ≡ false → 1 ≤ n → is_reference a.role ≡ false → is_character a.kind ≡ true
+    → is_some (contents_across (coding_of a) k n base suffix) ≡ not (nat_lt (a.width / 8) k)
+text_valid a k n base suffix nonzero some r e =
+    ap (λ c. is_some (contents_across c k n base suffix)) (text_coding a e r) ∙ each_valid (texts (a.width / 8)) k n base suffix nonzero ∙ texts_valid (a.width / 8) k n base suffix some
+
+pub number_valid : (a : FieldSpec) (k n : ℕ) (base suffix : List Bool) → (k == 0) ≡ false → is_reference a.role ≡ false → is_character a.kind ≡ false
+    → is_some (contents_across (coding_of a) k n base suffix) ≡ are_valid (numbers a.width a.may_be_missing) k n base suffix
+number_valid a k n base suffix nonzero r e =
+    ap (λ c. is_some (contents_across c k n base suffix)) (number_coding a e r) ∙ each_valid (numbers a.width a.may_be_missing) k n base suffix nonzero
+
+-- a reference has none
+pub reference_none : (a : FieldSpec) (k n : ℕ) (base suffix : List Bool) → (k == 0) ≡ false → 1 ≤ n → a.role ≡ role.Reference → contents_across (coding_of a) k n base suffix ≡ None
+reference_none a k zero base suffix nonzero some e = absurd (omega arith)
+reference_none a k (suc n) base suffix nonzero some e =
+    ap (λ r. contents_across (coding_by r a.kind a) k (suc n) base suffix) e ∙ varied (coding_by role.Reference a.kind a) k (suc n) base suffix nonzero
+
+pub is_there : {A : Type 0} (o : Option A) → is_some o ≡ true → (a : A) × (o ≡ Some a)
+is_there None e = absurd cc
+is_there (Some a) e = (a, refl)
+
+pub is_none : {A : Type 0} (o : Option A) → is_some o ≡ false → o ≡ None
+is_none None e = refl
+is_none (Some a) e = absurd cc
+
+-- the contents of some subsets
+pub some_across : (c : Coding) (k n : ℕ) (base suffix : List Bool) → contents_across c k (suc n) base suffix ≡ Some [] → ⊥
+some_across c k n base suffix e = by (k == 0) e
+  where
+    by : (b : Bool) → (if b then Some (replicate (suc n) (said c base)) else all_there (map (increased c k base) (increments (suc n) (step_of c k) suffix))) ≡ Some [] → ⊥
+    by true e = cc
+    by false e =
+        let t = next_there (increased c k base (take (step_of c k) suffix)) (map (increased c k base) (increments n (step_of c k) (drop (step_of c k) suffix))) [] e in
+        absurd (none t.0 t.1 t.4)
+      where
+        none : (c : Content) (ds : List Content) → c ∷ ds ≡ [] → ⊥
+        none c ds e = cc
+
+-- ---- Factors.
+
+is_self : (n : ℕ) → (n == n) ≡ true
+is_self n = grind (arith, nat_tests)
+
+content_self : (c : Content) → same c c ≡ true
+content_self (number n) = is_self n
+content_self (text os) = (bytes_eq-Decides os os).1 refl
+content_self missing = refl
+content_self (reference v) = (Decides-int_eq v v).1 refl
+
+copies_same : (c : Content) (n : ℕ) → list_all (same c) (replicate n c) ≡ true
+copies_same c zero = refl
+copies_same c (suc n) = ap (λ b. b && list_all (same c) (replicate n c)) (content_self c) ∙ copies_same c n
+
+abbrev pub equal_or : Bool → List Content → Result (List Content) FieldFault
+equal_or b cs = if b then Ok cs else Err unequal_factor
+
+pub copies_equal : (r : Role) (c : Content) (n : ℕ) → if_equal r (replicate n c) ≡ Ok (replicate n c)
+copies_equal role.Factor c zero = refl
+copies_equal role.Factor c (suc n) = ap (λ b. equal_or b (c ∷ replicate n c)) (copies_same c n)
+copies_equal role.Element c n = refl
+copies_equal role.Inserted c n = refl
+copies_equal role.Reference c n = refl
+
+-- contents that pass the test of a factor stay
+pub equal_is : (r : Role) (cs ds : List Content) → if_equal r cs ≡ Ok ds → cs ≡ ds
+equal_is role.Factor [] ds e = cc
+equal_is role.Factor (c ∷ cs) ds e = by (list_all (same c) cs) e
+  where
+    by : (b : Bool) → equal_or b (c ∷ cs) ≡ Ok ds → c ∷ cs ≡ ds
+    by true e = cc
+    by false e = absurd cc
+equal_is role.Element cs ds e = cc
+equal_is role.Inserted cs ds e = cc
+equal_is role.Reference cs ds e = cc
+
+-- numbers that are never missing
+counts_are : (w base : ℕ) (is : List (List Bool)) (cs : List Content) → all_there (map (λ i. sum_within w false (base + number_of i)) is) ≡ Some cs → cs ≡ map (λ i. number (base + number_of i)) is
+counts_are w base [] cs e = sym (some_same [] cs e)
+counts_are w base (i ∷ is) cs e =
+    let t = next_there (sum_within w false (base + number_of i)) (map (λ i. sum_within w false (base + number_of i)) is) cs e in
+    sym t.4 ∙ ap (λ c. c ∷ t.1) (sym (sum_is (nat_lt (ones w) (base + number_of i)) t.0 t.2)) ∙ ap (λ ds. number (base + number_of i) ∷ ds) (counts_are w base is t.1 t.3)
+  where
+    sum_is : (past : Bool) (c : Content) → (if past then None else Some (number (base + number_of i))) ≡ Some c → number (base + number_of i) ≡ c
+    sum_is true c e = absurd cc
+    sum_is false c e = some_same (number (base + number_of i)) c e
+
+sum_test : (b x y : ℕ) → (b + x == b + y) ≡ (y == x)
+sum_test b x y = grind (arith, nat_tests)
+
+same_counts : (base first : ℕ) (is : List (List Bool)) → list_all (same (number (base + first))) (map (λ i. number (base + number_of i)) is) ≡ list_all (λ i. number_of i == first) is
+same_counts base first [] = refl
+same_counts base first (i ∷ is) =
+    ap (λ b. b && list_all (same (number (base + first))) (map (λ i. number (base + number_of i)) is)) (sum_test base first (number_of i))
+    ∙ ap (λ b. (number_of i == first) && b) (same_counts base first is)
+
+counts_equal : (base : ℕ) (i : List Bool) (is : List (List Bool))
+    → if_equal role.Factor (map (λ i. number (base + number_of i)) (i ∷ is)) ≡ equal_or (list_all (λ x. number_of x == number_of i) (i ∷ is)) (map (λ i. number (base + number_of i)) (i ∷ is))
+counts_equal base i is = ap (λ b. equal_or b (map (λ i. number (base + number_of i)) (i ∷ is)))
+    (same_counts base (number_of i) is ∙ sym (ap (λ b. b && list_all (λ x. number_of x == number_of i) is) (is_self (number_of i))))
+
+-- the counts of a factor, and what it returns to the walk
+pub factor_across : (a : FieldSpec) (k n : ℕ) (base suffix : List Bool) (cs : List Content) (low first : ℕ) → IsSpec a → a.role ≡ role.Factor → (k == 0) ≡ false → 1 ≤ n
+    → contents_across (coding_of a) k n base suffix ≡ Some cs → low ≡ number_of base → first ≡ number_of (take k suffix)
+    → (if_equal a.role cs ≡ equal_or (list_all (λ i. number_of i == first) (increments n k suffix)) cs) × (taken.Count (low + first) ≡ answer_first a cs)
+factor_across a k zero base suffix cs low first good e nonzero some is l f = absurd (omega arith)
+factor_across a k (suc n) base suffix cs low first good e nonzero some is l f =
+    let has : HasRole role.Factor a.kind a.may_be_missing = subst (λ r. HasRole r a.kind a.may_be_missing) e good.role in
+    let coding : coding_of a ≡ numbers a.width false = number_coding a (ap is_character has.0) (ap is_reference e) ∙ ap (numbers a.width) has.1 in
+    let first_is = number_of (take k suffix) in
+    let counts = map (λ i. number (number_of base + number_of i)) (increments (suc n) k suffix) in
+    let are : cs ≡ counts = counts_are a.width (number_of base) (increments (suc n) k suffix) cs
+    (sym (ap (λ c. contents_across c k (suc n) base suffix) coding ∙ varied (numbers a.width false) k (suc n) base suffix nonzero) ∙ is) in (
+      ap (λ r. if_equal r cs) e ∙ ap (if_equal role.Factor) are ∙ counts_equal (number_of base) (take k suffix) (increments n k (drop k suffix))
+          ∙ ap (λ x. equal_or (list_all (λ i. number_of i == x) (increments (suc n) k suffix)) counts) (sym f)
+          ∙ ap (equal_or (list_all (λ i. number_of i == first) (increments (suc n) k suffix))) (sym are),
+      ap (λ x. taken.Count (x + first)) l ∙ ap (λ x. taken.Count (number_of base + x)) f ∙ ap (λ r. answer_by_role r (number (number_of base + first_is))) (sym e)
+          ∙ ap (answer_first a) (sym are),
+    )
+
+-- ---- An item of compressed data by its parts.
+
+abbrev pub item_by : Role → (ends : Bool) → Option (List Content) → List Bool → Result (FieldRead (List Content)) FieldFault
+item_by r ends contents suffix = if ends then Err data_end else (ok_or contents increment >>= λ x. (if_equal r x >>= λ y. Ok (found y suffix)))
+
+-- the parts of an item that is found
+pub item_parts : (r : Role) (ends : Bool) (c : Option (List Content)) (suffix : List Bool) (ds : List Content) (mid : List Bool) → item_by r ends c suffix ≡ Ok (found ds mid)
+    → (ends ≡ false) × (c ≡ Some ds) × (if_equal r ds ≡ Ok ds) × (suffix ≡ mid)
+item_parts r true c suffix ds mid e = absurd cc
+item_parts r false None suffix ds mid e = absurd cc
+item_parts r false (Some cs) suffix ds mid e = by (if_equal r cs) refl e
   where
     same_read : (a b : FieldRead (List Content)) → ◌≡◌ {A = Result (FieldRead (List Content)) FieldFault} (Ok a) (Ok b) → a ≡ b
     same_read a b e = cc
 
+    by : (x : Result (List Content) FieldFault) → if_equal r cs ≡ x → (x >>= λ y. Ok (found y suffix)) ≡ Ok (found ds mid)
+        → (false ≡ false) × (◌≡◌ {A = Option (List Content)} (Some cs) (Some ds)) × (if_equal r ds ≡ Ok ds) × (suffix ≡ mid)
+    by (Err why) is e = absurd cc
+    by (Ok xs) is e =
+        let f = same_read (found xs suffix) (found ds mid) e in
+        let are : xs ≡ ds = ap (λ (r : FieldRead (List Content)). r.content) f in
+        let same_contents : cs ≡ ds = equal_is r cs xs is ∙ are in
+        (refl, ap Some same_contents, ap (if_equal r) (sym same_contents) ∙ is ∙ ap Ok are, ap (λ (r : FieldRead (List Content)). r.suffix) f)
+
 -- an item at a bit, with its contents
 pub record IsAt (bits : List Bool) (at n : ℕ) (a : FieldSpec) (k : ℕ) (cs : List Content) : Type 0 where
-  pub within : at + (a.width + 6 + n * increment_bits_of a.role a.kind k) ≤ length bits
-  pub holds : (k == 0 || are_increments_valid a.role a k n (take a.width (drop at bits)) (drop (at + (a.width + 6)) bits)) ≡ true
-  pub are : contents_of a k n (take a.width (drop at bits)) (drop (at + (a.width + 6)) bits) ≡ cs
+  pub within : at + (a.width + 6 + n * step_of (coding_of a) k) ≤ length bits
+  pub are : contents_across (coding_of a) k n (take a.width (drop at bits)) (drop (at + (a.width + 6)) bits) ≡ Some cs
 
 found_by : (r : Result (FieldRead (List Content)) FieldFault) → was_found r ≡ true → (mid : List Bool) × (r ≡ Ok (found (contents_found r) mid))
 found_by (Ok f) h = (f.suffix, refl)
@@ -109,23 +317,21 @@ pub parts : (bits : List Bool) (at n : ℕ) (a : FieldSpec) (k : ℕ) → was_fo
     → IsAt bits at n a k (contents_found (packed_field n a (drop at bits)))
 parts bits at n a k h is =
     let here = drop at bits in
+    let c = coding_of a in
     let read = number_of (take 6 (drop a.width here)) in
     let suffix = drop (a.width + 6) here in
     let there = found_by (packed_field n a here) h in
-    let t = item_ok (nat_lt (length here) (a.width + 6) || nat_lt (length suffix) (n * increment_bits_of a.role a.kind read))
-    (read == 0 || are_increments_valid a.role a read n (take a.width here) suffix) (read == 0 || equal_in a.role read n suffix) (contents_of a read n (take a.width here) suffix)
-    (drop (n * increment_bits_of a.role a.kind read) suffix) (contents_found (packed_field n a here)) there.0 there.1 in
-    let ends = neither (nat_lt (length here) (a.width + 6)) (nat_lt (length suffix) (n * increment_bits_of a.role a.kind read)) t.0 in
+    let t = item_parts a.role (nat_lt (length here) (a.width + 6) || nat_lt (length suffix) (n * step_of c read)) (contents_across c read n (take a.width here) suffix)
+    (drop (n * step_of c read) suffix)
+    (contents_found (packed_field n a here)) there.0 there.1 in
+    let ends = neither (nat_lt (length here) (a.width + 6)) (nat_lt (length suffix) (n * step_of c read)) t.0 in
     let same_k : read ≡ k = ap (λ bs. number_of (take 6 bs)) (drop-drop a.width at bits) ∙ sym is in
     let same : suffix ≡ drop (at + (a.width + 6)) bits = drop-drop (a.width + 6) at bits in
     let long : a.width + 6 ≤ length here = ltb-false (length here) (a.width + 6) ends.0 in
-    let room : n * increment_bits_of a.role a.kind k ≤ length suffix =
-    subst (λ x. n * increment_bits_of a.role a.kind x ≤ length suffix) same_k (ltb-false (length suffix) (n * increment_bits_of a.role a.kind read) ends.1) in
+    let room : n * step_of c k ≤ length suffix = subst (λ x. n * step_of c x ≤ length suffix) same_k (ltb-false (length suffix) (n * step_of c read) ends.1) in
     record {
       within = omega (arith, long, room, length-drop at bits, length-drop (a.width + 6) here);
-      holds = ap (λ bs. k == 0 || are_increments_valid a.role a k n (take a.width here) bs) (sym same) ∙ ap (λ x. x == 0 || are_increments_valid a.role a x n (take a.width here) suffix) (sym same_k)
-          ∙ t.1;
-      are = ap (λ bs. contents_of a k n (take a.width here) bs) (sym same) ∙ ap (λ x. contents_of a x n (take a.width here) suffix) (sym same_k) ∙ t.3;
+      are = ap (λ bs. contents_across c k n (take a.width here) bs) (sym same) ∙ ap (λ x. contents_across c x n (take a.width here) suffix) (sym same_k) ∙ t.1;
     }
 
 kept_step : (bits : List Bool) (n : ℕ) (e : IndexedItem) → fits_at bits n e ≡ true → e.step ≡ number_of (take 6 (drop (e.at + e.spec.width) bits))
@@ -141,63 +347,30 @@ kept_parts bits n e h =
     parts bits e.at n e.spec e.step (and_first (was_found (packed_field n e.spec (drop e.at bits))) ((e.step == number_of (take 6 (drop (e.at + e.spec.width) bits))) && has_base bits e) h)
     (kept_step bits n e h)
 
--- one content of increments
-pub at_map : (f : List Bool → Content) (n s j : ℕ) (bits : List Bool) → j < n → content_at j (map f (increments n s bits)) ≡ f (take s (drop (j * s) bits))
-at_map f zero s j bits h = absurd (omega arith)
-at_map f (suc n) s zero bits h = ap (λ m. f (take s (drop m bits))) (nothing s)
+-- the text of one subset: k octets, followed by spaces up to its width
+abbrev pub padded_text : (octets k : ℕ) → List Bool → Content
+padded_text octets k bits = if are_all_ones bits then missing else text (octets_in k bits ++ replicate (octets - k) 32)
+
+-- the content of one subset, by its increment
+at_there : (f : List Bool → Option Content) (n s j : ℕ) (bits : List Bool) (cs : List Content) → j < n → all_there (map f (increments n s bits)) ≡ Some cs
+    → f (take s (drop (j * s) bits)) ≡ Some (content_at j cs)
+at_there f zero s j bits cs h e = absurd (omega arith)
+at_there f (suc n) s zero bits cs h e =
+    let t = next_there (f (take s bits)) (map f (increments n s (drop s bits))) cs e in
+    ap (λ m. f (take s (drop m bits))) (nothing s) ∙ t.2 ∙ ap (λ xs. Some (content_at 0 xs)) t.4
   where
-    nothing : (s : ℕ) → 0 ≡ 0 * s
+    nothing : (s : ℕ) → 0 * s ≡ 0
     nothing s = omega arith
-at_map f (suc n) s (suc j) bits h = at_map f n s j (drop s bits) (omega arith) ∙ ap (λ x. f (take s x)) (drop-drop (j * s) s bits ∙ ap (λ m. drop m bits) (next s j))
+at_there f (suc n) s (suc j) bits cs h e =
+    let t = next_there (f (take s bits)) (map f (increments n s (drop s bits))) cs e in
+    ap (λ x. f (take s x)) (ap (λ m. drop m bits) (next s j) ∙ sym (drop-drop (j * s) s bits)) ∙ at_there f n s j (drop s bits) t.1 (omega arith) t.3 ∙ ap (λ xs. Some (content_at (suc j) xs)) t.4
   where
-    next : (s j : ℕ) → s + j * s ≡ suc j * s
+    next : (s j : ℕ) → suc j * s ≡ s + j * s
     next s j = omega arith
-
--- with no increments
-pub base_at : (a : FieldSpec) (k n j : ℕ) (base suffix : List Bool) (cs : List Content) → k ≡ 0 → j < n → contents_of a k n base suffix ≡ cs → content_at j cs ≡ content_in a base
-base_at a k n j base suffix cs e h are = ap (content_at j) (sym are) ∙ ap (λ x. content_at j (contents_of a x n base suffix)) e ∙ copied n j h
-  where
-    copied : (n j : ℕ) → j < n → content_at j (replicate n (content_in a base)) ≡ content_in a base
-    copied zero j h = absurd (omega arith)
-    copied (suc n) zero h = refl
-    copied (suc n) (suc j) h = copied n j (omega arith)
-
--- with increments: they are valid, have these contents, and each subset has so many bits
-pub record IsVaried (a : FieldSpec) (k n : ℕ) (base suffix : List Bool) (cs : List Content) : Type 0 where
-  pub holds : are_increments_valid_by a.kind a k n base suffix ≡ true
-  pub contents : map (content_from a.kind a k base) (increments n (kind_step a.kind k) suffix) ≡ cs
-  pub step : increment_bits_of a.role a.kind k ≡ kind_step a.kind k
-
-pub varied_parts : (a : FieldSpec) (k n : ℕ) (base suffix : List Bool) (cs : List Content) → 1 ≤ k → (k == 0 || are_increments_valid a.role a k n base suffix) ≡ true
-    → contents_of a k n base suffix ≡ cs → IsVaried a k n base suffix cs
-varied_parts a k n base suffix cs some h are =
-    let some_bits = not_zero k some in
-    let p = by a.role (ap (λ x. x || are_increments_valid a.role a k n base suffix) (sym some_bits) ∙ h) in
-    record {
-      holds = p.0;
-      contents = ap (λ b. if b then replicate n (content_in a base) else map (content_from a.kind a k base) (increments n (kind_step a.kind k) suffix)) (sym some_bits) ∙ are;
-      step = p.1;
-    }
-  where
-    by : (r : Role) → are_increments_valid r a k n base suffix ≡ true → (are_increments_valid_by a.kind a k n base suffix ≡ true) × (increment_bits_of r a.kind k ≡ kind_step a.kind k)
-    by role.Element h = (h, refl)
-    by role.Inserted h = (h, refl)
-    by role.Factor h = (h, refl)
-    by role.Reference h = absurd cc
-
-pub varied_at : (a : FieldSpec) (k n j : ℕ) (base suffix : List Bool) (cs : List Content) → 1 ≤ k → j < n → (k == 0 || are_increments_valid a.role a k n base suffix) ≡ true
-    → contents_of a k n base suffix ≡ cs
-    → content_at j cs ≡ content_from a.kind a k base (take (kind_step a.kind k) (drop (j * kind_step a.kind k) suffix))
-varied_at a k n j base suffix cs some below h are =
-    ap (content_at j) (sym (varied_parts a k n base suffix cs some h are).contents) ∙ at_map (content_from a.kind a k base) n (kind_step a.kind k) j suffix below
 
 -- the increment of each subset is within that many increments
 pub reaches : (n j s : ℕ) → j < n → (j + 1) * s ≤ n * s
 reaches n j s h = mul-le-mul_right s (omega (arith, h))
-
-pub increment_within : (bits : List Bool) (n : ℕ) (e : IndexedItem) (j : ℕ) → fits_at bits n e ≡ true → 1 ≤ e.step → j < n
-    → e.at + (e.spec.width + 6) + (j + 1) * kind_step e.spec.kind e.step ≤ length bits
-increment_within bits n e j h some below = grind (arith, common_steps, kept_parts, varied_parts, reaches)
 
 pub step_small : (bits : List Bool) (n : ℕ) (e : IndexedItem) → fits_at bits n e ≡ true → e.step ≤ 63
 step_small bits n e h = grind (arith, common_steps, kept_step, number_of-below, pow-le-pow_right, length-take)
@@ -205,51 +378,77 @@ step_small bits n e h = grind (arith, common_steps, kept_step, number_of-below, 
 -- the content of one subset, by the bits of its item
 pub base_content : (bits : List Bool) (n : ℕ) (e : IndexedItem) (j : ℕ) → fits_at bits n e ≡ true → e.step ≡ 0 → j < n
     → content_kept bits n e j ≡ content_in e.spec (take e.spec.width (drop e.at bits))
-base_content bits n e j h none below = let p = kept_parts bits n e h in base_at e.spec e.step n j _ _ _ none below p.are
+base_content bits n e j h none below =
+    let base = take e.spec.width (drop e.at bits) in
+    let suffix = drop (e.at + (e.spec.width + 6)) bits in
+    let is = some_same (replicate n (content_in e.spec base)) (contents_found (packed_field n e.spec (drop e.at bits)))
+    (sym (copied (coding_of e.spec) e.step n base suffix none) ∙ (kept_parts bits n e h).are) in
+    ap (content_at j) (sym is) ∙ all n j below
+  where
+    all : (n j : ℕ) → j < n → content_at j (replicate n (content_in e.spec (take e.spec.width (drop e.at bits)))) ≡ content_in e.spec (take e.spec.width (drop e.at bits))
+    all zero j h = absurd (omega arith)
+    all (suc n) zero h = refl
+    all (suc n) (suc j) h = all n j (omega arith)
 
-pub varied_content : (bits : List Bool) (n : ℕ) (e : IndexedItem) (j : ℕ) → fits_at bits n e ≡ true → 1 ≤ e.step → j < n
-    → content_kept bits n e j ≡ content_from e.spec.kind e.spec e.step (take e.spec.width (drop e.at bits))
-    (take (kind_step e.spec.kind e.step) (drop (j * kind_step e.spec.kind e.step) (drop (e.at + (e.spec.width + 6)) bits)))
-varied_content bits n e j h some below = let p = kept_parts bits n e h in varied_at e.spec e.step n j _ _ _ some below p.holds p.are
+module _ (bits : List Bool) (n : ℕ) (e : IndexedItem) (j : ℕ) (h : fits_at bits n e ≡ true) (some : 1 ≤ e.step) (below : j < n) where
+  -- by its coding
+  coded : (c : Coding) → coding_of e.spec ≡ c
+      → (increased c e.step (take e.spec.width (drop e.at bits)) (take (step_of c e.step) (drop (j * step_of c e.step) (drop (e.at + (e.spec.width + 6)) bits))) ≡ Some (content_kept bits n e j))
+      × (e.at + (e.spec.width + 6) + (j + 1) * step_of c e.step ≤ length bits)
+  coded c is =
+      let base = take e.spec.width (drop e.at bits) in
+      let suffix = drop (e.at + (e.spec.width + 6)) bits in
+      let p = kept_parts bits n e h in
+      let within : e.at + (e.spec.width + 6 + n * step_of c e.step) ≤ length bits = subst (λ c. e.at + (e.spec.width + 6 + n * step_of c e.step) ≤ length bits) is p.within in (
+        at_there (increased c e.step base) n (step_of c e.step) j suffix (contents_found (packed_field n e.spec (drop e.at bits))) below
+            (sym (varied c e.step n base suffix (not_zero e.step some)) ∙ ap (λ c. contents_across c e.step n base suffix) (sym is) ∙ p.are),
+        omega (arith, within, reaches n j (step_of c e.step) below),
+      )
 
--- the same of numbers and of texts
-number_kind : (kd : Kind) (a : FieldSpec) (k j : ℕ) (base suffix : List Bool) → is_character kd ≡ false
-    → content_from kd a k base (take (kind_step kd k) (drop (j * kind_step kd k) suffix)) ≡ number_from a k base (take k (drop (j * k) suffix))
-number_kind kind.Character a k j base suffix h = absurd cc
-number_kind kind.Coded a k j base suffix h = refl
-number_kind kind.Numeric a k j base suffix h = refl
+  -- a reference has no increments
+  no_reference : is_reference e.spec.role ≡ false
+  no_reference = by e.spec.role refl
+    where
+      by : (r : Role) → e.spec.role ≡ r → is_reference r ≡ false
+      by role.Element is = refl
+      by role.Inserted is = refl
+      by role.Factor is = refl
+      by role.Reference is = let t = coded (coding_by role.Reference e.spec.kind e.spec) (ap (λ r. coding_by r e.spec.kind e.spec) is) in absurd (none (content_kept bits n e j) t.0)
+        where
+          none : (c : Content) → ◌≡◌ {A = Option Content} None (Some c) → ⊥
+          none c e = cc
 
-text_kind : (kd : Kind) (a : FieldSpec) (k j : ℕ) (base suffix : List Bool) → is_character kd ≡ true
-    → content_from kd a k base (take (kind_step kd k) (drop (j * kind_step kd k) suffix)) ≡ padded_text (a.width / 8) k (take (8 * k) (drop (j * (8 * k)) suffix))
-text_kind kind.Character a k j base suffix h = refl
-text_kind kind.Coded a k j base suffix h = absurd cc
-text_kind kind.Numeric a k j base suffix h = absurd cc
+  -- a number
+  pub number_content : is_character e.spec.kind ≡ false
+      → increased (numbers e.spec.width e.spec.may_be_missing) e.step (take e.spec.width (drop e.at bits)) (take e.step (drop (j * e.step) (drop (e.at + (e.spec.width + 6)) bits)))
+      ≡ Some (content_kept bits n e j)
+  number_content c = (coded (numbers e.spec.width e.spec.may_be_missing) (number_coding e.spec c no_reference)).0
 
-number_step : (kd : Kind) (k : ℕ) → is_character kd ≡ false → kind_step kd k ≡ k
-number_step kind.Character k h = absurd cc
-number_step kind.Coded k h = refl
-number_step kind.Numeric k h = refl
+  pub number_within : is_character e.spec.kind ≡ false → e.at + (e.spec.width + 6) + (j + 1) * e.step ≤ length bits
+  number_within c = (coded (numbers e.spec.width e.spec.may_be_missing) (number_coding e.spec c no_reference)).1
 
-text_step : (kd : Kind) (k : ℕ) → is_character kd ≡ true → kind_step kd k ≡ 8 * k
-text_step kind.Character k h = refl
-text_step kind.Coded k h = absurd cc
-text_step kind.Numeric k h = absurd cc
+  -- a text
+  pub text_content : is_character e.spec.kind ≡ true
+      → padded_text (e.spec.width / 8) e.step (take (8 * e.step) (drop (j * (8 * e.step)) (drop (e.at + (e.spec.width + 6)) bits))) ≡ content_kept bits n e j
+  text_content c =
+      there (nat_lt (e.spec.width / 8) e.step) (padded_text (e.spec.width / 8) e.step (take (8 * e.step) (drop (j * (8 * e.step)) (drop (e.at + (e.spec.width + 6)) bits)))) (content_kept bits n e j)
+      (coded (texts (e.spec.width / 8)) (text_coding e.spec c no_reference)).0
+    where
+      there : (past : Bool) (a b : Content) → (if past then None else Some a) ≡ Some b → a ≡ b
+      there true a b e = absurd cc
+      there false a b e = some_same a b e
 
-pub number_content : (bits : List Bool) (n : ℕ) (e : IndexedItem) (j : ℕ) → fits_at bits n e ≡ true → 1 ≤ e.step → j < n → is_character e.spec.kind ≡ false
-    → number_from e.spec e.step (take e.spec.width (drop e.at bits)) (take e.step (drop (j * e.step) (drop (e.at + (e.spec.width + 6)) bits))) ≡ content_kept bits n e j
-number_content bits n e j h some below c = sym (varied_content bits n e j h some below ∙ number_kind e.spec.kind e.spec e.step j _ _ c)
+  pub text_short : is_character e.spec.kind ≡ true → e.step ≤ e.spec.width / 8
+  text_short c = ltb-false (e.spec.width / 8) e.step
+      (there (nat_lt (e.spec.width / 8) e.step) (padded_text (e.spec.width / 8) e.step (take (8 * e.step) (drop (j * (8 * e.step)) (drop (e.at + (e.spec.width + 6)) bits))))
+      (coded (texts (e.spec.width / 8)) (text_coding e.spec c no_reference)).0)
+    where
+      there : (past : Bool) (a : Content) → (if past then None else Some a) ≡ Some (content_kept bits n e j) → past ≡ false
+      there true a e = absurd cc
+      there false a e = refl
 
-pub number_within : (bits : List Bool) (n : ℕ) (e : IndexedItem) (j : ℕ) → fits_at bits n e ≡ true → 1 ≤ e.step → j < n → is_character e.spec.kind ≡ false
-    → e.at + (e.spec.width + 6) + (j + 1) * e.step ≤ length bits
-number_within bits n e j h some below c = subst (λ s. e.at + (e.spec.width + 6) + (j + 1) * s ≤ length bits) (number_step e.spec.kind e.step c) (increment_within bits n e j h some below)
-
-pub text_content : (bits : List Bool) (n : ℕ) (e : IndexedItem) (j : ℕ) → fits_at bits n e ≡ true → 1 ≤ e.step → j < n → is_character e.spec.kind ≡ true
-    → padded_text (e.spec.width / 8) e.step (take (8 * e.step) (drop (j * (8 * e.step)) (drop (e.at + (e.spec.width + 6)) bits))) ≡ content_kept bits n e j
-text_content bits n e j h some below c = sym (varied_content bits n e j h some below ∙ text_kind e.spec.kind e.spec e.step j _ _ c)
-
-pub text_within : (bits : List Bool) (n : ℕ) (e : IndexedItem) (j : ℕ) → fits_at bits n e ≡ true → 1 ≤ e.step → j < n → is_character e.spec.kind ≡ true
-    → e.at + (e.spec.width + 6) + (j + 1) * (8 * e.step) ≤ length bits
-text_within bits n e j h some below c = subst (λ s. e.at + (e.spec.width + 6) + (j + 1) * s ≤ length bits) (text_step e.spec.kind e.step c) (increment_within bits n e j h some below)
+  pub text_within : is_character e.spec.kind ≡ true → e.at + (e.spec.width + 6) + (j + 1) * (8 * e.step) ≤ length bits
+  text_within c = (coded (texts (e.spec.width / 8)) (text_coding e.spec c no_reference)).1
 
 -- whether the base of a kept item is all ones, by its number
 pub kept_ones : (octets : List ℕ) (n : ℕ) (e : IndexedItem) → fits_at (bits_of octets) n e ≡ true → is_character e.spec.kind ≡ false
@@ -260,32 +459,6 @@ kept_ones octets n e h k = grind (arith, common_steps, kept_parts, ones_by_numbe
 pub kept_number : (octets : List ℕ) (n : ℕ) (e : IndexedItem) → fits_at (bits_of octets) n e ≡ true → is_character e.spec.kind ≡ false
     → (e.base ≡ number_of (bits_at octets e.at e.spec.width)) × (e.base < 2 ^ e.spec.width)
 kept_number octets n e h k = grind (arith, common_steps, kept_base, kept_parts, number_of-below, length-bits_at, bits_length)
-
--- what holds of increments holds of one
-all_at : (p : List Bool → Bool) (n s j : ℕ) (bits : List Bool) → j < n → list_all p (increments n s bits) ≡ true → p (take s (drop (j * s) bits)) ≡ true
-all_at p zero s j bits h all = absurd (omega arith)
-all_at p (suc n) s zero bits h all = ap (λ m. p (take s (drop m bits))) (nothing s) ∙ and_first (p (take s bits)) (list_all p (increments n s (drop s bits))) all
-  where
-    nothing : (s : ℕ) → 0 * s ≡ 0
-    nothing s = omega arith
-all_at p (suc n) s (suc j) bits h all =
-    ap (λ x. p (take s x)) (ap (λ m. drop m bits) (next s j) ∙ sym (drop-drop (j * s) s bits))
-    ∙ all_at p n s j (drop s bits) (omega arith) (and_second (p (take s bits)) (list_all p (increments n s (drop s bits))) all)
-  where
-    next : (s j : ℕ) → suc j * s ≡ s + j * s
-    next s j = omega arith
-
-one_holds : (a : FieldSpec) (k n j : ℕ) (base suffix : List Bool) → j < n → (b : Bool) → (b || all_within a.may_be_missing a.width (number_of base) k n suffix) ≡ true
-    → (b || stays_within a.may_be_missing a.width (number_of base) k (number_of (take k (drop (j * k) suffix)))) ≡ true
-one_holds a k n j base suffix h true all = refl
-one_holds a k n j base suffix h false all = all_at (λ i. stays_within a.may_be_missing a.width (number_of base) k (number_of i)) n k j suffix h all
-
--- a number with an increment is valid, unless its base is missing
-pub number_holds : (kd : Kind) (a : FieldSpec) (k n j : ℕ) (base suffix : List Bool) → is_character kd ≡ false → j < n → are_increments_valid_by kd a k n base suffix ≡ true
-    → (is_missing a base || stays_within a.may_be_missing a.width (number_of base) k (number_of (take k (drop (j * k) suffix)))) ≡ true
-number_holds kind.Character a k n j base suffix c h all = absurd cc
-number_holds kind.Coded a k n j base suffix c h all = one_holds a k n j base suffix h (is_missing a base) all
-number_holds kind.Numeric a k n j base suffix c h all = one_holds a k n j base suffix h (is_missing a base) all
 
 -- the bits of an increment, at the place that is reached in 64 bits
 pub increment_at : (octets : List ℕ) (at w k size j width subset step raw : ℕ) → width ≡ w → subset ≡ j → step ≡ k → k ≡ size → raw ≡ number_of (bits_at octets (at + (width + 6) + subset * step) k)

@@ -1,14 +1,14 @@
 -- A walk over compressed data reads them as the definition does, and keeps its items.
 use Rattle.std.proofs.lemmas.Grind.{common_steps}
-use Rattle.std.proofs.Common.{option_map, ◌≡◌, ℕ, ◌+◌, ◌*◌, ◌<◌, ◌≤◌, Bool, true, false, List, length, take, drop, Ok, Err, sym, ◌∙◌, ap, arith, suc, ◌&&◌, eqb, ◌++◌, ◌∷◌, [], get_or, refl, zero, ◌^◌, Result, subst, ◌⊎◌, inl, inr, ◌-◌, Some, append_assoc, ◌%◌, nat_lt, ◌||◌, ◌==◌, if◌then◌else◌}
+use Rattle.std.proofs.Common.{option_map, ◌≡◌, ℕ, ◌+◌, ◌*◌, ◌<◌, ◌≤◌, Bool, true, false, List, length, take, drop, Ok, Err, sym, ◌∙◌, ap, arith, suc, ◌&&◌, eqb, ◌++◌, ◌∷◌, [], get_or, refl, zero, ◌^◌, Result, subst, ◌⊎◌, inl, inr, ◌-◌, Option, Some, None, append_assoc, ◌%◌, nat_lt, ◌||◌, ◌==◌, if◌then◌else◌}
 use Rattle.std.proofs.lemmas.Bool.{le-ltb, lt-ltb}
 use Rattle.std.proofs.lemmas.List.{length-drop, drop-drop, get_or_default, get_or_append_left, map-append, append-nil}
 use Rattle.std.proofs.lemmas.Bool.Decides.{Decides-eqb, Decides-int_eq}
-use Rattle.bufr_bits.specs.Prelude.{number_of}
+use Rattle.bufr_bits.specs.Prelude.{number_of, ◌>>=◌}
 use Rattle.bufr_tables.specs.Prelude.{is_character, Row, Tree}
 use Rattle.bufr_walk.specs.declared.compressed.ItemBits.{ItemBits}
 use Rattle.bufr_walk.specs.declared.fault.DataFault.{DataFault}
-use Rattle.bufr_walk.specs.Prelude.{FieldSpec, data_end, FieldFault, increment, unequal_factor, Content, FieldRead, increment_bits_of, contents_of, are_increments_valid, answer_first, equal_in, packed_field, IsSeen, IsUnseen, HasSpecAt, IsPut, no_field, item_at_location, indexed_items, IsStoredReading, PackedCursor, item_at, items_at, contents_found, fits_at, packed_view, IsPackedTaken, wrong_of, PackedTakes, remaining_bits, refuses_packed, new_packed_in, fault_at, IndexedItem, max_values, items_at_once, Item, packed, ReadsItems, ReadsPass, next_after, turns_after, after, Data, together, IsPackedReading, spot, fault_at, bits_before, IsReading, KeepsValues, Stop, would_be_many, data_in, data_of, read_by, WalkStop, Course, Next, take_next, refused, next_item, TakenField, Takes, ticked, oks, answers_of, Walked, TurnRefusal, stop_by}
+use Rattle.bufr_walk.specs.Prelude.{FieldSpec, data_end, FieldFault, increment, unequal_factor, Content, FieldRead, found, step_of, coding_of, contents_across, if_equal, answer_first, packed_field, IsSeen, IsUnseen, HasSpecAt, IsPut, no_field, item_at_location, indexed_items, IsStoredReading, PackedCursor, item_at, items_at, contents_found, fits_at, packed_view, IsPackedTaken, wrong_of, PackedTakes, remaining_bits, refuses_packed, new_packed_in, fault_at, IndexedItem, max_values, items_at_once, Item, packed, ReadsItems, ReadsPass, next_after, turns_after, after, Data, together, IsPackedReading, spot, fault_at, bits_before, IsReading, KeepsValues, Stop, would_be_many, data_in, data_of, read_by, WalkStop, Course, Next, take_next, refused, next_item, TakenField, Takes, ticked, oks, answers_of, Walked, TurnRefusal, stop_by}
 use Rattle.std.specs.Ordering.{int_eq}
 use Rattle.std.proofs.Math.Bool.{beq}
 use Rattle.std.specs.List.{All, list_all}
@@ -16,7 +16,7 @@ use Rattle.bufr_walk.specs.declared.item_index.ItemLocation.{ItemLocation}
 use Rattle.std.proofs.Math.Nat.{mul-le-mul_left}
 use Rattle.bufr_frame.specs.Prelude.{Sections}
 use Rattle.bufr_walk.proofs.PlainLemmas.{used_most}
-use Rattle.bufr_walk.proofs.PackedLemmas.{item_tested}
+use Rattle.bufr_walk.proofs.PackedLemmas.{item_by}
 use Rattle.bufr_walk.specs.declared.fault.DataFault.TheVariants as wrong
 use Rattle.bufr_walk.specs.declared.spec.Role.TheVariants as role
 use Rattle.bufr_walk.specs.declared.walker.WalkStop.TheVariants as stops
@@ -41,15 +41,18 @@ module _ (bits : List Bool) (at n : ℕ) (a : FieldSpec) where
   k_here : (k : ℕ) → k ≡ number_of (take 6 (drop (at + a.width) bits)) → number_of (take 6 (drop a.width (drop at bits))) ≡ k
   k_here k is = ap (λ bs. number_of (take 6 bs)) (drop-drop a.width at bits) ∙ sym is
 
-  -- an item by its tests, with a k that is known
-  abbrev tested : (k : ℕ) (suffix : List Bool) → Result (FieldRead (List Content)) FieldFault
-  tested k suffix =
-      item_tested (nat_lt (length (drop at bits)) (a.width + 6) || nat_lt (length suffix) (n * increment_bits_of a.role a.kind k))
-      (k == 0 || are_increments_valid a.role a k n (take a.width (drop at bits)) suffix) (k == 0 || equal_in a.role k n suffix) (contents_of a k n (take a.width (drop at bits)) suffix)
-      (drop (n * increment_bits_of a.role a.kind k) suffix)
+  -- the contents with this k
+  abbrev across : (k : ℕ) → Option (List Content)
+  across k = contents_across (coding_of a) k n (take a.width (drop at bits)) (drop (at + (a.width + 6)) bits)
 
-  field_is : (k : ℕ) → k ≡ number_of (take 6 (drop (at + a.width) bits)) → packed_field n a (drop at bits) ≡ tested k (drop (at + (a.width + 6)) bits)
-  field_is k is = ap (λ x. tested x (drop (a.width + 6) (drop at bits))) (k_here k is) ∙ ap (tested k) (drop-drop (a.width + 6) at bits)
+  -- an item by its parts, with a k that is known
+  abbrev by_parts : (k : ℕ) (suffix : List Bool) → Result (FieldRead (List Content)) FieldFault
+  by_parts k suffix =
+      item_by a.role (nat_lt (length (drop at bits)) (a.width + 6) || nat_lt (length suffix) (n * step_of (coding_of a) k)) (contents_across (coding_of a) k n (take a.width (drop at bits)) suffix)
+      (drop (n * step_of (coding_of a) k) suffix)
+
+  field_is : (k : ℕ) → k ≡ number_of (take 6 (drop (at + a.width) bits)) → packed_field n a (drop at bits) ≡ by_parts k (drop (at + (a.width + 6)) bits)
+  field_is k is = ap (λ x. by_parts x (drop (a.width + 6) (drop at bits))) (k_here k is) ∙ ap (by_parts k) (drop-drop (a.width + 6) at bits)
 
   -- an item that the data end in
   pub ends_first : (f : ℕ) → f ≡ a.fxy → at ≤ length bits → length bits < at + (a.width + 6) → IsUnseen bits at n a (wrong.DataEnd f)
@@ -60,10 +63,10 @@ module _ (bits : List Bool) (at n : ℕ) (a : FieldSpec) where
   }
 
   pub ends_after : (k size f : ℕ) → f ≡ a.fxy → at + (a.width + 6) ≤ length bits → length bits < at + size → k ≡ number_of (take 6 (drop (at + a.width) bits))
-      → size ≡ a.width + 6 + n * increment_bits_of a.role a.kind k → IsUnseen bits at n a (wrong.DataEnd f)
+      → size ≡ a.width + 6 + n * step_of (coding_of a) k → IsUnseen bits at n a (wrong.DataEnd f)
   ends_after k size f g within short is size_is =
       let suffix = drop (at + (a.width + 6)) bits in
-      let s = increment_bits_of a.role a.kind k in
+      let s = step_of (coding_of a) k in
       record {
         why = data_end;
         field = field_is k is ∙ rw (
@@ -74,26 +77,24 @@ module _ (bits : List Bool) (at n : ℕ) (a : FieldSpec) where
       }
 
   -- an item that is there whole
-  whole : (k size : ℕ) → at + size ≤ length bits → k ≡ number_of (take 6 (drop (at + a.width) bits)) → size ≡ a.width + 6 + n * increment_bits_of a.role a.kind k
-      → packed_field n a (drop at bits) ≡ item_tested false (k == 0 || are_increments_valid a.role a k n (take a.width (drop at bits)) (drop (at + (a.width + 6)) bits))
-      (k == 0 || equal_in a.role k n (drop (at + (a.width + 6)) bits)) (contents_of a k n (take a.width (drop at bits)) (drop (at + (a.width + 6)) bits)) (drop (at + size) bits)
+  whole : (k size : ℕ) → at + size ≤ length bits → k ≡ number_of (take 6 (drop (at + a.width) bits)) → size ≡ a.width + 6 + n * step_of (coding_of a) k
+      → packed_field n a (drop at bits) ≡ item_by a.role false (across k) (drop (at + size) bits)
   whole k size within is size_is =
       let suffix = drop (at + (a.width + 6)) bits in
-      let s = increment_bits_of a.role a.kind k in
+      let s = step_of (coding_of a) k in
       let there = le-ltb (length (drop at bits)) (a.width + 6) (omega (arith, length-drop at bits)) in
       let enough = le-ltb (length suffix) (n * s) (omega (arith, length-drop (at + (a.width + 6)) bits)) in
       let ends : at + (a.width + 6) + n * s ≡ at + size = omega arith in
       field_is k is ∙ rw (there, enough, drop-drop (n * s) (at + (a.width + 6)) bits ∙ ap (λ j. drop j bits) ends) refl
 
-  pub seen_here : (seen : ItemBits) (size : ℕ) → 1 ≤ a.width → seen.end ≡ at + size → at + size ≤ length bits → seen.step ≡ number_of (take 6 (drop (at + a.width) bits))
-      → size ≡ a.width + 6 + n * increment_bits_of a.role a.kind seen.step
-      → (seen.step == 0 || are_increments_valid a.role a seen.step n (take a.width (drop at bits)) (drop (at + (a.width + 6)) bits)) ≡ true
-      → (seen.step == 0 || equal_in a.role seen.step n (drop (at + (a.width + 6)) bits)) ≡ true
-      → seen.answer ≡ answer_first a (contents_of a seen.step n (take a.width (drop at bits)) (drop (at + (a.width + 6)) bits))
+  pub seen_here : (seen : ItemBits) (size : ℕ) (cs : List Content) → 1 ≤ a.width → seen.end ≡ at + size → at + size ≤ length bits
+      → seen.step ≡ number_of (take 6 (drop (at + a.width) bits)) → size ≡ a.width + 6 + n * step_of (coding_of a) seen.step
+      → across seen.step ≡ Some cs → if_equal a.role cs ≡ Ok cs → seen.answer ≡ answer_first a cs
       → (is_character a.kind ≡ false → seen.base ≡ number_of (take a.width (drop at bits))) → IsSeen bits at n a seen
-  seen_here seen size some end_is within is size_is holds equal gives based = record {
-    contents = contents_of a seen.step n (take a.width (drop at bits)) (drop (at + (a.width + 6)) bits);
-    field = whole seen.step size within is size_is ∙ rw (holds, equal, end_is) refl;
+  seen_here seen size cs some end_is within is size_is are equal gives based = record {
+    contents = cs;
+    field = whole seen.step size within is size_is ∙ ap (λ o. item_by a.role false o (drop (at + size) bits)) are ∙ ap (λ r. r >>= λ y. Ok (found y (drop (at + size) bits))) equal
+        ∙ ap (λ p. Ok (found cs (drop p bits))) (sym end_is);
     gives = gives;
     step = is;
     base = based;
@@ -101,14 +102,18 @@ module _ (bits : List Bool) (at n : ℕ) (a : FieldSpec) where
     least = omega arith;
   }
 
-  pub invalid_here : (k size f : ℕ) → f ≡ a.fxy → at + size ≤ length bits → k ≡ number_of (take 6 (drop (at + a.width) bits)) → size ≡ a.width + 6 + n * increment_bits_of a.role a.kind k
-      → (k == 0 || are_increments_valid a.role a k n (take a.width (drop at bits)) (drop (at + (a.width + 6)) bits)) ≡ false → IsUnseen bits at n a (wrong.Increment f)
-  invalid_here k size f g within is size_is h = record { why = increment; field = whole k size within is size_is ∙ rw h refl; fault = ap wrong.Increment g }
+  pub invalid_here : (k size f : ℕ) → f ≡ a.fxy → at + size ≤ length bits → k ≡ number_of (take 6 (drop (at + a.width) bits)) → size ≡ a.width + 6 + n * step_of (coding_of a) k
+      → across k ≡ None → IsUnseen bits at n a (wrong.Increment f)
+  invalid_here k size f g within is size_is none =
+      record { why = increment; field = whole k size within is size_is ∙ ap (λ o. item_by a.role false o (drop (at + size) bits)) none; fault = ap wrong.Increment g }
 
-  pub unequal_here : (k size f : ℕ) → f ≡ a.fxy → at + size ≤ length bits → k ≡ number_of (take 6 (drop (at + a.width) bits)) → size ≡ a.width + 6 + n * increment_bits_of a.role a.kind k
-      → (k == 0 || are_increments_valid a.role a k n (take a.width (drop at bits)) (drop (at + (a.width + 6)) bits)) ≡ true → (k == 0 || equal_in a.role k n (drop (at + (a.width + 6)) bits)) ≡ false
-      → IsUnseen bits at n a (wrong.UnequalFactor f)
-  unequal_here k size f g within is size_is h e = record { why = unequal_factor; field = whole k size within is size_is ∙ rw (h, e) refl; fault = ap wrong.UnequalFactor g }
+  pub unequal_here : (k size f : ℕ) (cs : List Content) → f ≡ a.fxy → at + size ≤ length bits → k ≡ number_of (take 6 (drop (at + a.width) bits)) → size ≡ a.width + 6 + n * step_of (coding_of a) k
+      → across k ≡ Some cs → if_equal a.role cs ≡ Err unequal_factor → IsUnseen bits at n a (wrong.UnequalFactor f)
+  unequal_here k size f cs g within is size_is are differ = record {
+    why = unequal_factor;
+    field = whole k size within is size_is ∙ ap (λ o. item_by a.role false o (drop (at + size) bits)) are ∙ ap (λ r. r >>= λ y. Ok (found y (drop (at + size) bits))) differ;
+    fault = ap wrong.UnequalFactor g;
+  }
 
 -- the bits of an item, part by part
 pub size_same : (x w y n z s : ℕ) → x ≡ w → y ≡ n → z ≡ s → x + 6 + y * z ≡ w + 6 + n * s

@@ -4,8 +4,8 @@ use Rattle.std.proofs.Common.{◌≡◌, ℕ, ◌+◌, ◌-◌, ◌*◌, ◌<◌
 use Rattle.std.proofs.lemmas.List.{drop-drop, drop_all, get_or-take, take_all, append-nil, take_more_set, replicate-append-replicate}
 use Rattle.bufr_bits.specs.Prelude.{bits_of, are_all_ones}
 use Rattle.bufr_tables.specs.Prelude.{entry_of, is_character, Row}
-use Rattle.bufr_walk.specs.Prelude.{IndexedItem, PackedValues, packed_values, range_calls, packed_calls, IsPackedOf, IsReading, course_of, content_at, item_at, item_call, view_of, octets_in, text, missing, shown_text, shown_missing, shown, Content, padded_text, FieldSpec, content_kept, call_kept, IsStoredReading, KeepsValues, held_of, fits_at, items_at, ShowFault, Sofar, Call, Timed, timed, Shows, subset_call, calls_for, turns_for, Item, Values, apart, together, items_kept, Read, item_calls, turns_after, turns_in, subset_calls, subsets_from, items_of_subset, without_turns, plain}
-use Rattle.bufr_walk.proofs.PackedLemmas.{base_content, kept_parts, text_content, text_within}
+use Rattle.bufr_walk.specs.Prelude.{IndexedItem, PackedValues, packed_values, range_calls, packed_calls, IsPackedOf, IsReading, course_of, content_at, item_at, item_call, view_of, octets_in, text, missing, shown_text, shown_missing, shown, Content, FieldSpec, content_kept, call_kept, IsStoredReading, KeepsValues, held_of, fits_at, items_at, ShowFault, Sofar, Call, Timed, timed, Shows, subset_call, calls_for, turns_for, Item, Values, apart, together, items_kept, Read, item_calls, turns_after, turns_in, subset_calls, subsets_from, items_of_subset, without_turns, plain}
+use Rattle.bufr_walk.proofs.PackedLemmas.{base_content, kept_parts, padded_text, text_content, text_within}
 use Rattle.bufr_walk.proofs.PlainLemmas.{bits_length, octets_prefix}
 use Rattle.std.specs.List.{list_all}
 use Rattle.std.proofs.lemmas.Bool.{eqb-true}

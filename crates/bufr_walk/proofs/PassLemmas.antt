@@ -1,10 +1,10 @@
 -- A pass over data reads each item where the one before ended.
 use Rattle.std.proofs.lemmas.Bool.{ltb-false, le-ltb}
 use Rattle.bufr_bits.specs.Prelude.{number_of}
-use Rattle.bufr_walk.proofs.PackedLemmas.{item_ok, neither}
+use Rattle.bufr_walk.proofs.PackedLemmas.{item_parts, neither}
 use Rattle.std.proofs.Common.{◌≡◌, ℕ, zero, suc, ◌+◌, ◌-◌, ◌<◌, ◌≤◌, Bool, true, false, List, [], ◌∷◌, ◌++◌, length, Option, Some, None, Result, Ok, Err, ◌==◌, ◌||◌, ◌*◌, nat_lt, take, refl, sym, ◌∙◌, ap, subst, arith, drop, length-drop, if◌then◌else◌}
 use Rattle.bufr_tables.specs.Prelude.{Row, Tree, IsLegal, Record, AreRows}
-use Rattle.bufr_walk.specs.Prelude.{packed_field, increment_bits_of, are_increments_valid, equal_in, contents_of, FieldSpec, Content, FieldFault, FieldRead, found, Course, Next, take_next, at_end, astray, refused, next_item, Item, DataCoding, plain, packed, item_answer, after, ReadsItems, ReadsPass, next_after, turns_after, ReadsSubsets, IsPackedReading, Data, Values, apart, together, IsReading, Stop, would_be_many, max_values, wrong_of, stop_by}
+use Rattle.bufr_walk.specs.Prelude.{packed_field, step_of, coding_of, contents_across, FieldSpec, Content, FieldFault, FieldRead, found, Course, Next, take_next, at_end, astray, refused, next_item, Item, DataCoding, plain, packed, item_answer, after, ReadsItems, ReadsPass, next_after, turns_after, ReadsSubsets, IsPackedReading, Data, Values, apart, together, IsReading, Stop, would_be_many, max_values, wrong_of, stop_by}
 use Rattle.bufr_walk.specs.declared.walker.WalkStop.TheVariants as stops
 use Rattle.bufr_walk.specs.declared.fault.DataFault.TheVariants as wrong
 use Rattle.bufr_walk.specs.Pass.{Step, Pass, last_turn, item_then, pass_field, pass_next, pass, Place, place_at, read_field, reading, read_pass, DataPass, passes_apart, passes_together, stop_of, left_after, turns_in_all, DataReading, reading_in, reading_of, items_by_pass, first_items, EndsPass, ReadsTo}
@@ -192,12 +192,11 @@ packed_less n spec bits cs mid e =
     let k = number_of (take 6 (drop spec.width bits)) in
     let base = take spec.width bits in
     let suffix = drop (spec.width + 6) bits in
-    let used = n * increment_bits_of spec.role spec.kind k in
-    let t = item_ok (nat_lt (length bits) (spec.width + 6) || nat_lt (length suffix) used) (k == 0 || are_increments_valid spec.role spec k n base suffix) (k == 0 || equal_in spec.role k n suffix)
-    (contents_of spec k n base suffix) (drop used suffix) cs mid e in
+    let used = n * step_of (coding_of spec) k in
+    let t = item_parts spec.role (nat_lt (length bits) (spec.width + 6) || nat_lt (length suffix) used) (contents_across (coding_of spec) k n base suffix) (drop used suffix) cs mid e in
     let ends = neither (nat_lt (length bits) (spec.width + 6)) (nat_lt (length suffix) used) t.0 in
     less spec.width used (length bits) (length suffix) (length mid) (ltb-false (length bits) (spec.width + 6) ends.0) (length-drop (spec.width + 6) bits)
-    (ap length (sym t.4) ∙ length-drop used suffix)
+    (ap length (sym t.3) ∙ length-drop used suffix)
   where
     less : (w used bits suffix mid : ℕ) → w + 6 ≤ bits → suffix ≡ bits - (w + 6) → mid ≡ suffix - used → suc mid ≤ bits
     less w used bits suffix mid h g f = omega (arith, h, g, f)

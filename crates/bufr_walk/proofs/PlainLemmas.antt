@@ -6,7 +6,10 @@ use Rattle.std.proofs.lemmas.List.{length-drop, drop-drop, drop-take, take-take,
 use Rattle.std.proofs.Math.Nat.{pow-le-pow_right}
 use Rattle.bufr_bits.specs.Prelude.{bits_of, bits_at, number_of, are_all_ones}
 use Rattle.bufr_bits.proofs.BitLemmas.{length-bits_of, length-bits_at, are_all_ones-number, drop-bits_of, take-bits_of, number_of_middle, number-bits_of_octet}
-use Rattle.bufr_walk.specs.Prelude.{turns_in, items_in, Stop, plain, WalkFault, Kind, Taken, Role, is_reference, FieldSpec, IsSpec, HasRole, HasWidth, answer_of, answer_by_role, content_in, content_by, signed_by, plain_field, found, data_end, octets_in, Content, Cursor, rest_of, past, IsTaken, fault_at, PlainTakes, WalkStop, Course, Next, take_next, at_end, refused, next_item, TakenField, Takes, ticked, oks, answers_of, Walked, data_in, data_of, read_by, Read, course_of, Item, ReadsItems, next_after, turns_after, after, apart, together, Values, IsReading, KeepsValues, ReadsSubsets, max_values, IsStoredReading, IsReadAndPaid, TurnRefusal, stop_by}
+use Rattle.bufr_tables.specs.Prelude.{is_character}
+use Rattle.std.proofs.Common.{◌&&◌}
+use Rattle.bufr_walk.specs.Prelude.{number}
+use Rattle.bufr_walk.specs.Prelude.{turns_in, items_in, Stop, plain, WalkFault, Kind, Taken, Role, is_reference, FieldSpec, IsSpec, HasRole, HasWidth, answer_of, answer_by_role, content_in, signed_by, plain_field, found, data_end, octets_in, Content, Cursor, rest_of, past, IsTaken, fault_at, PlainTakes, WalkStop, Course, Next, take_next, at_end, refused, next_item, TakenField, Takes, ticked, oks, answers_of, Walked, data_in, data_of, read_by, Read, course_of, Item, ReadsItems, next_after, turns_after, after, apart, together, Values, IsReading, KeepsValues, ReadsSubsets, max_values, IsStoredReading, IsReadAndPaid, TurnRefusal, stop_by, said, coding_by, coding_of, numbers, texts, missing, text, reference, count_in, reference_in}
 use Rattle.bufr_walk.specs.Pass.{DataPass, passes_apart, stop_of, left_after, turns_in_all, items_by_pass, values_read, ReadsData, AnswersReading, EndsPass, read_field, reading, place_at}
 use Rattle.bufr_walk.specs.declared.fault.DataFault.{DataFault}
 use Rattle.bufr_walk.specs.declared.fault.DataFault.TheVariants as wrong
@@ -74,18 +77,58 @@ is_reference_role role.Inserted e = absurd cc
 is_reference_role role.Factor e = absurd cc
 is_reference_role role.Reference e = refl
 
+-- the coding of a number, and of a text
+pub number_coding : (a : FieldSpec) → is_character a.kind ≡ false → is_reference a.role ≡ false → coding_of a ≡ numbers a.width a.may_be_missing
+number_coding a e h = by a.role a.kind e h
+  where
+    by : (r : Role) (k : Kind) → is_character k ≡ false → is_reference r ≡ false → coding_by r k a ≡ numbers a.width a.may_be_missing
+    by role.Reference k e h = absurd cc
+    by r kind.Character e h = absurd cc
+    by _ kind.Coded e h = refl
+    by _ kind.Numeric e h = refl
+
+pub text_coding : (a : FieldSpec) → is_character a.kind ≡ true → is_reference a.role ≡ false → coding_of a ≡ texts (a.width / 8)
+text_coding a e h = by a.role a.kind e h
+  where
+    by : (r : Role) (k : Kind) → is_character k ≡ true → is_reference r ≡ false → coding_by r k a ≡ texts (a.width / 8)
+    by role.Reference k e h = absurd cc
+    by _ kind.Character e h = refl
+    by r kind.Coded e h = absurd cc
+    by r kind.Numeric e h = absurd cc
+
+-- a number, a text and a reference
+pub number_said : (a : FieldSpec) (bits : List Bool) → is_character a.kind ≡ false → is_reference a.role ≡ false
+    → content_in a bits ≡ (if are_all_ones bits && a.may_be_missing then missing else number (number_of bits))
+number_said a bits e h = ap (λ c. said c bits) (number_coding a e h)
+
+pub text_said : (a : FieldSpec) (bits : List Bool) → is_character a.kind ≡ true → is_reference a.role ≡ false
+    → content_in a bits ≡ (if are_all_ones bits then missing else text (octets_in (a.width / 8) bits))
+text_said a bits e h = ap (λ c. said c bits) (text_coding a e h)
+
+pub reference_said : (a : FieldSpec) (bits : List Bool) → a.role ≡ role.Reference → content_in a bits ≡ reference (signed_by bits)
+reference_said a bits e = ap (λ r. said (coding_by r a.kind a) bits) e
+
 pub answer_element : (a : FieldSpec) (bits : List Bool) → a.role ≡ role.Element → taken.Plain ≡ answer_of a (content_in a bits)
-answer_element a bits e = ap (λ r. answer_by_role r (content_by r a bits)) (sym e)
+answer_element a bits e = ap (λ r. answer_by_role r (content_in a bits)) (sym e)
 
 pub answer_inserted : (a : FieldSpec) (bits : List Bool) → a.role ≡ role.Inserted → taken.Plain ≡ answer_of a (content_in a bits)
-answer_inserted a bits e = ap (λ r. answer_by_role r (content_by r a bits)) (sym e)
+answer_inserted a bits e = ap (λ r. answer_by_role r (content_in a bits)) (sym e)
+
+never : (b : Bool) → (b && false) ≡ false
+never true = refl
+never false = refl
 
 -- a factor is a number
 pub answer_factor : (a : FieldSpec) (bits : List Bool) (n : ℕ) → IsSpec a → a.role ≡ role.Factor → n ≡ number_of bits → taken.Count n ≡ answer_of a (content_in a bits)
-answer_factor a bits n h e is = grind (arith, common_steps)
+answer_factor a bits n h e is =
+    let has : HasRole role.Factor a.kind a.may_be_missing = subst (λ r. HasRole r a.kind a.may_be_missing) e h.role in
+    let c : content_in a bits ≡ number (number_of bits) = number_said a bits (ap is_character has.0) (ap is_reference e)
+    ∙ ap (λ m. if are_all_ones bits && m then missing else number (number_of bits)) has.1 ∙ ap (λ b. if b then missing else number (number_of bits)) (never (are_all_ones bits)) in
+    ap taken.Count is ∙ ap (λ x. taken.Count (count_in x)) (sym c) ∙ ap (λ r. answer_by_role r (content_in a bits)) (sym e)
 
 pub answer_reference : (a : FieldSpec) (bits : List Bool) (z : ℤ) → a.role ≡ role.Reference → z ≡ signed_by bits → taken.Reference z ≡ answer_of a (content_in a bits)
-answer_reference a bits z e is = ap taken.Reference is ∙ sym (ap (λ x. answer_by_role x (content_by x a bits)) e)
+answer_reference a bits z e is =
+    ap taken.Reference is ∙ ap (λ x. taken.Reference (reference_in x)) (sym (reference_said a bits e)) ∙ ap (λ r. answer_by_role r (content_in a bits)) (sym e)
 
 -- a sign and a size
 pub signed_parts : (octets : List ℕ) (at width k sign size : ℕ) → width ≡ suc k → at + width ≤ 8 * length octets → sign ≡ number_of (bits_at octets at 1)

@@ -3,12 +3,12 @@ use Rattle.std.proofs.lemmas.Grind.{common_steps}
 use Rattle.std.proofs.Common.{suc, None, Option, option_map, append_assoc, ◌≡◌, ℕ, ◌+◌, ◌-◌, ◌*◌, ◌^◌, ◌<◌, ◌≤◌, false, Bool, List, [], ◌∷◌, ◌++◌, length, drop, Some, refl, sym, ◌∙◌, ap, subst, arith, length-append, length-drop, ◌/◌, ◌&&◌, true, ◌⊎◌, inl, inr, take, Result, Ok, Err, ℤ, pos, ◌+ℤ◌, nat_lt, if◌then◌else◌, nat_le, not, unsigned_abs}
 use Rattle.std.proofs.lemmas.Bool.{ltb-true}
 use Rattle.bufr_bits.specs.Prelude.{bits_of, number_of, are_all_ones}
-use Rattle.bufr_walk.specs.Prelude.{Kind, WalkFault, Content, data_end, answer_of, number, text, missing, content_in, content_by, said_by, octets_in, signed_by, shown_number, shown_text, shown_missing, shown_reference, shown, FieldFault, FieldRead, found, plain_field, FieldSpec, IsSpec, HasRole, is_reference, IsFor, IsForRole, is_plain_number, is_plain, IsPlainNumber, Course, Next, take_next, at_end, refused, ticked, TakenField, Takes, oks, answers_of, Walked, fault_at, bits_before, data_in, Stop, Item, plain, ReadsPass, ReadsSubsets, turns_after, turns_in, after, items_in, IsReading, apart, together, Values, Read, course_of, IsReadAndPaid, PaysBits, IsStoredReading, KeepsValues, calls_for, turns_for, Cursor, rest_of, past, IsTaken, Stage, stage, IsShown, IsUnshown, ShowingTakes, Sofar, ItemsShown, ItemsEnded, ItemsGo, ShowFault, TurnRefusal, Role, Taken, WalkStop, Call, item_call, view_of, Timed, timed, item_calls, Shows, EndsAt, IsReferenceValue, subset_call, subset_calls, stop_by}
+use Rattle.bufr_walk.specs.Prelude.{Kind, WalkFault, Content, data_end, answer_of, number, text, missing, content_in, octets_in, signed_by, shown_number, shown_text, shown_missing, shown_reference, shown, FieldFault, FieldRead, found, plain_field, FieldSpec, IsSpec, HasRole, is_reference, IsFor, IsForRole, is_plain_number, is_plain, IsPlainNumber, Course, Next, take_next, at_end, refused, ticked, TakenField, Takes, oks, answers_of, Walked, fault_at, bits_before, data_in, Stop, Item, plain, ReadsPass, ReadsSubsets, turns_after, turns_in, after, items_in, IsReading, apart, together, Values, Read, course_of, IsReadAndPaid, PaysBits, IsStoredReading, KeepsValues, calls_for, turns_for, Cursor, rest_of, past, IsTaken, Stage, stage, IsShown, IsUnshown, ShowingTakes, Sofar, ItemsShown, ItemsEnded, ItemsGo, ShowFault, TurnRefusal, Role, Taken, WalkStop, Call, item_call, view_of, Timed, timed, item_calls, Shows, EndsAt, IsReferenceValue, subset_call, subset_calls, stop_by}
 use Rattle.bufr_tables.specs.Prelude.{Row, is_character}
 use Rattle.bufr_walk.specs.declared.plain.ShowStop.{ShowStop}
 use Rattle.std.proofs.lemmas.Bool.Decides.{nat_tests}
 use Rattle.bufr_bits.proofs.DecimalLemmas.{and_first, and_second}
-use Rattle.bufr_walk.proofs.PlainLemmas.{PassStops, answer_element, is_reference_role, PassComes, SubsetsRead}
+use Rattle.bufr_walk.proofs.PlainLemmas.{PassStops, answer_element, is_reference_role, PassComes, SubsetsRead, number_said, text_said, reference_said}
 use Rattle.bufr_walk.specs.declared.spec.TurnRefusal.TheVariants as refusal
 use Rattle.bufr_tables.specs.declared.table_b.Kind.TheVariants as kind
 use Rattle.bufr_walk.specs.declared.fault.ShowFault.TheVariants as show_fault
@@ -278,32 +278,21 @@ pub content_is : (spec : FieldSpec) (bits suffix : List Bool) (c : Content) → 
 content_is spec bits suffix c h = grind (arith, common_steps, nat_lt, same_found)
 
 -- a number, and a reference, by their kind and role
-pub value_by : (r : Role) (spec : FieldSpec) (bits : List Bool) → is_reference r ≡ false
-    → content_by r spec bits ≡ (if are_all_ones bits && spec.may_be_missing then missing else said_by spec.kind spec.width bits)
-value_by role.Element spec bits e = refl
-value_by role.Inserted spec bits e = refl
-value_by role.Factor spec bits e = refl
-value_by role.Reference spec bits e = absurd cc
-
 pub reference_shown : (spec : FieldSpec) (bits : List Bool) (z : ℤ) → is_reference spec.role ≡ true → z ≡ signed_by bits → shown_reference z ≡ shown spec (content_in spec bits)
-reference_shown spec bits z e is = ap shown_reference is ∙ ap (λ r. shown spec (content_by r spec bits)) (sym (is_reference_role spec.role e))
+reference_shown spec bits z e is = ap shown_reference is ∙ ap (shown spec) (sym (reference_said spec bits (is_reference_role spec.role e)))
 
 pub missing_shown : (spec : FieldSpec) (bits : List Bool) → is_reference spec.role ≡ false → (are_all_ones bits && spec.may_be_missing) ≡ true → shown_missing ≡ shown spec (content_in spec bits)
-missing_shown spec bits e m = sym (ap (shown spec) (value_by spec.role spec bits e ∙ ap (λ b. if b then missing else said_by spec.kind spec.width bits) m))
-
-pub said_number : (k : Kind) (width : ℕ) (bits : List Bool) → is_character k ≡ false → said_by k width bits ≡ number (number_of bits)
-said_number kind.Character width bits e = absurd cc
-said_number kind.Coded width bits e = refl
-said_number kind.Numeric width bits e = refl
+missing_shown spec bits e m = ap (shown spec) (sym (by (is_character spec.kind) refl))
+  where
+    by : (b : Bool) → is_character spec.kind ≡ b → content_in spec bits ≡ missing
+    by true k = text_said spec bits k e ∙ ap (λ b. if b then missing else text (octets_in (spec.width / 8) bits)) (and_first (are_all_ones bits) spec.may_be_missing m)
+    by false k = number_said spec bits k e ∙ ap (λ b. if b then missing else number (number_of bits)) m
 
 pub number_shown : (spec : FieldSpec) (bits : List Bool) (raw : ℕ) → is_character spec.kind ≡ false → is_reference spec.role ≡ false → (are_all_ones bits && spec.may_be_missing) ≡ false
     → raw ≡ number_of bits → shown_number (pos raw +ℤ spec.reference) spec.scale ≡ shown spec (content_in spec bits)
-number_shown spec bits raw k e m is = grind (arith, common_steps, pos, value_by, said_number)
-
-said_text : (k : Kind) (width : ℕ) (bits : List Bool) → is_character k ≡ true → said_by k width bits ≡ text (octets_in (width / 8) bits)
-said_text kind.Character width bits e = refl
-said_text kind.Coded width bits e = absurd cc
-said_text kind.Numeric width bits e = absurd cc
+number_shown spec bits raw k e m is =
+    ap (λ r. shown_number (pos r +ℤ spec.reference) spec.scale) is
+    ∙ ap (shown spec) (sym (number_said spec bits k e ∙ ap (λ b. if b then missing else number (number_of bits)) m))
 
 text_role : (r : Role) (k : Kind) (m : Bool) → HasRole r k m → is_character k ≡ true → is_reference r ≡ false
 text_role role.Element k m h e = refl
@@ -311,17 +300,15 @@ text_role role.Inserted k m h e = refl
 text_role role.Factor k m h e = refl
 text_role role.Reference k m h e = let f : is_character k ≡ false = ap is_character h.0 in absurd cc
 
-and_false : (b m : Bool) → b ≡ false → (b && m) ≡ false
-and_false true m e = absurd cc
-and_false false m e = refl
-
 pub text_shown : (spec : FieldSpec) (bits : List Bool) (octets : List ℕ) → IsSpec spec → is_character spec.kind ≡ true → are_all_ones bits ≡ false → octets ≡ octets_in (spec.width / 8) bits
     → shown_text octets ≡ shown spec (content_in spec bits)
-text_shown spec bits octets h k e is = grind (arith, common_steps, value_by, text_role, and_false, said_text)
+text_shown spec bits octets h k e is =
+    ap shown_text is ∙ ap (shown spec)
+    (sym (text_said spec bits k (text_role spec.role spec.kind spec.may_be_missing h.role k) ∙ ap (λ b. if b then missing else text (octets_in (spec.width / 8) bits)) e))
 
 -- a reference that was found is shown as one
 pub reference_kept : (spec : FieldSpec) (bits : List Bool) → spec.role ≡ role.Reference → IsReferenceValue (shown spec (content_in spec bits))
-reference_kept spec bits e = subst (λ r. IsReferenceValue (shown spec (content_by r spec bits))) (sym e) tt
+reference_kept spec bits e = subst (λ c. IsReferenceValue (shown spec c)) (sym (reference_said spec bits e)) tt
 
 abbrev item_of : FieldSpec → Content → Item Content
 item_of spec content = record { spec = spec; content = content }

@@ -14,7 +14,10 @@ use Rattle.bufr_walk.specs.declared.spec.NumberParts.{NumberParts}
 use Rattle.bufr_tables.specs.declared.table_b.Kind.TheVariants as kind
 use Rattle.bufr_walk.specs.declared.spec.Role.TheVariants as role
 use Rattle.bufr_walk.specs.declared.spec.Taken.TheVariants as taken
-use Rattle.bufr_bits.specs.Prelude.{bits_of, bits_in, number_of, are_all_ones}
+use Rattle.bufr_bits.specs.Prelude.{bits_of, bits_in, number_of, are_all_ones, ◌>>=◌}
+use Rattle.std.specs.Prelude.{Option, Some, None, ok_or, option_map}
+use Rattle.std.specs.Str.{bytes_eq}
+use Rattle.std.specs.Ordering.{int_eq}
 use Rattle.std.specs.List.{list_all, AllByRecursion}
 
 -- a field: its descriptor, what it is for, and how its bits are read; the width is in bits
@@ -143,21 +146,32 @@ abbrev pub signed_by : List Bool → ℤ
 signed_by [] = pos 0
 signed_by (sign ∷ bits) = if sign then neg_ℤ (pos (number_of bits)) else pos (number_of bits)
 
--- the content that bits write, by kind, where it is not missing
-abbrev pub said_by : Kind → ℕ → List Bool → Content
-said_by kind.Character width bits = text (octets_in (width / 8) bits)
-said_by _ width bits = number (number_of bits)
+-- how a field is coded: as a number, a text of `octets` octets, or a redefined reference
+pub data Coding : Type 0 where
+  numbers : (width : ℕ) → (may_be_missing : Bool) → Coding
+  texts : (octets : ℕ) → Coding
+  references : Coding
 
--- the content of a field, by role; all ones is missing where that is allowed
+-- the coding of a field, by its role and kind
+abbrev pub coding_by : Role → Kind → FieldSpec → Coding
+coding_by role.Reference _ spec = references
+coding_by _ kind.Character spec = texts (spec.width / 8)
+coding_by _ _ spec = numbers spec.width spec.may_be_missing
+
+-- the coding of a field
+abbrev pub coding_of : FieldSpec → Coding
+coding_of spec = coding_by spec.role spec.kind spec
+
+-- the content of a field's bits; all ones means missing if the field may be missing
 -- rule: missing, missing-inserted-text
-abbrev pub content_by : Role → FieldSpec → List Bool → Content
-content_by role.Reference spec bits = reference (signed_by bits)
-content_by _ spec bits =
-    if are_all_ones bits && spec.may_be_missing then missing else said_by spec.kind spec.width bits
+abbrev pub said : Coding → List Bool → Content
+said (numbers width m) bits = if are_all_ones bits && m then missing else number (number_of bits)
+said (texts octets) bits = if are_all_ones bits then missing else text (octets_in octets bits)
+said references bits = reference (signed_by bits)
 
--- the content that the bits of a field write
+-- the content of a field's bits, by its coding
 abbrev pub content_in : FieldSpec → List Bool → Content
-content_in spec bits = content_by spec.role spec bits
+content_in spec bits = said (coding_of spec) bits
 
 -- the sign bit of a number
 abbrev pub sign_bit : ℤ → Bool
@@ -242,104 +256,78 @@ abbrev pub increments : (count k : ℕ) → List Bool → List (List Bool)
 increments zero k bits = []
 increments (suc n) k bits = take k bits ∷ increments n k (drop k bits)
 
--- how many bits each subset has after the base and k, by kind
-abbrev pub kind_step : Kind → ℕ → ℕ
-kind_step kind.Character k = 8 * k
-kind_step _ k = k
-
--- how many bits each subset has after the base and k, by role
-abbrev pub increment_bits_of : Role → Kind → ℕ → ℕ
-increment_bits_of role.Reference kind k = 0
-increment_bits_of _ kind k = kind_step kind k
-
--- whether a base is missing: all ones, where that is allowed
--- rule: compressed-all-missing
-abbrev pub is_missing : FieldSpec → (base : List Bool) → Bool
-is_missing spec base = are_all_ones base && spec.may_be_missing
-
--- whether an increment of k bits is missing, or its sum with the base fits the width
--- rule: compressed-past-width, compressed-class-31
-abbrev pub stays_within : (may_be_missing : Bool) (width base k increment : ℕ) → Bool
-stays_within m width base k i = (m && (i == ones k)) || not (nat_lt (ones width) (base + i))
-
--- whether each increment is missing, or its sum with the base fits the width
-abbrev pub all_within : (may_be_missing : Bool) (width base k subsets : ℕ) → List Bool → Bool
-all_within m width base k n bits =
-    list_all (λ i. stays_within m width base k (number_of i)) (increments n k bits)
-
--- whether the increments of numbers are valid; any are, where the base is missing
--- rule: compressed-all-missing
-abbrev pub are_number_increments_valid : FieldSpec → (k n : ℕ) → (base suffix : List Bool) → Bool
-are_number_increments_valid spec k n base suffix =
-    is_missing spec base || all_within spec.may_be_missing spec.width (number_of base) k n suffix
-
--- whether the increments of an item are valid, by kind
--- rule: compressed-text-past-width, compressed-text-base
-abbrev pub are_increments_valid_by : Kind → FieldSpec → (k n : ℕ) → (base suffix : List Bool) → Bool
-are_increments_valid_by kind.Character spec k n base suffix = not (nat_lt (spec.width / 8) k)
-are_increments_valid_by _ spec k n base suffix = are_number_increments_valid spec k n base suffix
-
--- whether the increments of an item are valid, by role: a redefined reference has none
+-- number of bits that each subset has after the base and k; a text has k octets
 -- rule: compressed-references
-abbrev pub are_increments_valid : Role → FieldSpec → (k n : ℕ) → (base suffix : List Bool) → Bool
-are_increments_valid role.Reference spec k n base suffix = false
-are_increments_valid _ spec k n base suffix = are_increments_valid_by spec.kind spec k n base suffix
+abbrev pub step_of : Coding → ℕ → ℕ
+step_of (numbers width m) k = k
+step_of (texts octets) k = 8 * k
+step_of references k = 0
 
--- whether all increments of k bits are the same number
-abbrev pub all_equal : (k subsets first : ℕ) → List Bool → Bool
-all_equal k n first bits = list_all (λ i. number_of i == first) (increments n k bits)
+-- the sum of a base and an increment: none if it exceeds the width; all ones may mean missing
+-- rule: compressed-past-width, compressed-class-31, compressed-sum-of-ones
+abbrev pub sum_within : (width : ℕ) → (may_be_missing : Bool) → (sum : ℕ) → Option Content
+sum_within width m sum =
+    if nat_lt (ones width) sum then None
+    else Some (if m && (sum == ones width) then missing else number sum)
 
--- whether the counts of a factor are the same in all subsets
--- rule: compressed-factors
-abbrev pub equal_in : Role → (k subsets : ℕ) → (suffix : List Bool) → Bool
-equal_in role.Factor k n suffix = all_equal k n (number_of (take k suffix)) suffix
-equal_in _ k n suffix = true
+-- the content of one subset, from the base and its increment, if k and the increment are valid
+-- rule: compressed-all-missing, compressed-missing-increment, compressed-text
+-- rule: compressed-text-missing, compressed-text-past-width, compressed-text-base
+-- rule: compressed-references
+abbrev pub increased : Coding → (k : ℕ) → (base increment : List Bool) → Option Content
+increased (numbers width m) k base i =
+    if m && (are_all_ones base || are_all_ones i) then Some missing
+    else sum_within width m (number_of base + number_of i)
+increased (texts octets) k base i =
+    if nat_lt octets k then None
+    else Some (if are_all_ones i then missing
+    else text (octets_in k i ++ replicate (octets - k) 32))
+increased references k base i = None
 
--- the number that a base and an increment give, where their sum stays within the width
--- rule: compressed-missing-increment, compressed-sum-of-ones
-abbrev pub increased_to : (may_be_missing : Bool) (width base k increment : ℕ) → Content
-increased_to m width base k i =
-    if m && (i == ones k) then missing else if m && (base + i == ones width) then missing
-    else number (base + i)
+-- the values of a list of options, unless one of them is `None`
+abbrev pub all_there : {A : Type 0} → List (Option A) → Option (List A)
+all_there [] = Some []
+all_there (None ∷ more) = None
+all_there (Some a ∷ more) = option_map (λ others. a ∷ others) (all_there more)
 
--- the content of a number with an increment
--- rule: compressed-all-missing
-abbrev pub number_from : FieldSpec → (k : ℕ) → (base bits : List Bool) → Content
-number_from spec k base i =
-    if is_missing spec base then missing
-    else increased_to spec.may_be_missing spec.width (number_of base) k (number_of i)
-
--- the text of one subset: k octets, followed by spaces up to its width
--- rule: compressed-text, compressed-text-missing
-abbrev pub padded_text : (octets k : ℕ) → List Bool → Content
-padded_text octets k bits =
-    if are_all_ones bits then missing else text (octets_in k bits ++ replicate (octets - k) 32)
-
--- the content of an item with an increment, by kind
-abbrev pub content_from : Kind → FieldSpec → (k : ℕ) → (base bits : List Bool) → Content
-content_from kind.Character spec k base i = padded_text (spec.width / 8) k i
-content_from _ spec k base i = number_from spec k base i
-
--- the contents of an item, for each subset: without increments all have the base
+-- the contents of an item, one for each subset; if k is 0, every subset has the base
 -- rule: compressed-equal
-abbrev pub contents_of : FieldSpec → (k subsets : ℕ) → (base suffix : List Bool) → List Content
-contents_of spec k n base suffix =
-    if k == 0 then replicate n (content_in spec base)
-    else map (content_from spec.kind spec k base) (increments n (kind_step spec.kind k) suffix)
+abbrev pub contents_across : Coding → (k subsets : ℕ) → (base suffix : List Bool)
+    → Option (List Content)
+contents_across c k n base suffix =
+    if k == 0 then Some (replicate n (said c base))
+    else all_there (map (increased c k base) (increments n (step_of c k) suffix))
+
+-- whether two contents are the same
+abbrev pub same : Content → Content → Bool
+same (number a) (number b) = a == b
+same (text a) (text b) = bytes_eq a b
+same missing missing = true
+same (reference a) (reference b) = int_eq a b
+same _ _ = false
+
+-- the contents of an item, unless it is a factor whose counts differ
+-- rule: compressed-factors
+abbrev pub if_equal : Role → List Content → Result (List Content) FieldFault
+if_equal role.Factor (c ∷ cs) =
+    if list_all (same c) cs then Ok (c ∷ cs) else Err unequal_factor
+if_equal _ cs = Ok cs
 
 -- The item that begins the bits, for n subsets, or the first of its faults in this order.
 -- rule: compressed-item, compressed-increments-there, fault-30-before-34, fault-34-before-33
 abbrev pub packed_field : (subsets : ℕ) → FieldSpec → List Bool
     → Result (FieldRead (List Content)) FieldFault
 packed_field n spec bits =
-    let k = number_of (take 6 (drop spec.width bits)) in
+    let c = coding_of spec in
     let base = take spec.width bits in
+    let k = number_of (take 6 (drop spec.width bits)) in
     let suffix = drop (spec.width + 6) bits in
-    let used = n * increment_bits_of spec.role spec.kind k in
+    let used = n * step_of c k in
     if nat_lt (length bits) (spec.width + 6) || nat_lt (length suffix) used then Err data_end
-    else if not (k == 0 || are_increments_valid spec.role spec k n base suffix) then Err increment
-    else if not (k == 0 || equal_in spec.role k n suffix) then Err unequal_factor
-    else Ok (found (contents_of spec k n base suffix) (drop used suffix))
+    else do
+      contents ← ok_or (contents_across c k n base suffix) increment
+      equal ← if_equal spec.role contents
+      Ok (found equal (drop used suffix))
 
 -- what an item returns to the walk: factors are the same in all subsets, and so are references
 abbrev pub answer_first : FieldSpec → List Content → Taken

@@ -1,7 +1,7 @@
 -- Only contracts need this file. The readers of data, compressed or not: one pass over them, fields
 -- shown at once, an item as the code reads it, and what a reading keeps.
-use Rattle.std.specs.Prelude.{ℕ, ◌≡◌, ◌≤◌, ◌+◌, Bool, List, drop, Result, Ok, Err, ◌++◌, ◌<◌, ◌*◌, ◌%◌, ◌==◌, ◌&&◌, ◌||◌, true, false, [], ◌∷◌, length, take, ◌/◌, ◌-◌, map, get_or}
-use Rattle.bufr_walk.specs.Content.{Taken, FieldSpec, Content, answer_of, plain_field, found, data_end, FieldFault, FieldRead, packed_field, answer_first}
+use Rattle.std.specs.Prelude.{ℕ, ◌≡◌, ◌≤◌, ◌+◌, Bool, List, drop, Result, Ok, Err, ◌++◌, ◌<◌, ◌*◌, ◌%◌, ◌==◌, ◌&&◌, ◌||◌, true, false, [], ◌∷◌, length, take, ◌/◌, ◌-◌, map, get_or, is_some}
+use Rattle.bufr_walk.specs.Content.{Taken, Coding, step_of, increments, increased, FieldSpec, Content, answer_of, plain_field, found, data_end, FieldFault, FieldRead, packed_field, answer_first}
 use Rattle.bufr_walk.specs.Reading.{wrong_of, Item, plain, turns_after, ReadsPass, Read, course_of, max_values, items_at_once, Data, Values, apart, together, IsReading, ShowFault, Call, item_call, view_of, Timed, item_calls, Shows, content_at, PackedValues}
 use Rattle.bufr_walk.specs.Pass.{reading_of, values_read}
 use Rattle.bufr_walk.specs.Course.{Course, ticked}
@@ -166,6 +166,11 @@ items_at bits n (e ∷ kept) = item_at bits n e ∷ items_at bits n kept
 abbrev pub has_base : (bits : List Bool) → IndexedItem → Bool
 has_base bits e =
     is_character e.spec.kind || (e.base == number_of (take e.spec.width (drop e.at bits)))
+
+-- whether each increment is valid
+abbrev pub are_valid : Coding → (k subsets : ℕ) → (base suffix : List Bool) → Bool
+are_valid c k n base suffix =
+    list_all (λ i. is_some (increased c k base i)) (increments n (step_of c k) suffix)
 
 -- whether an item is at the location of an entry, with its k and base
 abbrev pub fits_at : (bits : List Bool) (subsets : ℕ) → IndexedItem → Bool

@@ -1,8 +1,8 @@
 //! Compressed data, where each item occurs once for all subsets: fields, reading, and showing.
-ghost use Rattle.std.specs.Prelude.{unwrap_or, option_map, ◌≡◌, ◌≤◌, ◌<◌, ◌+◌, ◌*◌, ◌^◌, false, true, length, IfSome, ◌-◌, ◌/◌, ◌++◌, drop, MatchResult, IfOk, ◌==◌, ◌&&◌, take, get_or, replicate};
+ghost use Rattle.std.specs.Prelude.{unwrap_or, option_map, ◌≡◌, ◌≤◌, ◌<◌, ◌+◌, ◌*◌, ◌^◌, false, true, length, IfSome, ◌-◌, ◌/◌, ◌++◌, drop, MatchResult, IfOk, ◌==◌, ◌&&◌, ◌||◌, not, nat_lt, take, get_or, replicate};
 ghost use Rattle.bufr_bits.specs.Prelude.{bits_at, number_of, bits_of, octets_of};
 ghost use Rattle.bufr_tables.specs.Prelude.{is_character};
-ghost use Rattle.bufr_walk.specs.Prelude.{stays_within, all_equal, are_number_increments_valid, IsSeen, IsUnseen, call_kept, content_kept, items_at, fits_at, IsFor, is_reference, increment_bits_of, missing, number, shown, seen_value, Shows, IndexedItem, new_packed_in, PackedTakes, refuses_packed, IsSameInAll, range_calls, packed_calls};
+ghost use Rattle.bufr_walk.specs.Prelude.{ones, numbers, coding_of, step_of, increments, are_valid, IsSeen, IsUnseen, call_kept, content_kept, items_at, fits_at, IsFor, is_reference, missing, number, shown, seen_value, Shows, IndexedItem, new_packed_in, PackedTakes, refuses_packed, IsSameInAll, range_calls, packed_calls};
 ghost use Rattle.std.specs.List.{list_all};
 ghost use Rattle.std.proofs.Common.{arith, ap};
 
@@ -26,7 +26,8 @@ fn stays_within(spec: &Spec, base: u64, k: u32, increment: u64) -> bool
     requires number { is_character spec.now.kind ≡ false }
     requires base { base < 2 ^ 63 }
     requires increment { increment < 2 ^ k }
-    ensures { result ≡ stays_within spec.now.may_be_missing spec.now.width base k increment }
+    ensures { result ≡ (spec.now.may_be_missing && (increment == ones k)
+        || not (nat_lt (ones spec.now.width) (base + increment))) }
 {
     let missing = spec.may_be_missing() && increment == (1 << k) - 1;
     missing || base + increment <= (1 << spec.width()) - 1
@@ -44,7 +45,7 @@ fn are_number_increments_valid(
     requires increment { k ≤ 63 }
     requires number { is_character spec.now.kind ≡ false }
     requires within { at + (spec.now.width + 6) + subsets * k ≤ 8 * length (octets_of bits.now) }
-    ensures { result ≡ are_number_increments_valid spec.now k subsets
+    ensures { result ≡ are_valid (numbers spec.now.width spec.now.may_be_missing) k subsets
         (bits_at (octets_of bits.now) at spec.now.width)
         (drop (at + (spec.now.width + 6)) (bits_of (octets_of bits.now))) }
 {
@@ -74,7 +75,8 @@ fn are_number_increments_valid(
 fn are_equal(bits: &BitSlice<'_>, at: u64, subsets: u16, k: u32, first: u64) -> bool
     requires increment { k ≤ 63 }
     requires within { at + subsets * k ≤ 8 * length (octets_of bits.now) }
-    ensures { result ≡ all_equal k subsets first (drop at (bits_of (octets_of bits.now))) }
+    ensures { result ≡ list_all (λ i. number_of i == first)
+        (increments subsets k (drop at (bits_of (octets_of bits.now)))) }
 {
     let mut increment_at = at;
     for subset in 0..subsets {
@@ -90,7 +92,7 @@ fn are_equal(bits: &BitSlice<'_>, at: u64, subsets: u16, k: u32, first: u64) -> 
 /// The bits that each subset has after the base and `k`.
 fn increment_bits_of(spec: &Spec, k: u32) -> u32
     requires { k ≤ 63 }
-    ensures value { result ≡ increment_bits_of spec.now.role spec.now.kind k }
+    ensures value { result ≡ step_of (coding_of spec.now) k }
     ensures most { result ≤ 504 }
 {
     if spec.is_reference() {

@@ -1,9 +1,9 @@
 use Rattle.std.proofs.Common.{ℕ, ◌≡◌, ◌≤◌, ◌-◌, Bool, List, false, ◌/◌, ◌++◌, ◌<◌, ◌^◌, ap, ◌∙◌, sym, arith, subst, length, unwrap_or}
 use Rattle.std.specs.List.{flat_map}
 use Rattle.bufr_bits.specs.Prelude.{bits_in}
-use Rattle.bufr_fill.specs.Prelude.{padded_contents, increment_bits, packed_bits, lowest, FieldContent, AreContentsOf, AreShort, IsRangeOf, spread, least_from}
+use Rattle.bufr_fill.specs.Prelude.{padded_contents, increment_for, packed_bits, lowest, FieldContent, AreContentsOf, AreShort, IsRangeOf, spread, least_from}
 use Rattle.bufr_tables.specs.Prelude.{is_character}
-use Rattle.bufr_walk.specs.Prelude.{FieldSpec, is_reference}
+use Rattle.bufr_walk.specs.Prelude.{FieldSpec, is_reference, numbers}
 use Rattle.bufr_fill.specs.declared.packed_out.NumberRange.{NumberRange}
 use Rattle.bufr_fill.proofs.LeastLemmas.{base_under, numbers_packed, parts_put, parts_length, k_narrow, k_short, spread_over}
 use Rattle.bufr_fill.proofs.RowLemmas.{few_bits}
@@ -97,18 +97,18 @@ returns c =
     let base = c.base-base.result in
     let k = c.least_bits-k.result in
     let put = parts_put c.args.out.now.bits c.put.new.self.bits c.put-2.new.self.bits c.put_increments.new.out.bits (bits_in base c.args.spec.now.width) (bits_in k 6)
-    (flat_map (increment_bits base k) (padded_contents count c.args.contents.now))
+    (flat_map (increment_for (numbers c.args.spec.now.width c.args.spec.now.may_be_missing) base k) (padded_contents count c.args.contents.now))
     (c.put.ensures.bits ∙ ap (λ bits. bits ++ bits_in base c.width-width.result) c.in_ok-reserve.ensures.bits ∙ ap (λ w. c.args.out.now.bits ++ bits_in base w) c.width-width.ensures.value)
     (c.put-2.ensures.bits ∙ ap (λ n. c.put.new.self.bits ++ bits_in n 6) c.from-3.ensures)
-    (c.put_increments.ensures.bits count) in
+    (c.put_increments.ensures.bits c.args.spec.now.width count c.args.spec.now.may_be_missing) in
     let narrow = c.width-width.ensures.narrow c.requires.number in
-    let few = few_bits (length c.args.contents.now) k 63 (is_width c.args.spec.now c.args.range c.args.contents.now _ _ _ _ c.requires.number c.requires.element c.width-width.ensures.some
+    let packing = is_width c.args.spec.now c.args.range c.args.contents.now _ _ _ _ c.requires.number c.requires.element c.width-width.ensures.some
     (c.width-width.ensures.narrow c.requires.number) c.requires.contents c.requires.range (c.base-base.ensures 0 c.args.contents.now c.requires.range) c.saturating_sub.ensures c.may_be_missing.ensures
-    c.least_bits-k.ensures).narrow in (
-      packed_bits (bits_in base c.args.spec.now.width) k (flat_map (increment_bits base k) (padded_contents count c.args.contents.now)),
-      numbers_packed c.args.spec.now count c.args.contents.now base k c.requires.number (c.base-base.ensures count c.args.contents.now c.requires.range)
-          (is_width c.args.spec.now c.args.range c.args.contents.now _ _ _ _ c.requires.number c.requires.element c.width-width.ensures.some (c.width-width.ensures.narrow c.requires.number)
-          c.requires.contents c.requires.range (c.base-base.ensures 0 c.args.contents.now c.requires.range) c.saturating_sub.ensures c.may_be_missing.ensures c.least_bits-k.ensures).value,
+    c.least_bits-k.ensures in
+    let few = few_bits (length c.args.contents.now) k 63 packing.narrow in (
+      packed_bits (bits_in base c.args.spec.now.width) k (flat_map (increment_for (numbers c.args.spec.now.width c.args.spec.now.may_be_missing) base k) (padded_contents count c.args.contents.now)),
+      numbers_packed c.args.spec.now count c.args.contents.now base k c.requires.number c.requires.element (c.base-base.ensures count c.args.contents.now c.requires.range)
+          packing.value packing.narrow,
       put,
       parts_length c.args.out.now.bits c.put_increments.new.out.bits _ _ put
           (omega (arith, ap length c.in_ok-reserve.ensures.bits, c.put.ensures.len, c.put-2.ensures.len, c.put_increments.ensures.len, narrow, few)),

@@ -1,13 +1,12 @@
 use Rattle.std.proofs.Common.{◌≡◌, ◌+◌, ◌*◌, ◌/◌, ◌≤◌, ◌∙◌, ◌++◌, [], Err, length, get_or, refl, sym, subst, arith, ap}
 use Rattle.std.proofs.lemmas.List.{append-nil}
 use Rattle.bufr_bits.specs.Prelude.{bits_in}
-use Rattle.bufr_tables.specs.Prelude.{is_character}
 use Rattle.bufr_walk.specs.Prelude.{bits_for, max_values}
 use Rattle.bufr_fill.specs.declared.field_value.FieldContent.TheVariants as field_content
-use Rattle.bufr_fill.specs.Prelude.{item_row, packed_bits, packed_by, packed_unlike, subsets_of, at_line, padded_content, padded_contents, IsPutWithin}
+use Rattle.bufr_fill.specs.Prelude.{item_row, packed_bits, packed_over, packed_unlike, subsets_of, at_line, padded_content, padded_contents, IsPutWithin}
 use Rattle.bufr_fill.specs.declared.fault.ItemFault.TheVariants as wrong
 use Rattle.bufr_fill.proofs.LeastLemmas.{parts_put, parts_length, texts_apart}
-use Rattle.bufr_fill.proofs.RowLemmas.{most_some, apart_by, packed_alike, packed_apart, put_packed, put_unequal, put_uneven, put_within}
+use Rattle.bufr_fill.proofs.RowLemmas.{no_reference, most_some, apart_by, packed_alike, packed_apart, put_packed, put_unequal, put_uneven, put_within}
 use Rattle.bufr_fill.proofs.EntryLemmas.{count_cells}
 use Rattle.bufr_fill.proofs.packed_out.pack_row.Goals as goal
 use Rattle.bufr_fill.proofs.packed_out.pack_row.Goals.{then-is_text+else-k-gt63+in_ok-pack_texts-in-Element, else-is_text+in_ok-pack_numbers-in-Element}
@@ -58,11 +57,10 @@ returns-then-k-gt63-clause-put c =
     let values = subst (λ n. (row.index + 1) * n ≤ max_values) (sym (count_cells row.index row.entries.now row.ends.now c.args.row.ends_are)) c.requires.values in
     let cs = padded_contents (spec.width / 8) c.args.contents.now in
     let apart = packed_apart spec (spec.width / 8) c.args.contents.now (field_content.Number 0) (omega (arith, c.requires.many, c.args.row.some)) (sym c.are_alike.ensures ∙ c.if-are_alike.false) in
-    let by : packed_unlike spec.role spec cs ≡ packed_by (is_character spec.kind) spec cs = apart_by spec cs c.role.result c.role.ensures c.in-Element.is in (
+    let by : packed_unlike spec.role spec cs ≡ packed_over spec cs = apart_by spec cs c.role.result c.role.ensures c.in-Element.is in (
       put_uneven spec row.index (subsets_of row.entries.now) values cs c.requires.given
-          (apart ∙ by ∙ texts_apart spec c.args.contents.now c.octets_needed-k.result (sym c.is_text.ensures ∙ c.if-is_text.true) (most_some c.args.contents.now) c.requires.all
-          c.octets_needed-k.ensures
-          c.if-k-gt63.true)
+          (apart ∙ by ∙ texts_apart spec c.args.contents.now c.octets_needed-k.result (sym c.is_text.ensures ∙ c.if-is_text.true)
+          (no_reference spec c.role.result c.role.ensures c.in-Element.is) (most_some c.args.contents.now) c.requires.all c.octets_needed-k.ensures c.if-k-gt63.true)
           ∙ ap (λ n. Err (at_line n wrong.Increment)) (sym c.first_line-then-k-gt63.ensures),
       refl,
     )
@@ -75,7 +73,7 @@ returns-after-is_text-clause-put c =
     let values = subst (λ n. (row.index + 1) * n ≤ max_values) (sym (count_cells row.index row.entries.now row.ends.now c.args.row.ends_are)) c.requires.values in
     let cs = padded_contents (spec.width / 8) c.args.contents.now in
     let apart = packed_apart spec (spec.width / 8) c.args.contents.now (field_content.Number 0) (omega (arith, c.requires.many, c.args.row.some)) (sym c.are_alike.ensures ∙ c.if-are_alike.false) in
-    let by : packed_unlike spec.role spec cs ≡ packed_by (is_character spec.kind) spec cs = apart_by spec cs c.role.result c.role.ensures c.in-Element.is in
+    let by : packed_unlike spec.role spec cs ≡ packed_over spec cs = apart_by spec cs c.role.result c.role.ensures c.in-Element.is in
     let put = put_packed spec row.index (subsets_of row.entries.now) c.args.contents.now (field_content.Number 0) c.taken_of-in-Element.result c.args.out.now.bits in
     elim c.if-is_text.branch [
       | then-is_text+else-k-gt63+in_ok-pack_texts-in-Element w ↦

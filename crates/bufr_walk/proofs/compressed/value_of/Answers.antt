@@ -1,9 +1,9 @@
 use Rattle.std.proofs.Common.{◌≡◌, ℕ, ◌+◌, ◌-◌, ◌*◌, ◌<◌, ◌≤◌, List, true, length, take, drop, replicate, ◌++◌, arith, sym, ◌∙◌, ap, ◌/◌}
 use Rattle.bufr_bits.specs.Prelude.{bits_of, octets_of}
 use Rattle.bufr_tables.specs.Prelude.{is_character}
-use Rattle.bufr_walk.specs.Prelude.{IndexedItem, shown, padded_text, fits_at}
+use Rattle.bufr_walk.specs.Prelude.{IndexedItem, shown, fits_at}
 use Rattle.bufr_walk.proofs.PackedShowing.{span_within, span_text, missing_text, whole_text, base_within}
-use Rattle.bufr_walk.proofs.PackedLemmas.{base_content}
+use Rattle.bufr_walk.proofs.PackedLemmas.{base_content, padded_text, text_short}
 use Rattle.bufr_walk.proofs.compressed.value_of.Goals as goal
 
 pub value_at-requires : goal.value_at-requires
@@ -45,6 +45,13 @@ pub copy_octets-requires-clause-within : goal.copy_octets-requires-clause-within
 copy_octets-requires-clause-within c =
     (reach (octets_of c.args.pack.now.bits) c.args.pack.now.subsets c.args.item.now c.args.subset _ _ _ _ c.requires.fits (omega (arith, c.if-item-eq0.false)) c.requires.subset
     (sym c.is_text.ensures ∙ c.if-not-is_text.false) (c.from-2.ensures ∙ c.width-width.ensures.value) c.from-3.ensures c.from-4.ensures c.from-k.ensures).0
+
+pub pad-requires-clause-order : goal.pad-requires-clause-order
+pad-requires-clause-order c =
+    let least = text_short (bits_of (octets_of c.args.pack.now.bits)) c.args.pack.now.subsets c.args.item.now c.args.subset c.requires.fits (omega (arith, c.if-item-eq0.false)) c.requires.subset
+    (sym c.is_text.ensures ∙ c.if-not-is_text.false) in
+    let wide : c.width-width.result / 8 ≡ c.args.item.now.spec.width / 8 = ap (λ w. w / 8) c.width-width.ensures.value in
+    omega (arith, least, wide, c.from-k.ensures)
 
 pub returns-then-missing : goal.returns-then-missing
 returns-then-missing c =
