@@ -44,7 +44,8 @@ output-alone = refl
 -- a message is built again of its text
 built-of-its-text : rebuilt blocks [] one_block_number ≡ one_block_number
 unfolding scan_from sections_of section_end head_by_edition head_size tree_of inner_of level part_of next_item bits_of header_lines subset_lines runs_after hex_text descriptors_text keys leasts mosts
-    decimal_text_of unsigned_text digits up_to_refused parse_lines lines_of line_step line_of worded prefix_while suffix_while index_from without_prefix descriptors_read fxy_read value_read quoted_read
+    decimal_text_of unsigned_text digits up_to_refused parse_lines lines_of line_step line_of worded prefix_while suffix_while index_from without_prefix descriptors_read fxy_read value_read
+    quoted_read
     hex_read is_hashed encoding_in decimal_value_of bits_in
 built-of-its-text = refl
 

@@ -131,7 +131,8 @@ module _ (course : Course) (s : Subset) (more : List Subset) where
   came : (items : List TakenField) (mid : PackedOutModel) → Takes (oks PackedFills) course (new_packed_out (s ∷ more)) items mid → Came items mid
   came items mid h =
       let w = stays course (new_packed_out (s ∷ more)) items mid h (omega arith) in
-      let f = walk_fills filler rows_left (λ (p : PackedOutModel). p.bits) (oks PackedFills) (fills s.end_line (would_be_many (length (s ∷ more)) (most_items (s ∷ more)))) course (new_packed_out (s ∷ more))
+      let f = walk_fills filler rows_left (λ (p : PackedOutModel). p.bits) (oks PackedFills) (fills s.end_line (would_be_many (length (s ∷ more)) (most_items (s ∷ more)))) course
+      (new_packed_out (s ∷ more))
       items mid h in
       let e : most_items (s ∷ more) - 0 ≡ most_items (s ∷ more) = omega arith in
       record {

@@ -472,7 +472,8 @@ put_tree : (start new : BuilderModel) (tree : Tree) → start ≡ growth [] 0 0 
 put_tree start new tree es e = grind (arith, common_steps)
 
 pub whole-empty : (tables : Tables) (list : List ℕ) (start new : BuilderModel) (first : ℕ) → start ≡ growth [] 0 0 false
-    → PushesTree start (level tables (inner_of tables max_open) false 0 (places_so_far start) list) new → new.full ≡ false → first ≡ slice_index list 0 → tree_of tables list ≡ Err (fault.EmptyGroup first)
+    → PushesTree start (level tables (inner_of tables max_open) false 0 (places_so_far start) list) new → new.full ≡ false → first ≡ slice_index list 0
+    → tree_of tables list ≡ Err (fault.EmptyGroup first)
 unfolding tree_of after_list
 whole-empty tables list start new first es puts empty ef = grind (arith, common_steps)
 

@@ -560,7 +560,8 @@ module _ (n : ℕ) (course : Course) (all : List Subset) (done : ℕ) (s : Plain
 
       by : (f : DocumentFault) → IsDocumentRefusal f (map_err document_fault (fill_next course s.left)) → IsDocumentRefusal f (map_err document_fault (plain_data course all))
       by f (inl out) = inl out
-      by f (inr r) = inr (ap (λ w. map_err document_fault (bits_of_writing w)) (by_next ∙ ap (writing_then (wrote s.bits h.made) None) (is_last f r)) ∙ same_refusal (next_writing course s.left).stop r)
+      by f (inr r) = inr (ap (λ w. map_err document_fault (bits_of_writing w)) (by_next ∙ ap (writing_then (wrote s.bits h.made) None) (is_last f r))
+          ∙ same_refusal (next_writing course s.left).stop r)
         where
           same_refusal : (o : Option DraftFault) → map_err document_fault (bits_or (next_writing course s.left).bits o) ≡ Err f
               → map_err document_fault (bits_or (s.bits ++ (next_writing course s.left).bits) o) ≡ Err f

@@ -244,7 +244,8 @@ documents_read :
     × (documents_of (text_of_lines (lines_3 (codes "edition 5") (codes "centre 98") (codes "second 0") ++ item_lines)) ≡ Refused 2 HeaderRange ∷ [])
     -- a document of edition 4 that says edition 3 is refused at its year
     × (documents_of (text_of_lines (codes "message" ∷ codes "edition 3" ∷ drop 2 head_lines ++ item_lines)) ≡ Refused 12 HeaderRange ∷ [])
-unfolding header_lines subset_lines item_entries subset_entries keys leasts mosts digits runs_after hex_text descriptors_text quoted decimal_text_of unsigned_text parse_lines lines_of line_step line_of
+unfolding header_lines subset_lines item_entries subset_entries keys leasts mosts digits runs_after hex_text descriptors_text quoted decimal_text_of unsigned_text parse_lines lines_of line_step
+    line_of
     worded prefix_while suffix_while index_from without_prefix descriptors_read fxy_read value_read quoted_read hex_read is_hashed parse_open_lines split_of
 documents_read = (refl, refl, refl, refl, refl, refl, refl, refl, refl, refl, refl, refl, refl, refl, refl, refl, refl, refl, refl)
 

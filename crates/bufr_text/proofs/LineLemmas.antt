@@ -280,7 +280,8 @@ first-digit w h = grind (arith, nat_tests)
 no-hash : (w : ℕ) → w < 65536 → (48 + f_of w == 35) ≡ false
 no-hash w h = grind (arith, nat_tests)
 
-pub item-of : (fxy : ℕ) (text rest : List ℕ) (form : DraftValue) → fxy < 65536 → value_read text ≡ Some (form, rest) → is_passed_after rest ≡ true → line_of (fxy_text fxy ++ 32 ∷ text) ≡ ItemLine fxy form
+pub item-of : (fxy : ℕ) (text rest : List ℕ) (form : DraftValue) → fxy < 65536 → value_read text ≡ Some (form, rest) → is_passed_after rest ≡ true
+    → line_of (fxy_text fxy ++ 32 ∷ text) ≡ ItemLine fxy form
 unfolding line_of without_prefix
 item-of fxy text rest form h read passed = rw (no-hash fxy h, first-digit fxy h, fxy_read_back fxy (32 ∷ text) h, read, passed) refl
 

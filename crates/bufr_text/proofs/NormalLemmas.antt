@@ -106,7 +106,8 @@ module _ (form : Form) (records : List Record) (table : List Row) (sequences : L
       refl e
 
   by_template : (r : Result Tree TemplateFault) → tree_of (tables_of table sequences) d.descriptors ≡ r
-      → (map_err (fault.Template d.line) r >>= λ t. map_err document_fault (data_in t) >>= λ b. message_of d.line (head_from_values d) (parts_as (compressed_as form d) d (octets_of_bits b))) ≡ Ok octets
+      → (map_err (fault.Template d.line) r >>= λ t. map_err document_fault (data_in t) >>= λ b. message_of d.line (head_from_values d) (parts_as (compressed_as form d) d (octets_of_bits b)))
+      ≡ Ok octets
       → IsReadAs form table sequences d octets
   by_template (Err why) p e = absurd cc
   by_template (Ok template) p e = by_bits template p (data_in template) refl e

@@ -52,7 +52,8 @@ octets_of_a_text = refl
 -- rule: reading-quoted
 escapes_of_a_text :
     (said (map (λ c. codes "205001 " ++ 34 ∷ 92 ∷ codes "x0" ++ c ∷ 34 ∷ []) (47 ∷ 48 ∷ 57 ∷ 58 ∷ 64 ∷ 65 ∷ 70 ∷ 71 ∷ 97 ∷ 102 ∷ []))
-    ≡ Wrong ∷ ItemLine 0x8501 (text_form (0 ∷ [])) ∷ ItemLine 0x8501 (text_form (9 ∷ [])) ∷ Wrong ∷ Wrong ∷ ItemLine 0x8501 (text_form (10 ∷ [])) ∷ ItemLine 0x8501 (text_form (15 ∷ [])) ∷ Wrong ∷ Wrong ∷ Wrong ∷ [])
+    ≡ Wrong ∷ ItemLine 0x8501 (text_form (0 ∷ [])) ∷ ItemLine 0x8501 (text_form (9 ∷ [])) ∷ Wrong ∷ Wrong ∷ ItemLine 0x8501 (text_form (10 ∷ [])) ∷ ItemLine 0x8501 (text_form (15 ∷ [])) ∷ Wrong
+    ∷ Wrong ∷ Wrong ∷ [])
     × (said (map (λ octets. codes "205001 " ++ 34 ∷ 92 ∷ octets ++ 34 ∷ []) ((34 ∷ []) ∷ (92 ∷ []) ∷ codes "X41" ∷ codes "x4" ∷ codes "x" ∷ codes "y41" ∷ []))
     ≡ ItemLine 0x8501 (text_form (34 ∷ [])) ∷ ItemLine 0x8501 (text_form (92 ∷ [])) ∷ Wrong ∷ Wrong ∷ Wrong ∷ Wrong ∷ [])
 unfolding said
@@ -64,7 +65,8 @@ octets_of_a_number :
     (said (map (λ c. codes "001001 " ++ c ∷ []) (44 ∷ 45 ∷ 46 ∷ 47 ∷ 48 ∷ 57 ∷ 58 ∷ []))
     ≡ Wrong ∷ ItemLine 257 (number_token (45 ∷ [])) ∷ ItemLine 257 (number_token (46 ∷ [])) ∷ Wrong ∷ ItemLine 257 (number_token (48 ∷ [])) ∷ ItemLine 257 (number_token (57 ∷ [])) ∷ Wrong ∷ [])
     × (said (map (λ c. codes "001001 1" ++ c ∷ []) (44 ∷ 45 ∷ 46 ∷ 47 ∷ 48 ∷ 57 ∷ 58 ∷ []))
-    ≡ Wrong ∷ ItemLine 257 (number_token (49 ∷ 45 ∷ [])) ∷ ItemLine 257 (number_token (49 ∷ 46 ∷ [])) ∷ Wrong ∷ ItemLine 257 (number_token (49 ∷ 48 ∷ [])) ∷ ItemLine 257 (number_token (49 ∷ 57 ∷ [])) ∷ Wrong ∷ [])
+    ≡ Wrong ∷ ItemLine 257 (number_token (49 ∷ 45 ∷ [])) ∷ ItemLine 257 (number_token (49 ∷ 46 ∷ [])) ∷ Wrong ∷ ItemLine 257 (number_token (49 ∷ 48 ∷ [])) ∷ ItemLine 257 (number_token (49 ∷ 57 ∷ []))
+    ∷ Wrong ∷ [])
 unfolding said
 octets_of_a_number = (refl, refl)
 

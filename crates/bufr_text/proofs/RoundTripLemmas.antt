@@ -402,7 +402,8 @@ module _ (form : Form) (table : List Row) (sequences : List Sequence) (d : Docum
       → encoding_in form table sequences d ≡ message_of d.line (head_from_values d) (parts_as (compressed_as form d) d payload)
   unfolding encoding_in
   as_written template bits payload e f p =
-      ap (λ r. map_err (fault.Template d.line) r >>= λ t. map_err document_fault (data_bits (compressed_as form d) (next_item table t) (subsets_of d.entries)) >>= λ b. message_of d.line (head_from_values d)
+      ap (λ r. map_err (fault.Template d.line) r >>= λ t. map_err document_fault (data_bits (compressed_as form d) (next_item table t) (subsets_of d.entries)) >>= λ b. message_of d.line
+      (head_from_values d)
       (parts_as (compressed_as form d) d (octets_of_bits b))) e
       ∙ ap (λ r. map_err document_fault r >>= λ b. message_of d.line (head_from_values d) (parts_as (compressed_as form d) d (octets_of_bits b))) f
       ∙ ap (λ o. message_of d.line (head_from_values d) (parts_as (compressed_as form d) d o)) (sym p)
@@ -421,7 +422,8 @@ module _ (form : Form) (table : List Row) (sequences : List Sequence) (d : Docum
       → map_err document_fault (data_bits (compressed_as form d) (next_item table template) (subsets_of d.entries)) ≡ Err why → encoding_in form table sequences d ≡ Err why
   unfolding encoding_in
   data_refused template why e h =
-      ap (λ r. map_err (fault.Template d.line) r >>= λ t. map_err document_fault (data_bits (compressed_as form d) (next_item table t) (subsets_of d.entries)) >>= λ b. message_of d.line (head_from_values d)
+      ap (λ r. map_err (fault.Template d.line) r >>= λ t. map_err document_fault (data_bits (compressed_as form d) (next_item table t) (subsets_of d.entries)) >>= λ b. message_of d.line
+      (head_from_values d)
       (parts_as (compressed_as form d) d (octets_of_bits b))) e
       ∙ ap (λ r. r >>= λ b. message_of d.line (head_from_values d) (parts_as (compressed_as form d) d (octets_of_bits b))) h
 

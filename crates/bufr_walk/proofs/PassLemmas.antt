@@ -286,7 +286,8 @@ module _ (course : Course) (sane : (m : ℕ) → IsSane m course) where
   subsets_are (x ∷ xs) zero bits left h e = absurd (omega (arith, e))
   subsets_are (x ∷ xs) (suc n) bits left h e =
       let more = subsets_are xs n h.0 left h.2 (omega (arith, e)) in
-      subst (λ (p : DataPass Content). let ps = p ∷ (if is_none p.stop then passes_apart course n p.state.left else []) in (stop_of ps ≡ None) × (items_by_pass ps ≡ x ∷ xs) × (left_after bits ps ≡ left))
+      subst (λ (p : DataPass Content). let ps = p ∷ (if is_none p.stop then passes_apart course n p.state.left else []) in (stop_of ps ≡ None) × (items_by_pass ps ≡ x ∷ xs)
+      × (left_after bits ps ≡ left))
       (sym (subset_ends x bits h.0 h.1))
       (more.0, ap (λ ys. x ∷ ys) more.1, more.2)
 
