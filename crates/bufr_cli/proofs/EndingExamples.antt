@@ -4,7 +4,7 @@ use Rattle.std.specs.Borrow.{Bor}
 use Rattle.std.specs.Fmt.{digits}
 use Rattle.bufr_frame.specs.declared.fault.RunFault.TheVariants.{Read, Write, InputTooLong, Memory}
 use Rattle.bufr_text.specs.Prelude.{joined}
-use Rattle.bufr_cli.specs.Prelude.{last_line, status_of, Answers, AreUnread, ByTables, CommandOutcome, Does, InPart, InWhole, NoTables, RunsProgram, EndsRun, Input, InputName, IsNotOpened, Known, NoTableB, NoTableD, RunOutcome, ReadsAtMost, Runs, Tally, BlamesWriter, RunPieces, WantsMemory, Writer, Writers, event_pieces, holding, known, ls_piece}
+use Rattle.bufr_cli.specs.Prelude.{last_line, status_of, Answers, AreUnread, ByTables, CommandOutcome, Does, InPart, InWhole, NoTables, RunsProgram, EndsRun, Input, InputName, IsNotOpened, Known, NoTableB, NoTableD, Opens, RunOutcome, ReadsAtMost, Runs, Tally, BlamesWriter, RunPieces, WantsMemory, Writer, Writers, event_pieces, holding, known, ls_piece}
 use Rattle.bufr_cli.specs.declared.outcome.Outcome.TheVariants.{Ran, Usage, CannotOpen, TableB, TableD, Run}
 use Rattle.bufr_bits.specs.Prelude.{counted}
 use Rattle.bufr_cli.specs.declared.job.TableNames.{TableNames}
@@ -145,54 +145,57 @@ held-back : (pieces : RunPieces) (before after : Writers) (tally : Tally) → af
 held-back pieces before after tally held comes = false≢true (sym held ∙ run-is-handed-on pieces before after quiet_inputs None tally comes)
 
 -- so is a call of the program that ends with status 0: its output is handed on
-tables-are-read : {File : Type 0} (counts : File → Input) (named : List ℕ → Option (List ℕ)) (tables : TableNames) (tally : Tally) → AreUnread counts named tables (Ran tally) → ⊥
-tables-are-read counts named tables tally (NoTableB (inl (inl (inl closed)))) = let is = closed.0 in absurd cc
-tables-are-read counts named tables tally (NoTableB (inl (inl (inr is)))) = absurd cc
-tables-are-read counts named tables tally (NoTableB (inl (inr (fault, is, over)))) = absurd cc
-tables-are-read counts named tables tally (NoTableB (inr (fault, is, reads))) = absurd cc
-tables-are-read counts named tables tally (NoTableD b read (inl (inl (inl closed)))) = let is = closed.0 in absurd cc
-tables-are-read counts named tables tally (NoTableD b read (inl (inl (inr is)))) = absurd cc
-tables-are-read counts named tables tally (NoTableD b read (inl (inr (fault, is, over)))) = absurd cc
-tables-are-read counts named tables tally (NoTableD b read (inr (fault, is, reads))) = absurd cc
+tables-are-read : {File : Type 0} (counts : File → Input) (named : List ℕ → Option (List ℕ)) (tables : TableNames) (opens : List InputName → Type 0) (tally : Tally)
+    → AreUnread counts named tables opens (Ran tally) → ⊥
+tables-are-read counts named tables opens tally (NoTableB opened (inl (inl (inl closed)))) = let is = closed.0 in absurd cc
+tables-are-read counts named tables opens tally (NoTableB opened (inl (inl (inr is)))) = absurd cc
+tables-are-read counts named tables opens tally (NoTableB opened (inl (inr (fault, is, over)))) = absurd cc
+tables-are-read counts named tables opens tally (NoTableB opened (inr (fault, is, reads))) = absurd cc
+tables-are-read counts named tables opens tally (NoTableD opened b read (inl (inl (inl closed)))) = let is = closed.0 in absurd cc
+tables-are-read counts named tables opens tally (NoTableD opened b read (inl (inl (inr is)))) = absurd cc
+tables-are-read counts named tables opens tally (NoTableD opened b read (inl (inr (fault, is, over)))) = absurd cc
+tables-are-read counts named tables opens tally (NoTableD opened b read (inr (fault, is, reads))) = absurd cc
 
 module _ {Standard File : Type 0} (inputs : Known Standard File) (before after : Writers) where
-  command-is-handed-on : (command : Subcommand) (file : Option (Bor (List ℕ))) (tally : Tally) → CommandOutcome inputs command file before after (Ran tally) → after.output.all_flushed ≡ true
-  command-is-handed-on Ls file tally ends = run-is-handed-on _ before after inputs file tally ends
-  command-is-handed-on (Dump tables) file tally (NoTables same unread) = absurd (tables-are-read inputs.of_file inputs.named tables tally unread)
-  command-is-handed-on (Dump tables) file tally (ByTables b d are ends) = run-is-handed-on _ before after inputs file tally ends
-  command-is-handed-on (Encode tables form) file tally (NoTables same unread) = absurd (tables-are-read inputs.of_file inputs.named tables tally unread)
-  command-is-handed-on (Encode tables form) file tally (ByTables b d are ends) = run-is-handed-on _ before after inputs file tally ends
+  command-is-handed-on : (opens : List InputName → Type 0) (command : Subcommand) (file : Option (Bor (List ℕ))) (tally : Tally) → CommandOutcome inputs opens command file before after (Ran tally)
+      → after.output.all_flushed ≡ true
+  command-is-handed-on opens Ls file tally (opened, ends) = run-is-handed-on _ before after inputs file tally ends
+  command-is-handed-on opens (Dump tables) file tally (NoTables same unread) = absurd (tables-are-read inputs.of_file inputs.named tables opens tally unread)
+  command-is-handed-on opens (Dump tables) file tally (ByTables b d are opened ends) = run-is-handed-on _ before after inputs file tally ends
+  command-is-handed-on opens (Encode tables form) file tally (NoTables same unread) = absurd (tables-are-read inputs.of_file inputs.named tables opens tally unread)
+  command-is-handed-on opens (Encode tables form) file tally (ByTables b d are opened ends) = run-is-handed-on _ before after inputs file tally ends
 
   zero-is-not-two : ◌≡◌ {A = ℕ} 0 2 → ⊥
   zero-is-not-two is = omega arith
 
 status-0-is-handed-on : {Standard File : Type 0} (words : List Text) (inputs : Known Standard File) (opened opened' : Option (List InputName)) (before after : Writers)
     → RunsProgram words inputs opened opened' before after 0 → after.output.all_flushed ≡ true
-status-0-is-handed-on words inputs opened opened' before after (Does job is (Ran tally) between comes opens same line status) =
-    ap (λ w. w.all_flushed) same ∙ command-is-handed-on inputs before between job.command job.file tally comes
-status-0-is-handed-on words inputs opened opened' before after (Does job is (Usage text) between comes opens same line status) = absurd (zero-is-not-two inputs before after status)
-status-0-is-handed-on words inputs opened opened' before after (Does job is (CannotOpen name) between comes opens same line status) = absurd (zero-is-not-two inputs before after status)
-status-0-is-handed-on words inputs opened opened' before after (Does job is (TableB fault) between comes opens same line status) = absurd (zero-is-not-two inputs before after status)
-status-0-is-handed-on words inputs opened opened' before after (Does job is (TableD fault) between comes opens same line status) = absurd (zero-is-not-two inputs before after status)
-status-0-is-handed-on words inputs opened opened' before after (Does job is (Run fault) between comes opens same line status) = absurd (zero-is-not-two inputs before after status)
+status-0-is-handed-on words inputs opened opened' before after (Does job is (Ran tally) between comes same line status) =
+    ap (λ w. w.all_flushed) same ∙ command-is-handed-on inputs before between (Opens opened opened') job.command job.file tally comes
+status-0-is-handed-on words inputs opened opened' before after (Does job is (Usage text) between comes same line status) = absurd (zero-is-not-two inputs before after status)
+status-0-is-handed-on words inputs opened opened' before after (Does job is (CannotOpen name) between comes same line status) = absurd (zero-is-not-two inputs before after status)
+status-0-is-handed-on words inputs opened opened' before after (Does job is (TableB fault) between comes same line status) = absurd (zero-is-not-two inputs before after status)
+status-0-is-handed-on words inputs opened opened' before after (Does job is (TableD fault) between comes same line status) = absurd (zero-is-not-two inputs before after status)
+status-0-is-handed-on words inputs opened opened' before after (Does job is (Run fault) between comes same line status) = absurd (zero-is-not-two inputs before after status)
 status-0-is-handed-on words inputs opened opened' before after (Answers (line.Help text) why opens (InWhole wrote flushed stays errors status)) = flushed
 status-0-is-handed-on words inputs opened opened' before after (Answers (line.Help text) why opens (InPart wrote failed line status)) = absurd (zero-is-not-two inputs before after status)
 status-0-is-handed-on words inputs opened opened' before after (Answers (line.Usage text) why opens (same, wrote, status)) = absurd (zero-is-not-two inputs before after status)
 status-0-is-handed-on words inputs opened opened' before after (Answers line.Memory why opens (same, wrote, status)) = absurd (zero-is-not-two inputs before after status)
 
 -- nor is a table of such a file answered by 70 or 72
-table-is-not-70 : (fault : RunFault) → IsOfReads fault → (named : List ℕ → Option (List ℕ)) (tables : TableNames) → AreUnread (λ (file : Unit {0}). quiet) named tables (Run fault) → ⊥
-table-is-not-70 fault of named tables (NoTableB (inl (inl (inl closed)))) = let is = closed.0 in absurd cc
-table-is-not-70 fault of named tables (NoTableB (inl (inl (inr is)))) = let memory : fault ≡ Memory = cc in subst IsOfReads memory of
-table-is-not-70 fault of named tables (NoTableB (inl (inr (f, is, (from, to, left, fails))))) =
+table-is-not-70 : (fault : RunFault) → IsOfReads fault → (named : List ℕ → Option (List ℕ)) (tables : TableNames) (opens : List InputName → Type 0)
+    → AreUnread (λ (file : Unit {0}). quiet) named tables opens (Run fault) → ⊥
+table-is-not-70 fault of named tables opens (NoTableB opened (inl (inl (inl closed)))) = let is = closed.0 in absurd cc
+table-is-not-70 fault of named tables opens (NoTableB opened (inl (inl (inr is)))) = let memory : fault ≡ Memory = cc in subst IsOfReads memory of
+table-is-not-70 fault of named tables opens (NoTableB opened (inl (inr (f, is, (from, to, left, fails))))) =
     let same : f ≡ fault = cc in
     let reads = rw same at fails.reads in
     shows-neither fault of (rw same at fails.failures) (reads.0, reads.1, reads.2, reads.3)
-table-is-not-70 fault of named tables (NoTableB (inr (f, is, reads))) = absurd cc
-table-is-not-70 fault of named tables (NoTableD b read (inl (inl (inl closed)))) = let is = closed.0 in absurd cc
-table-is-not-70 fault of named tables (NoTableD b read (inl (inl (inr is)))) = let memory : fault ≡ Memory = cc in subst IsOfReads memory of
-table-is-not-70 fault of named tables (NoTableD b read (inl (inr (f, is, (from, to, left, fails))))) =
+table-is-not-70 fault of named tables opens (NoTableB opened (inr (f, is, reads))) = absurd cc
+table-is-not-70 fault of named tables opens (NoTableD opened b read (inl (inl (inl closed)))) = let is = closed.0 in absurd cc
+table-is-not-70 fault of named tables opens (NoTableD opened b read (inl (inl (inr is)))) = let memory : fault ≡ Memory = cc in subst IsOfReads memory of
+table-is-not-70 fault of named tables opens (NoTableD opened b read (inl (inr (f, is, (from, to, left, fails))))) =
     let same : f ≡ fault = cc in
     let reads = rw same at fails.reads in
     shows-neither fault of (rw same at fails.failures) (reads.0, reads.1, reads.2, reads.3)
-table-is-not-70 fault of named tables (NoTableD b read (inr (f, is, reads))) = absurd cc
+table-is-not-70 fault of named tables opens (NoTableD opened b read (inr (f, is, reads))) = absurd cc

@@ -3,14 +3,14 @@ use Rattle.bufr_frame.specs.Prelude.{max_reads, read_failures_after, AddsReads}
 use Rattle.std.proofs.Common.{◌≡◌, ◌≢◌, ◌∙◌, ◌<◌, ◌^◌, ℕ, ◌+◌, ◌-◌, Bool, true, false, List, [], ◌∷◌, ◌++◌, length, length-append, refl, sym, ap, subst, arith, append_assoc, Option, None, Ok, Err, append-nil, Some, inl, inr, Result, flat_map, map, count_by, IfSome}
 use Rattle.std.specs.Io.KnownBytes.{Consumes, IsAtEnd, Keeps}
 use Rattle.std.proofs.KnownBytes.{Appends-nil, Appends-trans, Appends-kept, Consumes-trans}
-use Rattle.std.proofs.lemmas.Bool.{false≢true}
+use Rattle.std.proofs.lemmas.Bool.{cases_Bool, false≢true}
 use Rattle.std.proofs.lemmas.Grind.{common_steps, flat_map-append}
 use Rattle.bufr_bits.specs.Prelude.{counted}
 use Rattle.bufr_frame.proofs.FinderLemmas.{adds-then}
 use Rattle.bufr_frame.specs.declared.fault.RunFault.{RunFault}
 use Rattle.bufr_frame.specs.declared.fault.RunFault.TheVariants.{Read, Write, InputTooLong, Memory}
 use Rattle.bufr_text.specs.Prelude.{GrowsByPrefix, Stays, Fails, Writes}
-use Rattle.bufr_cli.specs.Prelude.{BlamesWriter, CountsCalls, CountsRead, EndsRun, FlushesRest, TakesStep, HandsOn, HandsOnBoth, HandsOnWritten, IsFlushedIf, IsHandedOn, LeavesOther, unflushed_after, Writer, Input, IsClosed, IsCut, IsDone, InputName, IsNotOpened, IsOpen, Opens, OpensInOrder, IsSame, InPart, Known, LeavesDevices, NoFlushFails, OnErrors, OnOutput, Piece, Progress, ReadsAndWrites, ReadsAtMost, ReadsFewer, ReadsOctets, RunOutcome, RunPieces, RunReads, RunsOver, RunsOverInput, StopsPiece, Tallies, Tally, Verdict, WantsMemory, Writers, WritesHelp, WritesLine, WritesPieces, WritesPrefixes, WrittenInPart, counted_accepted, counted_refused, errors_of, is_accepted, is_refused, output_of, run_line, tally_after}
+use Rattle.bufr_cli.specs.Prelude.{BlamesWriter, CountsCalls, CountsRead, EndsRun, FlushesRest, TakesStep, HandsOn, HandsOnBoth, HandsOnWritten, IsFlushedIf, IsHandedOn, LeavesOther, unflushed_after, Writer, Input, IsClosed, IsCut, IsDone, InputName, IsNotOpened, IsOpen, Opens, IsSame, InPart, Known, LeavesDevices, NoFlushFails, OnErrors, OnOutput, Piece, Progress, ReadsAndWrites, ReadsAtMost, ReadsFewer, ReadsOctets, RunOutcome, RunPieces, RunReads, RunsOver, RunsOverInput, StopsPiece, Tallies, Tally, Verdict, WantsMemory, Writers, WritesHelp, WritesLine, WritesPieces, WritesPrefixes, WrittenInPart, counted_accepted, counted_refused, errors_of, is_accepted, is_refused, output_of, run_line, tally_after}
 use Rattle.bufr_cli.specs.declared.outcome.Outcome.{Outcome}
 use Rattle.bufr_cli.specs.declared.run_pieces.RunStep.{RunStep}
 use Rattle.bufr_cli.specs.declared.run_pieces.Unflushed.{Unflushed}
@@ -175,16 +175,16 @@ flushed-handed false before mid after handed flushed = let H : Writer → Type 0
 -- before a read what was written is handed on, or nothing changes
 read-handed : (waits : Bool) (unflushed unflushed' : Unflushed) (before mid after : Writers) (r : Result (Unit {0}) RunFault) → HandsOnWritten waits unflushed unflushed' mid after r → r ≡ Ok tt
     → IsAllFlushed unflushed before mid → IsAllFlushed unflushed' before after
-read-handed waits unflushed unflushed' before mid after r hands well handed =
+read-handed true unflushed unflushed' before mid after r hands well handed =
+    let flushed = rw well at hands.handed in (
+      (λ none. flushed-handed unflushed.output before.output mid.output after.output handed.0 flushed.0),
+      (λ none. flushed-handed unflushed.errors before.errors mid.errors after.errors handed.1 flushed.1),
+    )
+read-handed false unflushed unflushed' before mid after r hands well handed =
     let U : Unflushed → Type 0 = λ u. IsAllFlushed u before mid in
     let W : Writers → Type 0 = λ w. IsAllFlushed unflushed' before w in
-    elim (rw well at hands.handed) [
-      | inl flushed ↦ (
-        (λ none. flushed-handed unflushed.output before.output mid.output after.output handed.0 flushed.0),
-        (λ none. flushed-handed unflushed.errors before.errors mid.errors after.errors handed.1 flushed.1),
-      )
-      | inr still ↦ subst W (sym still.2) (subst U (sym still.1) handed)
-    ]
+    let still = rw well at hands.handed in
+    subst W (sym still.1) (subst U (sym still.0) handed)
 
 module _ (reaches : Progress → Type 0) (from to : Input) (before mid : Writers) (tally : Tally) (unflushed : Unflushed) (ran : RunSoFar reaches from to before mid tally unflushed) where
   -- so many pieces are few
@@ -387,12 +387,14 @@ module _ (reaches : Progress → Type 0) (from to : Input) (before mid : Writers
 
       on-hand : r ≡ Err Read → HandsOn {X = Tally} before after (Err Read)
       on-hand read =
-          elim (rw well at hands.handed) [
-            | inl flushed ↦ (
-              flushed-handed unflushed.output before.output mid.output after.output ran.handed.0 flushed.0,
-              flushed-handed unflushed.errors before.errors mid.errors after.errors ran.handed.1 flushed.1,
-            )
-            | inr still ↦ absurd (sure still.0 read)
+          elim (cases_Bool waits) [
+            | inl so ↦ (
+                let flushed = rw (well, so) at hands.handed in (
+                  flushed-handed unflushed.output before.output mid.output after.output ran.handed.0 flushed.0,
+                  flushed-handed unflushed.errors before.errors mid.errors after.errors ran.handed.1 flushed.1,
+                )
+                )
+            | inr so ↦ absurd (sure so read)
           ]
 
       fewer : n' < max_reads → ReadsFewer from.reads to'.reads
@@ -557,15 +559,3 @@ opens-then None mid after names more one two = tt
 opens-then (Some before) None after names more one two = absurd one
 opens-then (Some before) (Some mid) None names more one two = absurd two
 opens-then (Some before) (Some mid) (Some after) names more one two = two ∙ ap (λ l. l ++ more) one ∙ append_assoc before names more
-
--- all of them, and the first of them and of more
-pub opens-all : (before after : Option (List InputName)) (names : List InputName) → Opens before after names → OpensInOrder before after names
-opens-all before after names opens = record { first = names; rest = []; parts = sym (append-nil names); opens = opens }
-
-pub opens-first : (before after : Option (List InputName)) (names more : List InputName) → OpensInOrder before after names → OpensInOrder before after (names ++ more)
-opens-first before after names more some = record {
-  first = some.first;
-  rest = some.rest ++ more;
-  parts = ap (λ l. l ++ more) some.parts ∙ append_assoc some.first some.rest more;
-  opens = some.opens;
-}

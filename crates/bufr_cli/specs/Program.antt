@@ -42,14 +42,6 @@ Opens None after names = Unit {0}
 Opens (Some before) None names = ⊥
 Opens (Some before) (Some after) names = after ≡ before ++ names
 
--- The first of these were opened, and no others.
-pub record OpensInOrder (before after : Option (List InputName)) (names : List InputName) : Type 0
-  where
-    pub first : List InputName
-    pub rest : List InputName
-    pub parts : names ≡ first ++ rest
-    pub opens : Opens before after first
-
 -- What is known of the inputs: the octets of standard input, and of files known to open; and what
 -- an input of either type has counted.
 pub record Known (Standard File : Type 0) : Type 0 where
@@ -141,39 +133,52 @@ pub record AreTables (named : List ℕ → Option (List ℕ)) (tables : TableNam
   pub table_b : IfSome (named tables.table_b.now) (λ text. table_b_of (records_of text) ≡ Ok b)
   pub table_d : IfSome (named tables.table_d.now) (λ text. ReadsTableD (records_of text) (Ok d))
 
--- not both tables are read: Table B is not read or is at fault, or is read and Table D is not
+-- the names of tables, in the order in which they are opened
+abbrev pub table_names : TableNames → List InputName
+table_names tables = file_name tables.table_b.now ∷ file_name tables.table_d.now ∷ []
+
+-- not both tables are read: Table B is not read or is at fault, and nothing else is opened; or it
+-- is read and Table D is not
 pub data AreUnread {File : Type 0} (counts : File → Input) (named : List ℕ → Option (List ℕ))
-    (tables : TableNames) (outcome : Outcome) : Type 0 where
-  NoTableB : TableOutcome counts (λ records. ReturnsUnlessMemory (table_b_of records)) TableB named
-      tables.table_b outcome → AreUnread counts named tables outcome
-  NoTableD : (b : List Row) → IfSome (named tables.table_b.now)
+    (tables : TableNames) (opens : List InputName → Type 0) (outcome : Outcome) : Type 0 where
+  NoTableB : opens (file_name tables.table_b.now ∷ [])
+      → TableOutcome counts (λ records. ReturnsUnlessMemory (table_b_of records)) TableB named
+      tables.table_b outcome → AreUnread counts named tables opens outcome
+  NoTableD : opens (table_names tables) → (b : List Row) → IfSome (named tables.table_b.now)
       (λ text. table_b_of (records_of text) ≡ Ok b)
       → TableOutcome counts ReadsTableD TableD named tables.table_d outcome
-      → AreUnread counts named tables outcome
+      → AreUnread counts named tables opens outcome
 
--- what comes of a run by tables: not both are read, and nothing was written; or it is by both
+-- the name of an input
+abbrev pub input_name : Option (Bor (List ℕ)) → InputName
+input_name None = standard_name
+input_name (Some name) = file_name name.now
+
+-- what comes of a run by tables: not both are read, and nothing was written; or it is by both, and
+-- the input is opened after them
 -- rule: tables-before-input
-pub data TablesOutcome {Standard File : Type 0} (run : List Row → List Sequence → Outcome → Type 0)
-    (inputs : Known Standard File) (tables : TableNames) (before after : Writers)
-    (outcome : Outcome) : Type 0 where
-  NoTables : after ≡ before → AreUnread inputs.of_file inputs.named tables outcome
-      → TablesOutcome run inputs tables before after outcome
+pub data TablesOutcome {Standard File : Type 0} (pieces : List Row → List Sequence → RunPieces)
+    (inputs : Known Standard File) (tables : TableNames) (opens : List InputName → Type 0)
+    (file : Option (Bor (List ℕ))) (before after : Writers) (outcome : Outcome) : Type 0 where
+  NoTables : after ≡ before → AreUnread inputs.of_file inputs.named tables opens outcome
+      → TablesOutcome pieces inputs tables opens file before after outcome
   ByTables : (b : List Row) (d : List Sequence) → AreTables inputs.named tables b d
-      → run b d outcome → TablesOutcome run inputs tables before after outcome
+      → opens (table_names tables ++ input_name file ∷ [])
+      → RunOutcome (pieces b d) inputs file before after outcome
+      → TablesOutcome pieces inputs tables opens file before after outcome
 
--- what comes of a command
-abbrev pub CommandOutcome : {Standard File : Type 0} → Known Standard File → Subcommand
-    → (file : Option (Bor (List ℕ))) → (before after : Writers) → Outcome → Type 0
-CommandOutcome inputs Ls file before after outcome =
-    RunOutcome (event_pieces ls_piece) inputs file before after outcome
-CommandOutcome inputs (Dump tables) file before after outcome =
-    TablesOutcome
-    (λ b d ends. RunOutcome (event_pieces (dump_piece b d)) inputs file before after ends)
-    inputs tables before after outcome
-CommandOutcome inputs (Encode tables form) file before after outcome =
-    TablesOutcome
-    (λ b d ends. RunOutcome (document_pieces form b d) inputs file before after ends)
-    inputs tables before after outcome
+-- what comes of a command, and what it opens, each once
+abbrev pub CommandOutcome : {Standard File : Type 0} → Known Standard File
+    → (opens : List InputName → Type 0) → Subcommand → (file : Option (Bor (List ℕ)))
+    → (before after : Writers) → Outcome → Type 0
+CommandOutcome inputs opens Ls file before after outcome =
+    opens (input_name file ∷ [])
+    × RunOutcome (event_pieces ls_piece) inputs file before after outcome
+CommandOutcome inputs opens (Dump tables) file before after outcome =
+    TablesOutcome (λ b d. event_pieces (dump_piece b d)) inputs tables opens file before after
+    outcome
+CommandOutcome inputs opens (Encode tables form) file before after outcome =
+    TablesOutcome (document_pieces form) inputs tables opens file before after outcome
 
 -- Help was written and handed on; or the output failed at it, and the last line says so.
 pub data WritesHelp (text : List ℕ) (before after : Writers) (status : ℕ) : Type 0 where
@@ -195,34 +200,14 @@ AnswersFault Memory before after status =
     (after.output ≡ before.output)
     × WritesLine before.errors after.errors (run_line ended.Memory) × (status ≡ 2)
 
--- the names of tables, in the order in which they are opened
-abbrev pub table_names : TableNames → List InputName
-table_names tables = file_name tables.table_b.now ∷ file_name tables.table_d.now ∷ []
-
--- the name of an input
-abbrev pub input_name : Option (Bor (List ℕ)) → InputName
-input_name None = standard_name
-input_name (Some name) = file_name name.now
-
--- what a command opens before its input
-abbrev pub names_first : Subcommand → List InputName
-names_first Ls = []
-names_first (Dump tables) = table_names tables
-names_first (Encode tables form) = table_names tables
-
--- what a job opens, each once: the tables, and then the input
--- rule: tables-before-input
-abbrev pub names_of : Job → List InputName
-names_of job = names_first job.command ++ input_name job.file ∷ []
-
 -- A job was done, and the last line and the status say how; or there is none, and that is answered,
 -- and nothing is opened.
 -- rule: status-of-help
 pub data RunsProgram {Standard File : Type 0} (words : List Text) (inputs : Known Standard File)
     (opened opened' : Option (List InputName)) (before after : Writers) (status : ℕ) : Type 0 where
   Does : (job : Job) → IsJobOf (subcommand_of bufr_app words) job → (outcome : Outcome)
-      → (between : Writers) → CommandOutcome inputs job.command job.file before between outcome
-      → OpensInOrder opened opened' (names_of job)
+      → (between : Writers)
+      → CommandOutcome inputs (Opens opened opened') job.command job.file before between outcome
       → after.output ≡ between.output
       → WritesLine between.errors after.errors (last_line outcome) → status ≡ status_of outcome
       → RunsProgram words inputs opened opened' before after status

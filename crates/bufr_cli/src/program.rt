@@ -1,10 +1,11 @@
 //! The program below `main`: what it does with a command line, its inputs and its writers.
-ghost use Rattle.std.specs.Prelude.{◌≡◌, ◌⊎◌, ℕ, true, List, Option, None, [], ◌∷◌, Ok, IfOk, IfErr, IfSome, OnErr, OnOk, map};
+ghost use Rattle.std.specs.Prelude.{◌≡◌, ◌⊎◌, ◌≤◌, ◌+◌, ◌*◌, ℕ, true, List, Option, None, [], ◌∷◌, Ok, IfOk, IfErr, IfSome, OnOk, length, map};
+ghost use Rattle.bufr_bits.specs.Prelude.{counted};
 ghost use Rattle.bufr_frame.specs.Prelude.{read_failures_after, MakesReads};
 ghost use Rattle.bufr_tables.specs.Prelude.{Record, AreRows};
 ghost use Rattle.bufr_text.specs.Prelude.{Writes};
 ghost use Rattle.bufr_cli.specs.declared.program.OpenFault.TheVariants.{CannotOpen};
-ghost use Rattle.bufr_cli.specs.Prelude.{LeavesDevices, CountsCalls, input_of, writer_of, writers_of, ReadsAll, EndsRun, FlushesRest, AreTables, AreUnread, IsClosed, IsUnread, CommandOutcome, InputName, Opens, OpensInOrder, RunOutcome, file_name, input_name, known, command_pieces, names_of, ran_outcome, standard_name, table_names, RunsProgram};
+ghost use Rattle.bufr_cli.specs.Prelude.{LeavesDevices, CountsCalls, input_of, writer_of, writers_of, ReadsAll, EndsRun, FlushesRest, AreTables, AreUnread, IsClosed, IsUnread, CommandOutcome, InputName, Opens, RunOutcome, file_name, input_name, known, command_pieces, ran_outcome, standard_name, table_names, RunsProgram};
 
 use crate::dump::run_dump;
 use crate::encode::run_encode_form;
@@ -84,6 +85,10 @@ pub fn read_all<R: Source>(alloc: Global, r: &mut R) -> Result<Vec<u8>, RunFault
     ensures read { (bs : List ℕ) × ReadsAll (R.left r.old) (R.left r.new) result bs }
     ensures failed { R.failures r.new ≡ read_failures_after (R.failures r.old) result }
     ensures reads { MakesReads (R.reads r.old) (R.reads r.new) result }
+    // Each read but the last one gave an octet.
+    ensures each { IfOk result (λ octets. (n : ℕ) × (n ≤ length octets.items + 1)
+        × (R.reads r.new ≡ counted (R.reads r.old) n)
+        × (R.asked r.new ≡ counted (R.asked r.old) (65536 * n))) }
 {
     let mut octets = Vec::new(alloc);
     let mut reads = 0;
@@ -102,7 +107,8 @@ pub fn run<'a, S: AsStr, I: Inputs, W: Sink, E: Sink>(
     e: &mut E,
 ) -> u8
     // What the words ask for was done, or help was written and handed on, or the errors say why
-    // not; the status says which. The tables were opened once each, and then the input once.
+    // not; the status says which. Table B was opened first, Table D if that was read, and then the
+    // input if both were, each once.
     ensures { RunsProgram (map S.text words.entry.now)
         (known (I.standard_octets inputs.old) (I.file_octets inputs.old)
         (input_of I.Standard.Source) (input_of I.File.Source))
@@ -151,10 +157,8 @@ fn run_job<'a, I: Inputs, W: Sink, E: Sink>(
 ) -> Outcome<'a>
     ensures comes { CommandOutcome (known (I.standard_octets inputs.old) (I.file_octets inputs.old)
         (input_of I.Standard.Source) (input_of I.File.Source))
-        job.entry.command job.entry.file (writers_of W.Sink w.old E.Sink e.old)
-        (writers_of W.Sink w.new E.Sink e.new) result }
-    ensures opens { OpensInOrder (I.opened inputs.old) (I.opened inputs.new)
-        (names_of job.entry) }
+        (Opens (I.opened inputs.old) (I.opened inputs.new)) job.entry.command job.entry.file
+        (writers_of W.Sink w.old E.Sink e.old) (writers_of W.Sink w.new E.Sink e.new) result }
 {
     let Job { command, file } = job;
     let call = Call { alloc, file };
@@ -237,10 +241,8 @@ fn read_tables<'a, I: Inputs>(
     ensures rows { IfOk result
         (λ tables. (records : List Record) × AreRows records tables.table_b) }
     ensures unread { IfErr result (AreUnread (input_of I.File.Source) (I.file_octets inputs.old)
-        names.entry) }
+        names.entry (Opens (I.opened inputs.old) (I.opened inputs.new))) }
     ensures opens { OnOk result (Opens (I.opened inputs.old) (I.opened inputs.new)
-        (table_names names.entry)) }
-    ensures opens_some { OnErr result (OpensInOrder (I.opened inputs.old) (I.opened inputs.new)
         (table_names names.entry)) }
     ensures files { I.file_octets inputs.new ≡ I.file_octets inputs.old }
     ensures standard { I.standard_octets inputs.new ≡ I.standard_octets inputs.old }

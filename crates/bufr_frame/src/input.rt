@@ -18,8 +18,8 @@ const CHUNK: usize = 65536;
 /// The octets of an input that were read and not yet skipped. [`crate::Finder`] reads its stream by
 /// it, and a reader of lines its text. An input that is needed whole is read by [`read_to_end`].
 ///
-/// They slide to the start of its buffer only where at least as many were skipped, or where it grows
-/// to at least twice as many. So on average each octet is moved at most twice.
+/// They slide to the start of its buffer only where at least as many were skipped, or where it
+/// grows to at least twice as many. So on average each octet is moved at most twice.
 ///
 /// ```
 /// let mut input = InputBuffer::new(rt.alloc());

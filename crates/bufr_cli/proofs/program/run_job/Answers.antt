@@ -1,48 +1,35 @@
-use Rattle.std.proofs.Common.{◌≡◌, refl, sym, subst}
-use Rattle.bufr_cli.specs.Prelude.{Writers, ByTables, CommandOutcome, Known, NoTables}
+use Rattle.std.proofs.Common.{◌≡◌, List, refl, sym, subst}
+use Rattle.bufr_cli.specs.Prelude.{Writers, ByTables, CommandOutcome, InputName, Known, NoTables}
 use Rattle.bufr_cli.specs.declared.job.Job.{Job}
 use Rattle.bufr_cli.specs.declared.job.Subcommand.{Subcommand}
 use Rattle.bufr_cli.specs.declared.outcome.Outcome.{Outcome}
-use Rattle.bufr_cli.proofs.RunLemmas.{opens-all, opens-first, opens-then}
+use Rattle.bufr_cli.proofs.RunLemmas.{opens-then}
 use Rattle.bufr_cli.proofs.program.run_job.Goals as goal
 
 -- what comes of the command that a job has
-job-runs : {Standard File : Type 0} (inputs : Known Standard File) (job : Job) (command : Subcommand) (before after : Writers) (outcome : Outcome) → job.command ≡ command
-    → CommandOutcome inputs command job.file before after outcome
-    → CommandOutcome inputs job.command job.file before after outcome
-job-runs inputs job command before after outcome is comes = subst (λ command. CommandOutcome inputs command job.file before after outcome) (sym is) comes
+job-runs : {Standard File : Type 0} (inputs : Known Standard File) (opens : List InputName → Type 0) (job : Job) (command : Subcommand) (before after : Writers) (outcome : Outcome)
+    → job.command ≡ command → CommandOutcome inputs opens command job.file before after outcome
+    → CommandOutcome inputs opens job.command job.file before after outcome
+job-runs inputs opens job command before after outcome is comes = subst (λ command. CommandOutcome inputs opens command job.file before after outcome) (sym is) comes
 
 pub returns-in-Ls-clause-comes : goal.returns-in-Ls-clause-comes
-returns-in-Ls-clause-comes g c = job-runs _ c.args.job _ _ _ _ c.in-Ls.is c.run_input.ensures.comes
+returns-in-Ls-clause-comes g c = job-runs _ _ c.args.job _ _ _ _ c.in-Ls.is (c.run_input.ensures.opens, c.run_input.ensures.comes)
 
 pub returns-in-Ok-clause-comes : goal.returns-in-Ok-clause-comes
 returns-in-Ok-clause-comes g c =
     let b = c.in-Ok.tables.table_b in
     let d = c.in-Ok.tables.table_d in
-    job-runs _ c.args.job _ _ _ _ c.in-Dump.is (ByTables b d c.in-Ok.ensures.tables (rw (c.in-Ok.ensures.files, c.in-Ok.ensures.standard) at c.run_input-in-Ok.ensures.comes))
+    let opens = opens-then _ _ _ _ _ c.in-Ok.ensures.opens c.run_input-in-Ok.ensures.opens in
+    job-runs _ _ c.args.job _ _ _ _ c.in-Dump.is (ByTables b d c.in-Ok.ensures.tables opens (rw (c.in-Ok.ensures.files, c.in-Ok.ensures.standard) at c.run_input-in-Ok.ensures.comes))
 
 pub returns-in-Err-clause-comes : goal.returns-in-Err-clause-comes
-returns-in-Err-clause-comes g c = job-runs _ c.args.job _ _ _ _ c.in-Dump.is (NoTables refl c.in-Err.ensures.unread)
+returns-in-Err-clause-comes g c = job-runs _ _ c.args.job _ _ _ _ c.in-Dump.is (NoTables refl c.in-Err.ensures.unread)
 
 pub returns-in-Ok-read_tables-clause-comes : goal.returns-in-Ok-read_tables-clause-comes
 returns-in-Ok-read_tables-clause-comes g c =
-    job-runs _ c.args.job _ _ _ _ c.in-Encode.is (ByTables c.in-Ok-read_tables.tables.table_b c.in-Ok-read_tables.tables.table_d c.in-Ok-read_tables.ensures.tables
+    job-runs _ _ c.args.job _ _ _ _ c.in-Encode.is (ByTables c.in-Ok-read_tables.tables.table_b c.in-Ok-read_tables.tables.table_d c.in-Ok-read_tables.ensures.tables
+    (opens-then _ _ _ _ _ c.in-Ok-read_tables.ensures.opens c.run_input-in-Ok-read_tables.ensures.opens)
     (rw (c.in-Ok-read_tables.ensures.files, c.in-Ok-read_tables.ensures.standard) at c.run_input-in-Ok-read_tables.ensures.comes))
 
 pub returns-in-Err-read_tables-clause-comes : goal.returns-in-Err-read_tables-clause-comes
-returns-in-Err-read_tables-clause-comes g c = job-runs _ c.args.job _ _ _ _ c.in-Encode.is (NoTables refl c.in-Err-read_tables.ensures.unread)
-
-pub returns-in-Ls-clause-opens : goal.returns-in-Ls-clause-opens
-returns-in-Ls-clause-opens g c = rw c.in-Ls.is (opens-all _ _ _ c.run_input.ensures.opens)
-
-pub returns-in-Ok-clause-opens : goal.returns-in-Ok-clause-opens
-returns-in-Ok-clause-opens g c = rw c.in-Dump.is (opens-all _ _ _ (opens-then _ _ _ _ _ c.in-Ok.ensures.opens c.run_input-in-Ok.ensures.opens))
-
-pub returns-in-Err-clause-opens : goal.returns-in-Err-clause-opens
-returns-in-Err-clause-opens g c = rw c.in-Dump.is (opens-first _ _ _ _ c.in-Err.ensures.opens_some)
-
-pub returns-in-Ok-read_tables-clause-opens : goal.returns-in-Ok-read_tables-clause-opens
-returns-in-Ok-read_tables-clause-opens g c = rw c.in-Encode.is (opens-all _ _ _ (opens-then _ _ _ _ _ c.in-Ok-read_tables.ensures.opens c.run_input-in-Ok-read_tables.ensures.opens))
-
-pub returns-in-Err-read_tables-clause-opens : goal.returns-in-Err-read_tables-clause-opens
-returns-in-Err-read_tables-clause-opens g c = rw c.in-Encode.is (opens-first _ _ _ _ c.in-Err-read_tables.ensures.opens_some)
+returns-in-Err-read_tables-clause-comes g c = job-runs _ _ c.args.job _ _ _ _ c.in-Encode.is (NoTables refl c.in-Err-read_tables.ensures.unread)
