@@ -36,7 +36,7 @@ pub trait Source {
     /// Whether the next read may wait for octets that are not there yet, or fail. A source that
     /// does not know says that it may.
     fn may_wait(&self) -> bool
-        ensures { result ≡ waits self.now }
+        ensures { result ≡ false → waits self.now ≡ false }
     {
         true
     }

@@ -3,7 +3,7 @@ use Rattle.bufr_frame.specs.Prelude.{max_reads, read_failures_after, AddsReads}
 use Rattle.std.proofs.Common.{◌≡◌, ◌≢◌, ◌∙◌, ◌<◌, ◌^◌, ℕ, ◌+◌, ◌-◌, Bool, true, false, List, [], ◌∷◌, ◌++◌, length, length-append, refl, sym, ap, subst, arith, append_assoc, Option, None, Ok, Err, append-nil, Some, inl, inr, Result, flat_map, map, count_by, IfSome}
 use Rattle.std.specs.Io.KnownBytes.{Consumes, IsAtEnd, Keeps}
 use Rattle.std.proofs.KnownBytes.{Appends-nil, Appends-trans, Appends-kept, Consumes-trans}
-use Rattle.std.proofs.lemmas.Bool.{cases_Bool, false≢true}
+use Rattle.std.proofs.lemmas.Bool.{false≢true}
 use Rattle.std.proofs.lemmas.Grind.{common_steps, flat_map-append}
 use Rattle.bufr_bits.specs.Prelude.{counted}
 use Rattle.bufr_frame.proofs.FinderLemmas.{adds-then}
@@ -175,16 +175,16 @@ flushed-handed false before mid after handed flushed = let H : Writer → Type 0
 -- before a read what was written is handed on, or nothing changes
 read-handed : (waits : Bool) (unflushed unflushed' : Unflushed) (before mid after : Writers) (r : Result (Unit {0}) RunFault) → HandsOnWritten waits unflushed unflushed' mid after r → r ≡ Ok tt
     → IsAllFlushed unflushed before mid → IsAllFlushed unflushed' before after
-read-handed true unflushed unflushed' before mid after r hands well handed =
-    let flushed = rw well at hands.handed in (
-      (λ none. flushed-handed unflushed.output before.output mid.output after.output handed.0 flushed.0),
-      (λ none. flushed-handed unflushed.errors before.errors mid.errors after.errors handed.1 flushed.1),
-    )
-read-handed false unflushed unflushed' before mid after r hands well handed =
+read-handed waits unflushed unflushed' before mid after r hands well handed =
     let U : Unflushed → Type 0 = λ u. IsAllFlushed u before mid in
     let W : Writers → Type 0 = λ w. IsAllFlushed unflushed' before w in
-    let still = rw well at hands.handed in
-    subst W (sym still.1) (subst U (sym still.0) handed)
+    elim (rw well at hands.handed) [
+      | inl flushed ↦ (
+        (λ none. flushed-handed unflushed.output before.output mid.output after.output handed.0 flushed.0),
+        (λ none. flushed-handed unflushed.errors before.errors mid.errors after.errors handed.1 flushed.1),
+      )
+      | inr still ↦ subst W (sym still.2) (subst U (sym still.1) handed)
+    ]
 
 module _ (reaches : Progress → Type 0) (from to : Input) (before mid : Writers) (tally : Tally) (unflushed : Unflushed) (ran : RunSoFar reaches from to before mid tally unflushed) where
   -- so many pieces are few
@@ -387,14 +387,12 @@ module _ (reaches : Progress → Type 0) (from to : Input) (before mid : Writers
 
       on-hand : r ≡ Err Read → HandsOn {X = Tally} before after (Err Read)
       on-hand read =
-          elim (cases_Bool waits) [
-            | inl so ↦ (
-                let flushed = rw (well, so) at hands.handed in (
-                  flushed-handed unflushed.output before.output mid.output after.output ran.handed.0 flushed.0,
-                  flushed-handed unflushed.errors before.errors mid.errors after.errors ran.handed.1 flushed.1,
-                )
-                )
-            | inr so ↦ absurd (sure so read)
+          elim (rw well at hands.handed) [
+            | inl flushed ↦ (
+              flushed-handed unflushed.output before.output mid.output after.output ran.handed.0 flushed.0,
+              flushed-handed unflushed.errors before.errors mid.errors after.errors ran.handed.1 flushed.1,
+            )
+            | inr still ↦ absurd (sure still.0 read)
           ]
 
       fewer : n' < max_reads → ReadsFewer from.reads to'.reads

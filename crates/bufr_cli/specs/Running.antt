@@ -222,23 +222,15 @@ pub record FlushesIf (written : Bool) (before after : Writer)
   pub fault : IfErr result (λ fault. fault ≡ Write)
   pub counts : CountsCalls before after result
 
--- before a read that may wait, each writer was flushed if something was written to it; before
--- another read both stay
-abbrev pub FlushesBefore : (waits : Bool) → (unflushed unflushed' : Unflushed)
-    → (before after : Writers) → Type 0
-FlushesBefore true unflushed unflushed' before after =
-    IsFlushedIf unflushed.output before.output after.output
-    × IsFlushedIf unflushed.errors before.errors after.errors
-FlushesBefore false unflushed unflushed' before after =
-    (unflushed' ≡ unflushed) × (after ≡ before)
-
--- Before a read what was written is flushed, the output first, if the read may wait; or a flush
--- failed.
+-- Before a read each writer was flushed if something was written to it, the output first, or a
+-- flush failed. Where the read does not wait, both may stay.
 pub record HandsOnWritten (waits : Bool) (unflushed unflushed' : Unflushed)
     (before after : Writers) (result : Result (Unit {0}) RunFault) : Type 0 where
   pub output : Keeps before.output.taken after.output.taken
   pub errors : Keeps before.errors.taken after.errors.taken
-  pub handed : OnOk result (FlushesBefore waits unflushed unflushed' before after)
+  pub handed : OnOk result ((IsFlushedIf unflushed.output before.output after.output
+      × IsFlushedIf unflushed.errors before.errors after.errors)
+      ⊎ ((waits ≡ false) × (unflushed' ≡ unflushed) × (after ≡ before)))
   pub none : OnOk result ((after.output.failed_flushes ≡ before.output.failed_flushes)
       × (after.errors.failed_flushes ≡ before.errors.failed_flushes))
   pub order : after.errors.failed_flushes ≢ before.errors.failed_flushes

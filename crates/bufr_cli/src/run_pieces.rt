@@ -135,15 +135,14 @@ fn hand_on_before_read<R: Source, W: Sink, E: Sink>(
     ensures { HandsOnWritten (R.waits r.now) unflushed.old unflushed.new
         (writers_of W.Sink w.old E.Sink e.old) (writers_of W.Sink w.new E.Sink e.new) result }
 {
-    if !r.may_wait() {
-        return Ok(());
+    if r.may_wait() {
+        flush_if(unflushed.output, w)?;
+        flush_if(unflushed.errors, e)?;
+        *unflushed = Unflushed {
+            output: false,
+            errors: false,
+        };
     }
-    flush_if(unflushed.output, w)?;
-    flush_if(unflushed.errors, e)?;
-    *unflushed = Unflushed {
-        output: false,
-        errors: false,
-    };
     Ok(())
 }
 
