@@ -405,6 +405,7 @@ MUTATIONS = [
     ("scripts/bufr_text.py", "optional=int(message.section2 is not None)", "optional=int(bool(message.section2))", "tests/python_module.py"),
     ("install.sh", "-name out -prune -o ", "", "tests/proved_installation.sh"),
     ("release.sh", '[ $proof = unproved ] || [ "$mark" = "$logic" ] ||', "true ||", "tests/release.sh"),
+    ("scripts/bufr-parallel", "                    self.close(at, file)\n", "", "tests/parallel_dump.py"),
 ]
 
 
