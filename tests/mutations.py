@@ -406,6 +406,8 @@ MUTATIONS = [
     ("install.sh", "-name out -prune -o ", "", "tests/proved_installation.sh"),
     ("release.sh", '[ $proof = unproved ] || [ "$mark" = "$logic" ] ||', "true ||", "tests/release.sh"),
     ("scripts/bufr-parallel", "                    self.close(at, file)\n", "", "tests/parallel_dump.py"),
+    ("scripts/bufr_auto.py", "self.give(max(self.at, len(self.read) - len(END) + 1))", "self.give(len(self.read))", "tests/bufr_auto.py"),
+    ("scripts/bufr_auto.py", "key = tables, reason.concerns, words", "key = tables, words", "tests/bufr_auto.py"),
 ]
 
 
