@@ -405,6 +405,11 @@ MUTATIONS = [
     ("scripts/bufr_text.py", "optional=int(message.section2 is not None)", "optional=int(bool(message.section2))", "tests/python_module.py"),
     ("install.sh", "-name out -prune -o ", "", "tests/proved_installation.sh"),
     ("release.sh", '[ $proof = unproved ] || [ "$mark" = "$logic" ] ||', "true ||", "tests/release.sh"),
+    ("scripts/bufr-parallel", "                    self.close(at, file)\n", "", "tests/parallel_dump.py"),
+    ("scripts/bufr_auto.py", "self.give(max(self.at, len(self.read) - len(END) + 1))", "self.give(len(self.read))", "tests/bufr_auto.py"),
+    ("scripts/bufr_auto.py", "key = tables, reason.concerns, words", "key = tables, words", "tests/bufr_auto.py"),
+    ("scripts/bufr_sets.py", "if len(row) > max(places):", "if row:", "tests/csv_command.py"),
+    ("scripts/bufr_text.py", "            told.up_to(place.offset)\n            yield place", "            yield place", "tests/python_module.py"),
 ]
 
 
