@@ -6,8 +6,9 @@
 #                                                 it is unproved
 #
 # The files are written to the directory DIST, by default dist. If a step fails or is interrupted, the files there are
-# unchanged. From the same commit and program, every run makes identical files, in any directory and for any user.
-# Uncommitted changes are left out. The proof needs a few GB in TMPDIR (default: /tmp), and the library a C compiler.
+# unchanged. From the same commit and program and with the same linker, every run makes identical files, in any directory
+# and for any user. Uncommitted changes are left out. The proof needs a few GB in TMPDIR (default: /tmp), and the library
+# needs a C compiler.
 set -eu -o pipefail
 export LC_ALL=C
 
