@@ -63,6 +63,6 @@ def main(folder: str, *names: str) -> None:
 if __name__ == "__main__":
     if len(sys.argv) < 2:
         sys.exit(__doc__.strip())
-    if not shutil.which("bufr_dump") or not shutil.which("bufr_filter"):
-        sys.exit(print("skipped, because ecCodes' bufr_dump and bufr_filter are not on PATH"))
-    main(*sys.argv[1:])
+    if shutil.which("bufr_dump") and shutil.which("bufr_filter"):
+        main(*sys.argv[1:])
+    print("skipped, because ecCodes' bufr_dump and bufr_filter are not on PATH")
