@@ -56,12 +56,12 @@ export GIT_CONFIG_GLOBAL=/dev/null GIT_CONFIG_SYSTEM=/dev/null
 git checkout -q --detach "$commit"
 
 # prove WORD..: runs a command of the toolchain, and prints and logs what it says. A signal that ends this script ends the
-# command and the processes that it started too: `wait` returns at once, and does not wait for the command as the shell
-# would in the foreground.
+# command too: `wait` returns at once, and does not wait for the command as the shell would in the foreground. `set -m`
+# gives the command a process group, so that the processes that it started end with it.
 prove() {
     : > "$work/log"
     set -m
-    setpriv --pdeathsig TERM "$@" >> "$work/log" 2>&1 &
+    setpriv --pdeathsig TERM "$@" < /dev/null >> "$work/log" 2>&1 &
     running=$!
     set +m
     tail -s 0.1 -n +1 -f --pid=$running "$work/log" &
