@@ -23,14 +23,13 @@ Tag: py3-none-any
 
 def files():
     """The name of each file in the wheel, and its octets."""
-    for path in TOP.glob("scripts/*.py"):
+    for path in [*TOP.glob("scripts/*.py"), *TOP.glob("scripts/*.awk")]:  # bufr-csv runs table.awk from beside the modules
         yield path.name, path.read_bytes()
     for path in TOP.glob("scripts/bufr-*"):
         # pip writes its own Python in the place of this line.
         yield f"{NAME}.data/scripts/{path.name}", b"#!python\n" + path.read_bytes().partition(b"\n")[2]
-    for pattern, folder in (("scripts/*.awk", "share/bufr"), ("man/*.1", "share/man/man1")):
-        for path in TOP.glob(pattern):
-            yield f"{NAME}.data/data/{folder}/{path.name}", path.read_bytes()
+    for path in TOP.glob("man/*.1"):
+        yield f"{NAME}.data/data/share/man/man1/{path.name}", path.read_bytes()
     for path in TOP.glob("tables/wmo-*/*.csv"):
         yield f"{NAME}.data/data/share/bufr/{path.relative_to(TOP)}", path.read_bytes()
 

@@ -2,11 +2,13 @@
 # Makes a release of the current commit: an archive that installs without the toolchain, the wheel, and their checksums.
 #
 #     ./release.sh [DIST]                         proves everything from scratch, which takes one to two hours
-#     ./release.sh --unproved PROGRAM [DIST]      packs this program, and records in BUILD that it is unproved
+#     ./release.sh --unproved PROGRAM [DIST]      packs this program, without the library for C, and records in BUILD that
+#                                                 it is unproved
 #
 # The files are written to the directory DIST, by default dist. If a step fails or is interrupted, the files there are
-# unchanged. From the same commit and program, every run makes identical files, in any directory and for any user.
-# Uncommitted changes are left out. The proof needs a few GB in TMPDIR (default: /tmp).
+# unchanged. From the same commit and program and with the same linker, every run makes identical files, in any directory
+# and for any user. Uncommitted changes are left out. The proof needs a few GB in TMPDIR (default: /tmp), and the library
+# needs a C compiler.
 set -eu -o pipefail
 export LC_ALL=C
 
@@ -36,7 +38,7 @@ commit=$(git rev-parse HEAD) || die 'this directory is not a clone of the reposi
 # and create a file while rm removes its directory. The second rm then succeeds.
 leave() {
     trap '' HUP INT TERM
-    kill "$running" 2> /dev/null && wait || true
+    kill -- "-$running" 2> /dev/null && wait || true
     rm -rf "$clone" "$work" 2> /dev/null || rm -rf "$clone" "$work"
     [ -n "$is_made" ] || echo "$0: no release was made" >&2
 }
@@ -54,11 +56,14 @@ export GIT_CONFIG_GLOBAL=/dev/null GIT_CONFIG_SYSTEM=/dev/null
 git checkout -q --detach "$commit"
 
 # prove WORD..: runs a command of the toolchain, and prints and logs what it says. A signal that ends this script ends the
-# command too: `wait` returns at once, and does not wait for the command as the shell would in the foreground.
+# command too: `wait` returns at once, and does not wait for the command as the shell would in the foreground. `set -m`
+# gives the command a process group, so that the processes that it started end with it.
 prove() {
     : > "$work/log"
-    setpriv --pdeathsig TERM "$@" >> "$work/log" 2>&1 &
+    set -m
+    setpriv --pdeathsig TERM "$@" < /dev/null >> "$work/log" 2>&1 &
     running=$!
+    set +m
     tail -s 0.1 -n +1 -f --pid=$running "$work/log" &
     wait $running && status=0 || status=$?
     running=''
@@ -67,11 +72,12 @@ prove() {
 }
 
 logic=$(sed -n 's/.*`logic \([0-9a-f]\{16\}\)`.*/\1/p' README.md | head -n 1)
-gate='not run' sources=unknown kit=unknown
+gate='not run' sources=unknown kit=unknown library=none
 if [ $proof = proved ]; then
     program=crates/bufr/out/bufr
     kit=$(rt version) || die 'the toolchain (rt) is not on PATH; use --unproved PROGRAM to release a program without a proof'
     [ "${kit##* }" = "$logic" ] || die "the toolchain is $kit, but README.md names logic $logic"
+    command -v "${CC:-cc}" > /dev/null || die "the library for C needs a C compiler, but ${CC:-cc} is not on PATH"
     shopt -s nullglob
     proved=(crates/*/src crates/*/must-fail/*.edit)
     prove rt ci --anew || die 'the proofs or the tests failed (rt ci); see the output above'
@@ -92,6 +98,14 @@ name=bufr-$version-linux-x86_64
 mkdir "$work/$name"
 git archive HEAD | tar -x -C "$work/$name"
 install -D -m 755 "$program" "$work/$name/bin/bufr"
+if [ $proof = proved ]; then
+    lib=$work/$name/lib include=$work/$name/include
+    prove env TMPDIR="$work" library/build.sh "$lib" || die 'the library for C was not built; see the output above'
+    mkdir "$include" "$lib/pkgconfig"
+    mv "$lib/bufr.h" "$include"
+    mv "$lib/bufr.pc" "$lib/pkgconfig"
+    library=$(sum_of "$lib/libbufr.a")
+fi
 cat > "$work/$name/BUILD" << END
 version: $version
 commit: $commit
@@ -100,10 +114,11 @@ proof: $proof
 kit: $kit
 logic: $mark
 program: $(sum_of "$program")
+library: $library
 sources: $sources
 gate: $gate
 END
-(cd "$work/$name" && find . -type f ! -name SHA256SUMS | sort | xargs sha256sum > SHA256SUMS)
+(cd "$work/$name" && find . ! -type d ! -name SHA256SUMS | sort | xargs sha256sum > SHA256SUMS)
 tar -c -C "$work" --sort=name --format=ustar --owner=0 --group=0 --numeric-owner --mode=u=rwX,go=rX \
     --mtime="@$(git log -1 --format=%ct)" "$name" | gzip -n -9 > "$work/$name.tar.gz"
 cd "$work"

@@ -495,6 +495,10 @@ class Trial:
         told = [line for line in self.auto(stream=stream).stderr.decode().splitlines() if line.startswith("bufr-auto: ")]
         rest = "bufr-auto: 299 messages, the first at offset 48000: no set matches exactly; only the first 1,000 reasons are listed"
         self.holds("kinds of notes", (len(told), told[-1]) == (1001, rest), (len(told), told[-1]))
+        # Of two reasons, which concern other descriptors, one holds.
+        done = self.auto(stream=made(41, "012101", b"\1\1", local=102))
+        note = b"bufr-auto: 1 message, at offset 0: version 41 is later than wmo-39" + NEWER.encode() + b"\n"
+        self.holds("one of two reasons", done.stderr == note, done)
         refused = made(41, "012101", b"\1\1").replace(b"\0\0\x16", b"\0\0\x15", 1)
         done = self.auto(stream=refused)
         self.holds("no note of what is no message", done.stderr == b"offset 0: 11 section 1 short\n", done)
@@ -557,6 +561,19 @@ class Trial:
             done = self.auto(*words, **environment)
             wanted = (2, b"", f"bufr-auto: {told}\n".encode())
             self.holds(f"{words} {environment}", (done.returncode, done.stdout, done.stderr) == wanted, done)
+
+    def blocks(self) -> None:
+        """Blocks of a few bytes, which cut each text and each message, give the same."""
+        code = "import sys; sys.path.insert(0, sys.argv[1]); import bufr_auto; bufr_auto.BLOCK = int(sys.argv[2]); "
+        code += "bufr_auto.Work(getattr(bufr_auto, sys.argv[3]), [None]).do()"
+        lengths = (0, 50, 9)
+        stream = b"".join(made(number, LISTS[1], b"\1\1\0", section_2=bytes(size)) for size in lengths for number in (13, 39))
+        text = self.one_by_one(stream)[0]
+        for size in (1, 2, 3, 4, 5, 80):
+            for kind, given, wanted in (("Dump", stream, text), ("Encode", text, stream)):
+                words = [sys.executable, "-c", code, TOP / "scripts", str(size), kind]
+                done = subprocess.run(words, input=given, capture_output=True, env=self.environment)
+                self.same(f"{kind} by blocks of {size}", (done.stdout, done.stderr, done.returncode), (wanted, b"", 0))
 
     def signals(self) -> None:
         """Each signal ends it, and what it runs. What it had in files has gone, as it has at the end."""
@@ -720,6 +737,7 @@ def main() -> None:
             trial.lengths,
             trial.encodes,
             trial.same_as_one_by_one,
+            trial.blocks,
             trial.signals,
             trial.ends,
             trial.start_up,

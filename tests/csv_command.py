@@ -272,6 +272,12 @@ def names(folder: pathlib.Path) -> None:
         done = run(*options, SYNOP, environment={"BUFR_TABLES": str(tables.parent)})
         found = (rows_of_json if options else rows_of_csv)(done.stdout)[1][2]
         holds(f"a name of an item {options}", found[5] == odd.encode(), found)
+    # The names come from the latest set, by which nothing is dumped here, and of which a row is cut.
+    shutil.copytree(tables, folder / "tables/wmo-40")
+    (folder / "tables/wmo-40/B.csv").write_text(rows + "012\n", encoding="utf-8")
+    done = run("--names", "-c", "012101", SYNOP, environment={"BUFR_TABLES": str(tables.parent)})
+    wanted = b"message,subset,012101 TEMPERATURE/AIR TEMPERATURE"
+    holds("--names by a table with a short row", (done.returncode, done.stdout.splitlines()[:1]) == (0, [wanted]), done)
     done = run("--names", "--levels", "--keep", "year,001002", "-c", "007004,012101", SOUNDING)
     wanted = b"message,subset,year,001002 WMO STATION NUMBER,007004 PRESSURE,012101 TEMPERATURE/AIR TEMPERATURE"
     holds("--names --levels: the heading", done.stdout.splitlines()[0] == wanted, done.stdout[:200])

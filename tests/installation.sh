@@ -213,8 +213,10 @@ if python3 -c 'import pip, venv' 2> errors; then
     (
         unset PYTHONPATH
         PATH=$prefix/bin:/usr/bin:/bin
+        bufr-csv -c 001015 "$examples/synop.bufr" > "$work/csv"
         rm -r "$prefix"/bin/bufr-* "$prefix/share/bufr"
         environment/bin/bufr-auto "$examples/synop.bufr" | cmp - "$examples/synop.txt" || fail "bufr-auto of the package"
+        environment/bin/bufr-csv -c 001015 "$examples/synop.bufr" | cmp - "$work/csv" || fail "bufr-csv of the package"
         environment/bin/python -c "$count" "$examples/synop.bufr" | grep -qx 1 || fail "bufr_text of the package"
         ! environment/bin/python -c "$named" 2> errors && grep -q ' 012001, 012101,' errors || fail "bufr_text of the package finds no tables: $(< errors)"
         for script in "$top"/scripts/bufr-*; do

@@ -188,6 +188,7 @@ def try_examples(folder: pathlib.Path, work: pathlib.Path) -> None:
             if done.returncode or done.stdout:
                 wrongs.append(f"{compiler} {source}, {way}: {done.stdout}")
                 continue
+            alike(f"{compiler} {source}, {way}: asks for libbufr.so.0", b"\0libbufr.so.0\0" in built.read_bytes(), way == "shared")
             run = subprocess.run([built, *words], stdout=subprocess.PIPE, stderr=subprocess.PIPE)
             alike(f"{compiler} {source}, {way}", (run.returncode, run.stdout, run.stderr), (0, *wanted))
             if way == "shared" and not shutil.which("valgrind"):

@@ -588,6 +588,9 @@ class Runs(unittest.TestCase):
             self.assertEqual(len(faults), (message.offset + 1) // len(piece) + (message.offset % len(piece) > 700 * len(one)))
             passed += 1
         self.assertEqual(passed, 3 * 701)
+        strays = []
+        for place in bufr_text.listing(self.stream, strays):
+            self.assertEqual(strays, [one for one in faults if one.offset < place.offset])
 
     def test_refused_messages_are_warned_of(self):
         for tables, count in ((TABLES, 10), (OLD_TABLES, 12)):

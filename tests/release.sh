@@ -66,11 +66,16 @@ refuses 1 'does not run' "$make" --unproved /bin/false "$work/first"
 mkdir "$work/alone" "$work/fake"
 cp "$make" "$work/alone"
 refuses 1 'not a clone of the repository' "$work/alone/release.sh" --unproved "$bufr" "$work/first"
-# A toolchain that is imitated: `rt ci` leaves a program.
+# A toolchain that is imitated: `rt ci` leaves a program, and a script that builds an imitated library.
 logic=$(sed -n 's/.*`logic \([0-9a-f]\{16\}\)`.*/\1/p' README.md | head -n 1)
 printf '#!/bin/sh\n# rattle logic=%s\necho bufr 0.1.0\n' "$logic" > "$work/marked"
 printf '#!/bin/sh\necho bufr 0.1.0\n' > "$work/unmarked"
-chmod +x "$work/marked" "$work/unmarked"
+cat > "$work/build.sh" << 'END'
+#!/bin/sh
+mkdir "$1" && cp library/bufr.h "$1" && cd "$1" && echo archive > libbufr.a && echo shared > libbufr.so.0 &&
+    ln -s libbufr.so.0 libbufr.so && printf 'prefix=nowhere\nName: bufr\n' > bufr.pc
+END
+chmod +x "$work/marked" "$work/unmarked" "$work/build.sh"
 count=$(ls -d crates/*/src crates/*/must-fail/*.edit | wc -l)
 # fake LOGIC [COMMANDS]: a toolchain with this logic, whose `rt ci` runs COMMANDS before its last line.
 fake() {
@@ -79,7 +84,7 @@ fake() {
 case \$* in
     version) echo kit logic $1 ;;
     'ci --anew')
-        mkdir crates/bufr/out && cp '$work/marked' crates/bufr/out/bufr || exit
+        mkdir crates/bufr/out && cp '$work/marked' crates/bufr/out/bufr && cp '$work/build.sh' library || exit
         count=$count
         ${2-}
         echo "\$count passed, 0 failed"
@@ -90,9 +95,12 @@ END
     chmod +x "$work/fake/rt"
 }
 PATH=$work/fake:$PATH
-refuses 1 'not on PATH' env PATH=/usr/bin:/bin "$make" "$work/first"
+export CC=true # it only has to be there
+refuses 1 '(rt) is not on PATH' env PATH=/usr/bin:/bin "$make" "$work/first"
 fake 0123456789abcdef
 refuses 1 "README.md names logic $logic" "$make" "$work/first"
+fake "$logic"
+refuses 1 'needs a C compiler' env CC="$work/none" "$make" "$work/first"
 fake "$logic" 'echo low: not proved; exit 1'
 refuses 1 'the proofs or the tests failed' "$make" "$work/first"
 grep -q 'low: not proved' "$work/told" || fail "release.sh hides what the gate said: $(< "$work/told")"
@@ -100,6 +108,9 @@ fake "$logic" 'echo BAD EDIT; count=$((count - 1))'
 refuses 1 "there are $count crates and must-fail edits, but rt ci reports: $((count - 1)) passed" "$make" "$work/first"
 fake "$logic" "cp '$work/unmarked' crates/bufr/out/bufr"
 refuses 1 'built with logic none' "$make" "$work/first"
+fake "$logic" "printf '#!/bin/sh\necho no proof of bufr_c; exit 1\n' > library/build.sh"
+refuses 1 'the library for C was not built' "$make" "$work/first"
+grep -q 'no proof of bufr_c' "$work/told" || fail "release.sh hides what library/build.sh said: $(< "$work/told")"
 # A gate that takes so long that the run is interrupted: its script alone, as by `kill`, or all, as by Ctrl-C. Until it
 # ends, it makes the folders that the script removes.
 slow="at=\$PWD; while mkdir -p \"\$at/crates/bufr/out\"; do :; done"
@@ -117,6 +128,15 @@ for number in TERM INT HUP; do
     ends_it $number
     is_over
 done
+# The library is built by a script. Its processes end too.
+cat > "$work/slow" << END
+#!/bin/sh
+sh -c "echo \\\$\\\$ > '$work/pid'; kill -TERM \$PPID; exec sleep 60"
+exit
+END
+fake "$logic" "cat '$work/slow' > library/build.sh"
+ends_it TERM
+is_over
 fake "$logic" "echo \$\$ > '$work/pid'; kill -KILL \$PPID; exec sleep 60"
 ! TMPDIR=$work/temporary "$make" "$work/fourth" > "$work/told" 2>&1 || fail "a killed script succeeds"
 is_over
@@ -127,10 +147,18 @@ grep -q "^$count passed, 0 failed$" "$work/told" || fail "release.sh hides what 
 mkdir "$work/unpacked"
 tar -xzf "$work"/proved/*.tar.gz -C "$work/unpacked" --strip-components 1
 for line in 'proof: proved' "kit: kit logic $logic" "gate: $count passed, 0 failed" "sources: $(sources_of .)" \
-    "program: $(sha256sum < "$work/marked" | cut -c 1-64)"; do
+    "program: $(sha256sum < "$work/marked" | cut -c 1-64)" "library: $(sha256sum < "$work/unpacked/lib/libbufr.a" | cut -c 1-64)"; do
     grep -qx "$line" "$work/unpacked/BUILD" || fail "BUILD: no line $line"
 done
 "$work/unpacked/install.sh" "$work/installed" > "$work/told" || fail "a proved release: $(< "$work/told")"
+grep -q ', with the library for C$' "$work/told" || fail "install.sh does not say that it installed the library: $(< "$work/told")"
+for place in lib/libbufr.{a,so,so.0} include/bufr.h; do
+    cmp "$work/unpacked/$place" "$work/installed/$place" || fail "another $place is installed"
+done
+[ "$(readlink "$work/unpacked/lib/libbufr.so")" = libbufr.so.0 ] || fail 'libbufr.so is no link to libbufr.so.0'
+printf 'prefix=%s\nName: bufr\n' "$work/installed" | diff - "$work/installed/lib/pkgconfig/bufr.pc" || fail 'another bufr.pc is installed'
+"$work/unpacked/install.sh" --uninstall "$work/installed" > "$work/told"
+[ ! -e "$work/installed" ] || fail "--uninstall leaves $(find "$work/installed")"
 PATH=${PATH#*:}
 # A full disk: at the archive, which is the largest file, and at once.
 refuses $((128 + $(kill -l XFSZ))) 'no release was made' bash -c 'ulimit -f "$0" && exec "$@"' \
