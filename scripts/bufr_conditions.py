@@ -23,7 +23,7 @@ TIME = re.compile(r"\d{4,}(-\d{2,}(-\d{2,}(T\d{2,}(:\d{2,}(:\d{2,})?)?)?)?)?").f
 
 
 class Conditions:
-    """Conditions on a line. `patterns` has a pair for each: whether the pattern must not match, and the pattern itself.
+    """Conditions on a line. `patterns` has a pair for each condition: whether it is negated, and the pattern to search for.
 
     The patterns work both with grep -E and with `re`. Edition 3 messages contain only the year of the century, so time=2024
     does not match 0024. Such messages are left out and counted.
@@ -84,7 +84,7 @@ class Conditions:
         return f"left out {messages}{so_far} because of two-digit years; use {both} to select both editions"
 
     def new_note(self, so_far: str) -> List[str]:
-        """Returns a list that contains the note unless there is none or it was returned before."""
+        """Returns the note in a list, or an empty list if there is no note or it has been returned before."""
         notes = [self.note(so_far)] * (self.left_out > 0 and not self.is_told)
         self.is_told = self.left_out > 0
         return notes

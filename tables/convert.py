@@ -84,7 +84,7 @@ def of_csv(folder: pathlib.Path, pattern: str, columns: list):
 
 
 def sequences_of(rows):
-    """Yields a list for each group of consecutive rows with the same sequence: the sequence, followed by its members."""
+    """Yields a list for each sequence, whose rows are consecutive: its descriptor, followed by its members."""
     for fxy, run in itertools.groupby(rows, key=lambda row: row[0]):
         yield [fxy, *(member for _, member in run)]
 
@@ -118,7 +118,7 @@ def of_sequence_def(path: pathlib.Path):
 
 
 def of_wreport_b(path: pathlib.Path):
-    """Yields the rows in wreport's B*.txt."""
+    """Yields the rows in wreport's B*.txt: the six columns of `OURS_B`."""
     for number, line in lines_of(path):
         fxy, name, unit, *numbers = (one_line(line[at:end]) for at, end in zip(WREPORT_B, WREPORT_B[1:]))
         if not all(numbers):
@@ -183,7 +183,7 @@ def octets(text: str) -> bytes:
 
 
 def is_whole(text: str, least: int, most: int) -> bool:
-    """Returns whether a string is a whole number within these limits."""
+    """Returns whether a string is a whole number from `least` to `most`."""
     return re.fullmatch(r"-?0*[0-9]{1,19}", text) is not None and least <= whole(text) <= most
 
 

@@ -58,9 +58,9 @@ REFUSED = [
     (["category="], "the value in 'category=' cannot match"),
     (["time=18"], "the value in 'time=18' cannot match: write times as in time=2023-03-14T18"),
     (["time!=2024,2024-01-02T3"], "the value in 'time!=2024,2024-01-02T3' cannot match"),
-    (["category", SYNOP], "category has no value; write category=VALUE"),
-    ([SYNOP, "time"], "time has no value; write time=VALUE"),
-    (["--awk", "1)"], "awk does not accept the condition 1)"),
+    (["category", SYNOP], "the key category has no value; write category=VALUE"),
+    ([SYNOP, "time"], "the key time has no value; write time=VALUE"),
+    (["--awk", "1)"], "awk does not accept the --awk condition '1)'"),
     (["--awk", ""], "the --awk condition is empty"),
     (["--awk", " # length"], "the --awk condition is empty"),
     (["--awk", ";\n# one\n\n  # other\n"], "the --awk condition is empty"),
@@ -68,7 +68,7 @@ REFUSED = [
     (["--max-length", "11"], "--max-length '11': expected a whole number, at least 12"),
     (["--max-length", "1" * 19], f"--max-length '{'1' * 19}': expected a whole number, at least 12"),
     (["--all"], "unknown option --all"),
-    (["one", "two"], "expected one file; to read several, use cat one two | bufr-extract"),
+    (["one", "two"], "expected at most one file; to read several, use cat one two | bufr-extract"),
     (["nosuch"], "cannot open nosuch"),
     (["/"], "cannot read the input: Is a directory"),
 ]
@@ -133,7 +133,7 @@ def refuses_what_it_cannot(path: pathlib.Path) -> None:
             ("a pipe", run(["--awk", condition], input=path.read_bytes(), timeout=60)),
         ):
             lines = done.stderr.decode().splitlines()
-            told = "a line in the listing is longer than 1 MB" if "while" in condition else "--awk may only select lines, but it printed or changed this line"
+            told = "a line in the listing is longer than 1 MB" if "while" in condition else "the --awk condition may only select lines, but it printed or changed this line"
             is_refused = done.returncode == 2 and done.stdout in (b"", made(1)) and len(lines) == 1 and told in lines[0]
             want(is_refused, f"--awk '{condition}' over {name}: {done}")
     done = run(["--awk", 'NR == 2 { print last } { last = $0; next }', path])
@@ -145,7 +145,7 @@ def refuses_what_it_cannot(path: pathlib.Path) -> None:
     want((done.returncode, done.stderr) == (2, told), f"of an awk that is killed: {done}")
     # A line is repeated after all others were read.
     done = run(["--awk", 'NR == 1 { first = $0 } 1; END { fflush(); system("sleep 0.2"); print first }', path])
-    want(done.returncode == 2 and b"--awk may only select lines" in done.stderr, f"a line that comes twice: {done.stderr}")
+    want(done.returncode == 2 and b"the --awk condition may only select lines" in done.stderr, f"a line that comes twice: {done.stderr}")
     # More lines than a pipe holds: `bufr ls` does not wait for an awk that has ended.
     path.write_bytes(made(1) * 4000)
     done = run(["--awk", "NR == 2 { exit 2 } 1", path], timeout=60)
@@ -221,7 +221,7 @@ def tells_that_there_is_no_message(path: pathlib.Path) -> None:
     """A file without a message is told, however it is read, and not one of which nothing is taken."""
     zipped, cut = gzip.compress(made(1)), b"BUFR\0\0\x40\x04" + bytes(60)
     for octets, told, status in (
-        (zipped, ": it looks like gzip data (zcat)", 0),
+        (zipped, ": it looks like gzip data (use zcat)", 0),
         (b"", ": it is empty", 0),
         (cut, "", 1),
         (made(1), None, 0),

@@ -612,13 +612,13 @@ class Runs(unittest.TestCase):
     def test_notes_of_tables_are_warnings(self):
         text = (TOP / "examples/synop.txt").read_bytes().replace(b"masterversion 39", b"masterversion 45")
         later = bufr_text.encode(bufr_text.read(io.BytesIO(text)), *TABLES)
-        with self.assertWarnsRegex(bufr_text.DumpWarning, "version 45 is later than wmo-39") as warned:
+        with self.assertWarnsRegex(bufr_text.DumpWarning, "table version 45 is later than that of the table set wmo-39") as warned:
             self.assertEqual(bufr_text.encode(bufr_text.read(io.BytesIO(text))), later)
         self.assertEqual(warned.filename, __file__)
         self.stream.write_bytes(self.octets + later * 2)
         with self.assertWarns(bufr_text.DumpWarning) as warned:
             list(bufr_text.dump(self.stream, faults=[]))
-        wanted = f"{self.stream}: 2 messages, the first at offset {len(self.octets)}: version 45 is later than wmo-39"
+        wanted = f"{self.stream}: 2 messages, the first at offset {len(self.octets)}: table version 45 is later than that of the table set wmo-39"
         self.assertEqual(str(warned.warning).partition(";")[0], wanted)
 
     def test_what_a_program_tells_beside_faults_is_a_warning(self):
@@ -636,7 +636,7 @@ class Runs(unittest.TestCase):
 
     def test_a_file_without_a_message_is_warned_of(self):
         web = b"<html>BUFR</html>" * 20
-        for octets, told in [(b"", ": it is empty"), (b"\x1f\x8b\0", ": it looks like gzip data (zcat)"), (b"\0", "")]:
+        for octets, told in [(b"", ": it is empty"), (b"\x1f\x8b\0", ": it looks like gzip data (use zcat)"), (b"\0", "")]:
             self.stream.write_bytes(octets)
             for call, words in ((bufr_text.dump, TABLES), (bufr_text.dump, []), (bufr_text.listing, [])):
                 with self.assertWarns(bufr_text.DumpWarning) as warned:
