@@ -133,7 +133,7 @@ class Finder:
                 return None
             fault = b"1 cut"
         elif length > self.longest:
-            fault = b"skipped a message that declares %d bytes" % length
+            fault = b"skipped a message that declares a length of %d bytes" % length
         elif length < 12:
             fault = b"2 short length"
         elif not self.held.startswith(b"7777", at + length - 4):

@@ -478,7 +478,7 @@ def folder_of_temporary() -> str:
 
 
 def keep(descriptor: int, octets: Union[bytes, bytearray, memoryview]) -> None:
-    """Writes bytes to a temporary file."""
+    """Writes bytes to a temporary file. Raises `Failed` if they cannot be written."""
     try:
         write_all(descriptor, octets)
     except OSError:

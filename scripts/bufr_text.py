@@ -365,7 +365,7 @@ def _escaped(found: re.Match[bytes]) -> bytes:
 
 
 def find(subset: List[Item], fxy: str, count: int = 1) -> Optional[Item]:
-    """Returns the `count`-th item with this descriptor in a subset, or `None`.
+    """Returns the `count`-th item with this descriptor in a subset, or `None` if there are fewer.
 
     New reference values that are defined in the data are not counted.
     """

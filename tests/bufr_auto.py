@@ -265,7 +265,7 @@ class Trial:
         self.feed("documents", ["--encode"], steps, (b"", b""), 1)
 
         false = b"BUFR\xff\xff\xff\4"
-        skipped = b"bufr-auto: offset %d: skipped a message that declares %d bytes\n"
+        skipped = b"bufr-auto: offset %d: skipped a message that declares a length of %d bytes\n"
         steps = [
             (one + false[:6], texts[0], b""),
             (false[6:], b"", skipped % (len(one), 0xFFFFFF)),
@@ -318,7 +318,7 @@ class Trial:
                 piece = random.choice((message, message, message[:-3], b"BUFR\0\0\x0b", b"BUF", long, false, b"x" * 9))
                 if piece in (long, false):
                     declared = int.from_bytes(piece[4:7], "big")
-                    note = f"offset {len(stream)}: skipped a message that declares {declared} bytes\n"
+                    note = f"offset {len(stream)}: skipped a message that declares a length of {declared} bytes\n"
                     notes.append(note.encode())
                 stream += piece
                 masked += bytes(4) + piece[4:] if piece in (long, false) else piece
@@ -339,7 +339,7 @@ class Trial:
             self.holds(f"lengths {number}: masked", (given, masker.count) == (masked, len(notes)), (given, masked))
             self.holds(f"lengths {number}: notes of the mask", told == [b"bufr_auto.py: " + note for note in notes], told)
         done = self.auto("--max-length=100", stream=long)
-        self.holds("one that is skipped", done.stderr == b"bufr-auto: offset 0: skipped a message that declares 156 bytes\n", done)
+        self.holds("one that is skipped", done.stderr == b"bufr-auto: offset 0: skipped a message that declares a length of 156 bytes\n", done)
 
     def conditions(self) -> None:
         """`dump` takes the messages that meet conditions, and says where each is; it dumps the others as little."""

@@ -93,7 +93,7 @@ def of_definitions(place: pathlib.Path, script, holds) -> None:
         holds(f"a dump after the command of {name}", (status, "063255 3 " in output, errors), (0, True, ""))
         holds("what is missing then", script("bufr-lacks", message), (0, "", ""))
         unknown = script("bufr-lacks", made(17, 5, 7, "063254", b"\3"))[2]
-        asking = "bufr-lacks: wmo-17+7-5 lacks some rows; ask centre 7 for its tables " + LOOKUP.format(7)
+        asking = "bufr-lacks: the table set wmo-17+7-5 lacks some rows; ask centre 7 for its tables " + LOOKUP.format(7)
         holds("a set without a row", unknown, asking)
         shutil.rmtree(place / "tables/wmo-17+7-5")
 
@@ -121,7 +121,7 @@ def versions_and_editions(script, holds) -> None:
     newer = "bufr-lacks: there is no table set wmo-41; get newer tables from WMO (wmo-im/BUFR4 on GitHub), and convert them with tables/convert.py\n"
     holds("a row of a later version", script("bufr-lacks", made(41, 0, 98, "001191", b"\1")), (1, wanted.replace("255", "191"), newer))
     question = "ask centre 98 which table version its messages use " + LOOKUP.format(98)
-    asking = "bufr-lacks: wmo-13 lacks some rows; " + question
+    asking = "bufr-lacks: the table set wmo-13 lacks some rows; " + question
     wanted = "1 message of centre 98/0, tables 0/13/0, lacks 013164\n"
     holds("a row of another version", script("bufr-lacks", made(13, 0, 98, "013164", b"\1")), (1, wanted, asking))
     for edition, flag in ((3, 15), (4, 17)):

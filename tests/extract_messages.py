@@ -268,7 +268,7 @@ def skips_what_is_too_long(folder: pathlib.Path) -> None:
     want(len(longer) > limit >= max(map(len, (made(1), made(2), inner))), "the made messages have other lengths")
     last = second + len(stray + made(2))
     notes = [(first, len(longer)), (second, 0xFFFFFF), (last, len(longer))]
-    told = [f"bufr-extract: offset {offset}: skipped a message that declares {length} bytes" for offset, length in notes]
+    told = [f"bufr-extract: offset {offset}: skipped a message that declares a length of {length} bytes" for offset, length in notes]
     path = folder / "longer"
     path.write_bytes(octets)
     for words, taken in (([], [1, 3, 2, 3]), (["centre=98"], [1, 3, 2, 3]), (["--awk", 'value["subsets"] != 3'], [1, 3, 3])):
@@ -278,7 +278,7 @@ def skips_what_is_too_long(folder: pathlib.Path) -> None:
             want((done.returncode, done.stderr.decode().splitlines()) == (1, told), f"{words} of {name}: {done}")
     before = made(1) * 40_000  # more than is buffered
     done = run(["--max-length", str(limit)], input=before + longer)
-    note = f"bufr-extract: offset {len(before)}: skipped a message that declares {len(longer)} bytes\n"
+    note = f"bufr-extract: offset {len(before)}: skipped a message that declares a length of {len(longer)} bytes\n"
     want(done.stderr.decode() == note, f"after {len(before)} bytes, --max-length reports {done.stderr}")
     whole = run(["--max-length", "16777215", path])
     want(whole.stdout == run([path]).stdout != b"", "a high limit changes what is taken")
@@ -291,7 +291,7 @@ def skips_what_is_too_long(folder: pathlib.Path) -> None:
         bufsize=0,
     ) as feed:
         feed.stdin.write(stray)
-        note = b"bufr-extract: offset 0: skipped a message that declares 16777215 bytes\n"
+        note = b"bufr-extract: offset 0: skipped a message that declares a length of 16777215 bytes\n"
         is_there = select.select([feed.stderr], [], [], 20)[0]
         want(is_there and feed.stderr.read(1 << 16) == note, "the note of a live feed waits")
         feed.stdin.write(made(1))

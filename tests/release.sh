@@ -287,7 +287,7 @@ cron() {
 }
 {
     yes 'offset 1: 1 cut' | head -n 20
-    echo 'bufr-auto: offset 9: skipped a message that declares 900000 bytes'
+    echo 'bufr-auto: offset 9: skipped a message that declares a length of 900000 bytes'
     echo 'bufr-feed failed: exit-code'
 } > log
 cron hourly-feed
