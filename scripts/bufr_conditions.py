@@ -63,7 +63,10 @@ class Conditions:
         self.patterns.append((bool(negated), pattern))
 
     def pattern_of_left_out(self) -> str:
-        """Returns a pattern for lines that match but are left out. The pattern has no groups."""
+        """Returns a pattern, without capturing groups, for lines that meet the conditions but are left out.
+
+        It never matches if no message can be left out.
+        """
         return f" edition=3 .* time=(?:{'|'.join(self.of_century)})[ T:-]" if self.of_century else "(?!)"
 
     def are_met(self, line: bytes) -> bool:

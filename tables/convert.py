@@ -102,7 +102,7 @@ def of_element_table(path: pathlib.Path):
         if not line.startswith("#"):
             fields = [one_line(field) for field in line.split("|")]
             if len(fields) < 8:
-                raise Failed(f"{path}, line {number}: expected at least eight fields")
+                raise Failed(f"{path}, line {number}: expected at least eight fields, found {len(fields)}")
             yield [fields[0], *fields[3:8]]
 
 

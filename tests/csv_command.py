@@ -355,7 +355,7 @@ def notes(folder: pathlib.Path) -> None:
     holds("ambiguous levels after a missing file", done.returncode == 2, done)
     later = lib.asking(lib.message(b"\x14"), 45)
     done = run("-c", "001001", input=later)
-    holds("a note on tables", done.returncode == 0 and b"bufr-csv: 1 message, at offset 0: version 45" in done.stderr, done)
+    holds("a note on tables", done.returncode == 0 and b"bufr-csv: 1 message, at offset 0: table version 45" in done.stderr, done)
 
 
 def refusals(_folder: pathlib.Path) -> None:
@@ -364,7 +364,7 @@ def refusals(_folder: pathlib.Path) -> None:
     for words, told in [
         (["-x"], b"unknown option -x"),
         (["--column", "001001"], b"unknown option --column"),
-        (["-c=001001"], b"found '=001001'"),
+        (["-c=001001"], b"unknown column '=001001'"),
         (["-c", ""], b"empty column"),
         (["-c", "001001,"], b"empty column"),
         (["-c", "AIR TEMPERATURE"], b"in their names: 012001, 012101, 012004, 012104"),
@@ -510,7 +510,7 @@ def feed(awk: list, _folder: pathlib.Path) -> None:
         process.stdin.flush()
         while told.count(b"\n") < 2 and select.select([process.stderr], [], [], 20)[0]:
             told += os.read(process.stderr.fileno(), 1 << 16)
-        is_right = told.startswith(b"bufr-csv: 1 message so far, at offset 0: version 45 ") and told.endswith(
+        is_right = told.startswith(b"bufr-csv: 1 message so far, at offset 0: table version 45 ") and told.endswith(
             b"\nbufr-csv: skipped a subset without a level: message 1 subset 1; further such subsets are not reported\n"
         )
         holds(f"{awk}: the notes of a live feed", is_right, told)
