@@ -232,7 +232,7 @@ class _Lines:
         return line
 
     def refused(self, expected: str) -> TextError:
-        """Returns the error for the current line."""
+        """Returns the error for the current line: what was expected, and the likely cause, if it is known."""
         if self.line is None:
             return TextError(self.number, expected, "the end of the input")
         cause = next((cause for pattern, cause in _CAUSES if pattern.fullmatch(self.line)), "")
@@ -668,7 +668,7 @@ class _Told:
     def end(self, stream: IO[bytes]) -> None:
         """Reports the remaining strays, and issues the warnings."""
         self.up_to(float("inf"))
-        told = [f"no message{_looks(stream)}"] * self.is_bare
+        told = [f"the file contains no message{_looks(stream)}"] * self.is_bare
         if self.faults is None and self.count:
             faults = "1 fault" if self.count == 1 else f"{self.count} faults, the first"
             told.append(f"{faults}: {self.first}")
