@@ -554,7 +554,8 @@ def reasons(asked: Tables, tables: bufr_sets.TableSet) -> List[Reason]:
     if master != 0:
         found.append(Reason(f"master table {master} is not WMO's table for meteorology", bool))
     if version > tables.version:
-        found.append(Reason(f"table version {version} is later than that of the table set {tables.name}", bool, lambda: bufr_sets.NEWER))
+        text = f"table version {version} is later than that of the table set {tables.name}"
+        found.append(Reason(text, bool, lambda: bufr_sets.NEWER))
     if version <= 6 < tables.version:
         text = f"some descriptors have different definitions in version {version} and in {tables.name}"
         found.append(Reason(text, CHANGED_SINCE_6.__contains__))

@@ -284,7 +284,7 @@ def say(lines: bytes) -> None:
 
 
 def bare(file: Optional[str], begin: bytes, piece: str = "message") -> bytes:
-    """Returns the note that a file (None: standard input) contains no `piece`, and what type of file its begin suggests."""
+    """Returns the note that a file contains no `piece` ("message" or "document"), and what its first bytes look like."""
     head = begin.lstrip()
     if head[:1] == b"<":
         head = head.lower()
@@ -431,7 +431,7 @@ def leave(number: int, _frame: Optional[FrameType]) -> None:
 
 
 def opened(file: Optional[str]) -> int:
-    """Returns a descriptor that can be read at any offset: of the file if it is a regular file, otherwise of a temporary copy.
+    """Returns a descriptor that can be read at any offset: of a regular file itself, or of a temporary copy of another file.
 
     If `file` is None, reads standard input.
     """

@@ -701,7 +701,7 @@ def _octets(stream: IO[bytes], place: Listed) -> bytes:
 
 
 def _looks(stream: IO[bytes]) -> str:
-    """Returns the part of the note of `bufr-auto` that suggests a file's type, such as `: it is empty`, or an empty string."""
+    """Returns the end of the note of `bufr-auto` on a file without messages, such as `: it is empty`, or nothing."""
     words, begin = [_program("bufr-auto")], os.pread(stream.fileno(), 256, 0)
     told = subprocess.run(words, input=begin, stdout=subprocess.PIPE, stderr=subprocess.PIPE).stderr
     return told.decode(errors="replace").rstrip().rpartition("contains no message")[2]
