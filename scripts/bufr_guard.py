@@ -431,7 +431,7 @@ def leave(number: int, _frame: Optional[FrameType]) -> None:
 
 
 def opened(file: Optional[str]) -> int:
-    """Returns a descriptor that can be read at any offset: of a regular file itself, or of a temporary copy of another file.
+    """Returns a descriptor that can be read at any offset: of a regular file itself, or of a copy of any other file.
 
     If `file` is None, reads standard input.
     """
