@@ -251,7 +251,7 @@ def taken(folder: pathlib.Path, entries, refused) -> tuple:
         found.setdefault(entry[0], []).append(entry)
     for fxy, alike in list(found.items()):
         for entry in alike:
-            reason = refused(entry) or ("its rows in the source conflict" if alike.count(entry) < len(alike) else "")
+            reason = refused(entry) or ("the source contains different rows for it" if alike.count(entry) < len(alike) else "")
             if reason:
                 told = f"{bufr_guard.shown(str(folder))}: left out {shown(entry)}: {reason}\n"
                 bufr_guard.say(told.encode(**AS_IT_IS))

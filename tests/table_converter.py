@@ -129,7 +129,7 @@ one to other
   sequences removed: 1: 301002
   sequences added: 0
 """
-TWICE = "source: left out %s: its rows in the source conflict\n"
+TWICE = "source: left out %s: the source contains different rows for it\n"
 SOURCES = [
     ("B.csv", f"{HEADERS['B']}\n{ELEMENT}\n{ELEMENT}", 0, "", ELEMENT),
     ("B.csv", "", 2, "source/B.csv has no column fxy\n", None),
