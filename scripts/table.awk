@@ -299,7 +299,7 @@ BEGIN {
         level_count = split_columns(columns, level, "")
     is_joined = !placed && ("offset" in is_key || "length" in is_key)
     if (is_joined && (listing == "" || faults == ""))
-        fail("columns offset and length need -v listing=FILE (the output of bufr ls) and -v faults=FILE (the errors of bufr dump)")
+        fail("columns offset and length need -v listing=FILE (the output of bufr ls) and -v faults=FILE (the standard error of bufr dump)")
     fault = -1
     for (column = 1; column <= kept_count; column++) {
         word = kept[column]
