@@ -84,7 +84,8 @@ class Conditions:
             return ""
         messages = "1 edition 3 message" if self.left_out == 1 else f"{self.left_out} edition 3 messages"
         both = f"{self.asked},{','.join(self.of_century)}"
-        return f"left out {messages}{so_far} because of two-digit years; use {both} to select both editions"
+        advice = f"use {both} to select messages of both editions"
+        return f"left out {messages}{so_far} because edition 3 has only two-digit years; {advice}"
 
     def new_note(self, so_far: str) -> List[str]:
         """Returns the note in a list, or an empty list if there is no note or it has been returned before."""
