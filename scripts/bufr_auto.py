@@ -48,7 +48,7 @@ CHANGED_SINCE_6 = set(
 
 
 class Unread(Exception):
-    """Explains why a file could not be read to the end."""
+    """Explains why a file could not be opened or read to the end."""
 
 
 class Feed:
@@ -133,7 +133,7 @@ class Finder:
                 return None
             fault = b"1 cut"
         elif length > self.longest:
-            fault = b"skipped a message that declares %d bytes" % length
+            fault = b"skipped a message that declares a length of %d bytes" % length
         elif length < 12:
             fault = b"2 short length"
         elif not self.held.startswith(b"7777", at + length - 4):
@@ -389,7 +389,7 @@ class Run:
             self.read, self.at = b"", 0
 
     def take_fault(self) -> None:
-        """Reads the next fault line, and splits it into the place of the fault and the text after the place."""
+        """Reads the next fault line, and sets `place` and `told`, the text after it. At the end, `place` is `NOWHERE`."""
         for line in self.errors:
             word, _, self.told = line.partition(b": ")
             if word.startswith(self.PLACE) and word[len(self.PLACE) :].isdigit():
@@ -399,7 +399,7 @@ class Run:
         self.place = bufr_guard.NOWHERE
 
     def fault(self, place: int, size: int) -> bytes:
-        """Returns the fault line for the next piece, or an empty string if the piece has no fault."""
+        """Returns the fault line for the next piece, or empty bytes if the piece has no fault."""
         begin, self.passed = self.passed, self.passed + size
         if self.place >= self.passed:
             return b""
@@ -554,13 +554,14 @@ def reasons(asked: Tables, tables: bufr_sets.TableSet) -> List[Reason]:
     if master != 0:
         found.append(Reason(f"master table {master} is not WMO's table for meteorology", bool))
     if version > tables.version:
-        found.append(Reason(f"version {version} is later than {tables.name}", bool, lambda: bufr_sets.NEWER))
+        text = f"table version {version} is later than that of the table set {tables.name}"
+        found.append(Reason(text, bool, lambda: bufr_sets.NEWER))
     if version <= 6 < tables.version:
-        text = f"some descriptors differ between version {version} and {tables.name}"
+        text = f"some descriptors have different definitions in version {version} and in {tables.name}"
         found.append(Reason(text, CHANGED_SINCE_6.__contains__))
     if local != 0 and tables.own is None:
         own = bufr_sets.own_name(tables, centre, local)
-        text = f"there is no {own} for local version {local} of centre {centre}"
+        text = f"there is no table set {own} for local version {local} of centre {centre}"
         found.append(Reason(text, bufr_sets.is_local, lambda: bufr_sets.advice(tables, centre, version, local)))
     return found
 

@@ -23,7 +23,7 @@ TIME = re.compile(r"\d{4,}(-\d{2,}(-\d{2,}(T\d{2,}(:\d{2,}(:\d{2,})?)?)?)?)?").f
 
 
 class Conditions:
-    """Conditions on a line. `patterns` has a pair for each: whether the pattern must not match, and the pattern itself.
+    """Conditions on a line. `patterns` has a pair for each condition: whether it is negated, and the pattern to search for.
 
     The patterns work both with grep -E and with `re`. Edition 3 messages contain only the year of the century, so time=2024
     does not match 0024. Such messages are left out and counted.
@@ -63,7 +63,10 @@ class Conditions:
         self.patterns.append((bool(negated), pattern))
 
     def pattern_of_left_out(self) -> str:
-        """Returns a pattern for lines that match but are left out. The pattern has no groups."""
+        """Returns a pattern, without capturing groups, for lines that meet the conditions but are left out.
+
+        It never matches if no message can be left out.
+        """
         return f" edition=3 .* time=(?:{'|'.join(self.of_century)})[ T:-]" if self.of_century else "(?!)"
 
     def are_met(self, line: bytes) -> bool:
@@ -81,10 +84,11 @@ class Conditions:
             return ""
         messages = "1 edition 3 message" if self.left_out == 1 else f"{self.left_out} edition 3 messages"
         both = f"{self.asked},{','.join(self.of_century)}"
-        return f"left out {messages}{so_far} because of two-digit years; use {both} to select both editions"
+        advice = f"use {both} to select messages of both editions"
+        return f"left out {messages}{so_far} because edition 3 has only two-digit years; {advice}"
 
     def new_note(self, so_far: str) -> List[str]:
-        """Returns a list that contains the note unless there is none or it was returned before."""
+        """Returns the note in a list, or an empty list if there is no note or it has been returned before."""
         notes = [self.note(so_far)] * (self.left_out > 0 and not self.is_told)
         self.is_told = self.left_out > 0
         return notes

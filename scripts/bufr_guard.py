@@ -49,20 +49,20 @@ INTERVAL = 60
 NOWHERE = float("inf")
 # The processes that were started but have not been waited for.
 RUNNING: list[list[int]] = []
-# The first bytes of files without a message, and their types.
+# The first bytes of files without a message, and their types, with the program that reads each, if there is one.
 KINDS_OF_FILES = {
-    b"\x1f\x8b": "gzip data (zcat)",
-    b"BZh": "bzip2 data (bzcat)",
-    b"\xfd7zXZ": "xz data (xzcat)",
-    b"\x28\xb5\x2f\xfd": "zstd data (zstdcat)",
-    b"PK\3\4": "a zip archive (unzip -p)",
+    b"\x1f\x8b": "gzip data (use zcat)",
+    b"BZh": "bzip2 data (use bzcat)",
+    b"\xfd7zXZ": "xz data (use xzcat)",
+    b"\x28\xb5\x2f\xfd": "zstd data (use zstdcat)",
+    b"PK\3\4": "a zip archive (use unzip -p)",
     b"GRIB": "GRIB",
     b"CDF": "netCDF",
     b"\x89HDF": "HDF5",
     b"<!doctype html": "HTML",
     b"<html": "HTML",
     b"<?xml": "XML",
-    b"message\n": "a dump (--encode)",
+    b"message\n": "a dump (use bufr-auto --encode)",
 }
 
 
@@ -113,7 +113,7 @@ def take_descriptors() -> None:
 
 
 def guarded(work: Callable[[List[str]], int], text: str) -> int:
-    """Runs the work and returns its status. If it raises an exception, reports the exception and returns 2."""
+    """Runs the work and returns its exit status. If it raises an exception, reports the exception and returns 2."""
     try:
         if sys.version_info < (3, 9):
             raise Failed(f"{sys.executable} is too old; Python 3.9 or later is required")
@@ -196,7 +196,7 @@ def reason(error: BaseException) -> str:
     if isinstance(error, Failed):
         return str(error)
     if isinstance(error, ModuleNotFoundError):
-        debian = f"on Debian: apt-get install python3-{error.name}, then /usr/bin/python3 {sys.argv[0]} .."
+        debian = f"on Debian: apt-get install python3-{error.name}, then run /usr/bin/python3 {sys.argv[0]} .."
         return f"the Python package {error.name} is not installed for {sys.executable} ({debian})"
     if isinstance(error, OSError) and error.strerror:
         is_named = isinstance(error.filename, (str, bytes))
@@ -284,7 +284,7 @@ def say(lines: bytes) -> None:
 
 
 def bare(file: Optional[str], begin: bytes, piece: str = "message") -> bytes:
-    """Returns the note for a file that contains no message, with the file type that its first bytes suggest."""
+    """Returns the note that a file contains no `piece` ("message" or "document"), and what its first bytes look like."""
     head = begin.lstrip()
     if head[:1] == b"<":
         head = head.lower()
@@ -431,13 +431,16 @@ def leave(number: int, _frame: Optional[FrameType]) -> None:
 
 
 def opened(file: Optional[str]) -> int:
-    """Returns a descriptor of a file that can be read at any offset: a temporary copy if the file is not a regular file."""
+    """Returns a descriptor that can be read at any offset: of a regular file itself, or of a copy of any other file.
+
+    If `file` is None, reads standard input.
+    """
     descriptor = to_read(file)
     return descriptor if is_regular(descriptor) else copied(descriptor, named(file))
 
 
 def to_read(file: Optional[str]) -> int:
-    """Returns the descriptor of a file, or of standard input."""
+    """Returns the descriptor of a file that was opened for reading, or of standard input if `file` is None."""
     try:
         return 0 if file is None else os.open(file, os.O_RDONLY)
     except OSError as error:
@@ -445,7 +448,7 @@ def to_read(file: Optional[str]) -> int:
 
 
 def named(file: Optional[str]) -> str:
-    """Returns the name of a file for use in messages."""
+    """Returns the name of a file for use in messages. None stands for standard input."""
     return "standard input" if file is None else shown(file) or "''"
 
 
@@ -475,7 +478,7 @@ def folder_of_temporary() -> str:
 
 
 def keep(descriptor: int, octets: Union[bytes, bytearray, memoryview]) -> None:
-    """Writes bytes to a temporary file."""
+    """Writes bytes to a temporary file. Raises `Failed` if they cannot be written."""
     try:
         write_all(descriptor, octets)
     except OSError:
@@ -533,7 +536,7 @@ def fault_lines(errors: int) -> Iterator[tuple[float, bytes]]:
 class Faults:
     """The fault lines of a listing, which can be printed between the outputs for the messages.
 
-    Lines that are not fault lines are printed at the end. `has_told` says whether there were any.
+    Lines that are not fault lines are printed at the end. If there were any, `has_told` is then true.
     """
 
     def __init__(self, errors: int) -> None:

@@ -4,7 +4,7 @@
         asked = bufr_options.Asked(words, flags=["--json"], values={"-c": str, "--max-length": bufr_options.from_12})
         as_json = asked.has("--json")
         columns = asked.last("-c")            # None without -c
-        for file in asked.files():            # None is standard input: `-`, or no operand at all
+        for file in asked.files():            # None for standard input
             ..
     bufr_guard.run(work, __doc__)
 
@@ -85,7 +85,10 @@ class Asked:
         return [default, *self.all(name)][-1]
 
     def files(self, skipped: int = 0) -> list[Optional[str]]:
-        """Returns the operands after the first `skipped` ones as file names. None is standard input: `-`, or no operand."""
+        """Returns the operands after the first `skipped` ones as file names.
+
+        Standard input, given as `-` or by leaving out the operands, is returned as None.
+        """
         return [None if file == "-" else file for file in self.operands[skipped:]] or [None]
 
     def conditions(self) -> Optional[Conditions]:
@@ -108,7 +111,7 @@ def is_condition(word: str) -> bool:
 
 
 def parts(word: str) -> tuple[str, Optional[str]]:
-    """Splits a word into the name of an option and the value attached to it, or None if there is no value."""
+    """Splits a word into the name of an option and the value attached to it. The value is None if there is none."""
     if word.startswith("--"):
         name, equals, value = word.partition("=")
         return name, value if equals else None

@@ -20,7 +20,10 @@ CACHED = 8
 
 
 class TableSet:
-    """A directory with the tables for a WMO version. `own` is the centre and local version of its local rows, if any."""
+    """A directory with the tables for a WMO version.
+
+    `own` is the centre and the local version of its local rows, or None if it contains only WMO's rows.
+    """
 
     def __init__(self, folder: str, version: int, own: Optional[Tuple[int, int]]) -> None:
         self.folder, self.name, self.version, self.own = folder, os.path.basename(folder), version, own
@@ -140,7 +143,7 @@ def is_number(word: str) -> bool:
 
 
 def folder_of_sets() -> str:
-    """Returns the directory that contains the table sets: BUFR_TABLES, or one in the installation or repository."""
+    """Returns the directory that contains the table sets: the value of BUFR_TABLES, or else the installed directory."""
     named = os.environ.get("BUFR_TABLES")
     if named:
         places = [named]
@@ -156,7 +159,7 @@ def folder_of_sets() -> str:
 
 
 def words_of(message: Bytes) -> bytes:
-    """Returns the descriptors in section 3 of a message, two bytes each, up to the maximum for a template."""
+    """Returns the descriptors in section 3 of a message, two bytes each, or as many as a template can have."""
     begin = message(0, 26)
     at, flags = 8, begin[17 if begin[7:8] == b"\4" else 15 :][:1]
     for _ in range(2 if flags >= b"\x80" else 1):
@@ -188,7 +191,7 @@ def is_local(fxy: str) -> bool:
 
 
 def advice(tables: TableSet, centre: int, version: int, local: int) -> str:
-    """Returns advice on how to add a centre's local rows to a WMO set: a command to run, or whom to ask for the rows."""
+    """Returns advice on how to make a set with a centre's local rows: a command to run, or to ask the centre."""
     folders = [*os.environ.get("ECCODES_DEFINITION_PATH", "").split(":"), ECCODES]
     of_eccodes = [f"{folder}/bufr/tables/0/local/{local}/{centre}/0" for folder in folders]
     of_wreport = f"{WREPORT}/B00000000{centre:05}{version:03}{local:03}.txt"
@@ -202,7 +205,12 @@ def advice(tables: TableSet, centre: int, version: int, local: int) -> str:
     if (version, centre, local) in WREPORT_HAS:
         words = command(tables, centre, local, of_wreport, tables.folder)
         return f"to make it, install wreport-common (Debian), then run: {words}"
-    return f"no public source is known: ask centre {centre} (WMO's Common Code Table C-11 lists its name)"
+    return f"no public source is known for these tables; ask the centre for them {lookup(centre)}"
+
+
+def lookup(centre: int) -> str:
+    """Returns a remark in parentheses on how to find the name of a centre."""
+    return f"(to find its name, look up {centre} in WMO's Common Code Table C-11)"
 
 
 def command(tables: TableSet, centre: int, local: int, *sources: str) -> str:

@@ -115,7 +115,7 @@ class TextError(ValueError):
 
 
 class RunError(RuntimeError):
-    """Reports that a program failed or refused a dump. `status` is its exit status, or the negative signal number."""
+    """Reports that a program failed or refused a dump. `status` is its exit status, or minus the signal that killed it."""
 
     def __init__(self, status: int, reason: str) -> None:
         super().__init__(status, reason)
@@ -232,14 +232,14 @@ class _Lines:
         return line
 
     def refused(self, expected: str) -> TextError:
-        """Returns the error for the current line."""
+        """Returns the error for the current line: what was expected, and the likely cause, if it is known."""
         if self.line is None:
             return TextError(self.number, expected, "the end of the input")
         cause = next((cause for pattern, cause in _CAUSES if pattern.fullmatch(self.line)), "")
         return TextError(self.number, expected, cause)
 
     def count(self, key: str) -> int:
-        """Reads the number after a key. A valid number has at most five digits after any leading zeros."""
+        """Returns the number after a key in the next line. It has at most five digits after any leading zeros."""
         found = re.fullmatch(key.encode() + rb" 0*(\d{1,5})", self.inside(key))
         if not found:
             raise self.refused(f"{key} and a number")
@@ -365,7 +365,7 @@ def _escaped(found: re.Match[bytes]) -> bytes:
 
 
 def find(subset: List[Item], fxy: str, count: int = 1) -> Optional[Item]:
-    """Returns the `count`-th item with this descriptor in a subset, or `None`.
+    """Returns the `count`-th item with this descriptor in a subset, or `None` if there are fewer.
 
     New reference values that are defined in the data are not counted.
     """
@@ -649,7 +649,7 @@ class _Told:
             self.stray = next(self.strays, None)
 
     def of_part(self, errors: bytes, part: List[Listed]) -> Dict[int, Fault]:
-        """Returns the faults in a part, by offset. Counts the notes, which are reported at the end."""
+        """Returns the fault at each offset in a part that has one. Counts the notes, which are reported at the end."""
         begins = itertools.accumulate((place.length for place in part), initial=0)
         offsets = {begin: place.offset for begin, place in zip(begins, part)}
         refused = {}
@@ -668,7 +668,7 @@ class _Told:
     def end(self, stream: IO[bytes]) -> None:
         """Reports the remaining strays, and issues the warnings."""
         self.up_to(float("inf"))
-        told = [f"no message{_looks(stream)}"] * self.is_bare
+        told = [f"the file contains no message{_looks(stream)}"] * self.is_bare
         if self.faults is None and self.count:
             faults = "1 fault" if self.count == 1 else f"{self.count} faults, the first"
             told.append(f"{faults}: {self.first}")
@@ -701,14 +701,14 @@ def _octets(stream: IO[bytes], place: Listed) -> bytes:
 
 
 def _looks(stream: IO[bytes]) -> str:
-    """Returns the likely type of a file without messages, as `bufr-auto` guesses it from the first bytes."""
+    """Returns the end of the note of `bufr-auto` on a file without messages, such as `: it is empty`, or nothing."""
     words, begin = [_program("bufr-auto")], os.pread(stream.fileno(), 256, 0)
     told = subprocess.run(words, input=begin, stdout=subprocess.PIPE, stderr=subprocess.PIPE).stderr
     return told.decode(errors="replace").rstrip().rpartition("contains no message")[2]
 
 
 def _listed(stream: IO[bytes], errors: IO[bytes], told: _Told) -> Iterator[Listed]:
-    """Yields the places of the messages that meet the conditions. Strays remain in `errors` until they are reported."""
+    """Yields a `Listed` for each message that meets the conditions. Strays remain in `errors` until they are reported."""
     with tempfile.TemporaryFile() as lines:
         words = [_bufr(), "ls"]
         status = subprocess.run(words, stdin=stream, stdout=lines, stderr=errors).returncode
@@ -773,7 +773,7 @@ def _run(words: List[str], source: IO[bytes], target: IO[bytes]) -> subprocess.C
 
 
 def _failure(status: int, words: List[str], errors: Iterable[bytes]) -> RunError:
-    """Returns the error for a failed program: its output or else its status, and a hint if the disk is full."""
+    """Returns the error for a failed program: what it printed or else its status, and whether the disk is full."""
     told = b"".join(line for line in errors if not _FAULT.match(line)).decode(errors="replace").strip()
     told = told or f"{words[0]} " + (f"was killed (signal {-status})" if status < 0 else f"exited with status {status}")
     folder = tempfile.gettempdir()  # all output is in temporary files
@@ -785,7 +785,10 @@ def _bufr() -> str:
 
 
 def _program(name: str) -> str:
-    """Finds a program next to this file, in the `bin` directory of this installation or of Python, or on PATH."""
+    """Returns the path of a program next to this file, or in the `bin` directory of this installation or of Python.
+
+    If there is none, returns the name of the program, which is then looked up on PATH.
+    """
     here = pathlib.Path(__file__).resolve().parent
     for path in (here / name, here.parent.parent / "bin" / name, pathlib.Path(sys.prefix) / "bin" / name):
         if shutil.which(path):

@@ -50,7 +50,7 @@ function fail(text) {
 # Prints the note on skipped subsets. In a feed, bufr-csv prints it after the first such subset, when the count is 0.
 function tell_skipped(count, kind, where) {
     kind = count > 1 ? count " subsets " kind "; the first is" : "a subset " kind ":"
-    print name ": skipped " kind " message " where (count ? "" : "; further ones are not reported") | "cat >&2"
+    print name ": skipped " kind " message " where (count ? "" : "; further such subsets are not reported") | "cat >&2"
     close("cat >&2")
 }
 
@@ -299,7 +299,7 @@ BEGIN {
         level_count = split_columns(columns, level, "")
     is_joined = !placed && ("offset" in is_key || "length" in is_key)
     if (is_joined && (listing == "" || faults == ""))
-        fail("columns offset and length need -v listing=FILE (from bufr ls) and -v faults=FILE (from bufr dump)")
+        fail("columns offset and length need -v listing=FILE (the output of bufr ls) and -v faults=FILE (the standard error of bufr dump)")
     fault = -1
     for (column = 1; column <= kept_count; column++) {
         word = kept[column]

@@ -84,7 +84,7 @@ def of_csv(folder: pathlib.Path, pattern: str, columns: list):
 
 
 def sequences_of(rows):
-    """Yields a list for each group of consecutive rows with the same sequence: the sequence, followed by its members."""
+    """Yields a list for each sequence, whose rows are consecutive: its descriptor, followed by its members."""
     for fxy, run in itertools.groupby(rows, key=lambda row: row[0]):
         yield [fxy, *(member for _, member in run)]
 
@@ -102,7 +102,7 @@ def of_element_table(path: pathlib.Path):
         if not line.startswith("#"):
             fields = [one_line(field) for field in line.split("|")]
             if len(fields) < 8:
-                raise Failed(f"{path}, line {number}: expected at least eight fields")
+                raise Failed(f"{path}, line {number}: expected at least eight fields, found {len(fields)}")
             yield [fields[0], *fields[3:8]]
 
 
@@ -118,7 +118,7 @@ def of_sequence_def(path: pathlib.Path):
 
 
 def of_wreport_b(path: pathlib.Path):
-    """Yields the rows in wreport's B*.txt."""
+    """Yields the rows in wreport's B*.txt: the six columns of `OURS_B`."""
     for number, line in lines_of(path):
         fxy, name, unit, *numbers = (one_line(line[at:end]) for at, end in zip(WREPORT_B, WREPORT_B[1:]))
         if not all(numbers):
@@ -183,7 +183,7 @@ def octets(text: str) -> bytes:
 
 
 def is_whole(text: str, least: int, most: int) -> bool:
-    """Returns whether a string is a whole number within these limits."""
+    """Returns whether a string is a whole number from `least` to `most`."""
     return re.fullmatch(r"-?0*[0-9]{1,19}", text) is not None and least <= whole(text) <= most
 
 
@@ -251,7 +251,7 @@ def taken(folder: pathlib.Path, entries, refused) -> tuple:
         found.setdefault(entry[0], []).append(entry)
     for fxy, alike in list(found.items()):
         for entry in alike:
-            reason = refused(entry) or ("its rows in the source conflict" if alike.count(entry) < len(alike) else "")
+            reason = refused(entry) or ("the source contains different rows for it" if alike.count(entry) < len(alike) else "")
             if reason:
                 told = f"{bufr_guard.shown(str(folder))}: left out {shown(entry)}: {reason}\n"
                 bufr_guard.say(told.encode(**AS_IT_IS))

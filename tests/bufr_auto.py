@@ -208,7 +208,7 @@ class Trial:
         line = text[: text.index(b"0x")].count(b"\n") + 1
         done = self.auto("--encode", stream=text)
         self.same("one refused", (done.stdout, done.stderr, done.returncode), (stream, b"line %d: 50 line\n" % line, 1))
-        note = b"bufr-auto: 1 document, at line 3: version 41 is later than wmo-39" + NEWER.encode() + b"\n"
+        note = b"bufr-auto: 1 document, at line 3: table version 41 is later than that of the table set wmo-39" + NEWER.encode() + b"\n"
         text = self.auto(stream=made(39, LISTS[0], b"\1\1")).stdout.replace(b"masterversion 39", b"masterversion 41")
         done = self.auto("--encode", stream=b"\n\n" + text)
         self.same("a note", (done.stdout[21:22], done.stderr, done.returncode), (b"\x29", note.replace(b"3", b"1", 1), 0))
@@ -265,7 +265,7 @@ class Trial:
         self.feed("documents", ["--encode"], steps, (b"", b""), 1)
 
         false = b"BUFR\xff\xff\xff\4"
-        skipped = b"bufr-auto: offset %d: skipped a message that declares %d bytes\n"
+        skipped = b"bufr-auto: offset %d: skipped a message that declares a length of %d bytes\n"
         steps = [
             (one + false[:6], texts[0], b""),
             (false[6:], b"", skipped % (len(one), 0xFFFFFF)),
@@ -277,7 +277,7 @@ class Trial:
 
     def notes_of_feeds(self) -> None:
         """A note comes in a pause, or after a minute, and once: of later messages only another one is there."""
-        note = b"bufr-auto: 1 message so far, at offset %d: version %d is later than wmo-39" + NEWER.encode() + b"\n"
+        note = b"bufr-auto: 1 message so far, at offset %d: table version %d is later than that of the table set wmo-39" + NEWER.encode() + b"\n"
         later, latest = made(41, LISTS[0], b"\1\1"), made(42, LISTS[0], b"\1\1")
         texts = [self.one_by_one(message)[0] for message in (later, latest)]
         steps = [
@@ -318,7 +318,7 @@ class Trial:
                 piece = random.choice((message, message, message[:-3], b"BUFR\0\0\x0b", b"BUF", long, false, b"x" * 9))
                 if piece in (long, false):
                     declared = int.from_bytes(piece[4:7], "big")
-                    note = f"offset {len(stream)}: skipped a message that declares {declared} bytes\n"
+                    note = f"offset {len(stream)}: skipped a message that declares a length of {declared} bytes\n"
                     notes.append(note.encode())
                 stream += piece
                 masked += bytes(4) + piece[4:] if piece in (long, false) else piece
@@ -339,7 +339,7 @@ class Trial:
             self.holds(f"lengths {number}: masked", (given, masker.count) == (masked, len(notes)), (given, masked))
             self.holds(f"lengths {number}: notes of the mask", told == [b"bufr_auto.py: " + note for note in notes], told)
         done = self.auto("--max-length=100", stream=long)
-        self.holds("one that is skipped", done.stderr == b"bufr-auto: offset 0: skipped a message that declares 156 bytes\n", done)
+        self.holds("one that is skipped", done.stderr == b"bufr-auto: offset 0: skipped a message that declares a length of 156 bytes\n", done)
 
     def conditions(self) -> None:
         """`dump` takes the messages that meet conditions, and says where each is; it dumps the others as little."""
@@ -394,7 +394,7 @@ class Trial:
         done = subprocess.run([*AUTO, *names], cwd=self.place, env=self.environment, capture_output=True)
         told = (
             b"file 0:offset 0: 1 cut\nfile 1:offset 0: 1 cut\n"
-            b"bufr-auto: 2 messages, the first in file 0 at offset 56: version 41 is later than wmo-39" + NEWER.encode() +
+            b"bufr-auto: 2 messages, the first in file 0 at offset 56: table version 41 is later than that of the table set wmo-39" + NEWER.encode() +
             b"\nbufr-auto: cannot open nosuch: No such file or directory\nbufr-auto: cannot read folder: Is a directory\n"
         )
         self.same("files", (done.stdout, done.stderr, done.returncode), (b"".join(texts), told, 2))
@@ -423,18 +423,18 @@ class Trial:
         """A file without a message is told, with what it looks like; the status is that of `bufr`."""
         synop = TOP / "examples/synop.bufr"
         for begin, kind, status in (
-            (subprocess.run(["gzip", "-c", synop], stdout=subprocess.PIPE).stdout, "looks like gzip data (zcat)", 0),
-            (b"BZh9", "looks like bzip2 data (bzcat)", 0),
-            (b"\xfd7zXZ\0", "looks like xz data (xzcat)", 0),
-            (b"\x28\xb5\x2f\xfd\4", "looks like zstd data (zstdcat)", 0),
-            (b"PK\3\4\n", "looks like a zip archive (unzip -p)", 0),
+            (subprocess.run(["gzip", "-c", synop], stdout=subprocess.PIPE).stdout, "looks like gzip data (use zcat)", 0),
+            (b"BZh9", "looks like bzip2 data (use bzcat)", 0),
+            (b"\xfd7zXZ\0", "looks like xz data (use xzcat)", 0),
+            (b"\x28\xb5\x2f\xfd\4", "looks like zstd data (use zstdcat)", 0),
+            (b"PK\3\4\n", "looks like a zip archive (use unzip -p)", 0),
             (b"GRIB\xff", "looks like GRIB", 0),
             (b"CDF\1", "looks like netCDF", 0),
             (b"\x89HDF\r\n", "looks like HDF5", 0),
             (b"\n<!DOCTYPE HTML><p>BUFR", "looks like HTML", 1),
             (b"<HTML>", "looks like HTML", 0),
             (b"<?xml version='1.0'?>", "looks like XML", 0),
-            ((TOP / "examples/synop.txt").read_bytes(), "looks like a dump (--encode)", 0),
+            ((TOP / "examples/synop.txt").read_bytes(), "looks like a dump (use bufr-auto --encode)", 0),
             (b"SMVD01 EKMI 010000\r\r\n", "looks like text", 0),
             (b"\1\r\r\n123\r\r\nSMVD01 EKMI 010000\tA\r\r\n\3", "looks like text", 0),
             (b"", "is empty", 0),
@@ -456,7 +456,7 @@ class Trial:
             child.stdin.write(b"\x1f")
             self.wait(lambda: fcntl.ioctl(child.stdin, termios.FIONREAD, bytes(4)) == bytes(4))
             _, told = child.communicate(b"\x8b\x08abc")
-        note = b"bufr-auto: standard input contains no message: it looks like gzip data (zcat)\n"
+        note = b"bufr-auto: standard input contains no message: it looks like gzip data (use zcat)\n"
         self.holds("gzip data in two reads", (child.returncode, told) == (0, note), told)
         done = self.auto(stream=b"")
         self.holds("an empty input", done.stderr == b"bufr-auto: standard input contains no message: it is empty\n", done)
@@ -467,11 +467,11 @@ class Trial:
         """One for each kind, with a count and the first place, and only where such a descriptor is used."""
         for descriptor, is_local in (("001191", False), ("001192", True), ("047001", False), ("048001", True)):
             done = self.auto(stream=made(13, descriptor, b"\1", local=102))
-            self.holds(f"{descriptor} is local", (b"there is no wmo-13+98-102" in done.stderr) == is_local, done)
+            self.holds(f"{descriptor} is local", (b"there is no table set wmo-13+98-102" in done.stderr) == is_local, done)
         edition_3 = bytearray(lib.message(b"\1", lib.words("001192"), edition=3))
         edition_3[12:14], edition_3[18:20] = b"\7\x62", b"\x0d\x66"
         done = self.auto(stream=bytes(edition_3))
-        self.holds("edition 3", b"there is no wmo-13+98-102 for local version 102 of centre 98" in done.stderr, done)
+        self.holds("edition 3", b"there is no table set wmo-13+98-102 for local version 102 of centre 98" in done.stderr, done)
         # A sequence of a table that the centre's descriptor is in, and a version that has no set.
         done = self.auto("--encode", stream=b"message\nmasterversion 999999999\ndescriptors 012101\nsubset 1\nend\n")
         self.holds("a version of nine digits", done.stderr == b"line 2: 50 line\n", done)
@@ -484,9 +484,9 @@ class Trial:
         told = [line for line in done.stderr.decode().splitlines() if line.startswith("bufr-auto: ")]
         at = [found.start() for found in re.finditer(b"BUFR", stream)]
         wanted = [
-            f"3 messages, the first at offset {at[3]}: some descriptors differ between version 6 and wmo-13",
-            f"2 messages, the first at offset {at[9]}: there is no wmo-13+98-102 for local version 102 of centre 98; to make it",
-            f"1 message, at offset {at[11]}: version 40 is later than wmo-39{NEWER}",
+            f"3 messages, the first at offset {at[3]}: some descriptors have different definitions in version 6 and in wmo-13",
+            f"2 messages, the first at offset {at[9]}: there is no table set wmo-13+98-102 for local version 102 of centre 98; to make it",
+            f"1 message, at offset {at[11]}: table version 40 is later than that of the table set wmo-39{NEWER}",
         ]
         starts = [line[: len(note) + 11] for line, note in zip(told, wanted)]
         self.holds("notes", len(told) == 3 and starts == [f"bufr-auto: {note}" for note in wanted], told)
@@ -633,7 +633,7 @@ class Trial:
         # What a child gives is not whole, and it says nothing of that.
         other.write_text(f'#!/bin/sh\n"{self.program}" "$@" | head -c 3000\n')
         done = self.auto(stream=made(41, LISTS[1], b"\1\1\0") + made(13, LISTS[1], b"\1\1\0") * 9, BUFR=str(other))
-        told = b"bufr-auto: 1 message, at offset 0: version 41 is later than wmo-39" + NEWER.encode()
+        told = b"bufr-auto: 1 message, at offset 0: table version 41 is later than that of the table set wmo-39" + NEWER.encode()
         told += b"\nbufr-auto: bufr stopped early; output is incomplete\n"
         self.holds("a text that is cut", (done.returncode, done.stderr) == (2, told), done)
         # A long document becomes shorter while it is encoded.

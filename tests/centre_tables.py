@@ -30,7 +30,8 @@ TABLE_D = """\
            012101
  301250  1 001213
 """
-ASK = "no public source is known: ask centre {} (WMO's Common Code Table C-11 lists its name)\n"
+LOOKUP = "(to find its name, look up {} in WMO's Common Code Table C-11)\n"
+ASK = "no public source is known for these tables; ask the centre for them " + LOOKUP
 TEXT = """\
 message
 edition 4
@@ -80,7 +81,7 @@ def of_definitions(place: pathlib.Path, script, holds) -> None:
     (folder / "element.table").write_text("#code|..\n063255|a|long|MADE UP|Numeric|0|0|8\n")
     (folder / "sequence.def").write_text('"363001" = [ 063255 ]\n')
     errors = script("bufr-lacks", made(19, 8, 78, "063255", b""))[2]
-    wanted = f"bufr-lacks: there is no wmo-37+78-8; {of_eccodes(place / 'tables/wmo-37', 78, 8)}"
+    wanted = f"bufr-lacks: there is no table set wmo-37+78-8; {of_eccodes(place / 'tables/wmo-37', 78, 8)}"
     holds("what ecCodes has", errors, wanted)
     message = made(17, 5, 7, "363001", b"\3")
     for name in ("bufr-auto", "bufr-lacks"):
@@ -92,7 +93,8 @@ def of_definitions(place: pathlib.Path, script, holds) -> None:
         holds(f"a dump after the command of {name}", (status, "063255 3 " in output, errors), (0, True, ""))
         holds("what is missing then", script("bufr-lacks", message), (0, "", ""))
         unknown = script("bufr-lacks", made(17, 5, 7, "063254", b"\3"))[2]
-        holds("a set without a row", unknown, "bufr-lacks: wmo-17+7-5 lacks some rows; ask centre 7 for its tables\n")
+        asking = "bufr-lacks: the table set wmo-17+7-5 lacks some rows; ask centre 7 for its tables " + LOOKUP.format(7)
+        holds("a set without a row", unknown, asking)
         shutil.rmtree(place / "tables/wmo-17+7-5")
 
 
@@ -116,9 +118,10 @@ def versions_and_editions(script, holds) -> None:
     """Whose set serves a version that is later than all, and where the list of descriptors begins in each edition."""
     holds("of a later version", script("bufr-lacks", made(41, 0, 98, "013164", b"\1")), (0, "", ""))
     wanted = "1 message of centre 98/0, tables 0/41/0, lacks 001255\n"
-    newer = "bufr-lacks: there is no wmo-41; get newer tables from WMO (wmo-im/BUFR4 on GitHub), and convert them with tables/convert.py\n"
+    newer = "bufr-lacks: there is no table set wmo-41; get newer tables from WMO (wmo-im/BUFR4 on GitHub), and convert them with tables/convert.py\n"
     holds("a row of a later version", script("bufr-lacks", made(41, 0, 98, "001191", b"\1")), (1, wanted.replace("255", "191"), newer))
-    asking = "bufr-lacks: wmo-13 lacks some rows; ask centre 98 which version its messages use\n"
+    question = "ask centre 98 which table version its messages use " + LOOKUP.format(98)
+    asking = "bufr-lacks: the table set wmo-13 lacks some rows; " + question
     wanted = "1 message of centre 98/0, tables 0/13/0, lacks 013164\n"
     holds("a row of another version", script("bufr-lacks", made(13, 0, 98, "013164", b"\1")), (1, wanted, asking))
     for edition, flag in ((3, 15), (4, 17)):
@@ -136,7 +139,7 @@ def limits(script, holds) -> None:
     kinds = b"".join(made(13, 1, centre, "063255", b"") for centre in range(1, 1004)) * 2
     status, output, errors = script("bufr-lacks", kinds)
     holds("the kinds that are listed", (status, output.count("\n"), output.count("2 messages")), (1, 1000, 1000))
-    first = "bufr-lacks: left out 6 messages; at most 1000 combinations of centre and table versions are listed"
+    first = "bufr-lacks: left out 6 messages, because bufr-lacks lists at most 1,000 combinations of centre and table versions"
     holds("the notes on kinds", (errors.splitlines()[0], errors.count("\n")), (first, 1001))
     # Two kinds whose missing set is the same.
     _, output, errors = script("bufr-lacks", made(12, 1, 7, "063255", b"") + made(13, 1, 7, "063255", b""))
@@ -144,7 +147,7 @@ def limits(script, holds) -> None:
     many = " ".join(f"0{x}{y:03}" for x in range(48, 64) for y in range(256))
     status, output, errors = script("bufr-lacks", b"".join(made(13, 1, centre, many, b"") for centre in range(1, 15)))
     rows = sum(len(line.partition("lacks")[2].split()) for line in output.splitlines())
-    told = errors.startswith("bufr-lacks: left out some rows; at most 50000 are listed\n")
+    told = errors.startswith("bufr-lacks: left out some rows, because bufr-lacks lists at most 50,000\n")
     holds("the rows that are listed", (status, rows, told), (1, 50_000, True))
 
 
@@ -199,13 +202,13 @@ def main() -> None:
         debian = "" if WREPORT.exists() else "install wreport-common (Debian), then "
         made_by = f"to make it, {debian}run: {TOP}/tables/convert.py {tables}/wmo-13+98-102 {WREPORT} {tables}/wmo-13"
         other_notes = (
-            "bufr-lacks: there is no wmo-13+7-102; " + ASK.format(7)
-            + f"bufr-lacks: there is no wmo-13+98-1; {of_eccodes(tables / 'wmo-13', 98, 1)}"
-            + "bufr-lacks: there is no wmo-16+98-102; " + ASK.format(98)
+            "bufr-lacks: there is no table set wmo-13+7-102; " + ASK.format(7)
+            + f"bufr-lacks: there is no table set wmo-13+98-1; {of_eccodes(tables / 'wmo-13', 98, 1)}"
+            + "bufr-lacks: there is no table set wmo-16+98-102; " + ASK.format(98)
         )
-        errors = f"{cut}bufr-lacks: there is no wmo-13+98-102; {made_by}\n{other_notes}"
+        errors = f"{cut}bufr-lacks: there is no table set wmo-13+98-102; {made_by}\n{other_notes}"
         holds("bufr-lacks", script("bufr-lacks", stream), (1, lines + other_lines, errors))
-        note = f"bufr-auto: 1 message, at offset 0: there is no wmo-13+98-102 for local version 102 of centre 98; {made_by}\n"
+        note = f"bufr-auto: 1 message, at offset 0: there is no table set wmo-13+98-102 for local version 102 of centre 98; {made_by}\n"
         refused = "offset 0: 21 unknown sequence 301250\n"
         holds("bufr-auto before", script("bufr-auto", message), (1, "", refused + note))
         of_definitions(place, script, holds)
@@ -252,7 +255,7 @@ def main() -> None:
         holds("an incomplete set", script("bufr-lacks", synop), (0, "", told))
         shutil.copytree(TOP / "tables/wmo-39", tables / "wmo-40", dirs_exist_ok=True)
         (tables / "wmo-40/D.csv").write_text("no table\n")
-        told = f"table D: 40 header\nbufr-lacks: cannot use the table set {tables}/wmo-40\n"
+        told = f"table D: 40 header\nbufr-lacks: cannot use the table set {tables}/wmo-40, because bufr refuses it\n"
         holds("an invalid set", script("bufr-lacks", made(40, 0, 98, "001191", b"\1")), (2, "", told))
         shutil.rmtree(tables / "wmo-40")
         # A byte order mark, which `bufr` skips too.

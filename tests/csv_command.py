@@ -355,13 +355,13 @@ def notes(folder: pathlib.Path) -> None:
     (folder / "twice").write_bytes(twice)
     told = b"bufr-csv: skipped a subset with ambiguous levels: message 1 subset 1 (008002 begins a level and occurs in it again)%s\n"
     of_file = run("--levels", "-c", "020011", folder / "twice")
-    for what, done, rest in (("a file", of_file, b""), ("a pipe", done, b"; further ones are not reported")):
+    for what, done, rest in (("a file", of_file, b""), ("a pipe", done, b"; further such subsets are not reported")):
         holds(f"ambiguous levels of {what}", (done.returncode, done.stderr) == (1, told % rest), done)
     done = run("--levels", "-c", "020011", folder / "nosuch", folder / "twice")
     holds("ambiguous levels after a missing file", done.returncode == 2, done)
     later = lib.asking(lib.message(b"\x14"), 45)
     done = run("-c", "001001", input=later)
-    holds("a note on tables", done.returncode == 0 and b"bufr-csv: 1 message, at offset 0: version 45" in done.stderr, done)
+    holds("a note on tables", done.returncode == 0 and b"bufr-csv: 1 message, at offset 0: table version 45" in done.stderr, done)
 
 
 def refusals(_folder: pathlib.Path) -> None:
@@ -370,11 +370,11 @@ def refusals(_folder: pathlib.Path) -> None:
     for words, told in [
         (["-x"], b"unknown option -x"),
         (["--column", "001001"], b"unknown option --column"),
-        (["-c=001001"], b"found '=001001'"),
+        (["-c=001001"], b"unknown column '=001001'"),
         (["-c", ""], b"empty column"),
         (["-c", "001001,"], b"empty column"),
-        (["-c", "AIR TEMPERATURE"], b"names of 012001, 012101, 012004, 012104"),
-        (["-c", "air temperature"], b"names of 012001, 012101, 012004, 012104"),
+        (["-c", "AIR TEMPERATURE"], b"in their names: 012001, 012101, 012004, 012104"),
+        (["-c", "air temperature"], b"in their names: 012001, 012101, 012004, 012104"),
         (["-c", "001001,AIR TEMPERATURE"], b"'AIR TEMPERATURE'"),
         (["--levels", "-c", "PRESSURE"], b"007004"),
         (["--levels", "--keep", "STATION NUMBER", "-c", "007004"], b"001002"),
@@ -394,10 +394,10 @@ def refusals(_folder: pathlib.Path) -> None:
         (["-c", "001001,tables"], b"use master,masterversion,localversion"),
         (["-c", "year", "--where=", "category=0"], b"'' is not a condition"),
         (["--levels"], b"--levels needs -c"),
-        (["--levels", "-c", "year"], b"use --keep"),
-        (["--levels", "-c", "012101:2"], b"use --keep"),
-        (["--keep", "012101"], b"without -c, use only header keys"),
-        (["--keep", "012101:2"], b"without -c, use only header keys"),
+        (["--levels", "-c", "year"], b"pass it to --keep"),
+        (["--levels", "-c", "012101:2"], b"pass it to --keep"),
+        (["--keep", "012101"], b"without -c, --keep accepts only header keys"),
+        (["--keep", "012101:2"], b"without -c, --keep accepts only header keys"),
         (["--keep", "year", "-c", "012101"], b"--keep works only with --levels"),
         (["--names"], b"--names needs -c"),
         (["--json", "-c", "012101,012101"], b"012101 is given twice"),
@@ -516,8 +516,8 @@ def feed(awk: list, _folder: pathlib.Path) -> None:
         process.stdin.flush()
         while told.count(b"\n") < 2 and select.select([process.stderr], [], [], 20)[0]:
             told += os.read(process.stderr.fileno(), 1 << 16)
-        is_right = told.startswith(b"bufr-csv: 1 message so far, at offset 0: version 45 ") and told.endswith(
-            b"\nbufr-csv: skipped a subset without a level: message 1 subset 1; further ones are not reported\n"
+        is_right = told.startswith(b"bufr-csv: 1 message so far, at offset 0: table version 45 ") and told.endswith(
+            b"\nbufr-csv: skipped a subset without a level: message 1 subset 1; further such subsets are not reported\n"
         )
         holds(f"{awk}: the notes of a live feed", is_right, told)
         process.stdin.close()

@@ -83,8 +83,8 @@ def alike(rows: list) -> list:
 def table(done: subprocess.CompletedProcess) -> tuple:
     """The rows and the fault lines. That a file has no message is told as soon as it is listed."""
     lines = done.stderr.decode().splitlines()
-    want(lines.count("strays.bufr: no message") == 1, f"of a file without a message it tells {lines[:5]}")
-    lines.remove("strays.bufr: no message")
+    want(lines.count("strays.bufr: the file contains no message") == 1, f"of a file without a message it tells {lines[:5]}")
+    lines.remove("strays.bufr: the file contains no message")
     return alike(list(csv.reader(io.StringIO(done.stdout.decode())))), lines
 
 
@@ -103,11 +103,11 @@ def tries(trial: Trial) -> None:
     (trial.folder / "later.bufr").write_bytes(later * 2)
     done = trial.run("2", COLUMNS, "later.bufr")
     note, _, advice = done.stderr.partition(b"; ")
-    wanted_note = b"later.bufr: 2 messages, the first at offset 0: version 45 is later than wmo-39"
+    wanted_note = b"later.bufr: 2 messages, the first at offset 0: table version 45 is later than that of the table set wmo-39"
     want((done.returncode, note) == (0, wanted_note) and advice.count(b"\n") == 1, f"of a later version it tells {done.stderr}")
     (trial.folder / "packed.gz").write_bytes(b"\x1f\x8b\0")
     done = trial.run("2", COLUMNS, "packed.gz", "small.bufr")
-    note = b"packed.gz: no message: it looks like gzip data (zcat)\n"
+    note = b"packed.gz: the file contains no message: it looks like gzip data (use zcat)\n"
     want((done.returncode, done.stderr) == (0, note), f"of a file without a message it tells {done.stderr}")
     # the first worker that dumps a part is killed: bufr < bufr-auto < the worker
     kill = 'kill -9 "$(ps -o ppid= -p $PPID | tr -d " ")"'

@@ -58,9 +58,9 @@ REFUSED = [
     (["category="], "the value in 'category=' cannot match"),
     (["time=18"], "the value in 'time=18' cannot match: write times as in time=2023-03-14T18"),
     (["time!=2024,2024-01-02T3"], "the value in 'time!=2024,2024-01-02T3' cannot match"),
-    (["category", SYNOP], "category has no value; write category=VALUE"),
-    ([SYNOP, "time"], "time has no value; write time=VALUE"),
-    (["--awk", "1)"], "awk does not accept the condition 1)"),
+    (["category", SYNOP], "the key category has no value; write category=VALUE"),
+    ([SYNOP, "time"], "the key time has no value; write time=VALUE"),
+    (["--awk", "1)"], "awk does not accept the --awk condition '1)'"),
     (["--awk", ""], "the --awk condition is empty"),
     (["--awk", " # length"], "the --awk condition is empty"),
     (["--awk", ";\n# one\n\n  # other\n"], "the --awk condition is empty"),
@@ -68,7 +68,7 @@ REFUSED = [
     (["--max-length", "11"], "--max-length '11': expected a whole number, at least 12"),
     (["--max-length", "1" * 19], f"--max-length '{'1' * 19}': expected a whole number, at least 12"),
     (["--all"], "unknown option --all"),
-    (["one", "two"], "expected one file; to read several, use cat one two | bufr-extract"),
+    (["one", "two"], "expected at most one file; to read several, use cat one two | bufr-extract"),
     (["nosuch"], "cannot open nosuch"),
     (["/"], "cannot read the input: Is a directory"),
 ]
@@ -133,7 +133,7 @@ def refuses_what_it_cannot(path: pathlib.Path) -> None:
             ("a pipe", run(["--awk", condition], input=path.read_bytes(), timeout=60)),
         ):
             lines = done.stderr.decode().splitlines()
-            told = "a line in the listing is longer than 1 MB" if "while" in condition else "--awk may only select lines, but it printed or changed this line"
+            told = "a line in the listing is longer than 1 MB" if "while" in condition else "the --awk condition may only select lines, but it printed or changed this line"
             is_refused = done.returncode == 2 and done.stdout in (b"", made(1)) and len(lines) == 1 and told in lines[0]
             want(is_refused, f"--awk '{condition}' over {name}: {done}")
     done = run(["--awk", 'NR == 2 { print last } { last = $0; next }', path])
@@ -145,7 +145,7 @@ def refuses_what_it_cannot(path: pathlib.Path) -> None:
     want((done.returncode, done.stderr) == (2, told), f"of an awk that is killed: {done}")
     # A line is repeated after all others were read.
     done = run(["--awk", 'NR == 1 { first = $0 } 1; END { fflush(); system("sleep 0.2"); print first }', path])
-    want(done.returncode == 2 and b"--awk may only select lines" in done.stderr, f"a line that comes twice: {done.stderr}")
+    want(done.returncode == 2 and b"the --awk condition may only select lines" in done.stderr, f"a line that comes twice: {done.stderr}")
     # More lines than a pipe holds: `bufr ls` does not wait for an awk that has ended.
     path.write_bytes(made(1) * 4000)
     done = run(["--awk", "NR == 2 { exit 2 } 1", path], timeout=60)
@@ -188,14 +188,14 @@ def tells_years_of_the_century(folder: pathlib.Path) -> None:
     path = folder / "years.bufr"
     path.write_bytes(b"".join(messages.values()))
     first, second, next_year, whole, of_14, whole_next = dates
-    two_digits = "because of two-digit years"
+    two_digits = "because edition 3 has only two-digit years"
     for words, taken, told in (
-        (["time=2014"], [whole], f"2 edition 3 messages {two_digits}; use time=2014,0014 to select both editions"),
-        (["time=2014-06"], [], f"1 edition 3 message {two_digits}; use time=2014-06,0014-06 to select both editions"),
+        (["time=2014"], [whole], f"2 edition 3 messages {two_digits}; use time=2014,0014 to select messages of both editions"),
+        (["time=2014-06"], [], f"1 edition 3 message {two_digits}; use time=2014-06,0014-06 to select messages of both editions"),
         (
             ["time=2014-05-02T03"],
             [whole],
-            f"1 edition 3 message {two_digits}; use time=2014-05-02T03,0014-05-02T03 to select both editions",
+            f"1 edition 3 message {two_digits}; use time=2014-05-02T03,0014-05-02T03 to select messages of both editions",
         ),
         (["time=2014,0014"], [first, second, whole, of_14], ""),
         (["time=2014,0014-05"], [first, whole, of_14], ""),
@@ -206,7 +206,7 @@ def tells_years_of_the_century(folder: pathlib.Path) -> None:
         (
             ["time=2014,0015", "time=2015,0014"],
             [],
-            f"3 edition 3 messages {two_digits}; use time=2014,0015,0014,0015 to select both editions",
+            f"3 edition 3 messages {two_digits}; use time=2014,0015,0014,0015 to select messages of both editions",
         ),
         (["time!=2014,0014"], [next_year, whole_next], ""),
     ):
@@ -221,7 +221,7 @@ def tells_that_there_is_no_message(path: pathlib.Path) -> None:
     """A file without a message is told, however it is read, and not one of which nothing is taken."""
     zipped, cut = gzip.compress(made(1)), b"BUFR\0\0\x40\x04" + bytes(60)
     for octets, told, status in (
-        (zipped, ": it looks like gzip data (zcat)", 0),
+        (zipped, ": it looks like gzip data (use zcat)", 0),
         (b"", ": it is empty", 0),
         (cut, "", 1),
         (made(1), None, 0),
@@ -268,7 +268,7 @@ def skips_what_is_too_long(folder: pathlib.Path) -> None:
     want(len(longer) > limit >= max(map(len, (made(1), made(2), inner))), "the made messages have other lengths")
     last = second + len(stray + made(2))
     notes = [(first, len(longer)), (second, 0xFFFFFF), (last, len(longer))]
-    told = [f"bufr-extract: offset {offset}: skipped a message that declares {length} bytes" for offset, length in notes]
+    told = [f"bufr-extract: offset {offset}: skipped a message that declares a length of {length} bytes" for offset, length in notes]
     path = folder / "longer"
     path.write_bytes(octets)
     for words, taken in (([], [1, 3, 2, 3]), (["centre=98"], [1, 3, 2, 3]), (["--awk", 'value["subsets"] != 3'], [1, 3, 3])):
@@ -278,7 +278,7 @@ def skips_what_is_too_long(folder: pathlib.Path) -> None:
             want((done.returncode, done.stderr.decode().splitlines()) == (1, told), f"{words} of {name}: {done}")
     before = made(1) * 40_000  # more than is buffered
     done = run(["--max-length", str(limit)], input=before + longer)
-    note = f"bufr-extract: offset {len(before)}: skipped a message that declares {len(longer)} bytes\n"
+    note = f"bufr-extract: offset {len(before)}: skipped a message that declares a length of {len(longer)} bytes\n"
     want(done.stderr.decode() == note, f"after {len(before)} bytes, --max-length reports {done.stderr}")
     whole = run(["--max-length", "16777215", path])
     want(whole.stdout == run([path]).stdout != b"", "a high limit changes what is taken")
@@ -291,7 +291,7 @@ def skips_what_is_too_long(folder: pathlib.Path) -> None:
         bufsize=0,
     ) as feed:
         feed.stdin.write(stray)
-        note = b"bufr-extract: offset 0: skipped a message that declares 16777215 bytes\n"
+        note = b"bufr-extract: offset 0: skipped a message that declares a length of 16777215 bytes\n"
         is_there = select.select([feed.stderr], [], [], 20)[0]
         want(is_there and feed.stderr.read(1 << 16) == note, "the note of a live feed waits")
         feed.stdin.write(made(1))
@@ -305,7 +305,7 @@ def tells_a_feed() -> None:
     """The note on messages that are left out comes in a pause of a feed, or after a minute, and once."""
     message = lib.message(b"\x14", edition=3)
     year = 2000 + message[8 + 12]
-    rest = f" because of two-digit years; use time={year},00{year - 2000:02} to select both editions\n"
+    rest = f" because edition 3 has only two-digit years; use time={year},00{year - 2000:02} to select messages of both editions\n"
     note = f"bufr-extract: left out 2 edition 3 messages so far{rest}".encode()
     with subprocess.Popen([sys.executable, EXTRACT, f"time={year}"], stdin=subprocess.PIPE, stderr=subprocess.PIPE, bufsize=0) as feed:
         feed.stdin.write(message * 2)

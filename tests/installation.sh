@@ -65,12 +65,12 @@ for words in '' '--wrong p' 'p q' '--program' '--uninstall'; do
     [ "$status" -eq 2 ] && [ -s "$work/errors" ] || fail "install.sh $words: status $status"
 done
 ! (cd "$work/other" && "$top/install.sh" --program "$bufr" --unproved '') > "$work/output" 2> "$work/errors" &&
-    grep -q 'one PREFIX' "$work/errors" || fail "install.sh installs to '': $(< "$work/errors")"
+    grep -q 'the PREFIX to install in' "$work/errors" || fail "install.sh installs to '': $(< "$work/errors")"
 "$top/install.sh" --help | grep -q '^usage: ' || fail 'install.sh --help'
 ! "$top/install.sh" --uninstall "$work/nothing" 2> "$work/errors" && grep -q MANIFEST "$work/errors" ||
     fail "install.sh uninstalls what is not installed: $(< "$work/errors")"
 ! "$top/install.sh" --program "$bufr" --unproved /dev/null/prefix > "$work/output" 2>&1 || fail "install.sh installs below a file"
-! "$top/install.sh" --program '' --unproved "$work/none" 2> "$work/errors" && grep -qF "no program ''" "$work/errors" ||
+! "$top/install.sh" --program '' --unproved "$work/none" 2> "$work/errors" && grep -qF "the program '' does not exist" "$work/errors" ||
     fail "install.sh accepts an empty FILE: $(< "$work/errors")"
 
 # What an installation did not put there is neither overwritten nor removed, whether it is a file, an edited one, or

@@ -97,8 +97,8 @@ def stated(script: str) -> tuple:
     """The bound that the help of a script states: its megabytes, and whether the longest message comes on top."""
     words = [sys.executable, TOP / "scripts" / script, "--help"]
     text = " ".join(subprocess.run(words, stdout=subprocess.PIPE, text=True).stdout.split())
-    longest = r"(,? and,?(?: except with --encode,)? memory for the longest message)?"
-    found = re.search(rf"needs (\d+) MB of memory{longest}", text)
+    longest = r"(,? (?:and|plus),?(?: except with --encode,)? memory for the longest message)?"
+    found = re.search(rf"need (\d+) MB of memory{longest}", text)
     return (int(found[1]), bool(found[2])) if found else (0, False)
 
 

@@ -90,7 +90,7 @@ def same_as_one_run(program: str, folder: pathlib.Path) -> None:
     want(empty == (0, b"", told), f"of nothing comes {empty}")
     small.write_bytes(b"\x1f\x8bBUFR\0\0\0\4")
     status, output, errors = run([*PARALLEL, "dump", *TABLES, small])
-    told = f"offset 2: 2 short length\nbufr-parallel: {small} contains no message: it looks like gzip data (zcat)\n"
+    told = f"offset 2: 2 short length\nbufr-parallel: {small} contains no message: it looks like gzip data (use zcat)\n"
     want((status, output, errors.decode()) == (1, b"", told), f"of a wrong file it is told {errors}")
 
 
@@ -106,9 +106,9 @@ def tells_what_fails(program: str, folder: pathlib.Path) -> None:
         "a missing file is told otherwise",
     )
     for words, told in (
-        (["ls", path], "expected dump -B FILE -D FILE"),
-        (["dump", path], "expected dump -B FILE -D FILE"),
-        ([], "expected dump -B FILE -D FILE"),
+        (["ls", path], "expected the command dump with -B FILE and -D FILE"),
+        (["dump", path], "expected the command dump with -B FILE and -D FILE"),
+        ([], "expected the command dump with -B FILE and -D FILE"),
         (["dump", *TABLES, "-Q"], "unknown option -Q"),
         (["dump", *TABLES, "-P"], "-P needs a value"),
         *(

@@ -93,7 +93,7 @@ def strange(python: str, folder: pathlib.Path) -> None:
     want(radius in drawn and radius not in draw(stations(101))[0], "101 points are as large as 100")
     drawn, told = draw(stations(101), "--value", "012101")
     want("281.5" not in drawn, "101 values have labels")
-    want(told == "bufr-plot: drew no values: there are 101, and the limit is 100\n", f"of 101 values it tells {told}")
+    want(told == "bufr-plot: drew the points without values: there are 101 values, and at most 100 can be shown\n", f"of 101 values it tells {told}")
     drawn, told = draw(stations(2, name=b"$x^{..$ \\\\$\\x07\\xFF"), "--value", "001015")
     want("$x^{..$ \\$?\ufffd" in drawn and "[$y$]" in drawn, "a text is taken for a formula")
     want(told == "", f"of a text it tells {told}")
@@ -200,11 +200,11 @@ def draws(python: str, program: str, folder: pathlib.Path) -> None:
     want(run(python, ["map", folder / "a.png"], coarse).returncode == 0, "no PNG is drawn")
     want((folder / "a.png").read_bytes().startswith(b"\x89PNG"), "a PNG is none")
     for words, text, status, told in [
-        (["map", folder / "b.png"], texts["one_block_number"], 1, "no subset has a latitude and a longitude"),
+        (["map", folder / "b.png"], texts["one_block_number"], 1, "no subset has both a latitude and a longitude"),
         (["map", "--value", "012104", folder / "b.png"], texts["synop"], 1, "no subset contains 012104"),
-        (["sounding", folder / "b.png"], texts["synop"], 1, "no selected subset has two levels"),
-        (["sounding", "--subset", "2", folder / "b.png"], texts["sounding"], 1, "no selected subset has two levels"),
-        (["sounding", "--message", "2", folder / "b.png"], texts["sounding"], 1, "no selected subset has two levels"),
+        (["sounding", folder / "b.png"], texts["synop"], 1, "no selected subset has at least two levels"),
+        (["sounding", "--subset", "2", folder / "b.png"], texts["sounding"], 1, "no selected subset has at least two levels"),
+        (["sounding", "--message", "2", folder / "b.png"], texts["sounding"], 1, "no selected subset has at least two levels"),
         (["map", "--value", "012101:2", folder / "b.png"], texts["synop"], 1, "no subset contains 012101:2"),
         (["map", folder / "b.png"], b"", 1, "bufr-plot: the input contains no message"),
         (["sounding", folder / "b.png"], b"# a note\n", 1, "bufr-plot: the input contains no message"),
@@ -216,8 +216,8 @@ def draws(python: str, program: str, folder: pathlib.Path) -> None:
         (["sounding", "--subset", "0", folder / "b.png"], b"", 2, "--subset '0': expected a whole number, at least 1"),
         (["sounding", "--value", "012101", folder / "b.png"], b"", 2, "unknown option --value"),
         (["map", "--message", "1", folder / "b.png"], b"", 2, "unknown option --message"),
-        (["map"], b"", 2, "expected map PICTURE or map PICTURE DUMP"),
-        (["map", folder / "b.png", folder / "c", folder / "d"], b"", 2, "expected map PICTURE or map PICTURE DUMP"),
+        (["map"], b"", 2, "expected one PICTURE and at most one DUMP after map"),
+        (["map", folder / "b.png", folder / "c", folder / "d"], b"", 2, "expected one PICTURE and at most one DUMP after map"),
         ([], b"", 2, "expected map or sounding as the first argument"),
         (["map", folder / "b.png"], b"no dump\n", 2, "line 1: expected message"),
         (["map", folder / "b.png", folder / "nosuch"], b"", 2, "nosuch"),

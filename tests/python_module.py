@@ -615,13 +615,13 @@ class Runs(unittest.TestCase):
     def test_notes_of_tables_are_warnings(self):
         text = (TOP / "examples/synop.txt").read_bytes().replace(b"masterversion 39", b"masterversion 45")
         later = bufr_text.encode(bufr_text.read(io.BytesIO(text)), *TABLES)
-        with self.assertWarnsRegex(bufr_text.DumpWarning, "version 45 is later than wmo-39") as warned:
+        with self.assertWarnsRegex(bufr_text.DumpWarning, "table version 45 is later than that of the table set wmo-39") as warned:
             self.assertEqual(bufr_text.encode(bufr_text.read(io.BytesIO(text))), later)
         self.assertEqual(warned.filename, __file__)
         self.stream.write_bytes(self.octets + later * 2)
         with self.assertWarns(bufr_text.DumpWarning) as warned:
             list(bufr_text.dump(self.stream, faults=[]))
-        wanted = f"{self.stream}: 2 messages, the first at offset {len(self.octets)}: version 45 is later than wmo-39"
+        wanted = f"{self.stream}: 2 messages, the first at offset {len(self.octets)}: table version 45 is later than that of the table set wmo-39"
         self.assertEqual(str(warned.warning).partition(";")[0], wanted)
 
     def test_what_a_program_tells_beside_faults_is_a_warning(self):
@@ -639,17 +639,17 @@ class Runs(unittest.TestCase):
 
     def test_a_file_without_a_message_is_warned_of(self):
         web = b"<html>BUFR</html>" * 20
-        for octets, told in [(b"", ": it is empty"), (b"\x1f\x8b\0", ": it looks like gzip data (zcat)"), (b"\0", "")]:
+        for octets, told in [(b"", ": it is empty"), (b"\x1f\x8b\0", ": it looks like gzip data (use zcat)"), (b"\0", "")]:
             self.stream.write_bytes(octets)
             for call, words in ((bufr_text.dump, TABLES), (bufr_text.dump, []), (bufr_text.listing, [])):
                 with self.assertWarns(bufr_text.DumpWarning) as warned:
                     self.assertEqual(list(call(self.stream, *words)), [])
-                self.assertEqual(str(warned.warning), f"{self.stream}: no message{told}")
+                self.assertEqual(str(warned.warning), f"{self.stream}: the file contains no message{told}")
         self.stream.write_bytes(web)
         with warnings.catch_warnings(record=True) as told, contextlib.redirect_stderr(io.StringIO()):
             warnings.simplefilter("always")
             list(bufr_text.dump(self.stream))
-        wanted = ["no message: it looks like HTML", "20 faults, the first: offset 6: 1 cut"]
+        wanted = ["the file contains no message: it looks like HTML", "20 faults, the first: offset 6: 1 cut"]
         self.assertEqual([str(one.message) for one in told], [f"{self.stream}: {text}" for text in wanted])
 
     def test_failures_are_told(self):

@@ -186,10 +186,10 @@ refuses_damaged() { # refuses_damaged TEXT COMMAND: in a release after this comm
     rm -r "${work:?}/damaged/"*
 }
 refuses_damaged './tables/wmo-39/B.csv: FAILED' 'echo x >> tables/wmo-39/B.csv'
-refuses_damaged './scripts/bufr-zzz;' 'cp scripts/bufr-csv scripts/bufr-zzz'
-refuses_damaged './tables/wmo-99;' 'ln -s wmo-39 tables/wmo-99'
-refuses_damaged './tables/wmo-99;' 'mkdir tables/wmo-99'
-refuses_damaged './man/bufr.1;' 'echo x >> man/bufr.1; sed -i /man.bufr.1/d SHA256SUMS'
+refuses_damaged './scripts/bufr-zzz,' 'cp scripts/bufr-csv scripts/bufr-zzz'
+refuses_damaged './tables/wmo-99,' 'ln -s wmo-39 tables/wmo-99'
+refuses_damaged './tables/wmo-99,' 'mkdir tables/wmo-99'
+refuses_damaged './man/bufr.1,' 'echo x >> man/bufr.1; sed -i /man.bufr.1/d SHA256SUMS'
 refuses_damaged './docs/guide.md: ' 'rm docs/guide.md'
 # What Python caches beside the scripts is none of them, nor what the toolchain builds.
 mkdir -p "$work/damaged/crates/bufr/out"
@@ -315,7 +315,7 @@ cron() {
 }
 {
     yes 'offset 1: 1 cut' | head -n 20
-    echo 'bufr-auto: offset 9: skipped a message that declares 900000 bytes'
+    echo 'bufr-auto: offset 9: skipped a message that declares a length of 900000 bytes'
     echo 'bufr-feed failed: exit-code'
 } > log
 cron hourly-feed

@@ -129,7 +129,7 @@ one to other
   sequences removed: 1: 301002
   sequences added: 0
 """
-TWICE = "source: left out %s: its rows in the source conflict\n"
+TWICE = "source: left out %s: the source contains different rows for it\n"
 SOURCES = [
     ("B.csv", f"{HEADERS['B']}\n{ELEMENT}\n{ELEMENT}", 0, "", ELEMENT),
     ("B.csv", "", 2, "source/B.csv has no column fxy\n", None),
@@ -170,7 +170,7 @@ SOURCES = [
         "source: left out 012101 A NAME K 2 0: the scale must be a whole number from -127 to 127\n",
         "",
     ),
-    ("element.table", "012101|a|long|NAME|K|2|0\n", 2, "source/element.table, line 1: expected at least eight fields\n", None),
+    ("element.table", "012101|a|long|NAME|K|2|0\n", 2, "source/element.table, line 1: expected at least eight fields, found 7\n", None),
     ("sequence.def", '"307060" = 001001\n', 2, 'source/sequence.def: expected "FXY" = [ MEMBER, .. ], found "307060" = 001001\n', None),
     (
         "B.csv",

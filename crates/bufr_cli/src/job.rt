@@ -81,7 +81,7 @@ byte offset. The faults have these numbers:
   10     an edition other than 3 or 4
   11-13  invalid section lengths
   14     an edition 3 message that is too long to be encoded again
-  70-73  a failure to read, write or allocate memory, or input that is too long
+  70-73  a read error, a write error, too much input, or not enough memory
 
 Exit status:
   0  no fault was reported
@@ -94,7 +94,7 @@ Example:
 
 /// The notes under the help of `dump`.
 const DUMP_NOTES: &str = "\
-Messages are dumped to standard output, except those that have a fault.
+bufr dumps all messages to standard output, except those that have a fault.
 Each line on standard error reports a fault and, for a fault in the stream, its
 byte offset. The faults have these numbers:
   1-3    a stray: the bytes BUFR where no complete message begins
@@ -104,7 +104,7 @@ byte offset. The faults have these numbers:
   20-28  an unknown or unsupported descriptor, or an invalid descriptor list
   30-35  data that do not match the descriptors
   40-45  an invalid table; the tables are checked before the input is opened
-  70-73  a failure to read, write or allocate memory, or input that is too long
+  70-73  a read error, a write error, too much input, or not enough memory
 
 The first line of each table contains the column names:
   B  fxy,name,unit,scale,reference,width
@@ -113,8 +113,8 @@ The first line of each table contains the column names:
 WMO's tables are in the directory share/bufr/tables of the installation. Use the
 table set (a directory with both tables) for the version that bufr ls prints:
 for example, tables=0/24/0 means version 24, which is in the set wmo-37. With
-the wrong tables, values can be wrong although no fault is reported. The script
-bufr-auto chooses the table set for each message.
+the wrong tables, values can be wrong even though no fault is reported. The
+script bufr-auto chooses the table set for each message.
 
 Exit status:
   0  no fault was reported
@@ -138,9 +138,9 @@ line number. The faults have these numbers:
   57     a wrong subset number, or a wrong number of subsets
   58-59  data that cannot be compressed
   60-61  a message that is too long, or a header value that is out of range
-  62     data that would give the encoded message fault 31, 32 or 35
+  62     data that would cause fault 31, 32 or 35 when the message is decoded
   40-45  an invalid table; the tables are checked before the input is opened
-  70-73  a failure to read, write or allocate memory, or input that is too long
+  70-73  a read error, a write error, too much input, or not enough memory
 
 The first line of each table contains the column names:
   B  fxy,name,unit,scale,reference,width
@@ -148,11 +148,12 @@ The first line of each table contains the column names:
 
 Use the tables with which the dump was made.
 
-With --form, every message is encoded in that form, whatever its document
+With --form, every message is encoded in the given form, whatever its document
 specifies. Data cannot be compressed if replication factors differ between
-subsets (fault 58), if strings differ and one of them has more than 63 bytes
-without its trailing spaces, or if reference values differ (fault 59). A plain
-message may be too long (fault 60).
+subsets (fault 58). Strings that differ between subsets cannot be compressed if
+any of them is longer than 63 bytes, not counting trailing spaces, and reference
+values that differ cannot be compressed at all (fault 59). A plain message may
+be too long (fault 60).
 
 Exit status:
   0  no fault was reported
