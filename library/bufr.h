@@ -23,6 +23,12 @@
 extern "C" {
 #endif
 
+/* The version of this header: 1,000,000 times the first number, 1,000 times the second, and the third. */
+#define BUFR_VERSION 1000
+
+/* The descriptor F X Y as a number: BUFR_FXY(0, 12, 101) is that of the temperature. */
+#define BUFR_FXY(f, x, y) ((uint16_t)(16384 * (f) + 256 * (x) + (y)))
+
 /* What a call returns. */
 enum bufr_status {
     BUFR_DONE = 0,           /* The end of the input was reached. */
@@ -74,7 +80,7 @@ struct bufr_texts {
     uint64_t refused;     /* refused messages and stray BUFRs of this call */
 };
 
-/* The version of the library: 1,000,000 times the first number, 1,000 times the second, and the third. */
+/* The version of the library, as a number like BUFR_VERSION. */
 uint32_t bufr_version(void);
 
 /* Writes what `bufr ls` writes: a line for each message to `lines`, a line for each fault to `faults`. */
@@ -107,7 +113,7 @@ struct bufr_item { /* 24 octets */
     uint32_t message; /* the index of its row among the messages of this call */
     uint32_t length;  /* BUFR_TEXT and BUFR_WIDE: number of octets */
     uint16_t subset;  /* from 1 */
-    uint16_t fxy;     /* the descriptor: 16384 * F + 256 * X + Y */
+    uint16_t fxy;     /* the descriptor: BUFR_FXY(F, X, Y) */
     int16_t scale;
     uint8_t kind; /* of enum bufr_kind */
 };

@@ -10,7 +10,7 @@ usage: $0 [--archive FILE] FOLDER
 
 Builds libbufr.so, libbufr.a and bufr.pc from the proved crate bufr_c, and copies bufr.h beside them. Run rt ci first: the
 crates below must be proved in this checkout. The crate bufr_c itself is then proved once more, which takes minutes.
-It needs the toolchain, a C compiler (\$CC, by default cc) and ar.
+It needs the toolchain, a C compiler (\$CC, by default cc) and the GNU binutils ar, ld and objcopy.
 
 options:
   --archive FILE  take this libbufr_c.a, and prove nothing
@@ -71,12 +71,13 @@ if [ -n "$archive" ]; then
 else
     build || die 'bufr_c was not built'
 fi
-# The allocator of the toolchain, which calls malloc, realloc and free.
-cp "$kit/c/liblibc_c.a" "$work/libc_c.a"
 cd "$work"
-printf '%s\n' 'CREATE libbufr.a' 'ADDLIB libbufr_c.a' 'ADDLIB libc_c.a' SAVE END | ar -M
-"${CC:-cc}" -shared -o libbufr.so.0 -Wl,-soname,libbufr.so.0 -Wl,-z,defs -Wl,--build-id=none -Wl,--exclude-libs,libc_c.a \
-    -Wl,--whole-archive libbufr_c.a -Wl,--no-whole-archive libc_c.a
+# One object with the allocator of the toolchain, which calls malloc, realloc and free. Only the names of the calls are
+# global, so that no other name can clash with one of the program.
+ld -r -o bufr.o --whole-archive libbufr_c.a --no-whole-archive "$kit/c/liblibc_c.a"
+objcopy --wildcard --keep-global-symbol='bufr_*' bufr.o
+ar rcD libbufr.a bufr.o
+"${CC:-cc}" -shared -o libbufr.so.0 -Wl,-soname,libbufr.so.0 -Wl,-z,defs -Wl,--build-id=none bufr.o
 ln -s libbufr.so.0 libbufr.so
 cat > bufr.pc << 'END'
 prefix=${pcfiledir}/../..

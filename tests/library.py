@@ -122,6 +122,17 @@ def inputs():
         yield f"hostile stream {number}", try_stream, random_trial.stream_of(rng), SETS[0]
 
 
+def try_names(folder: pathlib.Path) -> None:
+    """The archive and the shared library define the calls of bufr.h, and no other global name."""
+    calls = set(re.findall(r"^u?int32_t (\w+)\(", (TOP / "library/bufr.h").read_text(), re.M))
+    if not shutil.which("nm"):
+        print("tests/library.py: nm is not installed, so the names in the library are not compared", file=sys.stderr)
+        return
+    for words in (["-g", "libbufr.a"], ["-D", "libbufr.so"]):
+        names = subprocess.run(["nm", "--defined-only", "-P", *words], cwd=folder, stdout=subprocess.PIPE, text=True).stdout
+        alike(f"names in {words[1]}", set(re.findall(r"^(\w+) [A-Z]", names, re.M)), calls)
+
+
 def try_tables(path: str) -> None:
     """Each call reports invalid tables by their fault."""
     good = [it.read_bytes() for it in SETS[0]]
@@ -215,6 +226,7 @@ def main() -> None:
             of_sets = {it: bufr_library.Library(path, it[0].read_bytes(), it[1].read_bytes(), octets) for it in SETS}
             for case, trial, content, tables in inputs():
                 trial(f"{case}, rooms of {octets}", content, tables, of_sets[tables])
+        try_names(folder)
         try_tables(path)
         try_threads(path)
         try_examples(folder, work)

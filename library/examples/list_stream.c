@@ -7,24 +7,29 @@
 
 #include "bufr.h"
 
-/* The contents of a file. They end with the program. */
+/* The contents of a file, which the caller frees; null if it cannot be read. */
 static uint8_t *contents(const char *name, size_t *length) {
     FILE *file = fopen(name, "rb");
     size_t room = 1 << 16;
-    uint8_t *octets = (uint8_t *)malloc(room);
+    uint8_t *octets = (uint8_t *)malloc(room), *larger;
     *length = 0;
     while (file && octets) {
         *length += fread(octets + *length, 1, room - *length, file);
         if (*length < room)
             break;
         room *= 2;
-        octets = (uint8_t *)realloc(octets, room);
+        larger = (uint8_t *)realloc(octets, room);
+        if (!larger)
+            free(octets);
+        octets = larger;
     }
     if (!file || !octets || ferror(file)) {
         fprintf(stderr, "cannot read %s\n", name);
-        exit(1);
+        free(octets);
+        octets = NULL;
     }
-    fclose(file);
+    if (file)
+        fclose(file);
     return octets;
 }
 
@@ -40,6 +45,8 @@ int main(int count, char **words) {
         return 2;
     }
     stream = contents(words[1], &length);
+    if (!stream)
+        return 1;
     do {
         /* Each call continues at texts.at, where the call before stopped. */
         status = bufr_list(stream, length, lines, sizeof lines, faults, sizeof faults, &texts);
