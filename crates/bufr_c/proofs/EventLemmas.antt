@@ -1,5 +1,5 @@
 -- The events of a stream in memory, and their texts.
-use Rattle.std.proofs.Common.{rules, min, eqb, ◌≡◌, ◌≢◌, ◌⊎◌, inl, inr, ◌∙◌, ◌<◌, ◌≤◌, ◌+◌, ◌-◌, ℕ, Bool, true, false, List, [], ◌∷◌, ◌++◌, length, take, drop, map, flat_map, count_by, codes, decimal, refl, sym, ap, subst, arith, Option, Some, None, Result, Ok, Err, IfErr, IfNone, IfOk, IfSome, OnOk, ℤ, pos, append-nil, append_assoc, length-take, length-drop, length-append, nat_lt, not, if◌then◌else◌}
+use Rattle.std.proofs.Common.{rules, min, eqb, ◌≡◌, ◌≢◌, ◌⊎◌, inl, inr, ◌∙◌, ◌<◌, ◌≤◌, ◌+◌, ◌-◌, ℕ, Bool, true, false, List, [], ◌∷◌, ◌++◌, length, take, drop, map, flat_map, count_by, codes, decimal, refl, sym, ap, subst, arith, Option, Some, None, Result, Ok, Err, IfErr, IfNone, IfOk, IfSome, OnOk, ℤ, pos, append-nil, append_assoc, length-take, length-drop, nat_lt, not, if◌then◌else◌}
 use Rattle.std.specs.Int.{from_bool}
 use Rattle.std.proofs.lemmas.Bool.Decides.{nat_tests}
 use Rattle.std.proofs.lemmas.Slice.Eq.{bytes_eq-Decides}
@@ -21,10 +21,10 @@ use Rattle.bufr_walk.specs.Prelude.{data_of, data_report, fault_of, next_item, r
 use Rattle.bufr_walk.specs.declared.fault.WalkFault.{WalkFault}
 use Rattle.bufr_frame.specs.declared.fault.RunFault.{RunFault}
 use Rattle.bufr_frame.specs.declared.fault.Cause.{Cause}
-use Rattle.bufr_text.specs.Prelude.{Writes, ls_line, dump_text_of, dump_items, joined}
+use Rattle.bufr_text.specs.Prelude.{Writes, ls_line}
 use Rattle.bufr_text.specs.Prelude.{documents_of}
 use Rattle.bufr_text.specs.declared.encode.Form.{Form}
-use Rattle.bufr_cli.specs.Prelude.{encode_pieces, WritesPieces, Tallies, Piece, OnOutput, OnErrors, output_of, errors_of, is_accepted, is_refused, fault_line, ls_piece, ls_or_fault, dump_piece, message_piece, template_piece, data_piece, text_or_fault, Writers, WritesWhole, event_pieces}
+use Rattle.bufr_cli.specs.Prelude.{encode_pieces, WritesPieces, Tallies, Piece, OnOutput, OnErrors, output_of, errors_of, is_accepted, is_refused, fault_line, ls_piece, ls_or_fault, dump_piece, message_piece, template_piece, text_or_fault, Writers, WritesWhole, event_pieces}
 use Rattle.bufr_cli.specs.declared.outcome.Tally.{Tally}
 use Rattle.bufr_c.specs.Moving.{moved}
 use Rattle.bufr_frame.specs.declared.fault.Cause.TheVariants.{Cut, ShortLength, NoEnd}
@@ -510,8 +510,8 @@ unread from output errors texts status at output_length errors_length accepted r
     inr (stopped, wrote_none from output errors texts at output_length errors_length accepted refused)
 
 -- both tables were read
-pub by_both_tables : (table_b table_d : List ℕ) (b : List Row) (d : List Sequence) (status : ℤ) (Holds : List Row → List Sequence → Type 0) (Otherwise : Type 0) → table_b_of (records_of table_b) ≡ Ok b
-    → table_d_of (records_of table_d) ≡ Ok d → Holds b d → ByTables table_b table_d status Holds Otherwise
+pub by_both_tables : (table_b table_d : List ℕ) (b : List Row) (d : List Sequence) (status : ℤ) (Holds : List Row → List Sequence → Type 0) (Otherwise : Type 0)
+    → table_b_of (records_of table_b) ≡ Ok b → table_d_of (records_of table_d) ≡ Ok d → Holds b d → ByTables table_b table_d status Holds Otherwise
 by_both_tables table_b table_d b d status Holds Otherwise is_b is_d holds = inl (record { b = b; d = d; is_b = is_b; is_d = is_d; holds = holds })
 
 -- the status of a call that read its tables

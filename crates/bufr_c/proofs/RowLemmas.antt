@@ -1,18 +1,16 @@
 -- The rows of a message, call by call, and the rows of events.
-use Rattle.std.proofs.Common.{rules, ℕ, ◌≡◌, ◌≢◌, ◌⊎◌, inl, inr, ◌∙◌, ◌+◌, ◌-◌, ◌<◌, ◌≤◌, List, [], ◌∷◌, ◌++◌, length, take, drop, codes, sym, ap, subst, refl, arith, Result, Ok, Err, OnOk, None, Some, option_map, if◌then◌else◌, ℤ, pos, append_assoc, Bool, true, false}
+use Rattle.std.proofs.Common.{ℕ, ◌≡◌, ◌≢◌, ◌⊎◌, inl, inr, ◌∙◌, ◌-◌, ◌≤◌, List, [], ◌∷◌, ◌++◌, length, take, sym, ap, subst, refl, arith, Result, Ok, Err, OnOk, None, Some, option_map, if◌then◌else◌, ℤ, pos, true}
 use Rattle.std.proofs.lemmas.List.{length-take-le}
 use Rattle.bufr_frame.specs.Prelude.{Sections, StreamEvent}
 use Rattle.bufr_tables.specs.Prelude.{Row, Sequence, Tree, records_of, table_b_of, table_d_of, tree_of, tables_of, template_report}
 use Rattle.bufr_tables.specs.declared.fault.TemplateFault.{TemplateFault}
-use Rattle.bufr_walk.specs.Prelude.{View, item_call, shown_number, Timed, Shows, Read, Data, AnswersReading, ReadsData, DataReading, calls_of, turns_shown, data_of, data_report, read_by, fault_of, reading_of, next_item, fault_at}
+use Rattle.bufr_walk.specs.Prelude.{View, item_call, shown_number, Timed, Shows, Read, Data, AnswersReading, calls_of, turns_shown, data_of, data_report, read_by, fault_of, reading_of, next_item, fault_at}
 use Rattle.bufr_walk.specs.declared.fault.WalkFault.{WalkFault}
 use Rattle.bufr_walk.specs.declared.fault.WalkFault.TheVariants as fault
-use Rattle.bufr_c.specs.declared.rows.ValueRow.{ValueRow}
-use Rattle.bufr_c.specs.declared.rows.MessageRow.{MessageRow}
 use Rattle.bufr_c.specs.declared.rows.Counts.{Counts}
 use Rattle.bufr_c.specs.declared.rows.RowBuffers.{RowBuffers}
-use Rattle.bufr_c.specs.Leaving.{ByTables, FindsEvent, HasRun, events_from}
-use Rattle.bufr_c.specs.Rows.{HasNoRowRoom, HasPutRows, LacksRowRoom, LeavesRows, PassesRows, Put, PutsCall, RowPlace, Rows, SameBuffers, StopsBeforeRows, data_fault, data_put, is_wanted, join_rows, message_fault, message_put, no_rows, WritesNoRows, place_after, row_place, rows_after, rows_at, rows_in, rows_of, template_fault, template_put, three, with_call, with_calls, with_number, with_value}
+use Rattle.bufr_c.specs.Leaving.{ByTables, HasRun, events_from}
+use Rattle.bufr_c.specs.Rows.{HasNoRowRoom, HasPutRows, LacksRowRoom, LeavesRows, PassesRows, Put, PutsCall, RowPlace, Rows, SameBuffers, StopsBeforeRows, data_fault, data_put, is_wanted, join_rows, message_fault, message_put, no_rows, WritesNoRows, place_after, row_place, rows_after, rows_at, rows_of, template_fault, template_put, three, with_calls, with_number, with_value}
 use Rattle.bufr_c.proofs.EventLemmas.{Reached, apart-0-74, apart-73-0, apart-73-74, apart-74-0, events-end, over-end, over-stopped, reached-none, reached-same, by_both_tables}
 
 -- ---- The calls of a showing.

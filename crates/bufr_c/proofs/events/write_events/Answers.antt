@@ -1,4 +1,4 @@
-use Rattle.std.proofs.Common.{ℕ, ◌≡◌, ◌+◌, ◌-◌, ap, drop, false, length, refl, rules, subst, take}
+use Rattle.std.proofs.Common.{◌≡◌, ◌+◌, ◌-◌, ap, drop, false, length, refl, rules, subst, take}
 use Rattle.std.proofs.lemmas.List.{take_rest}
 use Rattle.bufr_c.specs.Commands.{piece_by}
 use Rattle.bufr_c.proofs.EventLemmas.{SoFar, event-next, events-absent, so-far-done, so-far-ended, so-far-no-room, so-far-none, so-far-put, starts-there}

@@ -1,4 +1,4 @@
-use Rattle.std.proofs.Common.{ℕ, ◌≡◌, ◌∙◌, ◌+◌, ◌-◌, arith, drop, false, length, refl, rules, take}
+use Rattle.std.proofs.Common.{◌≡◌, ◌∙◌, ◌+◌, ◌-◌, drop, false, length, refl, rules, take}
 use Rattle.std.proofs.lemmas.List.{take_rest}
 use Rattle.bufr_c.proofs.EventLemmas.{event-next, events-absent, reached-next, starts-there}
 use Rattle.bufr_c.proofs.RowLemmas.{buffers_here, buffers-still, made-by-same, rows-done, rows-ended, rows-full, rows-none, rows-put}
