@@ -5,6 +5,7 @@
  * The caller must ensure the following. No call checks it.
  * - No pointer is null, even if its length is 0.
  * - Each pointer points to as many values as the length after it says.
+ * - Before the first call, every member of bufr_texts or bufr_counts is 0, and so is every `reserved`.
  * - No output overlaps an input or another output.
  * - No other thread changes the inputs or uses the outputs during the call.
  * Calls share nothing, so several threads can call at once, each with its own outputs.
@@ -66,18 +67,20 @@ struct bufr_input {
     size_t table_d_length;
     const uint16_t *wanted; /* bufr_items: the descriptors of the wanted items */
     size_t wanted_length;   /* 0: all items */
-    uint8_t form;           /* bufr_encode: of enum bufr_form */
+    uint64_t form;          /* bufr_encode: of enum bufr_form */
+    uint64_t reserved[7];   /* 0 */
 };
 
 /* How far a call came, and what it wrote. */
 struct bufr_texts {
-    size_t at;            /* set it to 0 first: where the call begins; then where the next one continues */
+    size_t at;            /* where the call begins; after it, where the next one continues */
     size_t output_length; /* octets written to the first output */
     size_t errors_length; /* octets written to the second output */
     size_t output_needed; /* after BUFR_NO_ROOM: octets that the next message adds to the first output */
     size_t errors_needed; /* after BUFR_NO_ROOM: octets that it adds to the second output */
     uint64_t accepted;    /* accepted messages of this call */
     uint64_t refused;     /* refused messages and stray BUFRs of this call */
+    uint64_t reserved;    /* 0 */
 };
 
 /* The version of the library, as a number like BUFR_VERSION. */
@@ -115,11 +118,12 @@ struct bufr_item { /* 24 octets */
     uint16_t subset;  /* from 1 */
     uint16_t fxy;     /* the descriptor: BUFR_FXY(F, X, Y) */
     int16_t scale;
-    uint8_t kind; /* of enum bufr_kind */
+    uint8_t kind;     /* of enum bufr_kind */
+    uint8_t reserved; /* 0 */
 };
 
 /* A message, or a stray BUFR: a word BUFR where no message begins. */
-struct bufr_message { /* 56 octets */
+struct bufr_message { /* 64 octets */
     uint64_t offset;  /* where it begins in the stream */
     uint64_t length;  /* octets; 4 for a stray BUFR */
     size_t first;     /* the index of its first item */
@@ -144,22 +148,35 @@ struct bufr_message { /* 56 octets */
     uint8_t second;
     uint8_t observed;   /* 1 or 0 */
     uint8_t compressed; /* 1 or 0 */
+    uint64_t reserved;  /* 0 */
+};
+
+/* Where bufr_items writes. Each room says how many rows or octets fit. */
+struct bufr_rows {
+    struct bufr_item *items;
+    size_t items_room;
+    uint8_t *texts; /* the octets of texts */
+    size_t texts_room;
+    struct bufr_message *messages;
+    size_t messages_room;
+    uint64_t reserved[2]; /* 0 */
 };
 
 /* How far a call came, and how much it wrote. */
 struct bufr_counts {
-    size_t at;            /* set it to 0 first: where the call begins; then where the next one continues */
-    size_t items;         /* rows written to `items` */
-    size_t octets;        /* octets written to `texts` */
-    size_t messages;      /* rows written to `messages` */
-    size_t items_needed;  /* after BUFR_NO_ROOM: rows that the next message adds to `items` */
-    size_t octets_needed; /* after BUFR_NO_ROOM: octets that it adds to `texts` */
+    size_t at;              /* where the call begins; after it, where the next one continues */
+    size_t items;           /* rows written to `items` */
+    size_t octets;          /* octets written to `texts` */
+    size_t messages;        /* rows written to `messages` */
+    size_t items_needed;    /* after BUFR_NO_ROOM: rows that the next message adds to `items` */
+    size_t octets_needed;   /* after BUFR_NO_ROOM: octets that it adds to `texts` */
+    size_t messages_needed; /* after BUFR_NO_ROOM: rows that it adds to `messages`: 1 */
+    uint64_t reserved;      /* 0 */
 };
 
-/* Reads the values of the messages. Writes a row for each wanted item to `items`, the octets of their texts to `texts`,
- * and a row for each message or stray BUFR to `messages`. A refused message has no items. */
-int32_t bufr_items(const struct bufr_input *input, struct bufr_item *items, size_t items_room, uint8_t *texts,
-                   size_t texts_room, struct bufr_message *messages, size_t messages_room, struct bufr_counts *counts);
+/* Reads the values of the messages. Writes a row for each wanted item to rows->items, the octets of their texts to
+ * rows->texts, and a row for each message or stray BUFR to rows->messages. A refused message has no items. */
+int32_t bufr_items(const struct bufr_input *input, const struct bufr_rows *rows, struct bufr_counts *counts);
 
 #ifdef __cplusplus
 }

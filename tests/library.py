@@ -4,8 +4,10 @@
     tests/library.py [PROGRAM [FOLDER]]        FOLDER: the library that library/build.sh made; it is built if left out
 
 The outputs must be the same, with large and with small rooms, and from several threads at once. The rows of items must
-say what `bufr dump` says. Then the examples in C and Fortran are compiled, compared, and run under valgrind.
+say what `bufr dump` says, and those of messages what `bufr ls` says. The structures and numbers of bufr_library.py must
+be those of bufr.h. Then the examples in C and Fortran are compiled, compared, and run under valgrind.
 """
+import ctypes
 import os
 import pathlib
 import random
@@ -67,6 +69,15 @@ def lines_in(text: bytes) -> list:
     return found
 
 
+def listed_by(row) -> bytes:
+    """The line of `bufr ls` for the row of a message, up to the flags of its data."""
+    words = f"offset={row.offset} length={row.length} edition={row.edition} centre={row.centre}/{row.subcentre}"
+    words += f" update={row.update} category={row.category}/{row.subcategory}/{row.local_subcategory}"
+    words += f" tables={row.master}/{row.master_version}/{row.local_version} time={row.year:04}-{row.month:02}-{row.day:02}"
+    words += f"T{row.hour:02}:{row.minute:02}:{row.second:02} subsets={row.subsets}"
+    return f"{words} observed={row.observed} compressed={row.compressed}".encode()
+
+
 def lines_of(parts) -> tuple:
     """The same of rows, and the fault numbers and offsets of refused messages and strays."""
     found, faults = [], []
@@ -95,12 +106,36 @@ def try_stream(name: str, stream: bytes, tables: tuple, of_library) -> None:
     alike(f"{name}: list", of_library.list(stream), said_by(["ls"], stream))
     text, errors = wanted = said_by(["dump", *options], stream)
     alike(f"{name}: dump", of_library.dump(stream), wanted)
-    lines, faults = lines_of(of_library.parts(stream))
+    parts = list(of_library.parts(stream))
+    lines, faults = lines_of(parts)
     alike(f"{name}: items", lines, lines_in(text))
+    rows = [listed_by(row) for _, _, messages in parts for row in messages if row.edition]
+    alike(f"{name}: messages", rows, [line.partition(b" optional=")[0] for line in said_by(["ls"], stream)[0].splitlines()])
+    try_wanted(name, stream, parts, of_library)
     told = [(int(at), int(number)) for at, number in re.findall(rb"^offset (\d+): (\d+) ", errors, re.M)]
     alike(f"{name}: faults of messages", faults, told)
     if text:
         try_text(name, text, tables, of_library)
+
+
+def values_of(parts, wanted) -> list:
+    """The rows of messages, each with its items of these descriptors: all but what depends on how a stream is divided."""
+    found = []
+    for items, texts, messages in parts:
+        for row in messages:
+            own = items[row.first : row.first + row.items]
+            values = [(it.subset, bufr_library.item_line(it, texts)) for it in own if not wanted or it.fxy in wanted]
+            found.append((row.offset, row.fault, values))
+    return found
+
+
+def try_wanted(name: str, stream: bytes, parts: list, of_library) -> None:
+    """Only the items of the wanted descriptors are read: of two that occur, and of one that does not."""
+    there = sorted({item.fxy for items, _, _ in parts for item in items})
+    for wanted in ((*there[:1], *there[-1:], 0xFFFF), (0xFFFF,)):
+        given = list(of_library.parts(stream, wanted))
+        alike(f"{name}: items but {wanted}", {it.fxy for items, _, _ in given for it in items}, {*wanted} & {*there})
+        alike(f"{name}: items {wanted}", values_of(given, ()), values_of(parts, wanted))
 
 
 def try_text(name: str, text: bytes, tables: tuple, of_library) -> None:
@@ -122,6 +157,40 @@ def inputs():
         yield f"hostile stream {number}", try_stream, random_trial.stream_of(rng), SETS[0]
 
 
+# the types of bufr.h
+C_TYPES = {f"{sign}int{bits}_t": getattr(ctypes, f"c_{sign}int{bits}") for sign in ("", "u") for bits in (8, 16, 32, 64)}
+C_TYPES["size_t"] = ctypes.c_size_t
+
+
+def offsets_in(struct) -> list:
+    """Where the fields of a structure begin, and where it ends."""
+    return [getattr(struct, name).offset for name, _ in struct._fields_] + [ctypes.sizeof(struct)]
+
+
+def try_header(path: str) -> None:
+    """bufr_library.py declares the structures and numbers of bufr.h."""
+    header = re.sub(r"/\*.*?\*/", "", (TOP / "library/bufr.h").read_text(), flags=re.S)
+    of_python = {f"bufr_{it.lower()}": getattr(bufr_library, it) for it in dir(bufr_library) if it[0].isupper()}
+    for name, body in re.findall(r"^enum (\w+) \{(.*?)\n\};", header, re.S | re.M):
+        numbers = {word: int(number) for word, number in re.findall(r"BUFR_(\w+) = (\d+)", body)}
+        alike(f"enum {name}", {it.name: it.value for it in of_python[name]}, numbers)
+    structs = {}
+    for name, body in re.findall(r"^struct (\w+) \{(.*?)\n\};", header, re.S | re.M):
+        fields = []
+        for kind, star, field, _, count in re.findall(r"(?:const |struct )*(\w+) (\*?)(\w+)(\[(\d+)\])?;", body):
+            kind = C_TYPES.get(kind) or of_python[kind]
+            kind = ctypes.POINTER(kind) if star else kind
+            fields.append((field, kind * int(count) if count else kind))
+        alike(f"lines of struct {name}", len(fields), body.count(";"))
+        structs[name] = type(name, (ctypes.Structure,), {"_fields_": fields})
+        alike(f"struct {name}", of_python[name]._fields_, fields)
+        alike(f"offsets in {name}", offsets_in(of_python[name]), offsets_in(structs[name]))
+    declared = {f"bufr_{it.lower()}" for it in ("Input", "Texts", "Item", "Message", "Rows", "Counts")}
+    alike("structures", set(structs), declared)
+    version = int(re.search(r"#define BUFR_VERSION (\d+)", header)[1])
+    alike("version", bufr_library.Library(path).version(), version)
+
+
 def try_names(folder: pathlib.Path) -> None:
     """The archive and the shared library define the calls of bufr.h, and no other global name."""
     calls = set(re.findall(r"^u?int32_t (\w+)\(", (TOP / "library/bufr.h").read_text(), re.M))
@@ -131,6 +200,25 @@ def try_names(folder: pathlib.Path) -> None:
     for words in (["-g", "libbufr.a"], ["-D", "libbufr.so"]):
         names = subprocess.run(["nm", "--defined-only", "-P", *words], cwd=folder, stdout=subprocess.PIPE, text=True).stdout
         alike(f"names in {words[1]}", set(re.findall(r"^(\w+) [A-Z]", names, re.M)), calls)
+
+
+def try_small_rooms(path: str) -> None:
+    """If one output has no room, a call says how much all of them need, and so does the next one."""
+    of_library = bufr_library.Library(path, *(it.read_bytes() for it in SETS[0]))
+    stream = (TOP / "examples/synop.bufr").read_bytes()  # one message
+    ((items, texts, messages),) = of_library.parts(stream)
+    counts = [len(items), len(texts), len(messages)]
+    for small in range(3):
+        rooms = [0 if at == small else count for at, count in enumerate(counts)]
+        outputs = map(bufr_library.room, rooms, (bufr_library.Item, ctypes.c_uint8, bufr_library.Message))
+        rows = bufr_library.Rows(*(it for pair in zip(outputs, rooms) for it in pair))
+        read, told = of_library.input(stream), bufr_library.Counts()
+        for _ in range(2):
+            status = of_library.calls.bufr_items(ctypes.byref(read), ctypes.byref(rows), ctypes.byref(told))
+            alike(f"no room in output {small}: status", status, bufr_library.Status.NO_ROOM)
+            alike(f"no room in output {small}: progress", (told.at, told.items, told.octets, told.messages), (0, 0, 0, 0))
+            needed = [told.items_needed, told.octets_needed, told.messages_needed]
+            alike(f"no room in output {small}: room needed", needed, counts)
 
 
 def try_tables(path: str) -> None:
@@ -179,12 +267,12 @@ def try_examples(folder: pathlib.Path, work: pathlib.Path) -> None:
     faulty, stream = TOP / "examples/bulletins.bufr", TOP / "examples/synop.bufr"
     listing = said_by(["ls"], faulty.read_bytes())
     text, _ = said_by(["dump", "-B", SETS[0][0], "-D", SETS[0][1]], stream.read_bytes())
-    lines = b"".join(line + b"\n" for message in lines_in(text) for line in message if not line.startswith(b"subset "))
-    numbers = b"".join(line for line in lines.splitlines(keepends=True) if re.match(rb"\d{6} -?[\d.]+\n", line))
+    named = b"".join(re.findall(rb"^\d{6} -?[\d.]+  # .*\n", text, re.M))
+    numbers = re.sub(rb"  # .*", b"", named)
     examples = TOP / "library/examples"
     tries = [
         ("gcc", ["-std=c99", "-Wall", "-Wextra", "-pedantic", "-Werror"], "list_stream.c", [faulty], listing),
-        ("gcc", ["-std=c99", "-Wall", "-Wextra", "-pedantic", "-Werror"], "print_numbers.c", [*SETS[0], stream], (numbers, b"")),
+        ("gcc", ["-std=c99", "-Wall", "-Wextra", "-pedantic", "-Werror"], "print_numbers.c", [*SETS[0], stream], (named, b"")),
         ("g++", ["-x", "c++", "-Wall", "-Werror"], "list_stream.c", [faulty], listing),
         ("gfortran", ["-std=f2018", "-Wall", "-Werror", f"-J{work}"], "print_numbers.f90", [*SETS[0], stream], (numbers, b"")),
     ]
@@ -208,6 +296,9 @@ def try_examples(folder: pathlib.Path, work: pathlib.Path) -> None:
                 check = ["valgrind", "-q", "--error-exitcode=9", "--leak-check=full", "--show-leak-kinds=all", str(built)]
                 run = subprocess.run([*check, *map(str, words)], stdout=subprocess.PIPE, stderr=subprocess.PIPE)
                 alike(f"{source} under valgrind", (run.returncode, run.stdout, run.stderr), (0, *wanted))
+                for few, status in (([], 2), ([*words[:-1], work / "none"], 1)) if compiler == "gcc" else ():
+                    run = subprocess.run([*check, *map(str, few)], stdout=subprocess.PIPE, stderr=subprocess.PIPE)
+                    alike(f"{source} with {len(few)} words under valgrind", run.returncode, status)
 
 
 def main() -> None:
@@ -226,7 +317,9 @@ def main() -> None:
             of_sets = {it: bufr_library.Library(path, it[0].read_bytes(), it[1].read_bytes(), octets) for it in SETS}
             for case, trial, content, tables in inputs():
                 trial(f"{case}, rooms of {octets}", content, tables, of_sets[tables])
+        try_header(path)
         try_names(folder)
+        try_small_rooms(path)
         try_tables(path)
         try_threads(path)
         try_examples(folder, work)

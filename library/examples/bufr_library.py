@@ -2,17 +2,49 @@
 
     library = Library("libbufr.so", table_b, table_d)     the contents of B.csv and D.csv, as bytes
     lines, faults = library.list(stream)
-    items, texts, messages = library.items(stream)
+    for items, texts, messages in library.parts(stream):  ..
+    name, unit = library.elements()[items[0].fxy]
 
 Each method calls the library again with larger outputs for as long as the next message does not fit.
 """
+import csv
 import ctypes
-from typing import Iterator, List, Tuple
-
-DONE, OUT_OF_MEMORY, NO_ROOM = 0, 73, 74
-MISSING, NUMBER, TEXT, REFERENCE, WIDE = range(5)
+import enum
+import io
+from typing import Dict, Iterator, List, Tuple
 
 _Octets = ctypes.POINTER(ctypes.c_uint8)
+
+
+class Status(enum.IntEnum):
+    DONE = 0
+    OUT_OF_MEMORY = 73
+    NO_ROOM = 74
+    UNKNOWN_FORM = 75
+    TABLE_B_HEADER = 40
+    TABLE_B_ROW = 41
+    TABLE_B_DUPLICATE = 42
+    TABLE_B_CSV = 45
+    TABLE_D_HEADER = 140
+    TABLE_D_ROW = 141
+    TABLE_D_DUPLICATE = 142
+    TABLE_D_CYCLE = 143
+    TABLE_D_SIZE = 144
+    TABLE_D_CSV = 145
+
+
+class Form(enum.IntEnum):
+    AS_WRITTEN = 0
+    PLAIN = 1
+    COMPRESSED = 2
+
+
+class Kind(enum.IntEnum):
+    MISSING = 0
+    NUMBER = 1
+    TEXT = 2
+    REFERENCE = 3
+    WIDE = 4
 
 
 class Input(ctypes.Structure):
@@ -25,15 +57,15 @@ class Input(ctypes.Structure):
         ("table_d_length", ctypes.c_size_t),
         ("wanted", ctypes.POINTER(ctypes.c_uint16)),
         ("wanted_length", ctypes.c_size_t),
-        ("form", ctypes.c_uint8),
+        ("form", ctypes.c_uint64),
+        ("reserved", ctypes.c_uint64 * 7),
     ]
 
 
 class Texts(ctypes.Structure):
     _fields_ = [
         *((name, ctypes.c_size_t) for name in ("at", "output_length", "errors_length", "output_needed", "errors_needed")),
-        ("accepted", ctypes.c_uint64),
-        ("refused", ctypes.c_uint64),
+        *((name, ctypes.c_uint64) for name in ("accepted", "refused", "reserved")),
     ]
 
 
@@ -46,6 +78,7 @@ class Item(ctypes.Structure):
         ("fxy", ctypes.c_uint16),
         ("scale", ctypes.c_int16),
         ("kind", ctypes.c_uint8),
+        ("reserved", ctypes.c_uint8),
     ]
 
 
@@ -59,12 +92,27 @@ class Message(ctypes.Structure):
         *((name, ctypes.c_uint8) for name in ("fault", "edition", "master", "update", "category", "subcategory")),
         *((name, ctypes.c_uint8) for name in ("local_subcategory", "master_version", "local_version", "month", "day")),
         *((name, ctypes.c_uint8) for name in ("hour", "minute", "second", "observed", "compressed")),
+        ("reserved", ctypes.c_uint64),
+    ]
+
+
+class Rows(ctypes.Structure):
+    _fields_ = [
+        ("items", ctypes.POINTER(Item)),
+        ("items_room", ctypes.c_size_t),
+        ("texts", _Octets),
+        ("texts_room", ctypes.c_size_t),
+        ("messages", ctypes.POINTER(Message)),
+        ("messages_room", ctypes.c_size_t),
+        ("reserved", ctypes.c_uint64 * 2),
     ]
 
 
 class Counts(ctypes.Structure):
     _fields_ = [
-        (name, ctypes.c_size_t) for name in ("at", "items", "octets", "messages", "items_needed", "octets_needed")
+        *((name, ctypes.c_size_t) for name in ("at", "items", "octets", "messages")),
+        *((name, ctypes.c_size_t) for name in ("items_needed", "octets_needed", "messages_needed")),
+        ("reserved", ctypes.c_uint64),
     ]
 
 
@@ -72,7 +120,7 @@ class LibraryError(RuntimeError):
     """A call returned another status than 0 and 74."""
 
     def __init__(self, status: int) -> None:
-        super().__init__(f"status {status}")
+        super().__init__(f"status {status}" + f" ({Status(status).name})" * (status in list(Status)))
         self.status = status
 
 
@@ -110,9 +158,9 @@ class Library:
             status = call(*read, *(it for one in rooms for it in (one, ctypes.c_size_t(len(one)))), ctypes.byref(texts))
             lengths = texts.output_length, texts.errors_length
             outputs = [done + bytes(memoryview(one)[:length]) for done, one, length in zip(outputs, rooms, lengths)]
-            if status == DONE:
+            if status == Status.DONE:
                 return outputs[0], outputs[1]
-            if status != NO_ROOM:
+            if status != Status.NO_ROOM:
                 raise LibraryError(status)
             needed = texts.output_needed, texts.errors_needed
             rooms = [one if len(one) >= count else room(count) for one, count in zip(rooms, needed)]
@@ -132,24 +180,31 @@ class Library:
     def parts(self, octets: bytes, wanted: Tuple[int, ...] = ()) -> Iterator[Tuple[ctypes.Array, bytes, List[Message]]]:
         """The rows of items, the octets of their texts and the rows of messages, a part of the stream at a time."""
         read, counts = self.input(octets, wanted), Counts()
-        items, texts, messages = room(self.octets // 24, Item), room(self.octets), room(1 + self.octets // 1024, Message)
+        items, texts, messages = room(self.octets // 24, Item), room(self.octets), room(self.octets // 1024, Message)
         while True:
-            status = self.calls.bufr_items(
-                ctypes.byref(read),
-                *(it for one in (items, texts, messages) for it in (one, ctypes.c_size_t(len(one)))),
-                ctypes.byref(counts),
-            )
-            if status not in (DONE, NO_ROOM):
+            rows = Rows(items, len(items), texts, len(texts), messages, len(messages))
+            status = self.calls.bufr_items(ctypes.byref(read), ctypes.byref(rows), ctypes.byref(counts))
+            if status not in (Status.DONE, Status.NO_ROOM):
                 raise LibraryError(status)
             if counts.messages:
                 kept = (Item * counts.items).from_buffer_copy(items)
                 yield kept, bytes(memoryview(texts)[: counts.octets]), [
                     Message.from_buffer_copy(messages[at]) for at in range(counts.messages)
                 ]
-            if status == DONE:
+            if status == Status.DONE:
                 return
             items = items if len(items) >= counts.items_needed else room(counts.items_needed, Item)
             texts = texts if len(texts) >= counts.octets_needed else room(counts.octets_needed)
+
+    def elements(self) -> Dict[int, Tuple[str, str]]:
+        """The name and the unit of each element of Table B, by its descriptor, as in Item.fxy."""
+        rows = csv.DictReader(io.StringIO(self.table_b.decode(errors="replace")))
+        return {fxy_of(int(row["fxy"])): (row["name"], row["unit"]) for row in rows}
+
+
+def fxy_of(written: int) -> int:
+    """A descriptor FXXYYY as the library has it."""
+    return written // 100000 << 14 | written // 1000 % 100 << 8 | written % 1000
 
 
 def _shown(octet: int) -> bytes:
@@ -161,12 +216,12 @@ def _shown(octet: int) -> bytes:
 
 def value_text(item: Item, texts: bytes) -> bytes:
     """The value of an item as `bufr dump` writes it."""
-    if item.kind == MISSING:
+    if item.kind == Kind.MISSING:
         return b"MISSING"
     octets = texts[item.value : item.value + item.length]
-    if item.kind == TEXT:
+    if item.kind == Kind.TEXT:
         return b'"' + b"".join(map(_shown, octets)) + b'"'
-    number = int.from_bytes(octets, "little", signed=True) if item.kind == WIDE else item.value
+    number = int.from_bytes(octets, "little", signed=True) if item.kind == Kind.WIDE else item.value
     if item.scale <= 0:
         return b"%d" % (number * 10**-item.scale)
     sign, digits = b"-" * (number < 0), b"%0*d" % (item.scale + 1, abs(number))
@@ -176,4 +231,4 @@ def value_text(item: Item, texts: bytes) -> bytes:
 def item_line(item: Item, texts: bytes) -> bytes:
     """The line of an item as `bufr dump` writes it, without the name and unit."""
     f, x, y = item.fxy >> 14, item.fxy >> 8 & 63, item.fxy & 255
-    return b"%s%d%02d%03d %s" % (b"R " * (item.kind == REFERENCE), f, x, y, value_text(item, texts))
+    return b"%s%d%02d%03d %s" % (b"R " * (item.kind == Kind.REFERENCE), f, x, y, value_text(item, texts))

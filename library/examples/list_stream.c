@@ -35,7 +35,7 @@ static uint8_t *contents(const char *name, size_t *length) {
 
 int main(int count, char **words) {
     static uint8_t lines[1 << 16], faults[1 << 16]; /* every line fits */
-    struct bufr_texts texts = {0, 0, 0, 0, 0, 0, 0};
+    struct bufr_texts texts = {0, 0, 0, 0, 0, 0, 0, 0};
     size_t length;
     uint8_t *stream;
     int32_t status;

@@ -1,4 +1,4 @@
-/* Prints the numbers of the messages of a file, with their descriptors.
+/* Prints the numbers of the messages of a file, as `bufr dump` does.
  *
  *     cc print_numbers.c -lbufr -o print_numbers && ./print_numbers TABLE_B TABLE_D FILE
  */
@@ -7,24 +7,54 @@
 
 #include "bufr.h"
 
+/* The contents of a file, which the caller frees; null if it cannot be read. */
 static uint8_t *contents(const char *name, size_t *length) {
     FILE *file = fopen(name, "rb");
     size_t room = 1 << 16;
-    uint8_t *octets = (uint8_t *)malloc(room);
+    uint8_t *octets = (uint8_t *)malloc(room), *larger;
     *length = 0;
     while (file && octets) {
         *length += fread(octets + *length, 1, room - *length, file);
         if (*length < room)
             break;
         room *= 2;
-        octets = (uint8_t *)realloc(octets, room);
+        larger = (uint8_t *)realloc(octets, room);
+        if (!larger)
+            free(octets);
+        octets = larger;
     }
     if (!file || !octets || ferror(file)) {
         fprintf(stderr, "cannot read %s\n", name);
-        exit(1);
+        free(octets);
+        octets = NULL;
     }
-    fclose(file);
+    if (file)
+        fclose(file);
     return octets;
+}
+
+/* By descriptor: where the name and the unit of an element are in Table B. */
+static const uint8_t *elements[1 << 16];
+
+/* Finds the elements. Each line of B.csv begins with a descriptor, such as 012101, and a comma. */
+static void find_elements(const uint8_t *table, const uint8_t *end) {
+    const uint8_t *at;
+    for (at = table; end - at > 7; at++)
+        if (at > table && at[-1] == '\n' && at[6] == ',') {
+            long fxy = strtol((const char *)at, NULL, 10);
+            elements[BUFR_FXY(fxy / 100000, fxy / 1000 % 100, fxy % 1000)] = at + 7;
+        }
+}
+
+/* Prints a field of a line of B.csv without its quotes. Returns where the next field begins. */
+static const uint8_t *print_field(const uint8_t *at, const uint8_t *end) {
+    int quoted = 0;
+    for (; at < end && (quoted || (*at != ',' && *at != '\n')); at++)
+        if (*at != '"')
+            putchar(*at);
+        else if ((quoted = !quoted) && at[-1] == '"')
+            putchar('"'); /* two quotes in quotes are one */
+    return at < end ? at + 1 : end;
 }
 
 /* Prints value / 10^scale exactly. */
@@ -42,51 +72,79 @@ static void print_number(int64_t value, int scale) {
     printf("%s%.*s.%s", value < 0 ? "-" : "", point, digits, digits + point);
 }
 
+/* Prints a line for each number. */
+static void print_items(const struct bufr_input *input, const struct bufr_item *item, size_t items) {
+    const uint8_t *end = input->table_b + input->table_b_length;
+    for (; items > 0; items--, item++)
+        if (item->kind == BUFR_NUMBER) {
+            const uint8_t *name = elements[item->fxy];
+            printf("%d%02d%03d ", item->fxy >> 14, item->fxy >> 8 & 63, item->fxy & 255);
+            print_number(item->value, item->scale);
+            if (name) {
+                fputs("  # ", stdout);
+                name = print_field(name, end);
+                fputs(" [", stdout);
+                print_field(name, end);
+                putchar(']');
+            }
+            putchar('\n');
+        }
+}
+
+/* Makes room for the next message. Returns 0 if memory ran out. */
+static int grow(struct bufr_rows *rows, const struct bufr_counts *counts) {
+    if (counts->items_needed > rows->items_room) {
+        void *items = realloc(rows->items, counts->items_needed * sizeof *rows->items);
+        if (!items)
+            return 0;
+        rows->items = (struct bufr_item *)items;
+        rows->items_room = counts->items_needed;
+    }
+    if (counts->octets_needed > rows->texts_room) {
+        void *texts = realloc(rows->texts, counts->octets_needed);
+        if (!texts)
+            return 0;
+        rows->texts = (uint8_t *)texts;
+        rows->texts_room = counts->octets_needed;
+    }
+    return 1;
+}
+
 int main(int count, char **words) {
-    struct bufr_input input = {0};
-    struct bufr_counts counts = {0, 0, 0, 0, 0, 0};
     static struct bufr_message messages[256];
     static const uint16_t all[1] = {0}; /* no pointer is null, even if its length is 0 */
-    size_t items_room = 1 << 16, texts_room = 1 << 16, at;
-    struct bufr_item *items = (struct bufr_item *)malloc(items_room * sizeof *items);
-    uint8_t *texts = (uint8_t *)malloc(texts_room);
-    int32_t status;
+    struct bufr_input input = {0};
+    struct bufr_rows rows = {0};
+    struct bufr_counts counts = {0, 0, 0, 0, 0, 0, 0, 0};
+    uint8_t *table_b = NULL, *table_d = NULL, *stream = NULL;
+    int32_t status = BUFR_OUT_OF_MEMORY;
 
     if (count != 4) {
         fprintf(stderr, "usage: %s TABLE_B TABLE_D FILE\n", words[0]);
         return 2;
     }
-    input.table_b = contents(words[1], &input.table_b_length);
-    input.table_d = contents(words[2], &input.table_d_length);
-    input.octets = contents(words[3], &input.octets_length);
+    rows.items_room = rows.texts_room = 1 << 16;
+    rows.items = (struct bufr_item *)malloc(rows.items_room * sizeof *rows.items);
+    rows.texts = (uint8_t *)malloc(rows.texts_room);
+    rows.messages = messages;
+    rows.messages_room = 256;
     input.wanted = all;
-    do {
-        status = bufr_items(&input, items, items_room, texts, texts_room, messages, 256, &counts);
-        if (status != BUFR_DONE && status != BUFR_NO_ROOM)
-            break;
-        for (at = 0; at < counts.items; at++) {
-            const struct bufr_item *item = &items[at];
-            if (item->kind == BUFR_NUMBER) {
-                printf("%d%02d%03d ", item->fxy >> 14, item->fxy >> 8 & 63, item->fxy & 255);
-                print_number(item->value, item->scale);
-                putchar('\n');
-            }
-        }
-        if (counts.items_needed > items_room) {
-            items_room = counts.items_needed;
-            items = (struct bufr_item *)realloc(items, items_room * sizeof *items);
-        }
-        if (counts.octets_needed > texts_room) {
-            texts_room = counts.octets_needed;
-            texts = (uint8_t *)realloc(texts, texts_room);
-        }
-    } while (status == BUFR_NO_ROOM && items && texts);
-    free(items);
-    free(texts);
-    free((void *)input.table_b);
-    free((void *)input.table_d);
-    free((void *)input.octets);
-    if (status != BUFR_DONE)
-        fprintf(stderr, "status %d\n", (int)status);
+    if (rows.items && rows.texts && (input.table_b = table_b = contents(words[1], &input.table_b_length)) &&
+        (input.table_d = table_d = contents(words[2], &input.table_d_length)) &&
+        (input.octets = stream = contents(words[3], &input.octets_length))) {
+        find_elements(table_b, table_b + input.table_b_length);
+        do {
+            /* Each call continues at counts.at, where the call before stopped. */
+            status = bufr_items(&input, &rows, &counts);
+            print_items(&input, rows.items, counts.items);
+        } while (status == BUFR_NO_ROOM && grow(&rows, &counts));
+        if (status != BUFR_DONE)
+            fprintf(stderr, "status %d\n", (int)status);
+    }
+    free(rows.items);
+    free(rows.texts);
+    free(table_b);
+    free(table_d);
+    free(stream);
     return status != BUFR_DONE;
 }

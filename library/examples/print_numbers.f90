@@ -17,14 +17,14 @@ module bufr
     integer(c_size_t) :: table_d_length
     type(c_ptr) :: wanted
     integer(c_size_t) :: wanted_length
-    integer(c_int8_t) :: form
+    integer(c_int64_t) :: form = 0, reserved(7) = 0
   end type
 
   type, bind(c) :: bufr_item
     integer(c_int64_t) :: value
     integer(c_int32_t) :: message, length
     integer(c_int16_t) :: subset, fxy, scale
-    integer(c_int8_t) :: kind
+    integer(c_int8_t) :: kind, reserved
   end type
 
   type, bind(c) :: bufr_message
@@ -33,21 +33,30 @@ module bufr
     integer(c_int16_t) :: centre, subcentre, year, subsets
     integer(c_int8_t) :: fault, edition, master, update, category, subcategory, local_subcategory
     integer(c_int8_t) :: master_version, local_version, month, day, hour, minute, second, observed, compressed
+    integer(c_int64_t) :: reserved
+  end type
+
+  type, bind(c) :: bufr_rows
+    type(c_ptr) :: items
+    integer(c_size_t) :: items_room
+    type(c_ptr) :: texts
+    integer(c_size_t) :: texts_room
+    type(c_ptr) :: messages
+    integer(c_size_t) :: messages_room
+    integer(c_int64_t) :: reserved(2) = 0
   end type
 
   type, bind(c) :: bufr_counts
-    integer(c_size_t) :: at, items, octets, messages, items_needed, octets_needed
+    integer(c_size_t) :: at = 0, items = 0, octets = 0, messages = 0
+    integer(c_size_t) :: items_needed = 0, octets_needed = 0, messages_needed = 0
+    integer(c_int64_t) :: reserved = 0
   end type
 
   interface
-    function bufr_items(input, items, items_room, texts, texts_room, messages, messages_room, counts) &
-        bind(c) result(status)
+    function bufr_items(input, rows, counts) bind(c) result(status)
       import
       type(bufr_input), intent(in) :: input
-      type(bufr_item), intent(inout) :: items(*)
-      integer(c_size_t), value :: items_room, texts_room, messages_room
-      integer(c_int8_t), intent(inout) :: texts(*)
-      type(bufr_message), intent(inout) :: messages(*)
+      type(bufr_rows), intent(in) :: rows
       type(bufr_counts), intent(inout) :: counts
       integer(c_int32_t) :: status
     end function
@@ -97,9 +106,10 @@ program print_numbers
   integer(c_int8_t), allocatable, target :: stream(:), table_b(:), table_d(:)
   integer(c_int16_t), target :: all(1) = 0
   type(bufr_input) :: input
-  type(bufr_item), allocatable :: items(:)
-  integer(c_int8_t), allocatable :: texts(:)
-  type(bufr_message) :: messages(256)
+  type(bufr_item), allocatable, target :: items(:)
+  integer(c_int8_t), allocatable, target :: texts(:)
+  type(bufr_message), target :: messages(256)
+  type(bufr_rows) :: rows
   type(bufr_counts) :: counts
   integer(c_int32_t) :: status
   integer(c_size_t) :: at
@@ -109,20 +119,20 @@ program print_numbers
   call read_contents(2, table_d)
   call read_contents(3, stream)
   input = bufr_input(c_loc(stream), size(stream, kind=c_size_t), c_loc(table_b), size(table_b, kind=c_size_t), &
-    c_loc(table_d), size(table_d, kind=c_size_t), c_loc(all), 0_c_size_t, 0_c_int8_t)
-  counts = bufr_counts(0, 0, 0, 0, 0, 0)
+    c_loc(table_d), size(table_d, kind=c_size_t), c_loc(all), 0_c_size_t)
   allocate (items(65536), texts(65536))
   do
-    status = bufr_items(input, items, size(items, kind=c_size_t), texts, size(texts, kind=c_size_t), &
-      messages, size(messages, kind=c_size_t), counts)
-    if (status /= done .and. status /= no_room) error stop 'the call failed'
+    ! Each call continues at counts%at, where the call before stopped.
+    rows = bufr_rows(c_loc(items), size(items, kind=c_size_t), c_loc(texts), size(texts, kind=c_size_t), &
+      c_loc(messages), size(messages, kind=c_size_t))
+    status = bufr_items(input, rows, counts)
     do at = 1, counts%items
       if (items(at)%kind /= kind_of_number) cycle
       fxy = iand(int(items(at)%fxy), 65535)
       print '(i1, i2.2, i3.3, 1x, a)', ishft(fxy, -14), iand(ishft(fxy, -8), 63), iand(fxy, 255), &
         decimal(items(at)%value, int(items(at)%scale))
     end do
-    if (status == done) exit
+    if (status /= no_room) exit
     ! The next message may need more room than there is.
     if (counts%items_needed > size(items)) then
       deallocate (items)
@@ -134,4 +144,5 @@ program print_numbers
     end if
   end do
   deallocate (items, texts, stream, table_b, table_d)
+  if (status /= done) error stop 'the call failed'
 end program

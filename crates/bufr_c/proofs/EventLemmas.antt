@@ -1,5 +1,5 @@
 -- The events of a stream in memory, and their texts.
-use Rattle.std.proofs.Common.{rules, min, eqb, ◌≡◌, ◌≢◌, ◌⊎◌, inl, inr, ◌∙◌, ◌<◌, ◌≤◌, ◌+◌, ◌-◌, ℕ, Bool, true, false, List, [], ◌∷◌, ◌++◌, length, take, drop, map, flat_map, count_by, codes, decimal, refl, sym, ap, subst, arith, Option, Some, None, Result, Ok, Err, IfErr, IfNone, IfOk, IfSome, OnOk, ℤ, pos, append-nil, append_assoc, length-take, length-drop, length-append, nat_lt, not, if◌then◌else◌}
+use Rattle.std.proofs.Common.{rules, min, eqb, ◌≡◌, ◌≢◌, ◌⊎◌, inl, inr, ◌∙◌, ◌<◌, ◌≤◌, ◌+◌, ◌-◌, ℕ, Bool, true, false, List, [], ◌∷◌, ◌++◌, length, take, drop, map, flat_map, count_by, codes, decimal, refl, sym, ap, subst, arith, Option, Some, None, Result, Ok, Err, IfErr, IfNone, IfOk, IfSome, OnOk, ℤ, pos, append-nil, append_assoc, length-take, length-drop, nat_lt, not, if◌then◌else◌}
 use Rattle.std.specs.Int.{from_bool}
 use Rattle.std.proofs.lemmas.Bool.Decides.{nat_tests}
 use Rattle.std.proofs.lemmas.Slice.Eq.{bytes_eq-Decides}
@@ -21,14 +21,14 @@ use Rattle.bufr_walk.specs.Prelude.{data_of, data_report, fault_of, next_item, r
 use Rattle.bufr_walk.specs.declared.fault.WalkFault.{WalkFault}
 use Rattle.bufr_frame.specs.declared.fault.RunFault.{RunFault}
 use Rattle.bufr_frame.specs.declared.fault.Cause.{Cause}
-use Rattle.bufr_text.specs.Prelude.{Writes, ls_line, dump_text_of, dump_items, joined}
+use Rattle.bufr_text.specs.Prelude.{Writes, ls_line}
 use Rattle.bufr_text.specs.Prelude.{documents_of}
 use Rattle.bufr_text.specs.declared.encode.Form.{Form}
-use Rattle.bufr_cli.specs.Prelude.{encode_pieces, WritesPieces, Tallies, Piece, OnOutput, OnErrors, output_of, errors_of, is_accepted, is_refused, fault_line, ls_piece, ls_or_fault, dump_piece, message_piece, template_piece, data_piece, text_or_fault, Writers, WritesWhole, event_pieces}
+use Rattle.bufr_cli.specs.Prelude.{encode_pieces, WritesPieces, Tallies, Piece, OnOutput, OnErrors, output_of, errors_of, is_accepted, is_refused, fault_line, ls_piece, ls_or_fault, dump_piece, message_piece, template_piece, text_or_fault, Writers, WritesWhole, event_pieces}
 use Rattle.bufr_cli.specs.declared.outcome.Tally.{Tally}
 use Rattle.bufr_c.specs.Moving.{moved}
 use Rattle.bufr_frame.specs.declared.fault.Cause.TheVariants.{Cut, ShortLength, NoEnd}
-use Rattle.bufr_c.specs.Leaving.{HasNoRoom, HasPut, IsCycleStatus, IsMessage, IsRunStatus, IsStray, IsTableStatus, LacksRoom, Leaves, Passes, StopsBefore, WritesEvent, FindsEvent, ByTables, CallStatus, HasRun, Encodes, events_from}
+use Rattle.bufr_c.specs.Leaving.{HasNoRoom, HasPut, IsCycleStatus, IsMessage, IsRunStatus, IsStray, IsTableStatus, LacksRoom, Leaves, Passes, PassesOver, StopsBefore, WritesEvent, WritesNone, FindsEvent, ByTables, CallStatus, HasRun, Encodes, end_after, end_of, events_from}
 use Rattle.bufr_c.specs.Commands.{IsTextOf, IsTextOfAll, form_by, piece_by}
 use Rattle.bufr_c.specs.declared.command.Command.{Command}
 use Rattle.bufr_c.specs.declared.command.Command.TheVariants as commands
@@ -283,10 +283,52 @@ event-next Is octets rest m word at place moves rest_is m_is word_is finds w =
     let M : List ℕ → Type 0 = λ l. moves ≡ candidate_len l (classify l) in
     events-found octets at place moves w.event here (subst S m_is w.here) (subst M m_is w.moves) w.some (omega (arith, w.within, ap length m_is))
 
+-- The events up to `at` were passed.
+pub record Reached (octets : List ℕ) (from : ℕ) (passed : List StreamEvent) (at : ℕ) : Type 0 where
+  pub events : events_from from octets ≡ passed ++ events_from at octets
+  pub within : from ≤ length octets → at ≤ length octets
+  pub ends : at ≡ end_after from passed
+
+ends-next : (from : ℕ) (passed : List StreamEvent) (event : StreamEvent) → end_after from (passed ++ event ∷ []) ≡ end_of event
+ends-next from [] event = refl
+ends-next from (first ∷ passed) event = ends-next (end_of first) passed event
+
+pub reached-none : (octets : List ℕ) (from : ℕ) → Reached octets from [] from
+reached-none octets from = record { events = refl; within = λ h. h; ends = refl }
+
+module _ (octets : List ℕ) (from : ℕ) (passed : List StreamEvent) (at : ℕ) (so : Reached octets from passed at) where
+  -- one more event
+  pub reached-next : (Is : StreamEvent → Type 0) (m : List ℕ) (begin moves at' : ℕ) (w : FindsEvent Is begin m moves) → m ≡ drop begin octets
+      → events_from at octets ≡ w.event ∷ events_from (begin + moves) octets → at' ≡ begin + moves → Reached octets from (passed ++ w.event ∷ []) at'
+  reached-next Is m begin moves at' w m_is next is = record {
+    events = so.events ∙ ap (λ es. passed ++ es) (next ∙ ap (λ n. w.event ∷ events_from n octets) (sym is)) ∙ sym (append_assoc passed (w.event ∷ []) (events_from at' octets));
+    within = λ h. omega (arith, is, w.some, w.within, ap length m_is, length-drop begin octets);
+    ends = is ∙ (sym w.ends ∙ sym (ends-next from passed w.event));
+  }
+
+  pub reached-same : (at' : ℕ) → at' ≡ at → Reached octets from passed at'
+  reached-same at' is = subst (λ n. Reached octets from passed n) (sym is) so
+
+  -- no event is left
+  pub over-end : (at' : ℕ) → events_from at octets ≡ [] → length octets ≤ at' → (from ≤ length octets → at' ≤ length octets) → PassesOver octets from passed at' (pos 0)
+  over-end at' none past within =
+      let end = events-end octets at' past in
+      record {
+        ran = inl refl;
+        events = so.events ∙ ap (λ es. passed ++ es) (none ∙ sym end);
+        within = within;
+        done = λ _. (end, past);
+        stopped = λ no. absurd (no refl);
+      }
+
+  -- the call stopped before
+  pub over-stopped : (status : ℤ) → IsRunStatus status → ¬ (status ≡ pos 0) → PassesOver octets from passed at status
+  over-stopped status ran other = record { ran = ran; events = so.events; within = so.within; done = λ is. absurd (other is); stopped = λ _. so.ends }
+
 -- The texts of the events up to `texts.at` were written.
 pub record SoFar (piece : StreamEvent → Piece) (octets : List ℕ) (from : ℕ) (output errors : List ℕ) (texts : Texts) : Type 0 where
   pub passed : List StreamEvent
-  pub events : events_from from octets ≡ passed ++ events_from texts.at octets
+  pub reached : Reached octets from passed texts.at
   pub leaves : Leaves output errors texts (map piece passed)
   pub few : texts.accepted + texts.refused ≤ texts.at
 
@@ -325,14 +367,14 @@ pub apart-73-74 : pos 73 ≡ pos 74 → ⊥
 apart-73-74 is = omega (arith, same-numbers 73 74 is)
 
 module _ (piece : StreamEvent → Piece) (octets : List ℕ) (from : ℕ) (output errors : List ℕ) (texts : Texts) (so : SoFar piece octets from output errors texts) where
-  pub so-far-next : (event : StreamEvent) (output' errors' : List ℕ) (texts' : Texts) → events_from texts.at octets ≡ event ∷ events_from texts'.at octets → texts.at + 1 ≤ texts'.at
+  pub so-far-next : (event : StreamEvent) (output' errors' : List ℕ) (texts' : Texts) → Reached octets from (so.passed ++ event ∷ []) texts'.at → texts.at + 1 ≤ texts'.at
       → take texts'.output_length output' ≡ take texts.output_length output ++ output_of (piece event) → take texts'.errors_length errors' ≡ take texts.errors_length errors ++ errors_of (piece event)
       → texts'.output_length ≤ length output' → texts'.errors_length ≤ length errors'
       → texts'.accepted ≡ texts.accepted + from_bool (is_accepted (piece event)) → texts'.refused ≡ texts.refused + from_bool (not (is_accepted (piece event)))
       → SoFar piece octets from output' errors' texts'
-  so-far-next event output' errors' texts' next moves written blamed output_fits errors_fits accepted refused = record {
+  so-far-next event output' errors' texts' reached moves written blamed output_fits errors_fits accepted refused = record {
     passed = so.passed ++ event ∷ [];
-    events = so.events ∙ ap (λ es. so.passed ++ es) next ∙ sym (append_assoc so.passed (event ∷ []) (events_from texts'.at octets));
+    reached = reached;
     leaves = record {
       written = written ∙ ap (λ l. l ++ output_of (piece event)) so.leaves.written ∙ sym (flat-next output_of piece so.passed event);
       blamed = blamed ∙ ap (λ l. l ++ errors_of (piece event)) so.leaves.blamed ∙ sym (flat-next errors_of piece so.passed event);
@@ -350,7 +392,7 @@ module _ (piece : StreamEvent → Piece) (octets : List ℕ) (from : ℕ) (outpu
       → texts'.refused ≡ texts.refused → SoFar piece octets from output errors texts'
   so-far-same texts' at output_length errors_length accepted refused = record {
     passed = so.passed;
-    events = so.events ∙ ap (λ n. so.passed ++ events_from n octets) (sym at);
+    reached = reached-same octets from so.passed texts.at so.reached texts'.at at;
     leaves = record {
       written = ap (λ n. take n output) output_length ∙ so.leaves.written;
       blamed = ap (λ n. take n errors) errors_length ∙ so.leaves.blamed;
@@ -364,12 +406,13 @@ module _ (piece : StreamEvent → Piece) (octets : List ℕ) (from : ℕ) (outpu
 
   -- the text of the next event was put
   pub so-far-put : (place moves : ℕ) (m : List ℕ) (text : EventText) (mid texts' : Texts) (output' errors' : List ℕ) → (w : WritesEvent piece (texts.at + place) m moves text)
-      → events_from texts.at octets ≡ w.event ∷ events_from (texts.at + place + moves) octets → HasPut text texts output errors mid output' errors'
+      → m ≡ drop (texts.at + place) octets → events_from texts.at octets ≡ w.event ∷ events_from (texts.at + place + moves) octets → HasPut text texts output errors mid output' errors'
       → texts'.at ≡ texts.at + place + moves → texts'.output_length ≡ mid.output_length → texts'.errors_length ≡ mid.errors_length
       → texts'.accepted ≡ mid.accepted + from_bool text.accepted → texts'.refused ≡ mid.refused + from_bool (not text.accepted)
       → SoFar piece octets from output' errors' texts'
-  so-far-put place moves m text mid texts' output' errors' w next put at output_length errors_length accepted refused =
-      so-far-next w.event output' errors' texts' (next ∙ ap (λ n. w.event ∷ events_from n octets) (sym at)) (omega (arith, at, w.some))
+  so-far-put place moves m text mid texts' output' errors' w m_is next put at output_length errors_length accepted refused =
+      so-far-next w.event output' errors' texts'
+      (reached-next octets from so.passed texts.at so.reached (λ event. IsTextOf text (piece event)) m (texts.at + place) moves texts'.at w m_is next at) (omega (arith, at, w.some))
       (ap (λ n. take n output') output_length ∙ put.written ∙ ap (λ l. take texts.output_length output ++ l) w.is.output)
       (ap (λ n. take n errors') errors_length ∙ put.blamed ∙ ap (λ l. take texts.errors_length errors ++ l) w.is.errors)
       (omega (arith, output_length, put.output_fits)) (omega (arith, errors_length, put.errors_fits))
@@ -377,20 +420,46 @@ module _ (piece : StreamEvent → Piece) (octets : List ℕ) (from : ℕ) (outpu
       (refused ∙ ap (λ n. n + from_bool (not text.accepted)) put.refused ∙ ap (λ b. texts.refused + from_bool (not b)) w.is.accepted)
 
   -- no event is left
-  pub so-far-done : events_from texts.at octets ≡ [] → Passes piece octets from output errors texts (pos 0)
-  so-far-done none = record { passed = so.passed; events = so.events; leaves = so.leaves; done = λ _. none; stops = λ is. absurd (apart-0-74 is) }
+  pub so-far-done : length octets ≤ texts.at → Passes piece octets from output errors texts (pos 0)
+  so-far-done past = record {
+    passed = so.passed;
+    over = over-end octets from so.passed texts.at so.reached texts.at (events-end octets texts.at past) past so.reached.within;
+    leaves = so.leaves;
+    stops = λ is. absurd (apart-0-74 is);
+  }
 
-  pub so-far-stopped : Passes piece octets from output errors texts (pos 73)
-  so-far-stopped = record { passed = so.passed; events = so.events; leaves = so.leaves; done = λ is. absurd (apart-73-0 is); stops = λ is. absurd (apart-73-74 is) }
+  -- after the last event the search is at the end
+  pub so-far-ended : (texts' : Texts) → events_from texts.at octets ≡ [] → texts'.at ≡ length octets → texts'.output_length ≡ texts.output_length → texts'.errors_length ≡ texts.errors_length
+      → texts'.accepted ≡ texts.accepted → texts'.refused ≡ texts.refused → Passes piece octets from output errors texts' (pos 0)
+  so-far-ended texts' none at output_length errors_length accepted refused = record {
+    passed = so.passed;
+    over = over-end octets from so.passed texts.at so.reached texts'.at none (omega (arith, at)) (λ _. omega (arith, at));
+    leaves = record {
+      written = ap (λ n. take n output) output_length ∙ so.leaves.written;
+      blamed = ap (λ n. take n errors) errors_length ∙ so.leaves.blamed;
+      output_fits = omega (arith, so.leaves.output_fits, output_length);
+      errors_fits = omega (arith, so.leaves.errors_fits, errors_length);
+      accepted = accepted ∙ so.leaves.accepted;
+      refused = refused ∙ so.leaves.refused;
+    };
+    stops = λ is. absurd (apart-0-74 is);
+  }
+
+  pub so_far_stopped : Passes piece octets from output errors texts (pos 73)
+  so_far_stopped = record {
+    passed = so.passed;
+    over = over-stopped octets from so.passed texts.at so.reached (pos 73) (inr (inl refl)) apart-73-0;
+    leaves = so.leaves;
+    stops = λ is. absurd (apart-73-74 is);
+  }
 
   -- there is no room for the next event
   pub so-far-full : (event : StreamEvent) (more : List StreamEvent) → events_from texts.at octets ≡ event ∷ more → LacksRoom output errors texts (output_of (piece event)) (errors_of (piece event))
       → Passes piece octets from output errors texts (pos 74)
   so-far-full event more next lacks = record {
     passed = so.passed;
-    events = so.events;
+    over = over-stopped octets from so.passed texts.at so.reached (pos 74) (inr (inr refl)) apart-74-0;
     leaves = so.leaves;
-    done = λ is. absurd (apart-74-0 is);
     stops = λ is. subst (λ es. StopsBefore piece output errors texts es) (sym next) lacks;
   }
 
@@ -414,7 +483,7 @@ pub so-far-none : (piece : StreamEvent → Piece) (octets : List ℕ) (output er
     → SoFar piece octets texts.at output errors texts
 so-far-none piece octets output errors texts output_length errors_length accepted refused = record {
   passed = [];
-  events = refl;
+  reached = reached-none octets texts.at;
   leaves = record {
     written = ap (λ n. take n output) output_length;
     blamed = ap (λ n. take n errors) errors_length;
@@ -426,55 +495,30 @@ so-far-none piece octets output errors texts output_length errors_length accepte
   few = omega (arith, accepted, refused);
 }
 
--- after the last event the search is at the end
-pub so-far-ended : (piece : StreamEvent → Piece) (octets : List ℕ) (from : ℕ) (output errors : List ℕ) (texts texts' : Texts) → SoFar piece octets from output errors texts
-    → events_from texts.at octets ≡ []
-    → texts.at ≤ length octets → texts'.at ≡ length octets → texts'.output_length ≡ texts.output_length → texts'.errors_length ≡ texts.errors_length → texts'.accepted ≡ texts.accepted
-    → texts'.refused ≡ texts.refused → SoFar piece octets from output errors texts'
-so-far-ended piece octets from output errors texts texts' so none within at output_length errors_length accepted refused = record {
-  passed = so.passed;
-  events = so.events ∙ ap (λ es. so.passed ++ es) (none ∙ sym (events-end octets texts'.at (omega (arith, at))));
-  leaves = record {
-    written = ap (λ n. take n output) output_length ∙ so.leaves.written;
-    blamed = ap (λ n. take n errors) errors_length ∙ so.leaves.blamed;
-    output_fits = omega (arith, so.leaves.output_fits, output_length);
-    errors_fits = omega (arith, so.leaves.errors_fits, errors_length);
-    accepted = accepted ∙ so.leaves.accepted;
-    refused = refused ∙ so.leaves.refused;
-  };
-  few = omega (arith, so.few, at, within, accepted, refused);
-}
+-- ---- A call that reads tables.
 
--- ---- A call that reads no stream.
+-- nothing was written
+pub wrote_none : (from : ℕ) (output errors : List ℕ) (texts : Texts) → texts.at ≡ from → texts.output_length ≡ 0 → texts.errors_length ≡ 0 → texts.accepted ≡ 0 → texts.refused ≡ 0
+    → WritesNone from output errors texts output errors
+wrote_none from output errors texts at output_length errors_length accepted refused =
+    record { at = at; output_length = output_length; errors_length = errors_length; accepted = accepted; refused = refused; same_output = refl; same_errors = refl }
 
-pub nothing_passed : (piece : StreamEvent → Piece) (octets : List ℕ) (from : ℕ) (output errors : List ℕ) (texts : Texts) (status : ℤ) → texts.at ≡ from → texts.output_length ≡ 0
-    → texts.errors_length ≡ 0 → texts.accepted ≡ 0
-    → texts.refused ≡ 0 → ¬ HasRun status → Passes piece octets from output errors texts status
-nothing_passed piece octets from output errors texts status at output_length errors_length accepted refused stopped =
-    subst (λ n. Passes piece octets n output errors texts status) at
-    (let so = so-far-none piece octets output errors texts output_length errors_length accepted refused in
-    record { passed = so.passed; events = so.events; leaves = so.leaves; done = λ is. absurd (stopped (inl is)); stops = λ is. absurd (stopped (inr is)) })
+-- a call that stopped before it read its input
+pub unread : {A : Type 0} (from : ℕ) (output errors : List ℕ) (texts : Texts) (status : ℤ) → texts.at ≡ from → texts.output_length ≡ 0 → texts.errors_length ≡ 0 → texts.accepted ≡ 0
+    → texts.refused ≡ 0 → ¬ HasRun status → A ⊎ ((¬ HasRun status) × WritesNone from output errors texts output errors)
+unread from output errors texts status at output_length errors_length accepted refused stopped =
+    inr (stopped, wrote_none from output errors texts at output_length errors_length accepted refused)
 
--- a fact of two tables that may not be read
-unless-read : {A B : Type 0} (r : Result A TableFault) (s : Result B TableFault) (P : A → B → Type 0) → ((a : A) (b : B) → P a b) → IfOk r (λ a. IfOk s (λ b. P a b))
-unless-read (Ok a) (Ok b) P all = all a b
-unless-read (Ok a) (Err fault) P all = tt
-unless-read (Err fault) s P all = tt
-
--- what holds by all tables
-pub by_any_tables : (table_b table_d : List ℕ) (Holds : List Row → List Sequence → Type 0) → ((b : List Row) (d : List Sequence) → Holds b d) → ByTables table_b table_d Holds
-by_any_tables table_b table_d Holds all = unless-read (table_b_of (records_of table_b)) (table_d_of (records_of table_d)) Holds all
-
--- what holds by the tables that were read
-pub by_these_tables : (table_b table_d : List ℕ) (b : List Row) (d : List Sequence) (Holds : List Row → List Sequence → Type 0) → table_b_of (records_of table_b) ≡ Ok b
-    → table_d_of (records_of table_d) ≡ Ok d → Holds b d → ByTables table_b table_d Holds
-by_these_tables table_b table_d b d Holds is_b is_d holds = rw (is_b, is_d) holds
+-- both tables were read
+pub by_both_tables : (table_b table_d : List ℕ) (b : List Row) (d : List Sequence) (status : ℤ) (Holds : List Row → List Sequence → Type 0) (Otherwise : Type 0)
+    → table_b_of (records_of table_b) ≡ Ok b → table_d_of (records_of table_d) ≡ Ok d → Holds b d → ByTables table_b table_d status Holds Otherwise
+by_both_tables table_b table_d b d status Holds Otherwise is_b is_d holds = inl (record { b = b; d = d; is_b = is_b; is_d = is_d; holds = holds })
 
 -- the status of a call that read its tables
 pub ran_status : (table_b table_d : List ℕ) (b : List Row) (d : List Sequence) (status : ℤ) → table_b_of (records_of table_b) ≡ Ok b → table_d_of (records_of table_d) ≡ Ok d
     → IsRunStatus status → CallStatus table_b table_d status
 ran_status table_b table_d b d status is_b is_d ran = record {
-  read = by_these_tables table_b table_d b d (λ b' d'. IsRunStatus status ⊎ IsCycleStatus d' status) is_b is_d (inl ran);
+  read = rw (is_b, is_d) (inl ran);
   no_table_b = rw is_b tt;
   no_table_d = rw (is_b, is_d) tt;
 }
@@ -490,7 +534,8 @@ all-values (Err fault) P all = tt
 -- memory ran out before the tables were read
 pub memory_status : (table_b table_d : List ℕ) → CallStatus table_b table_d (pos 73)
 memory_status table_b table_d = record {
-  read = by_any_tables table_b table_d (λ b d. IsRunStatus (pos 73) ⊎ IsCycleStatus d (pos 73)) (λ b d. inl (inr (inl refl)));
+  read = all-values (table_b_of (records_of table_b)) (λ b. IfOk (table_d_of (records_of table_d)) (λ d. IsRunStatus (pos 73) ⊎ IsCycleStatus d (pos 73)))
+      (λ b. all-values (table_d_of (records_of table_d)) (λ d. IsRunStatus (pos 73) ⊎ IsCycleStatus d (pos 73)) (λ d. inl (inr (inl refl))));
   no_table_b = all-faults (table_b_of (records_of table_b)) (λ fault. IsTableStatus 0 fault (pos 73)) (λ fault. inr refl);
   no_table_d = all-values (table_b_of (records_of table_b)) (λ b. IfErr (table_d_of (records_of table_d)) (λ fault. IsTableStatus 100 fault (pos 73)))
       (λ b. all-faults (table_d_of (records_of table_d)) (λ fault. IsTableStatus 100 fault (pos 73)) (λ fault. inr refl));
@@ -562,19 +607,22 @@ all_encoded pieces before after text tally (writes, tallies) b_output b_errors a
 no-start : (n : ℕ) (l : List ℕ) → n ≡ 0 → take n l ≡ []
 no-start n l is = ap (λ k. take k l) is
 
-module _ (form : Form) (b : List Row) (d : List Sequence) (octets rest : List ℕ) (from : ℕ) (output errors output' errors' : List ℕ) (old mid texts : Texts) (text : EventText) (tally : Tally)
-    (rest_is : rest ≡ drop from octets) (made : IsTextOfAll (encode_pieces form b d (documents_of rest)) text tally) (no_output : old.output_length ≡ 0) (no_errors : old.errors_length ≡ 0) where
-  is : IsTextOfAll (encode_pieces form b d (documents_of (drop from octets))) text tally
-  is = subst (λ l. IsTextOfAll (encode_pieces form b d (documents_of l)) text tally) rest_is made
+-- the text from a place on
+pub rest-encoded : (form : Form) (b : List Row) (d : List Sequence) (rest rest' : List ℕ) (text : EventText) (tally : Tally) → rest ≡ rest'
+    → IsTextOfAll (encode_pieces form b d (documents_of rest)) text tally → IsTextOfAll (encode_pieces form b d (documents_of rest')) text tally
+rest-encoded form b d rest rest' text tally same made = subst (λ l. IsTextOfAll (encode_pieces form b d (documents_of l)) text tally) same made
 
+module _ (pieces : List Piece) (octets : List ℕ) (from : ℕ) (output errors output' errors' : List ℕ) (old mid texts : Texts) (text : EventText) (tally : Tally)
+    (is : IsTextOfAll pieces text tally) (none : WritesNone from output errors old output errors) where
   -- there is room
   pub encodes_all : HasPut text old output errors mid output' errors' → texts.output_length ≡ mid.output_length → texts.errors_length ≡ mid.errors_length → texts.at ≡ length octets
-      → texts.accepted ≡ tally.accepted → texts.refused ≡ tally.refused → Encodes form b d octets from output' errors' texts (pos 0)
+      → texts.accepted ≡ tally.accepted → texts.refused ≡ tally.refused → Encodes pieces octets from output errors texts output' errors' (pos 0)
   encodes_all put output_length errors_length at accepted refused = record {
+    ran = inl refl;
     done = λ _. (
       record {
-        written = ap (λ n. take n output') output_length ∙ put.written ∙ ap (λ l. l ++ text.output.octets.items) (no-start old.output_length output no_output) ∙ is.output;
-        blamed = ap (λ n. take n errors') errors_length ∙ put.blamed ∙ ap (λ l. l ++ text.errors.octets.items) (no-start old.errors_length errors no_errors) ∙ is.errors;
+        written = ap (λ n. take n output') output_length ∙ put.written ∙ ap (λ l. l ++ text.output.octets.items) (no-start old.output_length output none.output_length) ∙ is.output;
+        blamed = ap (λ n. take n errors') errors_length ∙ put.blamed ∙ ap (λ l. l ++ text.errors.octets.items) (no-start old.errors_length errors none.errors_length) ∙ is.errors;
         output_fits = omega (arith, output_length, put.output_fits);
         errors_fits = omega (arith, errors_length, put.errors_fits);
         accepted = accepted ∙ is.tallies.accepted;
@@ -586,39 +634,36 @@ module _ (form : Form) (b : List Row) (d : List Sequence) (octets rest : List �
   }
 
   -- there is none
-  pub encodes_none : HasNoRoom text old output errors texts output' errors' → old.at ≡ from → Encodes form b d octets from output' errors' texts (pos 74)
-  encodes_none none at = record {
+  pub encodes_none : HasNoRoom text old output errors texts output' errors' → Encodes pieces octets from output errors texts output' errors' (pos 74)
+  encodes_none full = record {
+    ran = inr refl;
     done = λ no. absurd (apart-74-0 no);
     stops = λ _. (
       record {
-        output_needed = none.output_needed ∙ ap length is.output;
-        errors_needed = none.errors_needed ∙ ap length is.errors;
-        lacks = rw (none.same_output, none.same_errors) none.lacks;
+        output_needed = full.output_needed ∙ ap length is.output;
+        errors_needed = full.errors_needed ∙ ap length is.errors;
+        lacks = rw (full.same_output, full.same_errors) full.lacks;
       },
-      none.at ∙ at,
+      record {
+        at = full.at ∙ none.at;
+        output_length = full.output_length ∙ none.output_length;
+        errors_length = full.errors_length ∙ none.errors_length;
+        accepted = full.accepted ∙ none.accepted;
+        refused = full.refused ∙ none.refused;
+        same_output = full.same_output;
+        same_errors = full.same_errors;
+      },
     );
   }
 
--- a call that stopped before
-pub encodes_nothing : (form : Form) (b : List Row) (d : List Sequence) (octets : List ℕ) (from : ℕ) (output errors : List ℕ) (texts : Texts) (status : ℤ) → ¬ HasRun status
-    → Encodes form b d octets from output errors texts status
-encodes_nothing form b d octets from output errors texts status stopped = record { done = λ is. absurd (stopped (inl is)); stops = λ is. absurd (stopped (inr is)) }
-
 -- ---- The clauses of the calls.
 
--- a call that stopped before it read its stream
-pub dump_unread : (table_b table_d octets : List ℕ) (from : ℕ) (output errors : List ℕ) (texts : Texts) (status : ℤ) → texts.at ≡ from → texts.output_length ≡ 0 → texts.errors_length ≡ 0
-    → texts.accepted ≡ 0 → texts.refused ≡ 0 → ¬ HasRun status → ByTables table_b table_d (λ b d. Passes (dump_piece b d) octets from output errors texts status)
-dump_unread table_b table_d octets from output errors texts status at output_length errors_length accepted refused stopped =
-    by_any_tables table_b table_d (λ b d. Passes (dump_piece b d) octets from output errors texts status)
-    (λ b d. nothing_passed (dump_piece b d) octets from output errors texts status at output_length errors_length accepted refused stopped)
-
 -- a call that read its stream by these tables
-pub dump_read : (table_b table_d : List ℕ) (b : List Row) (d : List Sequence) (octets : List ℕ) (from from' : ℕ) (output errors : List ℕ) (texts : Texts) (status : ℤ)
+pub dump_read : (table_b table_d : List ℕ) (b : List Row) (d : List Sequence) (octets : List ℕ) (from from' : ℕ) (output errors : List ℕ) (texts : Texts) (status : ℤ) (Otherwise : Type 0)
     → table_b_of (records_of table_b) ≡ Ok b → table_d_of (records_of table_d) ≡ Ok d → from' ≡ from → Passes (dump_piece b d) octets from' output errors texts status
-    → ByTables table_b table_d (λ b d. Passes (dump_piece b d) octets from output errors texts status)
-dump_read table_b table_d b d octets from from' output errors texts status is_b is_d at passes =
-    by_these_tables table_b table_d b d (λ b d. Passes (dump_piece b d) octets from output errors texts status) is_b is_d
+    → ByTables table_b table_d status (λ b d. Passes (dump_piece b d) octets from output errors texts status) Otherwise
+dump_read table_b table_d b d octets from from' output errors texts status Otherwise is_b is_d at passes =
+    by_both_tables table_b table_d b d status (λ b d. Passes (dump_piece b d) octets from output errors texts status) Otherwise is_b is_d
     (subst (λ n. Passes (dump_piece b d) octets n output errors texts status) at passes)
 
 -- what holds of a form that is known
@@ -630,21 +675,37 @@ pub known_status : (number : ℕ) (form : Form) (table_b table_d : List ℕ) (st
     → IfSome (form_by number) (λ form'. CallStatus table_b table_d status)
 known_status number form table_b table_d status known is = if-known (form_by number) form (λ form'. CallStatus table_b table_d status) known is
 
-pub known_form : (number : ℕ) (form : Form) (status : ℤ) → Some form ≡ form_by number → IfNone (form_by number) (status ≡ pos 75)
-known_form number form status known = subst (λ o. IfNone o (status ≡ pos 75)) known tt
+pub known_form : (X : Type 0) (number : ℕ) (form : Form) → Some form ≡ form_by number → IfNone (form_by number) X
+known_form X number form known = subst (λ o. IfNone o X) known tt
+
+any-form : (X : Type 0) (o : Option Form) → X → IfNone o X
+any-form X None x = x
+any-form X (Some form) x = tt
+
+pub unknown_form : (number from : ℕ) (output errors : List ℕ) (texts : Texts) → texts.at ≡ from → texts.output_length ≡ 0 → texts.errors_length ≡ 0 → texts.accepted ≡ 0 → texts.refused ≡ 0
+    → IfNone (form_by number) ((pos 75 ≡ pos 75) × WritesNone from output errors texts output errors)
+unknown_form number from output errors texts at output_length errors_length accepted refused =
+    any-form ((pos 75 ≡ pos 75) × WritesNone from output errors texts output errors) (form_by number)
+    (refl, wrote_none from output errors texts at output_length errors_length accepted refused)
 
 -- a call that stopped before it read its text
-pub encode_unread : (number : ℕ) (form : Form) (table_b table_d octets : List ℕ) (from : ℕ) (output errors : List ℕ) (texts : Texts) (status : ℤ) → Some form ≡ form_by number → ¬ HasRun status
-    → IfSome (form_by number) (λ form. ByTables table_b table_d (λ b d. Encodes form b d octets from output errors texts status))
-encode_unread number form table_b table_d octets from output errors texts status known stopped =
-    if-known (form_by number) form (λ form. ByTables table_b table_d (λ b d. Encodes form b d octets from output errors texts status)) known
-    (by_any_tables table_b table_d (λ b d. Encodes form b d octets from output errors texts status)
-    (λ b d. encodes_nothing form b d octets from output errors texts status stopped))
+pub encode_unread : (number : ℕ) (form : Form) (table_b table_d octets : List ℕ) (from : ℕ) (output errors : List ℕ) (texts : Texts) (status : ℤ) → Some form ≡ form_by number → texts.at ≡ from
+    → texts.output_length ≡ 0 → texts.errors_length ≡ 0 → texts.accepted ≡ 0 → texts.refused ≡ 0 → ¬ HasRun status
+    → IfSome (form_by number) (λ form. ByTables table_b table_d status
+    (λ b d. Encodes (encode_pieces form b d (documents_of (drop from octets))) octets from output errors texts output errors status) (WritesNone from output errors texts output errors))
+encode_unread number form table_b table_d octets from output errors texts status known at output_length errors_length accepted refused stopped =
+    if-known (form_by number) form (λ form. ByTables table_b table_d status
+    (λ b d. Encodes (encode_pieces form b d (documents_of (drop from octets))) octets from output errors texts output errors status) (WritesNone from output errors texts output errors)) known
+    (unread from output errors texts status at output_length errors_length accepted refused stopped)
 
 -- a call that read its text by these tables
-pub encode_read : (number : ℕ) (form : Form) (table_b table_d : List ℕ) (b : List Row) (d : List Sequence) (octets : List ℕ) (from : ℕ) (output errors : List ℕ) (texts : Texts) (status : ℤ)
-    → Some form ≡ form_by number → table_b_of (records_of table_b) ≡ Ok b → table_d_of (records_of table_d) ≡ Ok d → Encodes form b d octets from output errors texts status
-    → IfSome (form_by number) (λ form. ByTables table_b table_d (λ b d. Encodes form b d octets from output errors texts status))
-encode_read number form table_b table_d b d octets from output errors texts status known is_b is_d encodes =
-    if-known (form_by number) form (λ form. ByTables table_b table_d (λ b d. Encodes form b d octets from output errors texts status)) known
-    (by_these_tables table_b table_d b d (λ b d. Encodes form b d octets from output errors texts status) is_b is_d encodes)
+pub encode_read : (number : ℕ) (form : Form) (table_b table_d : List ℕ) (b : List Row) (d : List Sequence) (octets : List ℕ) (from : ℕ) (output errors : List ℕ) (texts : Texts)
+    (output' errors' : List ℕ) (status : ℤ) → Some form ≡ form_by number → table_b_of (records_of table_b) ≡ Ok b → table_d_of (records_of table_d) ≡ Ok d
+    → Encodes (encode_pieces form b d (documents_of (drop from octets))) octets from output errors texts output' errors' status
+    → IfSome (form_by number) (λ form. ByTables table_b table_d status
+    (λ b d. Encodes (encode_pieces form b d (documents_of (drop from octets))) octets from output errors texts output' errors' status) (WritesNone from output errors texts output' errors'))
+encode_read number form table_b table_d b d octets from output errors texts output' errors' status known is_b is_d encodes =
+    if-known (form_by number) form (λ form. ByTables table_b table_d status
+    (λ b d. Encodes (encode_pieces form b d (documents_of (drop from octets))) octets from output errors texts output' errors' status) (WritesNone from output errors texts output' errors')) known
+    (by_both_tables table_b table_d b d status (λ b d. Encodes (encode_pieces form b d (documents_of (drop from octets))) octets from output errors texts output' errors' status)
+    (WritesNone from output errors texts output' errors') is_b is_d encodes)

@@ -1,18 +1,17 @@
 -- The rows of a message, call by call, and the rows of events.
-use Rattle.std.proofs.Common.{rules, ℕ, ◌≡◌, ◌≢◌, ◌⊎◌, inl, inr, ◌∙◌, ◌+◌, ◌-◌, ◌<◌, ◌≤◌, List, [], ◌∷◌, ◌++◌, length, take, drop, codes, sym, ap, subst, refl, arith, Result, Ok, Err, OnOk, None, Some, option_map, if◌then◌else◌, ℤ, pos, append_assoc, Bool, true, false}
+use Rattle.std.proofs.Common.{ℕ, ◌≡◌, ◌≢◌, ◌⊎◌, inl, inr, ◌∙◌, ◌-◌, ◌≤◌, List, [], ◌∷◌, ◌++◌, length, take, sym, ap, subst, refl, arith, Result, Ok, Err, OnOk, None, Some, option_map, if◌then◌else◌, ℤ, pos, true}
 use Rattle.std.proofs.lemmas.List.{length-take-le}
 use Rattle.bufr_frame.specs.Prelude.{Sections, StreamEvent}
 use Rattle.bufr_tables.specs.Prelude.{Row, Sequence, Tree, records_of, table_b_of, table_d_of, tree_of, tables_of, template_report}
 use Rattle.bufr_tables.specs.declared.fault.TemplateFault.{TemplateFault}
-use Rattle.bufr_walk.specs.Prelude.{View, item_call, shown_number, Timed, Shows, Read, Data, AnswersReading, ReadsData, DataReading, calls_of, turns_shown, data_of, data_report, read_by, fault_of, reading_of, next_item, fault_at}
+use Rattle.bufr_walk.specs.Prelude.{View, item_call, shown_number, Timed, Shows, Read, Data, AnswersReading, calls_of, turns_shown, data_of, data_report, read_by, fault_of, reading_of, next_item, fault_at}
 use Rattle.bufr_walk.specs.declared.fault.WalkFault.{WalkFault}
 use Rattle.bufr_walk.specs.declared.fault.WalkFault.TheVariants as fault
-use Rattle.bufr_c.specs.declared.rows.ValueRow.{ValueRow}
-use Rattle.bufr_c.specs.declared.rows.MessageRow.{MessageRow}
 use Rattle.bufr_c.specs.declared.rows.Counts.{Counts}
-use Rattle.bufr_c.specs.Leaving.{ByTables, FindsEvent, HasRun, events_from}
-use Rattle.bufr_c.specs.Rows.{HasNoRowRoom, HasPutRows, LacksRowRoom, LeavesRows, PassesRows, Put, PutsCall, RowPlace, Rows, StopsBeforeRows, data_fault, data_put, is_wanted, join_rows, message_fault, message_put, no_rows, place_after, row_place, rows_after, rows_in, rows_of, template_fault, template_put, three, with_call, with_calls, with_number, with_value}
-use Rattle.bufr_c.proofs.EventLemmas.{apart-0-74, apart-73-0, apart-73-74, apart-74-0, by_any_tables, by_these_tables, events-end}
+use Rattle.bufr_c.specs.declared.rows.RowBuffers.{RowBuffers}
+use Rattle.bufr_c.specs.Leaving.{ByTables, HasRun, events_from}
+use Rattle.bufr_c.specs.Rows.{HasNoRowRoom, HasPutRows, LacksRowRoom, LeavesRows, PassesRows, Put, PutsCall, RowPlace, Rows, SameBuffers, StopsBeforeRows, data_fault, data_put, is_wanted, join_rows, message_fault, message_put, no_rows, WritesNoRows, place_after, row_place, rows_after, rows_at, rows_of, template_fault, template_put, three, with_calls, with_number, with_value}
+use Rattle.bufr_c.proofs.EventLemmas.{Reached, apart-0-74, apart-73-0, apart-73-74, apart-74-0, events-end, over-end, over-stopped, reached-none, reached-same, by_both_tables}
 
 -- ---- The calls of a showing.
 
@@ -101,7 +100,7 @@ place-left room counts rows left =
 -- The rows of the events up to `counts.at` were written.
 pub record RowsSoFar (b : List Row) (d : List Sequence) (wanted octets : List ℕ) (from : ℕ) (room : Rows) (counts : Counts) : Type 0 where
   pub passed : List StreamEvent
-  pub events : events_from from octets ≡ passed ++ events_from counts.at octets
+  pub reached : Reached octets from passed counts.at
   pub leaves : LeavesRows room counts (rows_after b d wanted no_rows passed)
 
 module _ (b : List Row) (d : List Sequence) (wanted octets : List ℕ) (from : ℕ) (room : Rows) (counts : Counts) (so : RowsSoFar b d wanted octets from room counts) where
@@ -112,10 +111,10 @@ module _ (b : List Row) (d : List Sequence) (wanted octets : List ℕ) (from : �
   before-is = rw (so.leaves.items, so.leaves.octets, so.leaves.messages) refl
 
   -- the rows of the next event were put
-  pub rows-put : (event : StreamEvent) (made : Rows) (mid counts' : Counts) (room' : Rows) → events_from counts.at octets ≡ event ∷ events_from counts'.at octets
+  pub rows-put : (event : StreamEvent) (made : Rows) (mid counts' : Counts) (room' : Rows) → Reached octets from (so.passed ++ event ∷ []) counts'.at
       → made ≡ rows_of b d wanted (row_place counts) event → HasPutRows made counts room mid room'
       → counts'.items ≡ mid.items → counts'.octets ≡ mid.octets → counts'.messages ≡ mid.messages → RowsSoFar b d wanted octets from room' counts'
-  rows-put event made mid counts' room' next is put items octets' messages =
+  rows-put event made mid counts' room' reached is put items octets' messages =
       let now = rows_after b d wanted no_rows (so.passed ++ event ∷ []) in
       let same : join_rows (three (take counts.items room.items) (take counts.octets room.octets) (take counts.messages room.messages)) made ≡ now =
       ap (λ r. join_rows r made) before-is
@@ -124,7 +123,7 @@ module _ (b : List Row) (d : List Sequence) (wanted octets : List ℕ) (from : �
       let left : LeavesRows room' mid now = subst (λ r. LeavesRows room' mid r) same put.leaves in
       record {
         passed = so.passed ++ event ∷ [];
-        events = so.events ∙ ap (λ es. so.passed ++ es) next ∙ sym (append_assoc so.passed (event ∷ []) (events_from counts'.at octets));
+        reached = reached;
         leaves = record {
           items = ap (λ n. take n room'.items) items ∙ left.items;
           octets = ap (λ n. take n room'.octets) octets' ∙ left.octets;
@@ -136,31 +135,38 @@ module _ (b : List Row) (d : List Sequence) (wanted octets : List ℕ) (from : �
       }
 
   -- no event is left
-  pub rows-done : events_from counts.at octets ≡ [] → PassesRows b d wanted octets from room counts (pos 0)
-  rows-done none = record { passed = so.passed; events = so.events; leaves = so.leaves; done = λ _. none; stops = λ is. absurd (apart-0-74 is) }
+  pub rows-done : length octets ≤ counts.at → PassesRows b d wanted octets from room counts (pos 0)
+  rows-done past = record {
+    passed = so.passed;
+    over = over-end octets from so.passed counts.at so.reached counts.at (events-end octets counts.at past) past so.reached.within;
+    leaves = so.leaves;
+    stops = λ is. absurd (apart-0-74 is);
+  }
 
-  pub rows-stopped : PassesRows b d wanted octets from room counts (pos 73)
-  rows-stopped = record { passed = so.passed; events = so.events; leaves = so.leaves; done = λ is. absurd (apart-73-0 is); stops = λ is. absurd (apart-73-74 is) }
+  pub rows_stopped : PassesRows b d wanted octets from room counts (pos 73)
+  rows_stopped = record {
+    passed = so.passed;
+    over = over-stopped octets from so.passed counts.at so.reached (pos 73) (inr (inl refl)) apart-73-0;
+    leaves = so.leaves;
+    stops = λ is. absurd (apart-73-74 is);
+  }
 
   -- after the last event the search is at the end
   pub rows-ended : (counts' : Counts) → events_from counts.at octets ≡ [] → counts'.at ≡ length octets → counts'.items ≡ counts.items → counts'.octets ≡ counts.octets
       → counts'.messages ≡ counts.messages → PassesRows b d wanted octets from room counts' (pos 0)
-  rows-ended counts' none at items octets' messages =
-      let end : events_from counts'.at octets ≡ [] = events-end octets counts'.at (omega (arith, at)) in
-      record {
-        passed = so.passed;
-        events = so.events ∙ ap (λ es. so.passed ++ es) (none ∙ sym end);
-        leaves = record {
-          items = ap (λ n. take n room.items) items ∙ so.leaves.items;
-          octets = ap (λ n. take n room.octets) octets' ∙ so.leaves.octets;
-          messages = ap (λ n. take n room.messages) messages ∙ so.leaves.messages;
-          items_fit = omega (arith, items, so.leaves.items_fit);
-          octets_fit = omega (arith, octets', so.leaves.octets_fit);
-          messages_fit = omega (arith, messages, so.leaves.messages_fit);
-        };
-        done = λ _. end;
-        stops = λ is. absurd (apart-0-74 is);
-      }
+  rows-ended counts' none at items octets' messages = record {
+    passed = so.passed;
+    over = over-end octets from so.passed counts.at so.reached counts'.at none (omega (arith, at)) (λ _. omega (arith, at));
+    leaves = record {
+      items = ap (λ n. take n room.items) items ∙ so.leaves.items;
+      octets = ap (λ n. take n room.octets) octets' ∙ so.leaves.octets;
+      messages = ap (λ n. take n room.messages) messages ∙ so.leaves.messages;
+      items_fit = omega (arith, items, so.leaves.items_fit);
+      octets_fit = omega (arith, octets', so.leaves.octets_fit);
+      messages_fit = omega (arith, messages, so.leaves.messages_fit);
+    };
+    stops = λ is. absurd (apart-0-74 is);
+  }
 
   -- there is no room for the next event
   pub rows-full : (event : StreamEvent) (more : List StreamEvent) (made : Rows) (counts' : Counts) (room' : Rows) → events_from counts.at octets ≡ event ∷ more
@@ -172,7 +178,7 @@ module _ (b : List Row) (d : List Sequence) (wanted octets : List ℕ) (from : �
       subst (λ r. LacksRowRoom room' counts' r) (is ∙ ap (λ p. rows_of b d wanted p event) place) none.lacks in
       rw none.same (record {
         passed = so.passed;
-        events = so.events ∙ ap (λ n. so.passed ++ events_from n octets) (sym none.at);
+        over = over-stopped octets from so.passed counts'.at (reached-same octets from so.passed counts.at so.reached counts'.at none.at) (pos 74) (inr (inr refl)) apart-74-0;
         leaves = record {
           items = ap (λ n. take n room.items) none.items ∙ so.leaves.items;
           octets = ap (λ n. take n room.octets) none.octets ∙ so.leaves.octets;
@@ -181,7 +187,6 @@ module _ (b : List Row) (d : List Sequence) (wanted octets : List ℕ) (from : �
           octets_fit = omega (arith, none.octets, so.leaves.octets_fit);
           messages_fit = omega (arith, none.messages, so.leaves.messages_fit);
         };
-        done = λ no. absurd (apart-74-0 no);
         stops = λ _. subst (λ es. StopsBeforeRows b d wanted room counts' es) (sym there) (rw none.same at lacks);
       })
 
@@ -190,7 +195,7 @@ pub rows-none : (b : List Row) (d : List Sequence) (wanted octets : List ℕ) (r
     → RowsSoFar b d wanted octets counts.at room counts
 rows-none b d wanted octets room counts items octets' messages = record {
   passed = [];
-  events = refl;
+  reached = reached-none octets counts.at;
   leaves = record {
     items = ap (λ n. take n room.items) items;
     octets = ap (λ n. take n room.octets) octets';
@@ -201,17 +206,18 @@ rows-none b d wanted octets room counts items octets' messages = record {
   };
 }
 
--- a call that read no stream
-pub no_rows_passed : (b : List Row) (d : List Sequence) (wanted octets : List ℕ) (from : ℕ) (room : Rows) (counts : Counts) (status : ℤ) → counts.at ≡ from → counts.items ≡ 0 → counts.octets ≡ 0
-    → counts.messages ≡ 0 → ¬ HasRun status → PassesRows b d wanted octets from room counts status
-no_rows_passed b d wanted octets from room counts status at items octets' messages stopped =
-    subst (λ n. PassesRows b d wanted octets n room counts status) at
-    (let so = rows-none b d wanted octets room counts items octets' messages in
-    record { passed = so.passed; events = so.events; leaves = so.leaves; done = λ is. absurd (stopped (inl is)); stops = λ is. absurd (stopped (inr is)) })
+-- buffers that stay where they are
+pub buffers_here : (buffers : RowBuffers) → SameBuffers buffers buffers
+buffers_here buffers = record { items = refl; texts = refl; messages = refl }
 
--- The same in a loop, in which the tables and the wanted descriptors stay.
-pub record RowsLoop (b : List Row) (d : List Sequence) (wanted octets : List ℕ) (from : ℕ) (room : Rows) (counts : Counts) (b' : List Row) (d' : List Sequence) (wanted' : List ℕ) : Type 0 where
-  pub so : RowsSoFar b d wanted octets from room counts
+pub buffers-still : (old mid new : RowBuffers) → SameBuffers old mid → SameBuffers mid new → SameBuffers old new
+buffers-still old mid new first then' = record { items = then'.items ∙ first.items; texts = then'.texts ∙ first.texts; messages = then'.messages ∙ first.messages }
+
+-- The same in a loop, in which the tables, the wanted descriptors and the places of the buffers stay.
+pub record RowsLoop (b : List Row) (d : List Sequence) (wanted octets : List ℕ) (from : ℕ) (old new : RowBuffers) (counts : Counts) (b' : List Row) (d' : List Sequence) (wanted' : List ℕ)
+    : Type 0 where
+  pub so : RowsSoFar b d wanted octets from (rows_at new) counts
+  pub still : SameBuffers old new
   pub table_b : b' ≡ b
   pub table_d : d' ≡ d
   pub same : wanted' ≡ wanted
@@ -223,19 +229,17 @@ made-by-same b b' d d' wanted wanted' place event made table_b table_d same is =
 
 -- ---- The clause of the call.
 
--- a call that stopped before it read its stream
-pub items_unread : (table_b table_d wanted octets : List ℕ) (from : ℕ) (room : Rows) (counts : Counts) (status : ℤ) → counts.at ≡ from → counts.items ≡ 0 → counts.octets ≡ 0
-    → counts.messages ≡ 0 → ¬ HasRun status → ByTables table_b table_d (λ b d. PassesRows b d wanted octets from room counts status)
-items_unread table_b table_d wanted octets from room counts status at items octets' messages stopped =
-    by_any_tables table_b table_d (λ b d. PassesRows b d wanted octets from room counts status)
-    (λ b d. no_rows_passed b d wanted octets from room counts status at items octets' messages stopped)
+-- a call that wrote nothing
+pub unread_rows : {A : Type 0} (from : ℕ) (room : Rows) (counts : Counts) (status : ℤ) → counts.at ≡ from → counts.items ≡ 0 → counts.octets ≡ 0 → counts.messages ≡ 0 → ¬ HasRun status
+    → A ⊎ ((¬ HasRun status) × WritesNoRows from room counts room)
+unread_rows from room counts status at items octets' messages stopped = inr (stopped, record { at = at; items = items; octets = octets'; messages = messages; same = refl })
 
 -- a call that read its stream by these tables
 pub items_read : (table_b table_d : List ℕ) (b b' : List Row) (d d' : List Sequence) (wanted wanted' octets : List ℕ) (from from' : ℕ) (room : Rows) (counts : Counts) (status : ℤ)
-    → table_b_of (records_of table_b) ≡ Ok b → table_d_of (records_of table_d) ≡ Ok d → b' ≡ b → d' ≡ d → wanted' ≡ wanted → from' ≡ from
-    → PassesRows b' d' wanted' octets from' room counts status → ByTables table_b table_d (λ b d. PassesRows b d wanted octets from room counts status)
-items_read table_b table_d b b' d d' wanted wanted' octets from from' room counts status is_b is_d same_b same_d same at passes =
-    by_these_tables table_b table_d b d (λ b d. PassesRows b d wanted octets from room counts status) is_b is_d
+    (Otherwise : Type 0) → table_b_of (records_of table_b) ≡ Ok b → table_d_of (records_of table_d) ≡ Ok d → b' ≡ b → d' ≡ d → wanted' ≡ wanted → from' ≡ from
+    → PassesRows b' d' wanted' octets from' room counts status → ByTables table_b table_d status (λ b d. PassesRows b d wanted octets from room counts status) Otherwise
+items_read table_b table_d b b' d d' wanted wanted' octets from from' room counts status Otherwise is_b is_d same_b same_d same at passes =
+    by_both_tables table_b table_d b d status (λ b d. PassesRows b d wanted octets from room counts status) Otherwise is_b is_d
     (subst (λ x. PassesRows x d wanted octets from room counts status) same_b
     (subst (λ x. PassesRows b' x wanted octets from room counts status) same_d
     (subst (λ x. PassesRows b' d' x octets from room counts status) same

@@ -1,13 +1,11 @@
 -- Only contracts need this file. What a call leaves in the caller's buffers. (a choice of this
 -- project)
-use Rattle.std.specs.Prelude.{ℕ, ◌+◌, ◌<◌, ◌≤◌, ℤ, pos, ◌≡◌, ◌⊎◌, List, [], ◌∷◌, ◌++◌, ◌-◌, Bool, true, false, codes, length, take, drop, map, flat_map, count_by, IfOk, IfErr}
-use Rattle.bufr_frame.specs.Prelude.{StreamEvent, StrayAt, StartsWithBufr, scan_from, classify, stated_length, stream_event, candidate_len, has_word_at}
+use Rattle.std.specs.Prelude.{ℕ, ◌+◌, ◌<◌, ◌≤◌, ℤ, pos, ◌≡◌, ◌⊎◌, List, [], ◌∷◌, ◌++◌, ◌-◌, Bool, true, false, codes, length, take, drop, map, flat_map, count_by, Ok, IfOk, IfErr}
+use Rattle.bufr_frame.specs.Prelude.{StreamEvent, FrameAt, StrayAt, StartsWithBufr, scan_from, classify, stated_length, stream_event, candidate_len, has_word_at}
 use Rattle.bufr_frame.specs.declared.fault.Cause.{Cause}
 use Rattle.bufr_tables.specs.Prelude.{IsFirstCycle, Row, Sequence, records_of, table_b_of, table_d_of, table_report}
 use Rattle.bufr_tables.specs.declared.fault.TableFault.{TableFault}
-use Rattle.bufr_cli.specs.Prelude.{Piece, output_of, errors_of, is_accepted, is_refused, encode_pieces}
-use Rattle.bufr_text.specs.Prelude.{documents_of}
-use Rattle.bufr_text.specs.declared.encode.Form.{Form}
+use Rattle.bufr_cli.specs.Prelude.{Piece, output_of, errors_of, is_accepted, is_refused}
 use Rattle.bufr_c.specs.declared.events.Candidate.{Candidate}
 use Rattle.bufr_c.specs.declared.events.Candidate.TheVariants.{Stray, Frame}
 use Rattle.bufr_c.specs.declared.command.EventText.{EventText}
@@ -17,6 +15,16 @@ use Rattle.bufr_c.specs.Commands.{IsTextOf}
 -- the events of a stream from a place on; offsets count from the start of the stream
 abbrev pub events_from : (at : ℕ) → List ℕ → List StreamEvent
 events_from at octets = scan_from 0 at (drop at octets)
+
+-- the index after an event
+abbrev pub end_of : StreamEvent → ℕ
+end_of (FrameAt offset octets) = offset + length octets
+end_of (StrayAt offset cause) = offset + 4
+
+-- the index after the last of these events, or `from` if there are none
+abbrev pub end_after : (from : ℕ) → List StreamEvent → ℕ
+end_after from [] = from
+end_after from (event ∷ events) = end_after (end_of event) events
 
 -- A message of n octets begins there.
 pub record IsMessage (m : List ℕ) (n : ℕ) : Type 0 where
@@ -42,6 +50,7 @@ pub record FindsEvent (Is : StreamEvent → Type 0) (offset : ℕ) (m : List ℕ
   pub event : StreamEvent
   pub here : stream_event offset m (classify m) ≡ event ∷ []
   pub moves : n ≡ candidate_len m (classify m)
+  pub ends : end_of event ≡ offset + n
   pub some : 4 ≤ n
   pub within : n ≤ length m
   pub is : Is event
@@ -110,20 +119,40 @@ StopsBefore piece output errors texts [] = ⊥
 StopsBefore piece output errors texts (next ∷ more) =
     LacksRoom output errors texts (output_of (piece next)) (errors_of (piece next))
 
--- A call wrote the texts of the events from `from` up to `texts.at`, where the next call continues.
--- Status 0 says that no event is left, 74 that there is no room for the next one.
-pub record Passes (piece : StreamEvent → Piece) (octets : List ℕ) (from : ℕ)
-    (output errors : List ℕ) (texts : Texts) (status : ℤ) : Type 0 where
-  pub passed : List StreamEvent
-  pub events : events_from from octets ≡ passed ++ events_from texts.at octets
-  pub leaves : Leaves output errors texts (map piece passed)
-  pub done : status ≡ pos 0 → events_from texts.at octets ≡ []
-  pub stops : status ≡ pos 74
-      → StopsBefore piece output errors texts (events_from texts.at octets)
-
 -- the status of a call that read its tables
 abbrev pub IsRunStatus : ℤ → Type 0
 IsRunStatus status = (status ≡ pos 0) ⊎ ((status ≡ pos 73) ⊎ (status ≡ pos 74))
+
+-- A call passed over these events from `from` on, and the next one continues at `at`: at the end of
+-- the input if the status is 0, and right after the last of these events if it is 73 or 74.
+pub record PassesOver (octets : List ℕ) (from : ℕ) (passed : List StreamEvent) (at : ℕ)
+    (status : ℤ) : Type 0 where
+  pub ran : IsRunStatus status
+  pub events : events_from from octets ≡ passed ++ events_from at octets
+  pub within : from ≤ length octets → at ≤ length octets
+  pub done : status ≡ pos 0 → (events_from at octets ≡ []) × (length octets ≤ at)
+  pub stopped : (¬ (status ≡ pos 0)) → at ≡ end_after from passed
+
+-- A call wrote the texts of the events that it passed over. Status 74 says that there is no room
+-- for the next one.
+pub record Passes (piece : StreamEvent → Piece) (octets : List ℕ) (from : ℕ)
+    (output errors : List ℕ) (texts : Texts) (status : ℤ) : Type 0 where
+  pub passed : List StreamEvent
+  pub over : PassesOver octets from passed texts.at status
+  pub leaves : Leaves output errors texts (map piece passed)
+  pub stops : status ≡ pos 74
+      → StopsBefore piece output errors texts (events_from texts.at octets)
+
+-- A call wrote nothing, and the next one begins where it began.
+pub record WritesNone (from : ℕ) (output errors : List ℕ) (texts : Texts)
+    (output' errors' : List ℕ) : Type 0 where
+  pub at : texts.at ≡ from
+  pub output_length : texts.output_length ≡ 0
+  pub errors_length : texts.errors_length ≡ 0
+  pub accepted : texts.accepted ≡ 0
+  pub refused : texts.refused ≡ 0
+  pub same_output : output' ≡ output
+  pub same_errors : errors' ≡ errors
 
 -- the status of a call whose Table D has a sequence that contains itself
 abbrev pub IsCycleStatus : List Sequence → ℤ → Type 0
@@ -138,27 +167,37 @@ IsTableStatus more fault status =
 abbrev pub HasRun : ℤ → Type 0
 HasRun status = (status ≡ pos 0) ⊎ (status ≡ pos 74)
 
--- what holds by two tables that can be read
-abbrev pub ByTables : (table_b table_d : List ℕ) → (List Row → List Sequence → Type 0) → Type 0
-ByTables table_b table_d Holds =
-    IfOk (table_b_of (records_of table_b)) (λ b.
-    IfOk (table_d_of (records_of table_d)) (λ d. Holds b d))
+-- Both tables can be read, and this holds by them.
+pub record HoldsBy (table_b table_d : List ℕ) (Holds : List Row → List Sequence → Type 0)
+    : Type 0 where
+  pub b : List Row
+  pub d : List Sequence
+  pub is_b : table_b_of (records_of table_b) ≡ Ok b
+  pub is_d : table_d_of (records_of table_d) ≡ Ok d
+  pub holds : Holds b d
+
+-- Both tables can be read, and the first holds by them. Otherwise the status is neither 0 nor 74,
+-- and the second holds.
+abbrev pub ByTables : (table_b table_d : List ℕ) → (status : ℤ)
+    → (List Row → List Sequence → Type 0) → Type 0 → Type 0
+ByTables table_b table_d status Holds Otherwise =
+    HoldsBy table_b table_d Holds ⊎ ((¬ HasRun status) × Otherwise)
 
 -- The status of a call that reads tables. A table that cannot be read is reported by its fault,
 -- unless memory runs out.
 pub record CallStatus (table_b table_d : List ℕ) (status : ℤ) : Type 0 where
-  pub read : ByTables table_b table_d (λ b d. IsRunStatus status ⊎ IsCycleStatus d status)
+  pub read : IfOk (table_b_of (records_of table_b)) (λ _.
+      IfOk (table_d_of (records_of table_d)) (λ d. IsRunStatus status ⊎ IsCycleStatus d status))
   pub no_table_b : IfErr (table_b_of (records_of table_b)) (λ fault. IsTableStatus 0 fault status)
   pub no_table_d : IfOk (table_b_of (records_of table_b)) (λ _.
       IfErr (table_d_of (records_of table_d)) (λ fault. IsTableStatus 100 fault status))
 
--- The messages of the text from `from` on were written, or there is no room for them.
-pub record Encodes (form : Form) (b : List Row) (d : List Sequence) (octets : List ℕ) (from : ℕ)
-    (output errors : List ℕ) (texts : Texts) (status : ℤ) : Type 0 where
-  pub done : status ≡ pos 0
-      → Leaves output errors texts (encode_pieces form b d (documents_of (drop from octets)))
-      × (texts.at ≡ length octets)
-  pub stops : status ≡ pos 74 → LacksRoom output errors texts
-      (flat_map output_of (encode_pieces form b d (documents_of (drop from octets))))
-      (flat_map errors_of (encode_pieces form b d (documents_of (drop from octets))))
-      × (texts.at ≡ from)
+-- The messages of the text from `from` on were written. Or there is no room for them, and nothing
+-- was written.
+pub record Encodes (pieces : List Piece) (octets : List ℕ) (from : ℕ) (output errors : List ℕ)
+    (texts : Texts) (output' errors' : List ℕ) (status : ℤ) : Type 0 where
+  pub ran : HasRun status
+  pub done : status ≡ pos 0 → Leaves output' errors' texts pieces × (texts.at ≡ length octets)
+  pub stops : status ≡ pos 74
+      → LacksRoom output' errors' texts (flat_map output_of pieces) (flat_map errors_of pieces)
+      × WritesNone from output errors texts output' errors'

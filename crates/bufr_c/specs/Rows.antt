@@ -11,7 +11,8 @@ use Rattle.bufr_walk.specs.declared.fault.WalkFault.{WalkFault}
 use Rattle.bufr_c.specs.declared.rows.ValueRow.{ValueRow}
 use Rattle.bufr_c.specs.declared.rows.MessageRow.{MessageRow}
 use Rattle.bufr_c.specs.declared.rows.Counts.{Counts}
-use Rattle.bufr_c.specs.Leaving.{events_from}
+use Rattle.bufr_c.specs.declared.rows.RowBuffers.{RowBuffers}
+use Rattle.bufr_c.specs.Leaving.{PassesOver, events_from}
 
 -- ---- The rows of the items of one message.
 
@@ -48,6 +49,7 @@ item_by p fxy kind scale value length =
       fxy = fxy;
       scale = scale;
       kind = kind;
+      reserved = 0;
     }
 
 -- one more row
@@ -163,6 +165,7 @@ plain_row offset length first fault =
       second = 0;
       observed = 0;
       compressed = 0;
+      reserved = 0;
     }
 
 -- the row of a message with its header
@@ -193,6 +196,7 @@ head_row s offset first items fault =
       second = s.head.second;
       observed = from_bool s.observed;
       compressed = from_bool s.compressed;
+      reserved = 0;
     }
 
 -- ---- The rows of events.
@@ -275,6 +279,16 @@ rows_after b d wanted before (event ∷ events) =
 abbrev pub three : List ValueRow → List ℕ → List MessageRow → Rows
 three items octets messages = record { items = items; octets = octets; messages = messages }
 
+-- what is in the caller's buffers
+abbrev pub rows_at : RowBuffers → Rows
+rows_at buffers = three buffers.items.now buffers.texts.now buffers.messages.now
+
+-- The buffers are where they were.
+pub record SameBuffers (old new : RowBuffers) : Type 0 where
+  pub items : new.items.ghost_name ≡ old.items.ghost_name
+  pub texts : new.texts.ghost_name ≡ old.texts.ghost_name
+  pub messages : new.messages.ghost_name ≡ old.messages.ghost_name
+
 -- the rows of one event as they were made
 abbrev pub rows_in : Put → MessageRow → Rows
 rows_in p row = three p.items p.octets (row ∷ [])
@@ -297,9 +311,10 @@ pub record LeavesRows (room : Rows) (counts : Counts) (rows : Rows) : Type 0 whe
 pub record LacksRowRoom (room : Rows) (counts : Counts) (rows : Rows) : Type 0 where
   pub items_needed : counts.items_needed ≡ length rows.items
   pub octets_needed : counts.octets_needed ≡ length rows.octets
+  pub messages_needed : counts.messages_needed ≡ length rows.messages
   pub lacks : (length room.items < counts.items + counts.items_needed)
       ⊎ ((length room.octets < counts.octets + counts.octets_needed)
-      ⊎ (length room.messages < counts.messages + 1))
+      ⊎ (length room.messages < counts.messages + counts.messages_needed))
 
 -- Rows were appended to the earlier ones.
 pub record HasPutRows (rows : Rows) (old : Counts) (before : Rows) (new : Counts) (after : Rows)
@@ -330,13 +345,20 @@ StopsBeforeRows b d wanted room counts [] = ⊥
 StopsBeforeRows b d wanted room counts (next ∷ more) =
     LacksRowRoom room counts (rows_of b d wanted (row_place counts) next)
 
--- A call wrote the rows of the events from `from` up to `counts.at`, where the next call continues.
--- Status 0 says that no event is left, 74 that there is no room for the next one.
+-- A call wrote the rows of the events that it passed over. Status 74 says that there is no room for
+-- the next one.
 pub record PassesRows (b : List Row) (d : List Sequence) (wanted octets : List ℕ) (from : ℕ)
     (room : Rows) (counts : Counts) (status : ℤ) : Type 0 where
   pub passed : List StreamEvent
-  pub events : events_from from octets ≡ passed ++ events_from counts.at octets
+  pub over : PassesOver octets from passed counts.at status
   pub leaves : LeavesRows room counts (rows_after b d wanted no_rows passed)
-  pub done : status ≡ pos 0 → events_from counts.at octets ≡ []
   pub stops : status ≡ pos 74
       → StopsBeforeRows b d wanted room counts (events_from counts.at octets)
+
+-- A call wrote nothing, and the next one begins where it began.
+pub record WritesNoRows (from : ℕ) (before : Rows) (counts : Counts) (after : Rows) : Type 0 where
+  pub at : counts.at ≡ from
+  pub items : counts.items ≡ 0
+  pub octets : counts.octets ≡ 0
+  pub messages : counts.messages ≡ 0
+  pub same : after ≡ before

@@ -1,15 +1,16 @@
 //! The calls for programs in C.
-ghost use Rattle.std.specs.Prelude.{◌≡◌, IfNone, IfSome, pos};
-ghost use Rattle.bufr_cli.specs.Prelude.{ls_piece, dump_piece};
+ghost use Rattle.std.specs.Prelude.{◌≡◌, IfNone, IfSome, drop, pos};
+ghost use Rattle.bufr_cli.specs.Prelude.{dump_piece, encode_pieces, ls_piece};
+ghost use Rattle.bufr_text.specs.Prelude.{documents_of};
 ghost use Rattle.bufr_c.specs.Commands.{form_by};
-ghost use Rattle.bufr_c.specs.Leaving.{ByTables, CallStatus, Encodes, IsRunStatus, Passes};
-ghost use Rattle.bufr_c.specs.Rows.{PassesRows, three};
+ghost use Rattle.bufr_c.specs.Leaving.{ByTables, CallStatus, Encodes, Passes, WritesNone};
+ghost use Rattle.bufr_c.specs.Rows.{PassesRows, SameBuffers, WritesNoRows, rows_at};
 
 use crate::command::{Command, EventText, Run};
 use crate::events::{write_events, write_text};
 use crate::items::EventRows;
 use crate::row_events::write_rows;
-use crate::rows::{Counts, MessageRow, ValueRow};
+use crate::rows::{Counts, RowBuffers};
 use crate::tables::read_tables;
 use crate::texts::{
     CallInput, DONE, NO_ROOM, OUT_OF_MEMORY, Texts, UNKNOWN_FORM, form_by, rest_of,
@@ -36,8 +37,7 @@ pub extern "C" fn bufr_list(
     faults: &mut [u8],
     texts: &mut Texts,
 ) -> i32
-    ensures texts { Passes ls_piece octets.now texts.old.at lines.new faults.new texts.new result }
-    ensures status { IsRunStatus result }
+    ensures { Passes ls_piece octets.now texts.old.at lines.new faults.new texts.new result }
 {
     let run = Run {
         alloc,
@@ -50,7 +50,7 @@ pub extern "C" fn bufr_list(
 /// that is refused in `faults`. Returns 0 at the end, 73 if memory ran out, and 74 before the first
 /// message whose text does not fit. If a table cannot be read, returns its fault: that of Table B,
 /// or 100 more for Table D.
-#[tactic(auto, using(crate::proofs::EventLemmas::dump_unread, crate::proofs::EventLemmas::dump_read, crate::proofs::EventLemmas::ran_status))]
+#[tactic(auto, using(crate::proofs::EventLemmas::unread, crate::proofs::EventLemmas::dump_read, crate::proofs::EventLemmas::ran_status))]
 #[unsafe(no_mangle)]
 pub extern "C" fn bufr_dump(
     alloc: Global,
@@ -59,9 +59,9 @@ pub extern "C" fn bufr_dump(
     faults: &mut [u8],
     texts: &mut Texts,
 ) -> i32
-    ensures texts { ByTables input.now.table_b.now input.now.table_d.now (λ b d.
+    ensures texts { ByTables input.now.table_b.now input.now.table_d.now result (λ b d.
         Passes (dump_piece b d) input.now.octets.now texts.old.at text.new faults.new texts.new
-        result) }
+        result) (WritesNone texts.old.at text.old faults.old texts.new text.new faults.new) }
     ensures status { CallStatus input.now.table_b.now input.now.table_d.now result }
 {
     *texts = Texts::at(texts.at);
@@ -80,7 +80,7 @@ pub extern "C" fn bufr_dump(
 /// messages in `messages`, the line of the refused document in `faults`. Returns 0 at the end. If
 /// either has no room, returns 74, says how much is needed and writes nothing. Returns 75 if there
 /// is no such form, and otherwise the statuses of [`bufr_dump`].
-#[tactic(auto, using(crate::proofs::EventLemmas::encode_unread, crate::proofs::EventLemmas::encode_read, crate::proofs::EventLemmas::known_status, crate::proofs::EventLemmas::known_form, crate::proofs::EventLemmas::ran_status, crate::proofs::EventLemmas::memory_status, crate::proofs::EventLemmas::encodes_none, crate::proofs::EventLemmas::encodes_all, crate::proofs::EventLemmas::encodes_nothing, crate::proofs::EventLemmas::stopped_73))]
+#[tactic(auto, using(crate::proofs::EventLemmas::encode_unread, crate::proofs::EventLemmas::encode_read, crate::proofs::EventLemmas::known_status, crate::proofs::EventLemmas::known_form, crate::proofs::EventLemmas::unknown_form, crate::proofs::EventLemmas::ran_status, crate::proofs::EventLemmas::memory_status, crate::proofs::EventLemmas::stopped_73))]
 #[unsafe(no_mangle)]
 pub extern "C" fn bufr_encode(
     alloc: Global,
@@ -90,12 +90,15 @@ pub extern "C" fn bufr_encode(
     texts: &mut Texts,
 ) -> i32
     ensures texts { IfSome (form_by input.now.form) (λ form.
-        ByTables input.now.table_b.now input.now.table_d.now (λ b d.
-        Encodes form b d input.now.octets.now texts.old.at messages.new faults.new texts.new
-        result)) }
+        ByTables input.now.table_b.now input.now.table_d.now result (λ b d.
+        Encodes (encode_pieces form b d (documents_of (drop texts.old.at input.now.octets.now)))
+        input.now.octets.now texts.old.at messages.old faults.old texts.new messages.new faults.new
+        result) (WritesNone texts.old.at messages.old faults.old texts.new messages.new
+        faults.new)) }
     ensures status { IfSome (form_by input.now.form) (λ _.
         CallStatus input.now.table_b.now input.now.table_d.now result) }
-    ensures form { IfNone (form_by input.now.form) (result ≡ pos 75) }
+    ensures form { IfNone (form_by input.now.form) ((result ≡ pos 75)
+        × WritesNone texts.old.at messages.old faults.old texts.new messages.new faults.new) }
 {
     *texts = Texts::at(texts.at);
     let Some(form) = form_by(input.form) else {
@@ -120,22 +123,22 @@ pub extern "C" fn bufr_encode(
 }
 
 /// Reads the items of the messages of a stream from `counts.at` on: a row for each wanted item in
-/// `items`, the octets of their texts in `texts`, and a row for each message or stray `BUFR` in
-/// `messages`. Returns 0 at the end, 73 if memory ran out, and 74 before the first message that
-/// does not fit. If a table cannot be read, returns its fault as [`bufr_dump`] does.
-#[tactic(auto, using(crate::proofs::RowLemmas::items_unread, crate::proofs::RowLemmas::items_read, crate::proofs::EventLemmas::ran_status))]
+/// `rows.items`, the octets of their texts in `rows.texts`, and a row for each message or stray
+/// `BUFR` in `rows.messages`. Returns 0 at the end, 73 if memory ran out, and 74 before the first
+/// message that does not fit. If a table cannot be read, returns its fault as [`bufr_dump`] does.
+#[tactic(auto, using(crate::proofs::RowLemmas::unread_rows, crate::proofs::RowLemmas::buffers_here, crate::proofs::RowLemmas::items_read, crate::proofs::EventLemmas::ran_status))]
 #[unsafe(no_mangle)]
 pub extern "C" fn bufr_items(
     alloc: Global,
     input: &CallInput<'_>,
-    items: &mut [ValueRow],
-    texts: &mut [u8],
-    messages: &mut [MessageRow],
+    rows: &mut RowBuffers<'_>,
     counts: &mut Counts,
 ) -> i32
-    ensures rows { ByTables input.now.table_b.now input.now.table_d.now (λ b d.
-        PassesRows b d input.now.wanted.now input.now.octets.now counts.old.at
-        (three items.new texts.new messages.new) counts.new result) }
+    ensures buffers { SameBuffers rows.old rows.new }
+    ensures rows { ByTables input.now.table_b.now input.now.table_d.now result (λ b d.
+        PassesRows b d input.now.wanted.now input.now.octets.now counts.old.at (rows_at rows.new)
+        counts.new result)
+        (WritesNoRows counts.old.at (rows_at rows.old) counts.new (rows_at rows.new)) }
     ensures status { CallStatus input.now.table_b.now input.now.table_d.now result }
 {
     *counts = Counts::at(counts.at);
@@ -144,5 +147,5 @@ pub extern "C" fn bufr_items(
         Err(status) => return status,
     };
     let mut event = EventRows::new(alloc, &tables, input.wanted);
-    write_rows(&mut event, input.octets, items, texts, messages, counts)
+    write_rows(&mut event, input.octets, rows, counts)
 }

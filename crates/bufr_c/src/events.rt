@@ -103,6 +103,7 @@ pub(crate) fn write_text(
 }
 
 /// Writes the texts of the events from `texts.at` on, one event at a time, while there is room.
+#[tactic(auto, using(crate::proofs::EventLemmas::so_far_stopped))]
 pub(crate) fn write_events(
     run: &Run<'_>,
     octets: &[u8],

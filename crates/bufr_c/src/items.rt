@@ -86,6 +86,7 @@ impl<'w> ItemsOut<'w> {
             fxy,
             scale,
             kind,
+            reserved: 0,
         })?;
         Ok(())
     }
@@ -109,6 +110,7 @@ impl<'w> ItemsOut<'w> {
             fxy,
             scale,
             kind,
+            reserved: 0,
         })?;
         Ok(())
     }

@@ -15,5 +15,5 @@ mod text_out;
 mod texts;
 
 pub use calls::{bufr_dump, bufr_encode, bufr_items, bufr_list, bufr_version};
-pub use rows::{Counts, MessageRow, ValueRow};
+pub use rows::{Counts, MessageRow, RowBuffers, ValueRow};
 pub use texts::{CallInput, Texts};

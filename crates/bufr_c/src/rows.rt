@@ -34,6 +34,8 @@ pub struct ValueRow {
     pub scale: i16,
     /// [`MISSING`], [`NUMBER`], [`TEXT`], [`REFERENCE`] or [`WIDE`].
     pub kind: u8,
+    /// 0, for later versions.
+    pub reserved: u8,
 }
 
 /// A message, or a stray `BUFR`.
@@ -89,6 +91,8 @@ pub struct MessageRow {
     pub observed: u8,
     /// 1 if the data are compressed.
     pub compressed: u8,
+    /// 0, for later versions.
+    pub reserved: u64,
 }
 
 impl MessageRow {
@@ -121,6 +125,7 @@ impl MessageRow {
             second: 0,
             observed: 0,
             compressed: 0,
+            reserved: 0,
         }
     }
 
@@ -160,8 +165,23 @@ impl MessageRow {
             second: head.second,
             observed: u8::from(message.observed()),
             compressed: u8::from(message.compressed()),
+            reserved: 0,
         }
     }
+}
+
+/// Where [`crate::bufr_items`] writes.
+#[repr(C)]
+#[derive(Drop)]
+pub struct RowBuffers<'a> {
+    /// The rows of items.
+    pub items: &'a mut [ValueRow],
+    /// The octets of texts.
+    pub texts: &'a mut [u8],
+    /// The rows of messages.
+    pub messages: &'a mut [MessageRow],
+    /// 0, for later versions.
+    pub reserved: [u64; 2],
 }
 
 /// How far a call came, and how many rows and octets it wrote.
@@ -180,6 +200,10 @@ pub struct Counts {
     pub items_needed: usize,
     /// If the next message does not fit: its number of octets of texts.
     pub octets_needed: usize,
+    /// If the next message does not fit: its number of rows of messages, which is 1.
+    pub messages_needed: usize,
+    /// 0, for later versions.
+    pub reserved: u64,
 }
 
 impl Counts {
@@ -197,6 +221,8 @@ impl Counts {
             messages: 0,
             items_needed: 0,
             octets_needed: 0,
+            messages_needed: 0,
+            reserved: 0,
         }
     }
 }

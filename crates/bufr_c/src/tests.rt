@@ -1,7 +1,7 @@
 //! The calls, called as by a program in C.
 
 use crate::calls::{bufr_dump, bufr_encode, bufr_items, bufr_list, bufr_version};
-use crate::rows::{Counts, MessageRow, ValueRow};
+use crate::rows::{Counts, MessageRow, RowBuffers, ValueRow};
 use crate::texts::{CallInput, Texts};
 
 const NONE: Texts = Texts {
@@ -12,6 +12,7 @@ const NONE: Texts = Texts {
     errors_needed: 9,
     accepted: 9,
     refused: 9,
+    reserved: 9,
 };
 
 #[test]
@@ -60,6 +61,7 @@ const BLOCK_INPUT: CallInput<'static> = CallInput {
     table_d: TABLE_D,
     wanted: &[],
     form: 0,
+    reserved: [0; 7],
 };
 
 #[test]
@@ -126,6 +128,7 @@ const NO_ITEM: ValueRow = ValueRow {
     fxy: 9,
     scale: 9,
     kind: 9,
+    reserved: 9,
 };
 
 const NO_COUNTS: Counts = Counts {
@@ -135,6 +138,8 @@ const NO_COUNTS: Counts = Counts {
     messages: 9,
     items_needed: 9,
     octets_needed: 9,
+    messages_needed: 9,
+    reserved: 9,
 };
 
 fn no_message() -> MessageRow {
@@ -146,14 +151,13 @@ fn reads_an_item(rt: HostRuntime) {
     let (mut items, mut messages) = ([NO_ITEM; 2], [no_message(); 1]);
     let mut counts = NO_COUNTS;
     let alloc = rt.alloc();
-    let status = bufr_items(
-        alloc,
-        &BLOCK_INPUT,
-        &mut items,
-        &mut [],
-        &mut messages,
-        &mut counts,
-    );
+    let mut rows = RowBuffers {
+        items: &mut items,
+        texts: &mut [],
+        messages: &mut messages,
+        reserved: [0; 2],
+    };
+    let status = bufr_items(alloc, &BLOCK_INPUT, &mut rows, &mut counts);
     assert_eq!(rt; (status, counts.at, counts.items), (0, 48, 1));
     assert_eq!(rt; (counts.octets, counts.messages), (0, 1));
     let item = ValueRow {
@@ -164,6 +168,7 @@ fn reads_an_item(rt: HostRuntime) {
         fxy: 257,
         scale: 0,
         kind: 1,
+        reserved: 0,
     };
     assert_eq!(rt; items[0], item);
     let row = messages[0];
@@ -185,9 +190,16 @@ fn reads_a_stray_and_stops_before_an_item_without_room(rt: HostRuntime) {
     let mut messages = [no_message(); 2];
     let mut counts = NO_COUNTS;
     let alloc = rt.alloc();
-    let status = bufr_items(alloc, &input, &mut [], &mut [], &mut messages, &mut counts);
+    let mut rows = RowBuffers {
+        items: &mut [],
+        texts: &mut [],
+        messages: &mut messages,
+        reserved: [0; 2],
+    };
+    let status = bufr_items(alloc, &input, &mut rows, &mut counts);
     assert_eq!(rt; (status, counts.at, counts.messages), (74, 4, 1));
     assert_eq!(rt; (counts.items_needed, counts.octets_needed), (1, 0));
+    assert_eq!(rt; counts.messages_needed, 1);
     assert_eq!(rt; messages[0], MessageRow::plain(0, 4, 0, 1));
 }
 
@@ -200,7 +212,13 @@ fn reads_only_wanted_items(rt: HostRuntime) {
     let mut messages = [no_message(); 1];
     let mut counts = NO_COUNTS;
     let alloc = rt.alloc();
-    let status = bufr_items(alloc, &input, &mut [], &mut [], &mut messages, &mut counts);
+    let mut rows = RowBuffers {
+        items: &mut [],
+        texts: &mut [],
+        messages: &mut messages,
+        reserved: [0; 2],
+    };
+    let status = bufr_items(alloc, &input, &mut rows, &mut counts);
     assert_eq!(rt; (status, counts.at, counts.items), (0, 48, 0));
     assert_eq!(rt; (messages[0].items, messages[0].fault), (0, 0));
 }

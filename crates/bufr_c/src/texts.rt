@@ -28,11 +28,13 @@ pub struct CallInput<'a> {
     pub wanted: &'a [u16],
     /// For [`crate::bufr_encode`]: 0 for the form that each document states, 1 for plain data, 2
     /// for compressed data.
-    pub form: u8,
+    pub form: u64,
+    /// 0, for later versions.
+    pub reserved: [u64; 7],
 }
 
 /// The form of a number.
-pub(crate) fn form_by(form: u8) -> Option<Form>
+pub(crate) fn form_by(form: u64) -> Option<Form>
     ensures { result ≡ form_by form }
 {
     match form {
@@ -69,6 +71,8 @@ pub struct Texts {
     pub accepted: u64,
     /// How many messages and stray `BUFR`s were refused.
     pub refused: u64,
+    /// 0, for later versions.
+    pub reserved: u64,
 }
 
 impl Texts {
@@ -88,6 +92,7 @@ impl Texts {
             errors_needed: 0,
             accepted: 0,
             refused: 0,
+            reserved: 0,
         }
     }
 }

@@ -1,4 +1,5 @@
-use Rattle.std.proofs.Common.{◌∙◌, ◌∷◌, [], ap, arith, subst, sym, take}
+use Rattle.std.proofs.Common.{◌+◌, ◌∙◌, ◌∷◌, [], ap, arith, refl, subst, sym, take}
+use Rattle.std.proofs.lemmas.List.{length-take-le}
 use Rattle.bufr_frame.specs.Prelude.{FrameAt, StrayAt}
 use Rattle.bufr_c.specs.Commands.{IsTextOf}
 use Rattle.bufr_c.proofs.EventLemmas.{message-alone, message-here, message-moves, stray-by}
@@ -14,6 +15,7 @@ returns-in_ok-set_stray-in-Stray c =
       event = StrayAt c.args.offset c.in-Stray.cause;
       here = stray.event c.args.offset;
       moves = sym stray.moves;
+      ends = refl;
       some = omega arith;
       within = stray.within;
       is = subst (λ p. IsTextOf c.set_stray.new.self p) (stray-by c.args.command.now c.args.offset c.in-Stray.cause) c.in_ok-set_stray-in-Stray.ensures;
@@ -27,6 +29,7 @@ returns-in_ok-set_message-in-Frame c =
       event = FrameAt c.args.offset (take c.in-Frame.len m);
       here = message-here m c.in-Frame.len is c.args.offset ∙ ap (λ k. FrameAt c.args.offset (take k m) ∷ []) (sym is.states);
       moves = is.states ∙ sym (message-moves m c.in-Frame.len is);
+      ends = ap (λ k. c.args.offset + k) (length-take-le c.in-Frame.len m is.within);
       some = omega (arith, is.least);
       within = is.within;
       is = c.in_ok-set_message-in-Frame.ensures;

@@ -1,7 +1,7 @@
-use Rattle.std.proofs.Common.{ℕ, ◌≡◌, ◌+◌, ◌-◌, ap, arith, drop, false, length, refl, rules, subst, take}
+use Rattle.std.proofs.Common.{◌≡◌, ◌+◌, ◌-◌, ap, drop, false, length, refl, rules, subst, take}
 use Rattle.std.proofs.lemmas.List.{take_rest}
 use Rattle.bufr_c.specs.Commands.{piece_by}
-use Rattle.bufr_c.proofs.EventLemmas.{SoFar, event-next, events-absent, events-end, so-far-done, so-far-ended, so-far-no-room, so-far-none, so-far-put, starts-there}
+use Rattle.bufr_c.proofs.EventLemmas.{SoFar, event-next, events-absent, so-far-done, so-far-ended, so-far-no-room, so-far-none, so-far-put, starts-there}
 use Rattle.bufr_c.proofs.events.write_events.Goals as goal
 
 pub loop-texts-init : goal.loop-texts-init
@@ -16,9 +16,7 @@ returns-in_default-clause-texts c =
     let octets = c.args.octets.now in
     let at = c.loop-texts.texts.at in
     let none = events-absent octets (take (length octets - at) (drop at octets)) _ at (take_rest octets at) c.new-word.ensures c.in_default.ensures in
-    so-far-done _ octets _ _ _ _
-    (so-far-ended _ octets _ _ _ c.loop-texts.texts _ c.loop-texts.invariant none (omega (arith, c.loop-texts-test.true)) refl refl refl refl refl)
-    (events-end octets (length octets) (omega arith))
+    so-far-ended _ octets _ _ _ c.loop-texts.texts c.loop-texts.invariant _ none refl refl refl refl refl
 
 pub set_event-requires : goal.set_event-requires
 set_event-requires c =
@@ -45,9 +43,9 @@ loop-texts-preserved c =
     let begin = at + c.in-Some.place in
     let w = c.in-Ok.ensures in
     let mid = c.write_text.new.texts in
-    so-far-put _ octets _ _ _ c.loop-texts.texts c.loop-texts.invariant c.in-Some.place c.in-Ok.moves _ c.set_event.new.text mid _ _ _ w
+    so-far-put _ octets _ _ _ c.loop-texts.texts c.loop-texts.invariant c.in-Some.place c.in-Ok.moves _ c.set_event.new.text mid _ _ _ w (take_rest octets begin)
     (event-next _ octets _ _ _ at c.in-Some.place c.in-Ok.moves (take_rest octets at) (take_rest octets begin) c.new-word.ensures c.in-Some.ensures w)
     c.if-not-write_text.ensures refl refl refl (ap (λ n. mid.accepted + n) c.from.ensures) (ap (λ n. mid.refused + n) c.from-in-loop-texts.ensures)
 
 pub returns-clause-texts : goal.returns-clause-texts
-returns-clause-texts c = so-far-done _ _ _ _ _ _ c.loop-texts.invariant (events-end c.args.octets.now c.loop-texts.texts.at c.loop-texts-test.false)
+returns-clause-texts c = so-far-done _ _ _ _ _ _ c.loop-texts.invariant c.loop-texts-test.false

@@ -1,19 +1,20 @@
-use Rattle.std.proofs.Common.{ℕ, ◌≡◌, ◌∙◌, ◌+◌, ◌-◌, arith, drop, false, length, refl, rules, take}
+use Rattle.std.proofs.Common.{◌≡◌, ◌∙◌, ◌+◌, ◌-◌, drop, false, length, refl, rules, take}
 use Rattle.std.proofs.lemmas.List.{take_rest}
-use Rattle.bufr_c.proofs.EventLemmas.{event-next, events-absent, events-end, starts-there}
-use Rattle.bufr_c.proofs.RowLemmas.{made-by-same, rows-done, rows-ended, rows-full, rows-none, rows-put, rows-stopped}
+use Rattle.bufr_c.proofs.EventLemmas.{event-next, events-absent, reached-next, starts-there}
+use Rattle.bufr_c.proofs.RowLemmas.{buffers_here, buffers-still, made-by-same, rows-done, rows-ended, rows-full, rows-none, rows-put}
 use Rattle.bufr_c.proofs.row_events.write_rows.Goals as goal
 
 pub loop-counts-init : goal.loop-counts-init
 loop-counts-init c = record {
   so = rows-none _ _ _ _ _ c.args.counts.now c.requires.items c.requires.octets c.requires.messages;
+  still = buffers_here c.args.rows.now;
   table_b = refl;
   table_d = refl;
   same = refl;
 }
 
-pub returns-in_default-clause-rows : goal.returns-in_default-clause-rows
-returns-in_default-clause-rows c =
+pub returns-in_default-clause-passes : goal.returns-in_default-clause-passes
+returns-in_default-clause-passes c =
     let octets = c.args.octets.now in
     let at = c.loop-counts.counts.at in
     let none = events-absent octets (take (length octets - at) (drop at octets)) _ at (take_rest octets at) c.new-word.ensures c.in_default.ensures in
@@ -34,8 +35,11 @@ put_rows-requires-clause-texts c = c.loop-counts.invariant.so.leaves.octets_fit
 pub put_rows-requires-clause-messages : goal.put_rows-requires-clause-messages
 put_rows-requires-clause-messages c = c.loop-counts.invariant.so.leaves.messages_fit
 
-pub returns-then-not-put_rows-clause-rows : goal.returns-then-not-put_rows-clause-rows
-returns-then-not-put_rows-clause-rows c =
+pub returns-then-not-put_rows-clause-buffers : goal.returns-then-not-put_rows-clause-buffers
+returns-then-not-put_rows-clause-buffers c = buffers-still _ _ _ c.loop-counts.invariant.still c.put_rows.ensures.buffers
+
+pub returns-then-not-put_rows-clause-passes : goal.returns-then-not-put_rows-clause-passes
+returns-then-not-put_rows-clause-passes c =
     let octets = c.args.octets.now in
     let at = c.loop-counts.counts.at in
     let inv = c.loop-counts.invariant in
@@ -43,7 +47,7 @@ returns-then-not-put_rows-clause-rows c =
     let w = c.in-Ok.ensures.rows in
     rows-full _ _ _ octets _ _ c.loop-counts.counts inv.so w.event _ _ _ _
     (event-next _ octets _ _ _ at c.in-Some.place c.in-Ok.moves (take_rest octets at) (take_rest octets (at + c.in-Some.place)) c.new-word.ensures c.in-Some.ensures w)
-    (made-by-same _ _ _ _ _ _ _ w.event _ inv.table_b inv.table_d inv.same w.is) (rw full at c.put_rows.ensures)
+    (made-by-same _ _ _ _ _ _ _ w.event _ inv.table_b inv.table_d inv.same w.is) (rw full at c.put_rows.ensures.puts)
 
 pub loop-counts-preserved : goal.loop-counts-preserved
 loop-counts-preserved c =
@@ -51,14 +55,17 @@ loop-counts-preserved c =
     let at = c.loop-counts.counts.at in
     let inv = c.loop-counts.invariant in
     let w = c.in-Ok.ensures.rows in
+    let m_is = take_rest octets (at + c.in-Some.place) in
+    let next = event-next _ octets _ _ _ at c.in-Some.place c.in-Ok.moves (take_rest octets at) m_is c.new-word.ensures c.in-Some.ensures w in
+    let here = reached-next octets _ _ at inv.so.reached _ _ (at + c.in-Some.place) c.in-Ok.moves _ w m_is next refl in
+    let made = made-by-same _ _ _ _ _ _ _ w.event _ inv.table_b inv.table_d inv.same w.is in
     record {
-      so = rows-put _ _ _ octets _ _ c.loop-counts.counts inv.so w.event _ c.put_rows.new.counts _ _
-          (event-next _ octets _ _ _ at c.in-Some.place c.in-Ok.moves (take_rest octets at) (take_rest octets (at + c.in-Some.place)) c.new-word.ensures c.in-Some.ensures w)
-          (made-by-same _ _ _ _ _ _ _ w.event _ inv.table_b inv.table_d inv.same w.is) c.if-not-put_rows.ensures refl refl refl;
+      so = rows-put _ _ _ octets _ _ c.loop-counts.counts inv.so w.event _ c.put_rows.new.counts _ _ here made c.if-not-put_rows.ensures.puts refl refl refl;
+      still = buffers-still _ _ _ inv.still c.put_rows.ensures.buffers;
       table_b = c.set_event.ensures.table_b ∙ inv.table_b;
       table_d = c.set_event.ensures.table_d ∙ inv.table_d;
       same = c.set_event.ensures.wanted ∙ inv.same;
     }
 
-pub returns-clause-rows : goal.returns-clause-rows
-returns-clause-rows c = rows-done _ _ _ _ _ _ _ c.loop-counts.invariant.so (events-end c.args.octets.now c.loop-counts.counts.at c.loop-counts-test.false)
+pub returns-clause-passes : goal.returns-clause-passes
+returns-clause-passes c = rows-done _ _ _ _ _ _ _ c.loop-counts.invariant.so c.loop-counts-test.false
