@@ -341,7 +341,7 @@ def several_files(folder: pathlib.Path) -> None:
 def notes(folder: pathlib.Path) -> None:
     """Columns without a value, subsets without levels, and those with ambiguous levels."""
     done = run("-c", "012101,012104", SYNOP)
-    holds("an empty column", (done.returncode, done.stderr) == (0, b"bufr-csv: no row has an item for 012104\n"), done)
+    holds("an empty column", (done.returncode, done.stderr) == (0, b"bufr-csv: column 012104 is empty, because no row has an item for it\n"), done)
     done = run("--levels", "-c", "020013,020011", SYNOP)
     told = b"bufr-csv: skipped a subset without a level: message 1 subset 1\n"
     holds("a subset without levels", (done.returncode, done.stderr) == (0, told), done)
@@ -522,7 +522,7 @@ def feed(awk: list, _folder: pathlib.Path) -> None:
         holds(f"{awk}: the notes of a live feed", is_right, told)
         process.stdin.close()
         told = process.stderr.read()
-        holds(f"{awk}: the notes of a live feed at its end", told == b"bufr-csv: no row has an item for 020011\n", told)
+        holds(f"{awk}: the notes of a live feed at its end", told == b"bufr-csv: column 020011 is empty, because no row has an item for it\n", told)
 
 
 def few_files(_folder: pathlib.Path) -> None:
