@@ -163,7 +163,7 @@ class Masker:
         self.finder, self.count = Finder(longest), 0
 
     def take(self, octets: bytes) -> Iterator[bytes]:
-        """Adds the next block of the stream, which is empty at the end. Yields the bytes that can now be passed on."""
+        """Adds the next block of the stream (an empty one at the end), and yields the bytes that can now be passed on."""
         finder = self.finder
         finder.put(octets)
         first = finder.at
@@ -321,7 +321,7 @@ class Store:
 
 
 class Reason:
-    """A reason why a set may not match a message exactly, which descriptors it concerns, and how to get the right set."""
+    """A reason why a table set may not match a message exactly, the descriptors concerned, and how to get the right set."""
 
     def __init__(self, text: str, concerns: Callable[[str], bool], advice: Callable[[], str] = str) -> None:
         self.text, self.concerns, self.advice = text, concerns, advice
@@ -329,7 +329,7 @@ class Reason:
 
 
 class Run:
-    """A run of `bufr` on the pieces of a part that need the same set."""
+    """A run of `bufr` on the pieces of a part that need the same table set."""
 
     COMMAND: str
     PLACE: bytes
@@ -349,7 +349,7 @@ class Run:
 
     @staticmethod
     def asked_by(piece: Bytes) -> Tables:
-        """Returns the numbers in the header of a piece that determine its tables."""
+        """Returns those numbers in the header of a piece that determine the table set."""
         raise NotImplementedError
 
     @staticmethod
@@ -389,7 +389,7 @@ class Run:
             self.read, self.at = b"", 0
 
     def take_fault(self) -> None:
-        """Reads the next fault line: sets `place`, and `told` to its text. Without one, sets `place` to `NOWHERE`."""
+        """Reads the next fault line into `place` (where the fault is) and `told` (its text). At the end, `place` is `NOWHERE`."""
         for line in self.errors:
             word, _, self.told = line.partition(b": ")
             if word.startswith(self.PLACE) and word[len(self.PLACE) :].isdigit():
@@ -524,14 +524,17 @@ class Part:
 
 
 class Notes:
-    """The reasons why no set matches exactly, each with the number of affected pieces and the place of the first one."""
+    """The reasons why no table set matches exactly, each with the number of affected pieces and the place of the first."""
 
     def __init__(self) -> None:
         self.reasons: Dict[str, Reason] = {}
         self.others = Reason(f"no set matches exactly; only the first {KINDS_OF_NOTES:,} reasons are listed", bool)
 
     def known(self, reason: Reason) -> Reason:
-        """Returns the recorded reason with the same text. If too many are recorded, returns the one for all others."""
+        """Records a reason, unless one with the same text is recorded already, and returns the recorded reason.
+
+        If too many reasons are recorded, returns the reason that stands for all others.
+        """
         if reason.text not in self.reasons and len(self.reasons) >= KINDS_OF_NOTES:
             return self.others
         return self.reasons.setdefault(reason.text, reason)
@@ -548,7 +551,7 @@ class Notes:
 
 
 def reasons(asked: Tables, tables: bufr_sets.TableSet) -> List[Reason]:
-    """Returns the reasons why a set may not match a message exactly."""
+    """Returns the reasons why a table set may not match a message exactly."""
     centre, master, version, local = asked
     found = []
     if master != 0:

@@ -88,7 +88,7 @@ class Conditions:
         return f"left out {messages}{so_far} in edition 3, which has only two-digit years; {advice}"
 
     def new_note(self, so_far: str) -> List[str]:
-        """Returns a list with the note if there is one and this method has not returned it before, or an empty list."""
+        """Returns the note in a list. If there is no note, or this method has returned it before, the list is empty."""
         notes = [self.note(so_far)] * (self.left_out > 0 and not self.is_told)
         self.is_told = self.left_out > 0
         return notes

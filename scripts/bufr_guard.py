@@ -284,7 +284,7 @@ def say(lines: bytes) -> None:
 
 
 def bare(file: Optional[str], begin: bytes, piece: str = "message") -> bytes:
-    """Returns the note that a file contains no message or document (`piece`), and what type of file it may be instead."""
+    """Returns a note that a file contains no message or document (`piece`), with the type that the file seems to have."""
     head = begin.lstrip()
     if head[:1] == b"<":
         head = head.lower()
@@ -335,7 +335,7 @@ class Progress:
 
 
 def program() -> str:
-    """Returns the path of `bufr`: the value of BUFR, or the first one next to the script, on PATH or in the repository."""
+    """Returns the path of `bufr`: the value of BUFR, or else the program next to the script, on PATH or in the repository."""
     named = os.environ.get("BUFR")
     if named:
         return named
@@ -401,7 +401,7 @@ def lines_from(
 
 
 def checked(status: int, has_told: bool = True, what: str = "bufr") -> int:
-    """Returns a program's exit status. Raises `Failed` if the status is over 2, or is 2 and no reason was reported."""
+    """Returns the exit status of a program. Raises `Failed` if it is over 2, or if it is 2 and no reason was reported."""
     if status > 128:
         raise Failed(f"{what} was killed (signal {status - 128}); output is incomplete")
     if status not in (0, 1, 2) or (status == 2 and not has_told):

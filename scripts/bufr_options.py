@@ -124,7 +124,7 @@ def misused(why: str) -> bufr_guard.Failed:
 
 
 def number_from(least: int) -> Callable[[str], int]:
-    """Returns a function that converts a word to a whole number, and raises `ValueError` if it is less than `least`."""
+    """Returns a function that converts a word to a whole number of at least `least`, or raises `ValueError`."""
 
     def number(word: str) -> int:
         if not (word.isascii() and word.isdigit() and len(word) < 19) or int(word) < least:

@@ -1,4 +1,4 @@
-"""Chooses a table set for a message, and finds the rows that its descriptors use."""
+"""Chooses the table set for a message, and finds the elements and sequences that a descriptor list uses."""
 from __future__ import annotations
 
 import os

@@ -103,7 +103,10 @@ _CAUSES = [
 
 
 class TextError(ValueError):
-    """Reports an invalid line in a dump, with what was expected and the likely cause. `line` is the line number, from 1."""
+    """Reports an invalid line in a dump, what was expected, and the likely cause.
+
+    `line` is the number of the line, counted from 1.
+    """
 
     def __init__(self, line: int, expected: str, cause: str = "") -> None:
         super().__init__(line, expected, cause)

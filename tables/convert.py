@@ -84,7 +84,10 @@ def of_csv(folder: pathlib.Path, pattern: str, columns: list):
 
 
 def sequences_of(rows):
-    """Yields a list for each sequence: its descriptor, followed by its members. The rows of each must be consecutive."""
+    """Yields a list for each sequence: its descriptor, followed by its members.
+
+    The rows of each sequence must be consecutive.
+    """
     for fxy, run in itertools.groupby(rows, key=lambda row: row[0]):
         yield [fxy, *(member for _, member in run)]
 
@@ -245,7 +248,7 @@ def shown(words: list) -> str:
 
 
 def taken(folder: pathlib.Path, entries, refused) -> tuple:
-    """Returns the entries that `bufr` accepts, by descriptor, and the number of refused entries. Reports each of these."""
+    """Reports each entry that `bufr` refuses. Returns the other entries, by descriptor, and the number of refused ones."""
     found, left_out = {}, 0
     for entry in entries:
         found.setdefault(entry[0], []).append(entry)
