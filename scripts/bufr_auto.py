@@ -389,7 +389,7 @@ class Run:
             self.read, self.at = b"", 0
 
     def take_fault(self) -> None:
-        """Reads the next fault line into `place` (where the fault is) and `told` (its text). At the end, `place` is `NOWHERE`."""
+        """Reads the next fault line: its place into `place`, its text into `told`. At the end, `place` is `NOWHERE`."""
         for line in self.errors:
             word, _, self.told = line.partition(b": ")
             if word.startswith(self.PLACE) and word[len(self.PLACE) :].isdigit():
@@ -528,7 +528,7 @@ class Notes:
 
     def __init__(self) -> None:
         self.reasons: Dict[str, Reason] = {}
-        self.others = Reason(f"no set matches exactly; only the first {KINDS_OF_NOTES:,} reasons are listed", bool)
+        self.others = Reason(f"no table set matches exactly; only the first {KINDS_OF_NOTES:,} reasons are listed", bool)
 
     def known(self, reason: Reason) -> Reason:
         """Records a reason, unless one with the same text is recorded already, and returns the recorded reason.
@@ -560,7 +560,7 @@ def reasons(asked: Tables, tables: bufr_sets.TableSet) -> List[Reason]:
         text = f"table version {version} is later than that of the table set {tables.name}"
         found.append(Reason(text, bool, lambda: bufr_sets.NEWER))
     if version <= 6 < tables.version:
-        text = f"some descriptors have different definitions in version {version} and in {tables.name}"
+        text = f"table version {version} defines some descriptors differently from the table set {tables.name}"
         found.append(Reason(text, CHANGED_SINCE_6.__contains__))
     if local != 0 and tables.own is None:
         own = bufr_sets.own_name(tables, centre, local)

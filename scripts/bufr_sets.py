@@ -115,7 +115,7 @@ class TableSets:
                 tables = TableSet(os.path.join(self.folder, name), int(version), key)
                 missing = next((table for table in ("B.csv", "D.csv") if not os.path.exists(tables.file(table))), "")
                 if missing:
-                    self.notes.append(f"ignored {tables.folder}, which has no {missing}; add it, or remove the directory")
+                    self.notes.append(f"ignored {tables.folder}, which has no {missing}; add this file, or remove the directory")
                 else:
                     self.sets.setdefault(key, {})[tables.version] = tables
         if None not in self.sets:
@@ -210,7 +210,7 @@ def advice(tables: TableSet, centre: int, version: int, local: int) -> str:
 
 def lookup(centre: int) -> str:
     """Returns a remark, in parentheses, on how to find the name of a centre with this number."""
-    return f"(to find its name, look up {centre} in WMO's Common Code Table C-11)"
+    return f"(to find the centre's name, look up {centre} in WMO's Common Code Table C-11)"
 
 
 def command(tables: TableSet, centre: int, local: int, *sources: str) -> str:

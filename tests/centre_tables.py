@@ -30,7 +30,7 @@ TABLE_D = """\
            012101
  301250  1 001213
 """
-LOOKUP = "(to find its name, look up {} in WMO's Common Code Table C-11)\n"
+LOOKUP = "(to find the centre's name, look up {} in WMO's Common Code Table C-11)\n"
 ASK = "no public source is known for these tables; ask the centre for them " + LOOKUP
 TEXT = """\
 message
@@ -251,7 +251,7 @@ def main() -> None:
         # An incomplete set counts as not installed, and an invalid one is named.
         synop = (TOP / "examples/synop.bufr").read_bytes()
         (tables / "wmo-40").mkdir()
-        told = f"bufr-lacks: ignored {tables}/wmo-40, which has no B.csv; add it, or remove the directory\n"
+        told = f"bufr-lacks: ignored {tables}/wmo-40, which has no B.csv; add this file, or remove the directory\n"
         holds("an incomplete set", script("bufr-lacks", synop), (0, "", told))
         shutil.copytree(TOP / "tables/wmo-39", tables / "wmo-40", dirs_exist_ok=True)
         (tables / "wmo-40/D.csv").write_text("no table\n")
