@@ -335,7 +335,7 @@ class Progress:
 
 
 def program() -> str:
-    """Returns the path of `bufr`: the value of BUFR, or else the program next to the script, on PATH or in the repository."""
+    """Returns the path of `bufr`: the value of BUFR, or the program next to the script, on PATH or in the repository."""
     named = os.environ.get("BUFR")
     if named:
         return named
@@ -395,7 +395,7 @@ def lines_from(
         block = os.read(pipe, BLOCK)
         lines, end, rest = (rest + block).rpartition(b"\n")
         if len(rest) > BLOCK:
-            raise Failed("a line in the listing is longer than 1 MB")
+            raise Failed("a line in the listing is longer than 1 MB, so bufr ls did not print it")
         yield lines + end
     yield rest
 
