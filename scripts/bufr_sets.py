@@ -115,7 +115,8 @@ class TableSets:
                 tables = TableSet(os.path.join(self.folder, name), int(version), key)
                 missing = next((table for table in ("B.csv", "D.csv") if not os.path.exists(tables.file(table))), "")
                 if missing:
-                    self.notes.append(f"ignored {tables.folder}, which has no {missing}; add this file, or remove the directory")
+                    advice = "add this file, or remove the directory"
+                    self.notes.append(f"ignored {tables.folder}, which has no {missing}; {advice}")
                 else:
                     self.sets.setdefault(key, {})[tables.version] = tables
         if None not in self.sets:
