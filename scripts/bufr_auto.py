@@ -716,7 +716,7 @@ class Work:
         part.pieces.append((place, source.lines, run, notes, b""))
 
     def selected(self, part: Part) -> Part:
-        """Returns a part without the candidates that do not meet the conditions. Keeps those that `bufr ls` refuses."""
+        """Returns a part that contains the candidates that meet the conditions or that `bufr ls` refuses."""
         if part.candidates is None:
             return part
         candidates, chosen, begin = part.candidates.descriptor(), Part(), 0

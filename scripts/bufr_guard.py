@@ -71,7 +71,7 @@ class Failed(Exception):
 
 
 class Question(Exception):
-    """Raised for --help or --version, which `run` handles."""
+    """Raised for --help or --version. `run` handles it by printing the help or the version."""
 
 
 def run(work: Callable[[List[str]], int], text: Optional[str], ends_by_pipe: bool = False) -> NoReturn:
