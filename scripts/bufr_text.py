@@ -674,7 +674,7 @@ class _Told:
         return refused
 
     def end(self, stream: IO[bytes]) -> None:
-        """Reports the remaining strays, and issues a warning for each note and for the number of faults."""
+        """Reports the remaining strays. Then issues a warning that counts the faults, and one for each note."""
         self.up_to(float("inf"))
         told = [f"the file contains no message{_looks(stream)}"] * self.is_bare
         if self.faults is None and self.count:
