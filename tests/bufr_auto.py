@@ -497,7 +497,7 @@ class Trial:
         self.holds("kinds of notes", (len(told), told[-1]) == (1001, rest), (len(told), told[-1]))
         # Of two reasons, which concern other descriptors, one holds.
         done = self.auto(stream=made(41, "012101", b"\1\1", local=102))
-        note = b"bufr-auto: 1 message, at offset 0: version 41 is later than wmo-39" + NEWER.encode() + b"\n"
+        note = b"bufr-auto: 1 message, at offset 0: table version 41 is later than that of the table set wmo-39" + NEWER.encode() + b"\n"
         self.holds("one of two reasons", done.stderr == note, done)
         refused = made(41, "012101", b"\1\1").replace(b"\0\0\x16", b"\0\0\x15", 1)
         done = self.auto(stream=refused)
