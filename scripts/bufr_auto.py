@@ -52,7 +52,7 @@ class Unread(Exception):
 
 
 class Feed:
-    """Reads a file or standard input as its bytes arrive. If the input pauses for a second, calls `report` once."""
+    """Reads a file or standard input as the bytes arrive. If the input pauses for a second, calls `report` once."""
 
     def __init__(self, file: Optional[str], report: Callable[[], None]) -> None:
         self.file, self.name, self.begin, self.taken = file, bufr_guard.named(file), b"", 0
@@ -117,9 +117,9 @@ class Finder:
         self.has_ended = not octets
 
     def find(self) -> Optional[Tuple[int, int, bytes]]:
-        """Returns where the next message or stray begins and ends, and its fault, or None if more bytes are needed.
+        """Returns where the next message or stray begins and ends, and the fault, or None if more bytes are needed.
 
-        A stray is the bytes `BUFR` where no complete message begins.
+        A stray is the bytes `BUFR` where no complete message begins. For a complete message, the fault is empty.
         """
         at = self.held.find(b"BUFR", self.at, self.end)
         if at < 0:
@@ -143,7 +143,7 @@ class Finder:
 
 
 def is_stray(fault: bytes) -> bool:
-    """Returns whether a fault reports a stray rather than a skipped message."""
+    """Returns whether a text is the fault of a stray, rather than the report of a skipped message."""
     return fault[:1].isdigit()
 
 
@@ -163,7 +163,7 @@ class Masker:
         self.finder, self.count = Finder(longest), 0
 
     def take(self, octets: bytes) -> Iterator[bytes]:
-        """Adds the next block (empty at the end of the stream), and yields the bytes that the program can now read."""
+        """Adds the next block of the stream (an empty one at the end), and yields the bytes that can now be passed on."""
         finder = self.finder
         finder.put(octets)
         first = finder.at
@@ -280,7 +280,7 @@ class Documents(Source):
 
 
 def begin_of(text: bytearray) -> int:
-    """Returns where the first line that is neither empty nor a comment begins. The text must begin with a line feed."""
+    """Returns the index of the first line that is neither empty nor a comment. The text must begin with a line feed."""
     at, end = 1, text.find(b"\n", 1)
     while end == at or (at < end <= at + LINE and text.startswith(b"#", at)):
         at, end = end + 1, text.find(b"\n", end + 1)
@@ -288,7 +288,7 @@ def begin_of(text: bytearray) -> int:
 
 
 def may_begin(text: bytearray) -> bool:
-    """Returns whether `text` may be the beginning of a document. It is not if, for example, the input is BUFR."""
+    """Returns whether a text can be the beginning of a dump. If the input is BUFR, for example, it cannot."""
     at = begin_of(text)
     end = text.find(b"\n", at)
     return len(text) - at <= LINE if end < 0 else text[at:end] == b"message"
@@ -321,7 +321,7 @@ class Store:
 
 
 class Reason:
-    """A reason why a set may not match a message exactly, which descriptors it concerns, and how to get the right set."""
+    """A reason why a table set may not match a message exactly, the descriptors concerned, and how to get the right set."""
 
     def __init__(self, text: str, concerns: Callable[[str], bool], advice: Callable[[], str] = str) -> None:
         self.text, self.concerns, self.advice = text, concerns, advice
@@ -329,7 +329,7 @@ class Reason:
 
 
 class Run:
-    """A run of `bufr` on the pieces of a part that need the same set."""
+    """A run of `bufr` on the pieces of a part that need the same table set."""
 
     COMMAND: str
     PLACE: bytes
@@ -349,17 +349,17 @@ class Run:
 
     @staticmethod
     def asked_by(piece: Bytes) -> Tables:
-        """Returns the numbers in the header of a piece that determine its tables."""
+        """Returns those numbers in the header of a piece that determine the table set."""
         raise NotImplementedError
 
     @staticmethod
     def words_of(piece: Bytes) -> bytes:
-        """Returns the descriptor list of a piece, as bytes from a message or as lines from a document."""
+        """Returns the descriptor list of a piece: the bytes in section 3 of a message, or the lines of a document."""
         raise NotImplementedError
 
     @staticmethod
     def descriptors(words: bytes) -> Tuple[str, ...]:
-        """Converts a list that `words_of` returned to six-digit descriptors."""
+        """Converts the result of `words_of` to a tuple of six-digit descriptors."""
         raise NotImplementedError
 
     def copy_piece(self) -> bool:
@@ -367,7 +367,7 @@ class Run:
         raise NotImplementedError
 
     def start(self, output: Optional[int]) -> None:
-        """Starts the run. If `output` is None, the output goes to a file that is later copied piece by piece."""
+        """Starts the run. If `output` is None, the output is written to a temporary file, from which `copy` reads it."""
         self.start_on(self.pieces.descriptor(), output)
 
     def start_on(self, given: int, output: Optional[int]) -> None:
@@ -378,7 +378,7 @@ class Run:
         self.output = open(copied, "rb", 0) if output is None else None
 
     def finish(self) -> None:
-        """Waits for the program to exit."""
+        """Waits for the program to exit, and then reads the first fault line."""
         self.status = bufr_guard.wait(self.process)
         self.others: List[bytes] = []  # lines that do not report faults in pieces
         self.passed = 0  # the total size of all previous pieces, in bytes or lines
@@ -389,7 +389,7 @@ class Run:
             self.read, self.at = b"", 0
 
     def take_fault(self) -> None:
-        """Reads the next fault line, and sets `place` and `told`, the text after it. At the end, `place` is `NOWHERE`."""
+        """Reads the next fault line: its place into `place`, its text into `told`. At the end, `place` is `NOWHERE`."""
         for line in self.errors:
             word, _, self.told = line.partition(b": ")
             if word.startswith(self.PLACE) and word[len(self.PLACE) :].isdigit():
@@ -413,14 +413,14 @@ class Run:
         return self.output is None or self.copy_piece()
 
     def take(self) -> bool:
-        """Reads more of the program's output. Returns False at its end."""
+        """Reads more of the program's output. Returns False if there is no more."""
         assert self.output is not None
         octets = self.output.read(BLOCK)
         self.read, self.at = self.read[self.at :] + octets, 0
         return bool(octets)
 
     def give(self, end: int) -> None:
-        """Copies the buffered output up to `end`."""
+        """Copies the buffered output up to the index `end` to the target."""
         self.target.write(memoryview(self.read)[self.at : end])
         self.at = end
 
@@ -524,14 +524,17 @@ class Part:
 
 
 class Notes:
-    """The reasons why no set matches exactly, each with the number of affected pieces and the place of the first one."""
+    """The reasons why no table set matches exactly, each with the number of affected pieces and the place of the first."""
 
     def __init__(self) -> None:
         self.reasons: Dict[str, Reason] = {}
-        self.others = Reason(f"no set matches exactly; only the first {KINDS_OF_NOTES:,} reasons are listed", bool)
+        self.others = Reason(f"no table set matches exactly; only the first {KINDS_OF_NOTES:,} reasons are listed", bool)
 
     def known(self, reason: Reason) -> Reason:
-        """Returns the known reason with the same text or, if there are too many reasons, the one for all the others."""
+        """Records a reason, unless one with the same text is recorded already, and returns the recorded reason.
+
+        If too many reasons are recorded, returns the reason that stands for all others.
+        """
         if reason.text not in self.reasons and len(self.reasons) >= KINDS_OF_NOTES:
             return self.others
         return self.reasons.setdefault(reason.text, reason)
@@ -548,7 +551,7 @@ class Notes:
 
 
 def reasons(asked: Tables, tables: bufr_sets.TableSet) -> List[Reason]:
-    """Returns the reasons why a set may not match a message exactly."""
+    """Returns the reasons why a table set may not match a message exactly."""
     centre, master, version, local = asked
     found = []
     if master != 0:
@@ -557,7 +560,7 @@ def reasons(asked: Tables, tables: bufr_sets.TableSet) -> List[Reason]:
         text = f"table version {version} is later than that of the table set {tables.name}"
         found.append(Reason(text, bool, lambda: bufr_sets.NEWER))
     if version <= 6 < tables.version:
-        text = f"some descriptors have different definitions in version {version} and in {tables.name}"
+        text = f"table version {version} defines some descriptors differently from the table set {tables.name}"
         found.append(Reason(text, CHANGED_SINCE_6.__contains__))
     if local != 0 and tables.own is None:
         own = bufr_sets.own_name(tables, centre, local)
@@ -594,12 +597,12 @@ class Work:
         return self.status
 
     def report_last(self) -> None:
-        """Prints the notes, and the reasons why files and programs failed."""
+        """Prints the remaining notes, and then the lines that explain why files could not be read or programs failed."""
         self.say_notes("")
         bufr_guard.say(b"".join(self.last))
 
     def report(self) -> None:
-        """Prints the notes on the messages in a feed so far."""
+        """Prints the notes on the messages of a feed that have arrived so far."""
         self.say_notes(" so far")
         bufr_guard.say(self.more_notes())
         bufr_guard.output(2).flush()
@@ -713,7 +716,7 @@ class Work:
         part.pieces.append((place, source.lines, run, notes, b""))
 
     def selected(self, part: Part) -> Part:
-        """Returns a part that contains the candidates that meet the conditions, and those that `bufr ls` does not list."""
+        """Returns a part that contains the candidates that meet the conditions or that `bufr ls` refuses."""
         if part.candidates is None:
             return part
         candidates, chosen, begin = part.candidates.descriptor(), Part(), 0
@@ -732,7 +735,7 @@ class Work:
         return chosen
 
     def refused(self, candidates: int) -> FrozenSet[int]:
-        """Returns the offsets of the candidates that `bufr ls` lists but that do not meet the conditions."""
+        """Returns the offsets, in the file of candidates, of the messages that do not meet the conditions."""
         assert self.conditions
         (listing, target), nothing = os.pipe(), os.open(os.devnull, os.O_WRONLY)
         process = bufr_guard.start([bufr_guard.program(), "ls"], candidates, target, nothing)
@@ -748,7 +751,7 @@ class Work:
         return frozenset(found)
 
     def assigned(self, part: Part, piece: Bytes) -> Tuple[Run, List[Reason]]:
-        """Returns the run for a piece, and the reasons why its set may not match exactly."""
+        """Returns the run for a piece, and the reasons why the table set of the run may not match the piece exactly."""
         asked = self.kind.asked_by(piece)
         if asked not in self.known:
             if len(self.known) == KINDS_OF_NOTES:
@@ -765,7 +768,7 @@ class Work:
         return part.runs[tables], notes
 
     def is_concerned(self, tables: bufr_sets.TableSet, reason: Reason, words: bytes) -> bool:
-        """Returns whether a reason concerns any descriptor that a descriptor list uses."""
+        """Returns whether a reason concerns any of the descriptors that a list uses, directly or through sequences."""
         key = tables, reason.concerns, words
         if key in self.remembered:
             return self.remembered[key]
@@ -814,7 +817,7 @@ class Work:
             self.end(worst, is_whole)
 
     def end(self, run: Run, is_whole: bool) -> None:
-        """Records the exit status of a run, and the lines that it printed besides fault lines."""
+        """Records the exit status of a run, and the lines that the program printed besides fault lines."""
         self.last += run.others
         for line in run.others:
             if line.startswith((b"table B: ", b"table D: ")):

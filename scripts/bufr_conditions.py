@@ -25,8 +25,8 @@ TIME = re.compile(r"\d{4,}(-\d{2,}(-\d{2,}(T\d{2,}(:\d{2,}(:\d{2,})?)?)?)?)?").f
 class Conditions:
     """Conditions on a line. `patterns` has a pair for each condition: whether it is negated, and the pattern to search for.
 
-    The patterns work both with grep -E and with `re`. Edition 3 messages contain only the year of the century, so time=2024
-    does not match 0024. Such messages are left out and counted.
+    The patterns work both with grep -E and with `re`. Edition 3 messages contain only a two-digit year, which `bufr ls`
+    prints as 0024, so time=2024 does not match them. Edition 3 messages that are left out for this reason are counted.
     """
 
     def __init__(self, words: Iterable[str]) -> None:
@@ -79,16 +79,16 @@ class Conditions:
         return not is_left_out
 
     def note(self, so_far: str = "") -> str:
-        """Returns a note on the messages that were left out, or an empty string."""
+        """Returns a note on edition 3 messages that were left out, or an empty string if there are none."""
         if not self.left_out:
             return ""
-        messages = "1 edition 3 message" if self.left_out == 1 else f"{self.left_out} edition 3 messages"
+        messages = "1 message" if self.left_out == 1 else f"{self.left_out} messages"
         both = f"{self.asked},{','.join(self.of_century)}"
-        advice = f"use {both} to select messages of both editions"
-        return f"left out {messages}{so_far} because edition 3 has only two-digit years; {advice}"
+        advice = f"to select messages of both editions, use {both}"
+        return f"left out {messages}{so_far} in edition 3, which has only two-digit years; {advice}"
 
     def new_note(self, so_far: str) -> List[str]:
-        """Returns the note in a list, or an empty list if there is no note or it has been returned before."""
+        """Returns the note in a list. If there is no note, or this method has returned it before, the list is empty."""
         notes = [self.note(so_far)] * (self.left_out > 0 and not self.is_told)
         self.is_told = self.left_out > 0
         return notes

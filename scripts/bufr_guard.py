@@ -49,7 +49,7 @@ INTERVAL = 60
 NOWHERE = float("inf")
 # The processes that were started but have not been waited for.
 RUNNING: list[list[int]] = []
-# The first bytes of files without a message, and their types, with the program that reads each, if there is one.
+# Types of file that contain no message, by their first bytes. The text names a program that reads the type, if any.
 KINDS_OF_FILES = {
     b"\x1f\x8b": "gzip data (use zcat)",
     b"BZh": "bzip2 data (use bzcat)",
@@ -71,13 +71,13 @@ class Failed(Exception):
 
 
 class Question(Exception):
-    """Raised for --help or --version, which `run` handles."""
+    """Raised for --help or --version. `run` handles it by printing the help or the version."""
 
 
 def run(work: Callable[[List[str]], int], text: Optional[str], ends_by_pipe: bool = False) -> NoReturn:
     """Runs the work of a script on its command-line arguments, and exits. `text` is the script's help text.
 
-    A signal ends the script and the programs that it runs. If the program that reads its output exits, the
+    A signal ends the script and the programs that it runs. If the program that reads the script's output exits, the
     script reports a failed write or, with `ends_by_pipe`, exits silently.
     """
     status = 2
@@ -96,7 +96,7 @@ def run(work: Callable[[List[str]], int], text: Optional[str], ends_by_pipe: boo
 
 
 def take_descriptors() -> None:
-    """Opens those of the descriptors 0 to 2 that are closed, so that no other file gets their numbers.
+    """Opens any of descriptors 0 to 2 that are closed, so that no other file is given their numbers.
 
     Reading from descriptor 0, or writing to 1 or 2, still fails.
     """
@@ -149,7 +149,7 @@ def end_badly(told: str) -> None:
 
 
 def hook(_kind: Type[BaseException], error: BaseException, _place: Optional[TracebackType]) -> None:
-    """Python's hook for exceptions outside `run`, for example during an import."""
+    """Reports an exception that was raised outside `run`, for example during an import, and exits with status 2."""
     try:
         if isinstance(error, KeyboardInterrupt):
             leave(signal.SIGINT, None)
@@ -250,7 +250,7 @@ OUTPUTS: Dict[int, Output] = {}
 
 
 def output(descriptor: int = 1) -> Output:
-    """Returns the buffered output for standard output or another descriptor. `run` flushes it at the end."""
+    """Returns the `Output` that buffers writes to a descriptor, by default standard output. `run` flushes it at the end."""
     if descriptor not in OUTPUTS:
         OUTPUTS[descriptor] = Output(descriptor)
     return OUTPUTS[descriptor]
@@ -277,14 +277,14 @@ def write_all(descriptor: int, octets: Union[bytes, bytearray, memoryview]) -> N
 
 
 def say(lines: bytes) -> None:
-    """Writes lines to the buffer for standard error. The next `flush` prints them, unless the buffer fills up first."""
+    """Adds lines to the buffer for standard error. The next `flush` prints them, unless the buffer fills up first."""
     if lines:
         Progress.clear()
         output(2).write(lines)
 
 
 def bare(file: Optional[str], begin: bytes, piece: str = "message") -> bytes:
-    """Returns the note that a file contains no `piece` ("message" or "document"), and what its first bytes look like."""
+    """Returns a note that a file contains no message or document (`piece`), with the type that the file seems to have."""
     head = begin.lstrip()
     if head[:1] == b"<":
         head = head.lower()
@@ -335,7 +335,7 @@ class Progress:
 
 
 def program() -> str:
-    """Returns the path of `bufr`: the value of BUFR, or the first one next to the script, on PATH or in the repository."""
+    """Returns the path of `bufr`: the value of BUFR, or the program next to the script, on PATH or in the repository."""
     named = os.environ.get("BUFR")
     if named:
         return named
@@ -352,7 +352,7 @@ def is_program(path: str) -> bool:
 
 
 def start(words: Sequence[str], given: int = 0, output: int = 1, errors: int = 2) -> int:
-    """Starts a program with the given file descriptors, and returns its process ID."""
+    """Starts a program with these descriptors as standard input, output and error. Returns the process ID."""
     actions = [(os.POSIX_SPAWN_DUP2, source, target) for target, source in enumerate((given, output, errors))]
     spawn = partial(os.posix_spawnp, file_actions=actions, setsigdef=[signal.SIGPIPE])
     process: List[int] = []
@@ -395,13 +395,13 @@ def lines_from(
         block = os.read(pipe, BLOCK)
         lines, end, rest = (rest + block).rpartition(b"\n")
         if len(rest) > BLOCK:
-            raise Failed("a line in the listing is longer than 1 MB")
+            raise Failed("a line in the listing is longer than 1 MB, so bufr ls did not print it")
         yield lines + end
     yield rest
 
 
 def checked(status: int, has_told: bool = True, what: str = "bufr") -> int:
-    """Returns a program's status. Raises `Failed` if it is over 2, or if it is 2 and no reason was reported."""
+    """Returns the exit status of a program. Raises `Failed` if it is over 2, or if it is 2 and no reason was reported."""
     if status > 128:
         raise Failed(f"{what} was killed (signal {status - 128}); output is incomplete")
     if status not in (0, 1, 2) or (status == 2 and not has_told):
@@ -431,7 +431,7 @@ def leave(number: int, _frame: Optional[FrameType]) -> None:
 
 
 def opened(file: Optional[str]) -> int:
-    """Returns a descriptor that can be read at any offset: of a regular file itself, or of a copy of any other file.
+    """Returns a descriptor that can be read at any offset: that of a regular file, or of a copy of any other file.
 
     If `file` is None, reads standard input.
     """
@@ -440,7 +440,7 @@ def opened(file: Optional[str]) -> int:
 
 
 def to_read(file: Optional[str]) -> int:
-    """Returns the descriptor of a file that was opened for reading, or of standard input if `file` is None."""
+    """Opens a file for reading, and returns its descriptor. If `file` is None, returns that of standard input."""
     try:
         return 0 if file is None else os.open(file, os.O_RDONLY)
     except OSError as error:
@@ -506,7 +506,7 @@ def copied(source: int, name: str) -> int:
 
 
 def read_at(descriptor: int, offset: int, length: int) -> bytes:
-    """Reads part of a message that was found in a file. Raises `Failed` if the file has been truncated since."""
+    """Returns bytes of a message that was found in a file. Raises `Failed` if the file has since been truncated."""
     pieces, end = [], offset + length
     while offset < end:
         try:
@@ -534,9 +534,9 @@ def fault_lines(errors: int) -> Iterator[tuple[float, bytes]]:
 
 
 class Faults:
-    """The fault lines of a listing, which can be printed between the outputs for the messages.
+    """The lines that `bufr` wrote to the file `errors`. Fault lines can be printed between the dumps of messages.
 
-    Lines that are not fault lines are printed at the end. If there were any, `has_told` is then true.
+    Lines that do not report faults in messages are printed at the end. If there were any, `has_told` is then true.
     """
 
     def __init__(self, errors: int) -> None:
@@ -544,7 +544,7 @@ class Faults:
         self.next = next(self.lines, (NOWHERE, b""))
 
     def tell_before(self, offset: float) -> None:
-        """Prints the remaining fault lines whose offsets are less than `offset`."""
+        """Prints those of the remaining fault lines whose offsets are less than `offset`."""
         while self.next[0] < offset:
             say(self.next[1])
             self.next = next(self.lines, (NOWHERE, b""))

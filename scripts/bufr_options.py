@@ -77,7 +77,7 @@ class Asked:
         return name in self.given
 
     def all(self, name: str) -> list[Any]:
-        """Returns the values of an option, in order."""
+        """Returns a list of the values given for an option, in order."""
         return self.given.get(name, [])
 
     def last(self, name: str, default: Any = None) -> Any:
@@ -111,7 +111,7 @@ def is_condition(word: str) -> bool:
 
 
 def parts(word: str) -> tuple[str, Optional[str]]:
-    """Splits a word into the name of an option and the value attached to it. The value is None if there is none."""
+    """Splits `--name=VALUE` or `-cVALUE` into the option and its value, which is None if the word contains none."""
     if word.startswith("--"):
         name, equals, value = word.partition("=")
         return name, value if equals else None
@@ -124,7 +124,7 @@ def misused(why: str) -> bufr_guard.Failed:
 
 
 def number_from(least: int) -> Callable[[str], int]:
-    """Returns a function for `values` that accepts only whole numbers that are at least `least`."""
+    """Returns a function that converts a word to a whole number of at least `least`, or raises `ValueError`."""
 
     def number(word: str) -> int:
         if not (word.isascii() and word.isdigit() and len(word) < 19) or int(word) < least:

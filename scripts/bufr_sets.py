@@ -1,4 +1,4 @@
-"""Chooses a table set for a message, and finds the rows that its descriptors use."""
+"""Chooses the table set for a message, and finds the elements and sequences that a descriptor list uses."""
 from __future__ import annotations
 
 import os
@@ -34,7 +34,7 @@ class TableSet:
         return os.path.join(self.folder, name)
 
     def rows(self, name: str, *columns: str) -> Iterator[List[str]]:
-        """Yields these columns of each row in a table. Skips invalid rows, because `bufr` reports them."""
+        """Yields the values of these columns for each row in a table. Skips short rows, because `bufr` reports them."""
         import csv
 
         csv.field_size_limit(1 << 30)
@@ -48,7 +48,7 @@ class TableSet:
                         yield [row[place] for place in places]
 
     def names(self) -> Dict[str, Tuple[str, str]]:
-        """Returns the name and the unit of each element."""
+        """Returns a dictionary with the name and the unit of each element."""
         return {fxy: (name, unit) for fxy, name, unit in self.rows("B.csv", "fxy", "name", "unit")}
 
     def has(self, fxy: str) -> bool:
@@ -59,7 +59,7 @@ class TableSet:
         return fxy in self.elements or fxy in self.members()
 
     def members(self) -> Dict[str, Tuple[str, ...]]:
-        """Returns the members of each sequence."""
+        """Returns a dictionary with the members of each sequence."""
         if self.sequences is None:
             found: Dict[str, List[str]] = {}
             for fxy, member in self.rows("D.csv", "fxy", "member"):
@@ -115,14 +115,15 @@ class TableSets:
                 tables = TableSet(os.path.join(self.folder, name), int(version), key)
                 missing = next((table for table in ("B.csv", "D.csv") if not os.path.exists(tables.file(table))), "")
                 if missing:
-                    self.notes.append(f"ignored {tables.folder}, which has no {missing}; add it, or remove the directory")
+                    advice = "add this file, or remove the directory"
+                    self.notes.append(f"ignored {tables.folder}, which has no {missing}; {advice}")
                 else:
                     self.sets.setdefault(key, {})[tables.version] = tables
         if None not in self.sets:
             raise bufr_guard.Failed("; ".join([f"{self.folder} contains no table set such as wmo-39", *self.notes]))
 
     def latest(self) -> TableSet:
-        """Returns WMO's latest set."""
+        """Returns the latest set without local rows."""
         return self.sets[None][max(self.sets[None])]
 
     def asked(self, centre: int, version: int, local: int) -> TableSet:
@@ -159,7 +160,7 @@ def folder_of_sets() -> str:
 
 
 def words_of(message: Bytes) -> bytes:
-    """Returns the descriptors in section 3 of a message, two bytes each, or as many as a template can have."""
+    """Returns the descriptors in section 3 of a message, two bytes each, but at most as many as a template can have."""
     begin = message(0, 26)
     at, flags = 8, begin[17 if begin[7:8] == b"\4" else 15 :][:1]
     for _ in range(2 if flags >= b"\x80" else 1):
@@ -191,7 +192,7 @@ def is_local(fxy: str) -> bool:
 
 
 def advice(tables: TableSet, centre: int, version: int, local: int) -> str:
-    """Returns advice on how to make a set with a centre's local rows: a command to run, or to ask the centre."""
+    """Returns advice on how to get a set with a centre's local rows: run a command, or ask the centre for its tables."""
     folders = [*os.environ.get("ECCODES_DEFINITION_PATH", "").split(":"), ECCODES]
     of_eccodes = [f"{folder}/bufr/tables/0/local/{local}/{centre}/0" for folder in folders]
     of_wreport = f"{WREPORT}/B00000000{centre:05}{version:03}{local:03}.txt"
@@ -209,12 +210,12 @@ def advice(tables: TableSet, centre: int, version: int, local: int) -> str:
 
 
 def lookup(centre: int) -> str:
-    """Returns a remark in parentheses on how to find the name of a centre."""
-    return f"(to find its name, look up {centre} in WMO's Common Code Table C-11)"
+    """Returns a remark, in parentheses, on how to find the name of a centre with this number."""
+    return f"(to find the centre's name, look up {centre} in WMO's Common Code Table C-11)"
 
 
 def command(tables: TableSet, centre: int, local: int, *sources: str) -> str:
-    """Returns the command that makes a set with a centre's local rows from these sources."""
+    """Returns the command that makes, from these sources, a table set with a centre's local rows."""
     import shlex
 
     out = os.path.join(os.path.dirname(tables.folder), own_name(tables, centre, local))

@@ -76,7 +76,7 @@ _CAUSES = [
     (re.compile(pattern, re.DOTALL), cause)
     for pattern, cause in [
         (rb"\xef\xbb\xbf.*", "a byte order mark"),
-        (rb"(?:\x01|[A-Z]{4}\d\d [A-Z]{4} |BUFR).*", "BUFR instead of a dump; use bufr-auto to dump it"),
+        (rb"(?:\x01|[A-Z]{4}\d\d [A-Z]{4} |BUFR).*", "BUFR data, which is not a dump; to dump it, use bufr-auto"),
         (rb".*\r", "a carriage return at the end"),
         (rb">.*", "a > from a quoted email"),
         (rb"[^\"#]*\t.*", "a tab instead of a space"),
@@ -103,7 +103,10 @@ _CAUSES = [
 
 
 class TextError(ValueError):
-    """Reports an invalid line in a dump, what was expected, and the likely cause. `line` is its number, counted from 1."""
+    """Reports an invalid line in a dump, what was expected, and the likely cause.
+
+    `line` is the number of the line, counted from 1.
+    """
 
     def __init__(self, line: int, expected: str, cause: str = "") -> None:
         super().__init__(line, expected, cause)
@@ -115,7 +118,10 @@ class TextError(ValueError):
 
 
 class RunError(RuntimeError):
-    """Reports that a program failed or refused a dump. `status` is its exit status, or minus the signal that killed it."""
+    """Reports that a program failed or refused a dump.
+
+    `status` is the exit status of the program or, if a signal killed it, the negative signal number.
+    """
 
     def __init__(self, status: int, reason: str) -> None:
         super().__init__(status, reason)
@@ -130,7 +136,7 @@ class DumpWarning(UserWarning):
 
 
 class Fault(NamedTuple):
-    """A fault: its offset in the file, its number and its text."""
+    """A fault that `bufr` reported: the byte offset of the message or stray, the fault number and the description."""
 
     offset: int
     number: int
@@ -239,7 +245,7 @@ class _Lines:
         return TextError(self.number, expected, cause)
 
     def count(self, key: str) -> int:
-        """Returns the number after a key in the next line. It has at most five digits after any leading zeros."""
+        """Returns the number in the next line, after the key. Raises `TextError` if it has more than five digits."""
         found = re.fullmatch(key.encode() + rb" 0*(\d{1,5})", self.inside(key))
         if not found:
             raise self.refused(f"{key} and a number")
@@ -384,7 +390,9 @@ def rows(
     faults: Optional[List[Fault]] = None,
     where: Sequence[str] = (),
 ) -> Iterator[Tuple[Cell, ...]]:
-    """Yields a tuple for each subset, for example for `csv.writer` or a DataFrame: header values, then column values.
+    """Yields a tuple for each subset: header values, then column values.
+
+    The tuples can be passed to `csv.writer` or a DataFrame.
 
     `messages` is the name of a file, or messages from `dump` or `read`. For a file, `faults` and `where` have the same
     meaning as for `dump`. A column is a descriptor such as `"012101"`, or `"012101:2"` for the second such item in the
@@ -393,8 +401,8 @@ def rows(
 
     A number is an `int` if its scale allows no decimal places, and otherwise the nearest `float`. A string contains the
     same escapes as in a dump, but no trailing spaces. A value is `None` if it is missing or the subset has no such item.
-    Raises `ValueError` for a word that is not a column. If the word occurs in names in Table B, the error lists their
-    descriptors.
+    Raises `ValueError` for a word that is not a column. If Table B contains names with this word, the error lists the
+    descriptors of those elements.
     """
     _check([*columns], _COLUMN, header)
     asked = [(word[:6], int(word[7:] or 1)) for word in columns]
@@ -414,10 +422,10 @@ def levels(
 ) -> Iterator[Tuple[Cell, ...]]:
     """Yields a tuple for each level of a sounding: header values, then the values for `keep`, then column values.
 
-    A level is one repetition (pass) of a delayed replication. It has a tuple if it contains an item for the first column
-    and, if there are several columns, for at least one other column. Each column selects the first item with that
-    descriptor in the level, and each descriptor in `keep` selects the first one in the whole subset. In all other
-    respects, `levels` works like `rows`.
+    A level is one repetition (pass) of a delayed replication. It has a tuple if it contains the descriptor of the first
+    column and, if there are several columns, the descriptor of at least one other column. Each column selects the first
+    item with that descriptor in the level, and each descriptor in `keep` selects the first one in the whole subset. In all
+    other respects, `levels` works like `rows`.
 
     A subset is skipped if its levels are ambiguous because the descriptor that begins a level occurs in it again. A
     `DumpWarning` at the end says how many subsets were skipped.
@@ -440,7 +448,7 @@ def _check(columns: List[str], form: re.Pattern[str], header: Sequence[str]) -> 
 def _named(word: str) -> str:
     """Returns the part of an error message that lists the elements whose names contain the word, exact matches first.
 
-    The names are those in the latest tables.
+    The names come from the latest table set. If no name contains the word, the part is empty.
     """
     import bufr_guard
     import bufr_sets
@@ -461,12 +469,12 @@ def _messages(
     if isinstance(messages, (str, os.PathLike)):
         return dump(messages, faults=faults, where=where)
     if faults is not None or where:
-        raise TypeError("the arguments faults= and where= require a file name; for messages, pass them to dump() instead")
+        raise TypeError("faults= and where= need a file name; if you pass messages, give these arguments to dump() instead")
     return messages
 
 
 def _subsets(messages: Iterable[Message], header: Sequence[str]) -> Iterator[Tuple[List[Cell], List[Item]]]:
-    """Yields each subset, with the values of the header keys."""
+    """Yields a pair for each subset: the values of the header keys, and the items."""
     for number, message in enumerate(messages, 1):
         known: Dict[str, Cell] = {**message.header, "offset": message.offset, "length": message.length}
         known.update(message=number, subsets=len(message.subsets), optional=int(message.section2 is not None))
@@ -554,7 +562,7 @@ def listing(file: _Path, faults: Optional[List[Fault]] = None) -> Iterator[Liste
 
 
 def parts(places: Iterable[Listed], octets: int = 1 << 19) -> Iterator[List[Listed]]:
-    """Splits the places into lists. The messages in each list, except the last, have at least `octets` bytes in total."""
+    """Splits the places into lists. In each list except the last, the messages have at least `octets` bytes in total."""
     part: List[Listed] = []
     held = 0
     for place in places:
@@ -649,7 +657,7 @@ class _Told:
             self.stray = next(self.strays, None)
 
     def of_part(self, errors: bytes, part: List[Listed]) -> Dict[int, Fault]:
-        """Returns the fault at each offset in a part that has one. Counts the notes, which are reported at the end."""
+        """Returns a dictionary of the faults in a part, by offset. Counts the notes, which are reported at the end."""
         begins = itertools.accumulate((place.length for place in part), initial=0)
         offsets = {begin: place.offset for begin, place in zip(begins, part)}
         refused = {}
@@ -666,7 +674,7 @@ class _Told:
         return refused
 
     def end(self, stream: IO[bytes]) -> None:
-        """Reports the remaining strays, and issues the warnings."""
+        """Reports the remaining strays. Then issues a warning that counts the faults, and one for each note."""
         self.up_to(float("inf"))
         told = [f"the file contains no message{_looks(stream)}"] * self.is_bare
         if self.faults is None and self.count:
@@ -701,7 +709,7 @@ def _octets(stream: IO[bytes], place: Listed) -> bytes:
 
 
 def _looks(stream: IO[bytes]) -> str:
-    """Returns the end of the note of `bufr-auto` on a file without messages, such as `: it is empty`, or nothing."""
+    """Returns what a file without messages looks like, such as `: it is empty`, or an empty string if this is unknown."""
     words, begin = [_program("bufr-auto")], os.pread(stream.fileno(), 256, 0)
     told = subprocess.run(words, input=begin, stdout=subprocess.PIPE, stderr=subprocess.PIPE).stderr
     return told.decode(errors="replace").rstrip().rpartition("contains no message")[2]
@@ -773,7 +781,7 @@ def _run(words: List[str], source: IO[bytes], target: IO[bytes]) -> subprocess.C
 
 
 def _failure(status: int, words: List[str], errors: Iterable[bytes]) -> RunError:
-    """Returns the error for a failed program: what it printed or else its status, and whether the disk is full."""
+    """Returns the error for a failed program: what the program printed, or else its status. Says if the disk is full."""
     told = b"".join(line for line in errors if not _FAULT.match(line)).decode(errors="replace").strip()
     told = told or f"{words[0]} " + (f"was killed (signal {-status})" if status < 0 else f"exited with status {status}")
     folder = tempfile.gettempdir()  # all output is in temporary files

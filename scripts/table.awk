@@ -395,10 +395,10 @@ END {
         exit
     for (column = 1; column <= kept_count; column++)
         if (!(item_of[column] in had) && (has_rows || !levels))
-            print name ": no row has an item for " kept[column] | "cat >&2"
+            print name ": column " kept[column] " is empty, because no row has an item for it" | "cat >&2"
     for (column = 1; column <= level_count; column++)
         if (!(level[column] in had))
-            print name ": no row has an item for " level[column] | "cat >&2"
+            print name ": column " level[column] " is empty, because no row has an item for it" | "cat >&2"
     if (bare && feed != 1)
         tell_skipped(bare, "without a level", first_bare)
     if (unclear && feed != 1)

@@ -31,7 +31,7 @@ def kind(unit: str) -> str:
 
 
 def rows(folder: str, name: str, *columns: str):
-    """Yields the rows of a table, each as a list of the values in these columns."""
+    """Yields a list for each row of a table: the values in these columns."""
     path = pathlib.Path(folder) / name
     with open(path, encoding="utf-8-sig", errors="surrogateescape", newline="") as file:
         table = csv.DictReader(file)
@@ -43,7 +43,7 @@ def rows(folder: str, name: str, *columns: str):
 
 
 def read(folder: str):
-    """Returns the properties that determine how each element is read, and the members of each sequence."""
+    """Returns two dictionaries: the properties that affect how each element is read, and the members of each sequence."""
     elements = {
         fxy: (*numbers, kind(unit))
         for fxy, unit, *numbers in rows(folder, "B.csv", "fxy", "unit", "scale", "reference", "width")

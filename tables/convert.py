@@ -18,8 +18,8 @@ If several sources define the same descriptor, the last one takes precedence, so
 new tables are OUT/B.csv and OUT/D.csv, sorted by descriptor.
 
 convert.py leaves out elements and sequences that `bufr` would refuse, and prints the reason for each on standard error. If
-one member of a sequence is invalid, the whole sequence is left out. If an earlier SOURCE also defines the descriptor, its
-rows are used.
+one member of a sequence is invalid, the whole sequence is left out. If an earlier SOURCE also defines a descriptor that was
+left out, the rows from that SOURCE are used instead.
 
 The exit status is 0 if no row was left out, and 1 if any was. It is 2 if convert.py wrote nothing, for example because a
 SOURCE contained no tables, a file had an unknown layout, or the output could not be written.
@@ -65,7 +65,7 @@ def one_line(text: str) -> str:
 
 
 def of_csv(folder: pathlib.Path, pattern: str, columns: list):
-    """Yields these columns of each row in the files, which may begin with a byte order mark."""
+    """Yields a list for each row of the matching files: the values in these columns. Ignores a byte order mark."""
     for path in sorted(folder.glob(pattern)):
         with open(path, newline="", **{**AS_IT_IS, "encoding": "utf-8-sig"}) as file:
             rows = csv.reader(file)
@@ -84,7 +84,10 @@ def of_csv(folder: pathlib.Path, pattern: str, columns: list):
 
 
 def sequences_of(rows):
-    """Yields a list for each sequence, whose rows are consecutive: its descriptor, followed by its members."""
+    """Yields a list for each sequence: its descriptor, followed by its members.
+
+    The rows of each sequence must be consecutive.
+    """
     for fxy, run in itertools.groupby(rows, key=lambda row: row[0]):
         yield [fxy, *(member for _, member in run)]
 
@@ -97,7 +100,7 @@ def lines_of(path: pathlib.Path):
 
 
 def of_element_table(path: pathlib.Path):
-    """Yields the rows in ecCodes' element.table: code|abbreviation|type|name|unit|scale|reference|width|.."""
+    """Yields the rows of ecCodes' element.table. Its lines are code|abbreviation|type|name|unit|scale|reference|width|.."""
     for number, line in lines_of(path):
         if not line.startswith("#"):
             fields = [one_line(field) for field in line.split("|")]
@@ -107,7 +110,7 @@ def of_element_table(path: pathlib.Path):
 
 
 def of_sequence_def(path: pathlib.Path):
-    """Yields the sequences in ecCodes' sequence.def: "fxy" = [ member, .. ]"""
+    """Yields the sequences in ecCodes' sequence.def, where each has the form "fxy" = [ member, .. ]"""
     text = re.sub("#.*", "", path.read_text(**AS_IT_IS))
     one = r'"([^"]*)"\s*=\s*\[([^\]]*)\]'
     rest = re.sub(one, "", text).split()
@@ -118,7 +121,7 @@ def of_sequence_def(path: pathlib.Path):
 
 
 def of_wreport_b(path: pathlib.Path):
-    """Yields the rows in wreport's B*.txt: the six columns of `OURS_B`."""
+    """Yields a list for each row of wreport's B*.txt: the values in the six columns of `OURS_B`."""
     for number, line in lines_of(path):
         fxy, name, unit, *numbers = (one_line(line[at:end]) for at, end in zip(WREPORT_B, WREPORT_B[1:]))
         if not all(numbers):
@@ -131,7 +134,7 @@ def of_wreport_b(path: pathlib.Path):
 
 
 def of_wreport_d(path: pathlib.Path):
-    """Returns the sequences in wreport's D*.txt, where each sequence is followed by the number of its members.
+    """Returns the sequences in wreport's D*.txt, where the number of members follows the descriptor of each sequence.
 
     If a sequence occurs twice, the first occurrence is used.
     """
@@ -152,13 +155,13 @@ def of_wreport_d(path: pathlib.Path):
 
 
 def of_wreport(path: pathlib.Path):
-    """Returns the rows in wreport's B*.txt and the sequences in the D*.txt next to it. Either file may be missing."""
+    """Returns the rows of wreport's B*.txt, and the sequences of the D*.txt next to it. Either file may be missing."""
     table_b, table_d = (path.with_name(letter + path.name[1:]) for letter in "BD")
     return of_wreport_b(table_b) if table_b.exists() else [], of_wreport_d(table_d) if table_d.exists() else []
 
 
 def source(folder: pathlib.Path):
-    """Returns the rows of Table B and the sequences of Table D in a source."""
+    """Returns the rows of Table B and the sequences of Table D that a source contains."""
     if (folder / "B.csv").exists() or (folder / "D.csv").exists():
         return of_csv(folder, "B.csv", OURS_B), sequences_of(of_csv(folder, "D.csv", OURS_D))
     elements, sequences = folder / "element.table", folder / "sequence.def"
@@ -193,21 +196,21 @@ def whole(text: str) -> int:
 
 
 def no_descriptor(fxy: str, first: str) -> str:
-    """Returns why a string is not a descriptor that begins with `first`, or an empty string if it is."""
+    """Returns why a string is not a descriptor that begins with `first`, or an empty string if it is one."""
     if not re.fullmatch(f"[{first}][0-9]{{5}}", fxy):
         return f"expected six digits, beginning with {first}"
     return "X is over 63" if int(fxy[1:3]) > 63 else "Y is over 255" if int(fxy[3:]) > 255 else ""
 
 
 def no_text(what: str, text: str) -> str:
-    """Returns why `bufr` would refuse a name or a unit, or an empty string if it would not."""
+    """Returns why `bufr` refuses this name or unit, or an empty string if `bufr` accepts it."""
     if len(octets(text)) > 512:
         return f"the {what} is longer than 512 bytes"
     return f"the {what} contains a control character" if re.search(r"[\0-\x1f\x7f]", text) else ""
 
 
 def no_numbers(is_text: bool, scale: str, reference: str, width: str) -> str:
-    """Returns why `bufr` would refuse an element's numbers, or an empty string if it would not."""
+    """Returns why `bufr` refuses these numbers of an element, or an empty string if `bufr` accepts them."""
     if not width:
         return "no width"
     if not is_whole(scale, -127, 127):
@@ -220,7 +223,7 @@ def no_numbers(is_text: bool, scale: str, reference: str, width: str) -> str:
 
 
 def no_element(row: list) -> str:
-    """Returns why `bufr` would refuse this row in Table B, or an empty string if it would not."""
+    """Returns why `bufr` refuses this row of Table B, or an empty string if `bufr` accepts it."""
     fxy, name, unit, *numbers = row
     is_text = octets(unit).upper() == b"CCITT IA5"
     reason = no_descriptor(fxy, "0") or no_text("name", name) or no_text("unit", unit) or no_numbers(is_text, *numbers)
@@ -230,7 +233,7 @@ def no_element(row: list) -> str:
 
 
 def no_sequence(sequence: list) -> str:
-    """Returns why `bufr` would refuse the rows of a sequence, or an empty string if it would not."""
+    """Returns why `bufr` refuses this sequence, or an empty string if `bufr` accepts it."""
     fxy, *members = sequence
     if no_descriptor(fxy, "3") or not members:
         return no_descriptor(fxy, "3") or "no members"
@@ -245,13 +248,14 @@ def shown(words: list) -> str:
 
 
 def taken(folder: pathlib.Path, entries, refused) -> tuple:
-    """Returns the entries that `bufr` accepts, by descriptor, and how many it refuses. Reports each refused entry."""
+    """Reports each entry that `bufr` refuses. Returns the other entries, by descriptor, and the number of refused ones."""
     found, left_out = {}, 0
     for entry in entries:
         found.setdefault(entry[0], []).append(entry)
     for fxy, alike in list(found.items()):
         for entry in alike:
-            reason = refused(entry) or ("the source contains different rows for it" if alike.count(entry) < len(alike) else "")
+            differs = "the source has different rows for this descriptor" if alike.count(entry) < len(alike) else ""
+            reason = refused(entry) or differs
             if reason:
                 told = f"{bufr_guard.shown(str(folder))}: left out {shown(entry)}: {reason}\n"
                 bufr_guard.say(told.encode(**AS_IT_IS))

@@ -158,7 +158,7 @@ class Trial:
         (tables / "wmo-17/D.csv").unlink()
         done = self.auto(stream=stream, BUFR_TABLES=str(tables))
         notes = b"".join(
-            b"bufr-auto: ignored %s/%s, which has no %s.csv; add it, or remove the directory\n" % (bytes(tables), *missing)
+            b"bufr-auto: ignored %s/%s, which has no %s.csv; add this file, or remove the directory\n" % (bytes(tables), *missing)
             for missing in ((b"wmo-17", b"D"), (b"wmo-40", b"B"))
         )
         whole = (done.stdout.count(b"message\n"), done.stderr == faults + notes, done.returncode)
@@ -484,7 +484,7 @@ class Trial:
         told = [line for line in done.stderr.decode().splitlines() if line.startswith("bufr-auto: ")]
         at = [found.start() for found in re.finditer(b"BUFR", stream)]
         wanted = [
-            f"3 messages, the first at offset {at[3]}: some descriptors have different definitions in version 6 and in wmo-13",
+            f"3 messages, the first at offset {at[3]}: table version 6 defines some descriptors differently from the table set wmo-13",
             f"2 messages, the first at offset {at[9]}: there is no table set wmo-13+98-102 for local version 102 of centre 98; to make it",
             f"1 message, at offset {at[11]}: table version 40 is later than that of the table set wmo-39{NEWER}",
         ]
@@ -493,11 +493,11 @@ class Trial:
         self.holds("no notes", self.auto(stream=exact).stderr == b"", self.auto(stream=exact).stderr)
         stream = b"".join(made(13, "001212", b"\1", centre, 1) for centre in range(1, 1300))
         told = [line for line in self.auto(stream=stream).stderr.decode().splitlines() if line.startswith("bufr-auto: ")]
-        rest = "bufr-auto: 299 messages, the first at offset 48000: no set matches exactly; only the first 1,000 reasons are listed"
+        rest = "bufr-auto: 299 messages, the first at offset 48000: no table set matches exactly; only the first 1,000 reasons are listed"
         self.holds("kinds of notes", (len(told), told[-1]) == (1001, rest), (len(told), told[-1]))
         # Of two reasons, which concern other descriptors, one holds.
         done = self.auto(stream=made(41, "012101", b"\1\1", local=102))
-        note = b"bufr-auto: 1 message, at offset 0: version 41 is later than wmo-39" + NEWER.encode() + b"\n"
+        note = b"bufr-auto: 1 message, at offset 0: table version 41 is later than that of the table set wmo-39" + NEWER.encode() + b"\n"
         self.holds("one of two reasons", done.stderr == note, done)
         refused = made(41, "012101", b"\1\1").replace(b"\0\0\x16", b"\0\0\x15", 1)
         done = self.auto(stream=refused)

@@ -30,7 +30,7 @@ TABLE_D = """\
            012101
  301250  1 001213
 """
-LOOKUP = "(to find its name, look up {} in WMO's Common Code Table C-11)\n"
+LOOKUP = "(to find the centre's name, look up {} in WMO's Common Code Table C-11)\n"
 ASK = "no public source is known for these tables; ask the centre for them " + LOOKUP
 TEXT = """\
 message
@@ -147,7 +147,7 @@ def limits(script, holds) -> None:
     many = " ".join(f"0{x}{y:03}" for x in range(48, 64) for y in range(256))
     status, output, errors = script("bufr-lacks", b"".join(made(13, 1, centre, many, b"") for centre in range(1, 15)))
     rows = sum(len(line.partition("lacks")[2].split()) for line in output.splitlines())
-    told = errors.startswith("bufr-lacks: left out some rows, because bufr-lacks lists at most 50,000\n")
+    told = errors.startswith("bufr-lacks: left out some rows, because bufr-lacks lists at most 50,000 missing rows\n")
     holds("the rows that are listed", (status, rows, told), (1, 50_000, True))
 
 
@@ -251,11 +251,11 @@ def main() -> None:
         # An incomplete set counts as not installed, and an invalid one is named.
         synop = (TOP / "examples/synop.bufr").read_bytes()
         (tables / "wmo-40").mkdir()
-        told = f"bufr-lacks: ignored {tables}/wmo-40, which has no B.csv; add it, or remove the directory\n"
+        told = f"bufr-lacks: ignored {tables}/wmo-40, which has no B.csv; add this file, or remove the directory\n"
         holds("an incomplete set", script("bufr-lacks", synop), (0, "", told))
         shutil.copytree(TOP / "tables/wmo-39", tables / "wmo-40", dirs_exist_ok=True)
         (tables / "wmo-40/D.csv").write_text("no table\n")
-        told = f"table D: 40 header\nbufr-lacks: cannot use the table set {tables}/wmo-40, because bufr refuses it\n"
+        told = f"table D: 40 header\nbufr-lacks: cannot use the table set {tables}/wmo-40, because bufr refuses it (see above)\n"
         holds("an invalid set", script("bufr-lacks", made(40, 0, 98, "001191", b"\1")), (2, "", told))
         shutil.rmtree(tables / "wmo-40")
         # A byte order mark, which `bufr` skips too.

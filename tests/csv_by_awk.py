@@ -82,7 +82,7 @@ def run(awk: list, text: bytes, **variables) -> tuple:
 
 def tries_wide(awk: list, text: bytes) -> None:
     head = "message,subset,001002,012101:10,012104\n"
-    told = "table.awk: no row has an item for 012101:10\ntable.awk: no row has an item for 012104\n"
+    told = "table.awk: column 012101:10 is empty, because no row has an item for it\ntable.awk: column 012104 is empty, because no row has an item for it\n"
     wanted = (0, head + "1,1,836,,\n1,2,772,,\n1,3,680,,\n", told)
     want(
         run(awk, text, columns="001002, 012101:10,012104") == wanted,
@@ -207,7 +207,7 @@ def tries_levels(awk: list, sounding: bytes, synop: bytes) -> None:
     want(rows[1] == "1,1,836,98520,179,258.55,256.65,1.0".split(","), f"{awk}: the first level is {rows[1]}")
     want(rows[-1] == "1,1,836,3000,23115,210.15,,".split(","), f"{awk}: the last level is {rows[-1]}")
     head = "message,subset,001015,007004,011061\n"
-    wanted = (0, head + "1,1,,31800,6.4\n", "table.awk: no row has an item for 001015\n")
+    wanted = (0, head + "1,1,,31800,6.4\n", "table.awk: column 001015 is empty, because no row has an item for it\n")
     want(
         run(awk, sounding, levels="1", keep="001015", columns="007004,011061") == wanted,
         f"{awk}: the wind shear is another",
@@ -224,7 +224,7 @@ def tries_levels(awk: list, sounding: bytes, synop: bytes) -> None:
     nested = run(awk, NESTED, levels="1", keep="012101", columns="007004,012101,011001")
     want(nested == (0, rows, ""), f"{awk}: nested groups give {nested}")
     behind = run(awk, NESTED, levels="1", columns="007004,012103")
-    told = "table.awk: no row has an item for 007004\ntable.awk: no row has an item for 012103\n"
+    told = "table.awk: column 007004 is empty, because no row has an item for it\ntable.awk: column 012103 is empty, because no row has an item for it\n"
     told += "table.awk: skipped a subset without a level: message 1 subset 1\n"
     wanted = (0, "message,subset,007004,012103\n", told)
     want(behind == wanted, f"{awk}: an item behind all passes is in a row: {behind}")
@@ -235,13 +235,13 @@ def tries_levels(awk: list, sounding: bytes, synop: bytes) -> None:
     bare = "table.awk: skipped {} message 1 subset 1\n"
     one, two = "a subset without a level:", "2 subsets without a level; the first is"
     status, _, errors = run(awk, ODD + BEHIND, levels="1", keep="001015", columns="007004,012101")
-    told = "table.awk: no row has an item for 001015\n" + bare.format(one)
+    told = "table.awk: column 001015 is empty, because no row has an item for it\n" + bare.format(one)
     want((status, errors) == (0, told), f"{awk}: a column of a subset without a level is told as {errors}")
     empty = run(awk, b"message\nsubset 1\n031001 2\nsubset 2\n012101 1.0\nend\n", levels="1", columns="012101")
-    wanted = (0, "message,subset,012101\n", "table.awk: no row has an item for 012101\n" + bare.format(two))
+    wanted = (0, "message,subset,012101\n", "table.awk: column 012101 is empty, because no row has an item for it\n" + bare.format(two))
     want(empty == wanted, f"{awk}: passes without items give {empty}")
     _, _, errors = run(awk, ODD, levels="1", keep="001015", columns="012101")
-    told = "table.awk: no row has an item for 012101\n" + bare.format(one)
+    told = "table.awk: column 012101 is empty, because no row has an item for it\n" + bare.format(one)
     want(errors == told, f"{awk}: without a level, a kept column is told as {errors}")
     # the descriptor that begins a pass comes twice before an inner group
     again = b"message\nsubset 1\n031001 3\n" + b"007004 1\n007004 2\n031001 1\n011001 3\n" * 3 + b"end\n"

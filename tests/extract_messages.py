@@ -188,26 +188,18 @@ def tells_years_of_the_century(folder: pathlib.Path) -> None:
     path = folder / "years.bufr"
     path.write_bytes(b"".join(messages.values()))
     first, second, next_year, whole, of_14, whole_next = dates
-    two_digits = "because edition 3 has only two-digit years"
+    two_digits = "in edition 3, which has only two-digit years; to select messages of both editions, use"
     for words, taken, told in (
-        (["time=2014"], [whole], f"2 edition 3 messages {two_digits}; use time=2014,0014 to select messages of both editions"),
-        (["time=2014-06"], [], f"1 edition 3 message {two_digits}; use time=2014-06,0014-06 to select messages of both editions"),
-        (
-            ["time=2014-05-02T03"],
-            [whole],
-            f"1 edition 3 message {two_digits}; use time=2014-05-02T03,0014-05-02T03 to select messages of both editions",
-        ),
+        (["time=2014"], [whole], f"2 messages {two_digits} time=2014,0014"),
+        (["time=2014-06"], [], f"1 message {two_digits} time=2014-06,0014-06"),
+        (["time=2014-05-02T03"], [whole], f"1 message {two_digits} time=2014-05-02T03,0014-05-02T03"),
         (["time=2014,0014"], [first, second, whole, of_14], ""),
         (["time=2014,0014-05"], [first, whole, of_14], ""),
         (["time=2015", "edition=4"], [whole_next], ""),
         (["time=2013"], [], ""),
         (["time!=2014"], [first, second, next_year, of_14, whole_next], ""),
         (["time=0014", "edition=3"], [first, second], ""),
-        (
-            ["time=2014,0015", "time=2015,0014"],
-            [],
-            f"3 edition 3 messages {two_digits}; use time=2014,0015,0014,0015 to select messages of both editions",
-        ),
+        (["time=2014,0015", "time=2015,0014"], [], f"3 messages {two_digits} time=2014,0015,0014,0015"),
         (["time!=2014,0014"], [next_year, whole_next], ""),
     ):
         done = run([*words, path])
@@ -305,8 +297,8 @@ def tells_a_feed() -> None:
     """The note on messages that are left out comes in a pause of a feed, or after a minute, and once."""
     message = lib.message(b"\x14", edition=3)
     year = 2000 + message[8 + 12]
-    rest = f" because edition 3 has only two-digit years; use time={year},00{year - 2000:02} to select messages of both editions\n"
-    note = f"bufr-extract: left out 2 edition 3 messages so far{rest}".encode()
+    rest = f" in edition 3, which has only two-digit years; to select messages of both editions, use time={year},00{year - 2000:02}\n"
+    note = f"bufr-extract: left out 2 messages so far{rest}".encode()
     with subprocess.Popen([sys.executable, EXTRACT, f"time={year}"], stdin=subprocess.PIPE, stderr=subprocess.PIPE, bufsize=0) as feed:
         feed.stdin.write(message * 2)
         is_there = select.select([feed.stderr], [], [], 20)[0]

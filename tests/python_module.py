@@ -60,9 +60,9 @@ def with_line(number: int, lines: bytes) -> bytes:
 # How lines are refused by mistake, and what is told of it. Line 24 of the document is an item, line 22 descriptors.
 MISTAKES = [
     (1, b"\xef\xbb\xbfmessage\n", "a byte order mark"),
-    (1, (TOP / "examples/synop.bufr").read_bytes().partition(b"\n")[0] + b"\n", "BUFR instead of a dump; use bufr-auto to dump it"),
-    (1, b"IUAA01 EGRR 120700\r\r\n", "BUFR instead of a dump; use bufr-auto to dump it"),
-    (1, b"\x01\r\r\n", "BUFR instead of a dump; use bufr-auto to dump it"),
+    (1, (TOP / "examples/synop.bufr").read_bytes().partition(b"\n")[0] + b"\n", "BUFR data, which is not a dump; to dump it, use bufr-auto"),
+    (1, b"IUAA01 EGRR 120700\r\r\n", "BUFR data, which is not a dump; to dump it, use bufr-auto"),
+    (1, b"\x01\r\r\n", "BUFR data, which is not a dump; to dump it, use bufr-auto"),
     (24, b"001001 10\r\n", "a carriage return at the end"),
     (24, b"> 001001 10\n", "a > from a quoted email"),
     (24, b"001001\t10\n", "a tab instead of a space"),
@@ -553,11 +553,11 @@ class Runs(unittest.TestCase):
         self.assertEqual(levels, list(bufr_text.levels(bufr_text.dump(self.stream, faults=[]), ["007004"], ["offset"])))
         for call in (bufr_text.rows, bufr_text.levels):
             for given in ({"faults": []}, {"where": ["category=0"]}):
-                with self.assertRaisesRegex(TypeError, r"pass them to dump\(\) instead"):
+                with self.assertRaisesRegex(TypeError, r"give these arguments to dump\(\) instead"):
                     call([land], ["012101"], **given)
 
     def test_messages_left_out_by_their_year_are_warned_of(self):
-        with self.assertWarnsRegex(bufr_text.DumpWarning, f"^{self.stream}: left out 1 edition 3 .* use time=2006,0006 to select"):
+        with self.assertWarnsRegex(bufr_text.DumpWarning, f"^{self.stream}: left out 1 message in edition 3, .* use time=2006,0006$"):
             self.assertEqual(list(bufr_text.dump(self.stream, *TABLES, [], where=["time=2006"])), [])
         [one] = bufr_text.dump(self.stream, *TABLES, [], where=["time=2006,0006"])
         self.assertEqual((one.header["edition"], one.header["year"]), (3, 6))

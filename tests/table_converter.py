@@ -129,7 +129,7 @@ one to other
   sequences removed: 1: 301002
   sequences added: 0
 """
-TWICE = "source: left out %s: the source contains different rows for it\n"
+TWICE = "source: left out %s: the source has different rows for this descriptor\n"
 SOURCES = [
     ("B.csv", f"{HEADERS['B']}\n{ELEMENT}\n{ELEMENT}", 0, "", ELEMENT),
     ("B.csv", "", 2, "source/B.csv has no column fxy\n", None),
