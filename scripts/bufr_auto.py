@@ -321,7 +321,7 @@ class Store:
 
 
 class Reason:
-    """A reason why a table set may not match a message exactly, the descriptors concerned, and how to get the right set."""
+    """Why a table set may not match a message exactly, which descriptors are affected, and how to get the right set."""
 
     def __init__(self, text: str, concerns: Callable[[str], bool], advice: Callable[[], str] = str) -> None:
         self.text, self.concerns, self.advice = text, concerns, advice

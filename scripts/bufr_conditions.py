@@ -6,9 +6,9 @@
             ..
     note = conditions.note()    # how many edition 3 messages were left out, or an empty string
 
-KEY is the name of a field. VALUE is the whole value of the field or its first parts: category=0 matches 0/2/0, and
-time=2024-01-02 matches all times on that day. To match any of several values, separate them with commas. A line must meet
-all conditions. An invalid condition raises `ValueError`.
+KEY is the name of a field. VALUE must equal the whole field, or its beginning up to a separator (/, -, T or :): category=0
+matches 0/2/0, and time=2024-01-02 matches all times on that day. To match any of several values, separate them with commas.
+A line must meet all conditions. An invalid condition raises `ValueError`.
 """
 from __future__ import annotations
 
@@ -18,7 +18,7 @@ from typing import Iterable, List, Tuple
 KEYS = (
     "offset length edition centre update category tables time subsets observed compressed optional descriptors".split()
 )
-# A time, or its first parts.
+# A time, or its beginning up to a separator.
 TIME = re.compile(r"\d{4,}(-\d{2,}(-\d{2,}(T\d{2,}(:\d{2,}(:\d{2,})?)?)?)?)?").fullmatch
 
 

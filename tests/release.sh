@@ -102,6 +102,12 @@ refuses 1 "README.md names logic $logic" "$make" "$work/first"
 fake "$logic"
 refuses 1 'needs a C compiler' env CC="$work/none" "$make" "$work/first"
 fake "$logic" 'echo low: not proved; exit 1'
+mkdir "$work/one/crates/bufr/out"
+touch "$work/one/crates/bufr/out/bufr"
+git -C "$work/one" add -f crates/bufr/out/bufr
+git -C "$work/one" -c user.name=test -c user.email=test@localhost commit -q -m 'A commit with a program'
+refuses 1 'the commit contains files in crates/\*/out' "$make" "$work/first"
+git -C "$work/one" reset -q --hard HEAD^
 refuses 1 'the proofs or the tests failed' "$make" "$work/first"
 grep -q 'low: not proved' "$work/told" || fail "release.sh hides what the gate said: $(< "$work/told")"
 fake "$logic" 'echo BAD EDIT; count=$((count - 1))'
