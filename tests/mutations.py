@@ -410,6 +410,7 @@ MUTATIONS = [
     ("scripts/bufr_auto.py", "key = tables, reason.concerns, words", "key = tables, words", "tests/bufr_auto.py"),
     ("scripts/bufr_sets.py", "if len(row) > max(places):", "if row:", "tests/csv_command.py"),
     ("scripts/bufr_text.py", "            told.up_to(place.offset)\n            yield place", "            yield place", "tests/python_module.py"),
+    ("scripts/bufr-parallel", "len(os.sched_getaffinity(0))", "os.cpu_count()", "tests/parallel_dump.py"),
 ]
 
 
