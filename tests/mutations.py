@@ -413,6 +413,7 @@ MUTATIONS = [
     ("scripts/bufr-parallel", "len(os.sched_getaffinity(0))", "os.cpu_count()", "tests/parallel_dump.py"),
     ("scripts/bufr-dask", "if len(ahead) > 100:", "if False:", "tests/dask_table.py"),
     ("scripts/bufr_text.py", " if not _FAULT.match(line)", "", "tests/python_module.py"),
+    ("scripts/bufr_sets.py", 'encoding="utf-8-sig", errors="replace"', 'encoding="utf-8-sig"', "tests/failures_of_scripts.py bufr-lacks"),
 ]
 
 
