@@ -414,6 +414,7 @@ MUTATIONS = [
     ("scripts/bufr-dask", "if len(ahead) > 100:", "if False:", "tests/dask_table.py"),
     ("scripts/bufr_text.py", " if not _FAULT.match(line)", "", "tests/python_module.py"),
     ("scripts/bufr_sets.py", 'encoding="utf-8-sig", errors="replace"', 'encoding="utf-8-sig"', "tests/failures_of_scripts.py bufr-lacks"),
+    ("scripts/bufr-lacks", "lru_cache(maxsize=1 << 10)", "lru_cache(maxsize=None)", "tests/memory_of_scripts.py bufr-lacks"),
 ]
 
 
