@@ -20,6 +20,7 @@ for set in wmo-38 wmo-39; do ln -s "../../../bufr/tables/$set" "$doc/tables"; do
     CDPATH=$work/other source/install.sh --program program --unproved prefix
 ) > "$work/told" 2> "$work/errors" || fail "install.sh fails: $(< "$work/errors")"
 [ ! -s "$work/errors" ] || fail "install.sh prints $(< "$work/errors")"
+grep -q "^installed $("$bufr" --version) (unproved; " "$work/told" || fail "install.sh says: $(< "$work/told")"
 [ ! -e "$older/wmo-38" ] && [ ! -e "$prefix/share/bufr/__pycache__" ] || fail "install.sh leaves files of an older version"
 [ -s "$older/own/B.csv" ] || fail "install.sh removes a set of the user's own"
 [ ! -L "$older/wmo-39/B.csv" ] && cmp "$older/wmo-39/B.csv" tables/wmo-39/B.csv || fail "another set wmo-39"
