@@ -60,7 +60,7 @@ grep -qx 'uninstalled bufr from /usr' "$work/output" || fail "--uninstall prints
 grep -qx 'commit: unknown' "$doc/BUILD" || fail "BUILD ties a program of --program to a commit: $(< "$doc/BUILD")"
 
 # Wrong words.
-for words in '' '--wrong p' 'p q' '--program' '--uninstall'; do
+for words in '' '--wrong p' 'p --wrong' 'p q' '--program' '--uninstall'; do
     # shellcheck disable=SC2086
     "$top/install.sh" $words > "$work/output" 2> "$work/errors" && status=0 || status=$?
     [ "$status" -eq 2 ] && [ -s "$work/errors" ] || fail "install.sh $words: status $status"
@@ -95,7 +95,7 @@ rmdir "$own/bin/bufr" "$sets/wmo-39"
 ln -s "$work/mine" "$sets/wmo-39"
 refuses share/bufr/tables/wmo-39/D.csv
 rm "$sets/wmo-39"
-"$top/install.sh" --program "$bufr" --unproved "$own" > "$work/output"
+"$top/install.sh" "$own" --program "$bufr" --unproved > "$work/output"
 mv "$sets"/wmo-37/* "$work/mine"
 rmdir "$sets/wmo-37"
 ln -s "$work/mine" "$sets/wmo-37"
