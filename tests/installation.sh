@@ -102,6 +102,19 @@ ln -s "$work/mine" "$sets/wmo-37"
 refuses share/bufr/tables/wmo-37/B.csv
 echo '# edited' >> "$own/bin/bufr-csv"
 refuses bin/bufr-csv
+# The installer stops if MANIFEST is missing or damaged, or lists a file outside PREFIX. That of another installation replaces it.
+for bad in 'rm -f' 'truncate -s 0' 'truncate -s 3000' 'sed -i 1i../mine/D.csv' 'sed -i 1i/mine/D.csv' 'sed -i 1ibin/../../mine/D.csv'; do
+    cp "$doc/MANIFEST" "$own/share/doc/bufr"
+    $bad "$own/share/doc/bufr/MANIFEST"
+    find "$own" "$work/mine" | sort > "$work/before"
+    ! "$top/install.sh" --uninstall "$own" 2> "$work/errors" && grep -qE 'MANIFEST is (missing|damaged); to replace it' "$work/errors" ||
+        fail "--uninstall after $bad: $(< "$work/errors")"
+    find "$own" "$work/mine" | sort | cmp - "$work/before" || fail "--uninstall after $bad removes files"
+    [ "$bad" != 'rm -f' ] || continue
+    ! "$top/install.sh" --program "$bufr" --unproved "$own" 2> "$work/errors" && grep -q damaged "$work/errors" ||
+        fail "an installation after $bad: $(< "$work/errors")"
+done
+cp "$doc/MANIFEST" "$own/share/doc/bufr"
 "$top/install.sh" --uninstall "$own" > "$work/output"
 for place in bin/bufr-csv share/bufr/tables/wmo-37/B.csv; do
     [ -s "$own/$place" ] && grep -qxF "  $own/$place" "$work/output" || fail "--uninstall removes $place, or is silent: $(< "$work/output")"
