@@ -140,7 +140,8 @@ stops_in_the_middle() {
     grep -q 'did not finish; install again' "$work/output" || fail "a part of an installation: $(< "$work/output")"
 }
 stops_in_the_middle
-"$top/install.sh" --uninstall "$work/full" > "$work/output" || fail "a part of an installation is not removed"
+ln -s full "$work/link"
+"$top/install.sh" --uninstall "$work/link" > "$work/output" || fail "a part of an installation is not removed"
 [ ! -e "$work/full" ] || fail "of a part of an installation remains $(find "$work/full")"
 stops_in_the_middle
 "$top/install.sh" --program "$bufr" --unproved "$work/full" > "$work/output" || fail "a part of an installation is not repaired"
