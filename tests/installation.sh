@@ -48,7 +48,8 @@ grep -q "^For completions in zsh.*fpath=($prefix/share/zsh/site-functions" "$wor
 # What was installed is what MANIFEST lists. With DESTDIR the same files are put elsewhere, and speak of the final place.
 (cd "$prefix" && find . ! -type d | cut -c 3-) | sort > "$work/installed"
 grep -v '/$' "$doc/MANIFEST" | diff - "$work/installed" || fail "MANIFEST lists other files"
-(cd "$work" && DESTDIR=stage "$top/install.sh" --program "$bufr" --unproved /usr) > "$work/staged"
+ln -s "$top/install.sh" "$work/installer"
+(cd "$work" && DESTDIR=stage ./installer --program "$bufr" --unproved /usr) > "$work/staged"
 ! grep -q stage "$work/staged" || fail "install.sh speaks of DESTDIR: $(< "$work/staged")"
 diff -r -x MANIFEST "$prefix" "$work/stage/usr" || fail "DESTDIR gives other files"
 mkdir "$work/temporary"

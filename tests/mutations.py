@@ -155,6 +155,7 @@ MUTATIONS = [
     ("install.sh", "[ \"$(tail -n 1 \"$work/old\")\" = share/zsh/site-functions/_bufr_scripts ] && ", "", "tests/installation.sh"),
     ("install.sh", "'^/.|(^|/)\\.\\.(/|$)'", "'^/.'", "tests/installation.sh"),
     ("install.sh", "    root=$(realpath -- \"$root\") # rmdir does not accept a symbolic link\n", "", "tests/installation.sh"),
+    ("install.sh", "$(realpath -- \"$0\")", "$0", "tests/installation.sh"),
     ("install.sh", "trap 'die interrupted' HUP INT TERM PIPE\n", "", "tests/installation.sh"),
     ("install.sh", "TERM PIPE\n", "TERM\n", "tests/installation.sh"),
     ("scripts/bufr-auto", "sys.excepthook = lambda *error: (sys.__excepthook__(*error), os._exit(2))\n", "", "tests/failures_of_scripts.py bufr-auto"),
