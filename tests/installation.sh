@@ -71,7 +71,8 @@ done
 "$top/install.sh" --help | grep -q '^usage: ' || fail 'install.sh --help'
 ! "$top/install.sh" --uninstall "$work/nothing" 2> "$work/errors" && grep -q MANIFEST "$work/errors" ||
     fail "install.sh uninstalls what is not installed: $(< "$work/errors")"
-! "$top/install.sh" --program "$bufr" --unproved /dev/null/prefix > "$work/output" 2>&1 || fail "install.sh installs below a file"
+! "$top/install.sh" --program "$bufr" --unproved /dev/null/prefix > "$work/output" 2>&1 &&
+    grep -q 'if /dev/null/prefix is full, make room there; if ' "$work/output" || fail "below a file: $(< "$work/output")"
 ! "$top/install.sh" --program '' --unproved "$work/none" 2> "$work/errors" && grep -qF "the program '' does not exist" "$work/errors" ||
     fail "install.sh accepts an empty FILE: $(< "$work/errors")"
 
