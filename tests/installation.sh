@@ -167,6 +167,8 @@ fi
 # Without a reader of its output, it still removes its temporary files.
 { TMPDIR=$work/temporary "$top/install.sh" --uninstall "$work/full" || true; } 2> "$work/errors" | true
 [ -z "$(ls -A "$work/temporary")" ] || fail "install.sh without a reader leaves temporary files"
+{ sleep 1 && TMPDIR=$work/temporary "$top/install.sh" --program "$bufr" --unproved /dev/null/prefix || true; } 2>&1 | true
+[ -z "$(ls -A "$work/temporary")" ] || fail "install.sh without a reader of its errors leaves temporary files"
 printf '#!/bin/sh\necho bufr one\n' > "$work/tiny"
 for program in /bin/true "$work/tiny"; do
     ! "$top/install.sh" --program "$program" --unproved "$work/full" 2> "$work/errors" && grep -q 'not bufr' "$work/errors" ||
