@@ -185,6 +185,11 @@ bufr dump -B "$prefix/share/bufr/tables/wmo-37/B.csv" -D "$prefix/share/bufr/tab
     awk -f "$prefix/share/bufr/table.awk" | grep -c '"TEMPERATURE/AIR TEMPERATURE"' > /dev/null || fail "table.awk: no temperature"
 "$prefix/share/bufr/tables/convert.py" copy "$prefix/share/bufr/tables/wmo-39" &&
     cmp copy/D.csv "$prefix/share/bufr/tables/wmo-39/D.csv" || fail "convert.py: another set"
+# Its scripts run no other program than its own.
+mv "$prefix/bin/bufr" other
+! PATH=$work/other:$PATH bufr-auto "$examples/synop.bufr" > output 2> errors && grep -q "cannot run $prefix/bin/bufr: No such" errors ||
+    fail "without its program, bufr-auto says: $(< errors)"
+mv other/bufr "$prefix/bin"
 set=$prefix/share/bufr/tables/wmo-39
 bufr-extract category=0 "$examples/synop.bufr" | cmp - "$examples/synop.bufr" || fail "bufr-extract: not the message"
 bufr-parallel dump -B "$set/B.csv" -D "$set/D.csv" "$examples/synop.bufr" | cmp - "$examples/synop.txt" ||

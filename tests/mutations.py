@@ -156,6 +156,7 @@ MUTATIONS = [
     ("install.sh", "'^/.|(^|/)\\.\\.(/|$)'", "'^/.'", "tests/installation.sh"),
     ("install.sh", "    root=$(realpath -- \"$root\") # rmdir does not accept a symbolic link\n", "", "tests/installation.sh"),
     ("install.sh", "$(realpath -- \"$0\")", "$0", "tests/installation.sh"),
+    ("scripts/bufr_guard.py", ' or beside == os.path.normpath(f"{here}/../../bin/bufr")', "", "tests/installation.sh"),
     ("install.sh", "trap 'die interrupted' HUP INT TERM PIPE\n", "", "tests/installation.sh"),
     ("install.sh", "TERM PIPE\n", "TERM\n", "tests/installation.sh"),
     ("scripts/bufr-auto", "sys.excepthook = lambda *error: (sys.__excepthook__(*error), os._exit(2))\n", "", "tests/failures_of_scripts.py bufr-auto"),
