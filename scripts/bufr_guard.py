@@ -339,10 +339,12 @@ def program() -> str:
     named = os.environ.get("BUFR")
     if named:
         return named
+    here = os.path.dirname(os.path.realpath(__file__))
     beside = os.path.join(os.path.dirname(os.path.realpath(sys.argv[0])), "bufr")
-    if is_program(beside):
+    # An installed script runs only the program of its own version, even if that program is missing.
+    if is_program(beside) or beside == os.path.normpath(f"{here}/../../bin/bufr"):
         return beside
-    built = os.path.join(os.path.dirname(os.path.realpath(__file__)), "../crates/bufr/out/bufr")
+    built = os.path.join(here, "../crates/bufr/out/bufr")
     is_on_path = any(is_program(os.path.join(folder, "bufr")) for folder in os.get_exec_path())
     return "bufr" if is_on_path or not is_program(built) else built
 

@@ -200,6 +200,10 @@ def advice(tables: TableSet, centre: int, version: int, local: int) -> str:
         return "to make it, run: " + command(tables, centre, local, tables.folder, source)
     if os.path.isfile(of_wreport):
         return "to make it, run: " + command(tables, centre, local, of_wreport, tables.folder)
+    beside = os.path.dirname(tables.folder)
+    for name in sorted(os.listdir(beside), reverse=True):
+        if name.startswith("wmo-") and name.endswith(f"+{centre}-{local}"):
+            return "to make it, run: " + command(tables, centre, local, os.path.join(beside, name), tables.folder)
     if (centre, local) in ECCODES_HAS:
         words = command(tables, centre, local, tables.folder, of_eccodes[-1])
         return f"to make it, install libeccodes-data (Debian), then run: {words}"

@@ -203,6 +203,17 @@ class Trial:
         text = self.auto(stream=stream).stdout
         done = self.auto("--encode", stream=text)
         self.same("many parts", (done.stdout, done.stderr, done.returncode), (stream, b"", 0))
+        # Behind a document of over 4 MB, whose end line is cut between two reads, are short ones of another version.
+        wanted = made(13, LISTS[1], b"\1\1\0", section_2=bytes(2_200_000)), made(39, LISTS[3], b"\1\0\0") * 2
+        long, short = (self.auto(stream=octets).stdout for octets in wanted)
+        for cut in range(1, 5):
+            left = -(len(long) - len("\nend\n") + cut) % (1 << 20)
+            comments = b"\n" * (left % 64) + (b"#" * 63 + b"\n") * (left // 64)
+            (self.place / "long").write_bytes(comments + long + short)
+            done = self.auto("--encode", str(self.place / "long"))
+            what = f"an end line that is cut behind {cut} bytes"
+            self.same(what, (done.stdout, done.stderr, done.returncode), (b"".join(wanted), b"", 0))
+        (self.place / "long").unlink()
         # A part of several sets, of which one is refused in the middle, and what would follow.
         text = text + text.replace(b"001001 0 ", b"001001 0x ", 1) + text
         line = text[: text.index(b"0x")].count(b"\n") + 1

@@ -92,6 +92,14 @@ def of_definitions(place: pathlib.Path, script, holds) -> None:
         status, output, errors = script("bufr-auto", message)
         holds(f"a dump after the command of {name}", (status, "063255 3 " in output, errors), (0, True, ""))
         holds("what is missing then", script("bufr-lacks", message), (0, "", ""))
+        shutil.copytree(place / "tables/wmo-17+7-5", place / "tables/wmo-17+9-5")
+        later = made(18, 5, 9, "363001", b"\3")
+        command = script(name, later)[2].splitlines()[-1].partition("; to make it, run: ")[2]
+        holds(f"{name} on a later version", subprocess.run(command, shell=True, stderr=subprocess.STDOUT).returncode, 0)
+        status, output, errors = script("bufr-auto", later)
+        holds(f"a dump with the rows of an earlier set after {name}", (status, "063255 3 " in output, errors), (0, True, ""))
+        for set in ("wmo-17+9-5", "wmo-18+9-5"):
+            shutil.rmtree(place / "tables" / set, ignore_errors=True)
         unknown = script("bufr-lacks", made(17, 5, 7, "063254", b"\3"))[2]
         asking = "bufr-lacks: the table set wmo-17+7-5 lacks some rows; ask centre 7 for its tables " + LOOKUP.format(7)
         holds("a set without a row", unknown, asking)
@@ -224,7 +232,9 @@ def main() -> None:
         words = [program(), "encode", "-B", folder / "B.csv", "-D", folder / "D.csv"]
         done = subprocess.run(words, input=TEXT.encode(), capture_output=True)
         holds("encode", done.stdout, message)
-        holds("bufr-lacks behind", script("bufr-lacks", message + b"".join(others)), (1, other_lines, other_notes))
+        of_earlier = f"to make it, run: {TOP}/tables/convert.py {tables}/wmo-16+98-102 {tables}/wmo-13+98-102 {tables}/wmo-16\n"
+        behind = other_notes.removesuffix(ASK.format(98)) + of_earlier
+        holds("bufr-lacks behind", script("bufr-lacks", message + b"".join(others)), (1, other_lines, behind))
         holds("nothing lacks", script("bufr-lacks", message), (0, "", ""))
         told = "bufr-lacks: standard input contains no message: it looks like HTML\n"
         holds("no message", script("bufr-lacks", b"<HTML>"), (0, "", told))

@@ -10,10 +10,12 @@ import io
 import os
 import pathlib
 import re
+import runpy
 import shutil
 import subprocess
 import sys
 import tempfile
+import types
 
 import lib
 from lib import TOP, want
@@ -139,6 +141,16 @@ def tries(trial: Trial) -> None:
         want(done.returncode == 2, f"a full device gives {done.returncode}")
 
 
+def waits_for_rows() -> None:
+    """However many files there are, about 100 parts are submitted before the rows of the first one are written."""
+    submitted = []
+    client = types.SimpleNamespace(submit=lambda *_, key: submitted.append(key))
+    parts = runpy.run_path(str(SCRIPT))["parts"](client, [TOP / "examples/synop.bufr"] * 60, [], [])
+    next(parts)
+    want(90 <= len(submitted) <= 110, f"{len(submitted)} of 120 parts are submitted in advance")
+    want(len(list(parts)) == 119, "parts are left out")
+
+
 def fails(done: subprocess.CompletedProcess, told: bytes) -> None:
     want(done.returncode == 2, f"where it is to tell {told} it ends with {done.returncode}: {done.stderr}")
     lines = [line for line in done.stderr.splitlines() if line.startswith(b"bufr-dask: ")]  # Dask tells of its workers too
@@ -151,6 +163,8 @@ def main() -> None:
     code = SCRIPT.read_text(encoding="utf-8").split('"""', 2)[2]  # without the help text
     lines = [line for line in code.splitlines() if line]
     want(len(lines) <= 55, f"its code has {len(lines)} lines")
+    os.environ["BUFR"] = lib.program()
+    waits_for_rows()
     python = python_with_dask()
     if not python:
         print("dask_table: skipped, no python3 here has Dask (Debian: apt-get install python3-distributed)")

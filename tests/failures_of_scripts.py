@@ -398,6 +398,11 @@ def tables(trial: Trial) -> None:
             done = trial.run(input=stream, environment={"BUFR_TABLES": str(folder)})
             holds(f"{trial.name}: {name} with {field[:3]!r}", done.returncode == 2 and done.stderr, done)
         (folder / "wmo-39" / name).write_text(good, encoding="utf-8")
+    # `bufr` accepts names that are not UTF-8
+    octets = (TOP / "tables/wmo-39/B.csv").read_bytes()
+    (folder / "wmo-39/B.csv").write_bytes(octets.replace(b"WMO BLOCK NUMBER", b"WMO BLOCK N\xdcMBER"))
+    done = trial.run(input=stream, environment={"BUFR_TABLES": str(folder)})
+    holds(f"{trial.name}: a name in ISO 8859-1", done.returncode == 1 and b"063255" in done.stdout + done.stderr, done)
 
 
 def options(trial: Trial) -> None:

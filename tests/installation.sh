@@ -20,6 +20,7 @@ for set in wmo-38 wmo-39; do ln -s "../../../bufr/tables/$set" "$doc/tables"; do
     CDPATH=$work/other source/install.sh --program program --unproved prefix
 ) > "$work/told" 2> "$work/errors" || fail "install.sh fails: $(< "$work/errors")"
 [ ! -s "$work/errors" ] || fail "install.sh prints $(< "$work/errors")"
+grep -q "^installed $("$bufr" --version) (unproved; " "$work/told" || fail "install.sh says: $(< "$work/told")"
 [ ! -e "$older/wmo-38" ] && [ ! -e "$prefix/share/bufr/__pycache__" ] || fail "install.sh leaves files of an older version"
 [ -s "$older/own/B.csv" ] || fail "install.sh removes a set of the user's own"
 [ ! -L "$older/wmo-39/B.csv" ] && cmp "$older/wmo-39/B.csv" tables/wmo-39/B.csv || fail "another set wmo-39"
@@ -47,7 +48,8 @@ grep -q "^For completions in zsh.*fpath=($prefix/share/zsh/site-functions" "$wor
 # What was installed is what MANIFEST lists. With DESTDIR the same files are put elsewhere, and speak of the final place.
 (cd "$prefix" && find . ! -type d | cut -c 3-) | sort > "$work/installed"
 grep -v '/$' "$doc/MANIFEST" | diff - "$work/installed" || fail "MANIFEST lists other files"
-DESTDIR=$work/stage "$top/install.sh" --program "$bufr" --unproved /usr > "$work/staged"
+ln -s "$top/install.sh" "$work/installer"
+(cd "$work" && DESTDIR=stage ./installer --program "$bufr" --unproved /usr) > "$work/staged"
 ! grep -q stage "$work/staged" || fail "install.sh speaks of DESTDIR: $(< "$work/staged")"
 diff -r -x MANIFEST "$prefix" "$work/stage/usr" || fail "DESTDIR gives other files"
 mkdir "$work/temporary"
@@ -59,7 +61,7 @@ grep -qx 'uninstalled bufr from /usr' "$work/output" || fail "--uninstall prints
 grep -qx 'commit: unknown' "$doc/BUILD" || fail "BUILD ties a program of --program to a commit: $(< "$doc/BUILD")"
 
 # Wrong words.
-for words in '' '--wrong p' 'p q' '--program' '--uninstall'; do
+for words in '' '--wrong p' 'p --wrong' 'p q' '--program' '--uninstall'; do
     # shellcheck disable=SC2086
     "$top/install.sh" $words > "$work/output" 2> "$work/errors" && status=0 || status=$?
     [ "$status" -eq 2 ] && [ -s "$work/errors" ] || fail "install.sh $words: status $status"
@@ -69,7 +71,8 @@ done
 "$top/install.sh" --help | grep -q '^usage: ' || fail 'install.sh --help'
 ! "$top/install.sh" --uninstall "$work/nothing" 2> "$work/errors" && grep -q MANIFEST "$work/errors" ||
     fail "install.sh uninstalls what is not installed: $(< "$work/errors")"
-! "$top/install.sh" --program "$bufr" --unproved /dev/null/prefix > "$work/output" 2>&1 || fail "install.sh installs below a file"
+! "$top/install.sh" --program "$bufr" --unproved /dev/null/prefix > "$work/output" 2>&1 &&
+    grep -q 'if /dev/null/prefix is full, make room there; if ' "$work/output" || fail "below a file: $(< "$work/output")"
 ! "$top/install.sh" --program '' --unproved "$work/none" 2> "$work/errors" && grep -qF "the program '' does not exist" "$work/errors" ||
     fail "install.sh accepts an empty FILE: $(< "$work/errors")"
 
@@ -94,13 +97,26 @@ rmdir "$own/bin/bufr" "$sets/wmo-39"
 ln -s "$work/mine" "$sets/wmo-39"
 refuses share/bufr/tables/wmo-39/D.csv
 rm "$sets/wmo-39"
-"$top/install.sh" --program "$bufr" --unproved "$own" > "$work/output"
+"$top/install.sh" "$own" --program "$bufr" --unproved > "$work/output"
 mv "$sets"/wmo-37/* "$work/mine"
 rmdir "$sets/wmo-37"
 ln -s "$work/mine" "$sets/wmo-37"
 refuses share/bufr/tables/wmo-37/B.csv
 echo '# edited' >> "$own/bin/bufr-csv"
 refuses bin/bufr-csv
+# The installer stops if MANIFEST is missing or damaged, or lists a file outside PREFIX. That of another installation replaces it.
+for bad in 'rm -f' 'truncate -s 0' 'truncate -s 3000' 'sed -i 1i../mine/D.csv' 'sed -i 1i/mine/D.csv' 'sed -i 1ibin/../../mine/D.csv'; do
+    cp "$doc/MANIFEST" "$own/share/doc/bufr"
+    $bad "$own/share/doc/bufr/MANIFEST"
+    find "$own" "$work/mine" | sort > "$work/before"
+    ! "$top/install.sh" --uninstall "$own" 2> "$work/errors" && grep -qE 'MANIFEST is (missing|damaged); to replace it' "$work/errors" ||
+        fail "--uninstall after $bad: $(< "$work/errors")"
+    find "$own" "$work/mine" | sort | cmp - "$work/before" || fail "--uninstall after $bad removes files"
+    [ "$bad" != 'rm -f' ] || continue
+    ! "$top/install.sh" --program "$bufr" --unproved "$own" 2> "$work/errors" && grep -q damaged "$work/errors" ||
+        fail "an installation after $bad: $(< "$work/errors")"
+done
+cp "$doc/MANIFEST" "$own/share/doc/bufr"
 "$top/install.sh" --uninstall "$own" > "$work/output"
 for place in bin/bufr-csv share/bufr/tables/wmo-37/B.csv; do
     [ -s "$own/$place" ] && grep -qxF "  $own/$place" "$work/output" || fail "--uninstall removes $place, or is silent: $(< "$work/output")"
@@ -126,7 +142,8 @@ stops_in_the_middle() {
     grep -q 'did not finish; install again' "$work/output" || fail "a part of an installation: $(< "$work/output")"
 }
 stops_in_the_middle
-"$top/install.sh" --uninstall "$work/full" > "$work/output" || fail "a part of an installation is not removed"
+ln -s full "$work/link"
+"$top/install.sh" --uninstall "$work/link" > "$work/output" || fail "a part of an installation is not removed"
 [ ! -e "$work/full" ] || fail "of a part of an installation remains $(find "$work/full")"
 stops_in_the_middle
 "$top/install.sh" --program "$bufr" --unproved "$work/full" > "$work/output" || fail "a part of an installation is not repaired"
@@ -150,6 +167,8 @@ fi
 # Without a reader of its output, it still removes its temporary files.
 { TMPDIR=$work/temporary "$top/install.sh" --uninstall "$work/full" || true; } 2> "$work/errors" | true
 [ -z "$(ls -A "$work/temporary")" ] || fail "install.sh without a reader leaves temporary files"
+{ sleep 1 && TMPDIR=$work/temporary "$top/install.sh" --program "$bufr" --unproved /dev/null/prefix || true; } 2>&1 | true
+[ -z "$(ls -A "$work/temporary")" ] || fail "install.sh without a reader of its errors leaves temporary files"
 printf '#!/bin/sh\necho bufr one\n' > "$work/tiny"
 for program in /bin/true "$work/tiny"; do
     ! "$top/install.sh" --program "$program" --unproved "$work/full" 2> "$work/errors" && grep -q 'not bufr' "$work/errors" ||
@@ -166,6 +185,11 @@ bufr dump -B "$prefix/share/bufr/tables/wmo-37/B.csv" -D "$prefix/share/bufr/tab
     awk -f "$prefix/share/bufr/table.awk" | grep -c '"TEMPERATURE/AIR TEMPERATURE"' > /dev/null || fail "table.awk: no temperature"
 "$prefix/share/bufr/tables/convert.py" copy "$prefix/share/bufr/tables/wmo-39" &&
     cmp copy/D.csv "$prefix/share/bufr/tables/wmo-39/D.csv" || fail "convert.py: another set"
+# Its scripts run no other program than its own.
+mv "$prefix/bin/bufr" other
+! PATH=$work/other:$PATH bufr-auto "$examples/synop.bufr" > output 2> errors && grep -q "cannot run $prefix/bin/bufr: No such" errors ||
+    fail "without its program, bufr-auto says: $(< errors)"
+mv other/bufr "$prefix/bin"
 set=$prefix/share/bufr/tables/wmo-39
 bufr-extract category=0 "$examples/synop.bufr" | cmp - "$examples/synop.bufr" || fail "bufr-extract: not the message"
 bufr-parallel dump -B "$set/B.csv" -D "$set/D.csv" "$examples/synop.bufr" | cmp - "$examples/synop.txt" ||

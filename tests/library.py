@@ -12,6 +12,7 @@ import os
 import pathlib
 import random
 import re
+import shlex
 import shutil
 import subprocess
 import sys
@@ -301,6 +302,28 @@ def try_examples(folder: pathlib.Path, work: pathlib.Path) -> None:
                     alike(f"{source} with {len(few)} words under valgrind", run.returncode, status)
 
 
+def try_pkg_config(folder: pathlib.Path, work: pathlib.Path) -> None:
+    """Compiles an example with the flags that pkg-config gives, for an installation that is made as docs/library.md says."""
+    if not shutil.which("pkg-config") or not shutil.which("gcc"):
+        print("tests/library.py: pkg-config or gcc is not installed, so bufr.pc is not tried", file=sys.stderr)
+        return
+    prefix, stream, built = work / "prefix", TOP / "examples/bulletins.bufr", work / "listing"
+    for name, place in (("bufr.pc", "lib/pkgconfig"), ("libbufr.*", "lib"), ("bufr.h", "include")):
+        (prefix / place).mkdir(parents=True, exist_ok=True)
+        for file in folder.glob(name):
+            shutil.copy(file, prefix / place, follow_symlinks=False)
+    words = ["pkg-config", "--cflags", "--libs", "bufr"]
+    environment = {**os.environ, "PKG_CONFIG_PATH": str(prefix / "lib/pkgconfig")}
+    flags = subprocess.run(words, env=environment, stdout=subprocess.PIPE, text=True).stdout
+    words = ["gcc", TOP / "library/examples/list_stream.c", *shlex.split(flags), f"-Wl,-rpath,{prefix}/lib", "-o", built]
+    done = subprocess.run(words, stdout=subprocess.PIPE, stderr=subprocess.STDOUT, text=True)
+    alike("an example by pkg-config is compiled", (done.returncode, done.stdout), (0, ""))
+    if done.returncode == 0:
+        run = subprocess.run([built, stream], stdout=subprocess.PIPE, stderr=subprocess.PIPE)
+        wanted = (0, *said_by(["ls"], stream.read_bytes()))
+        alike("an example by pkg-config", (run.returncode, run.stdout, run.stderr), wanted)
+
+
 def main() -> None:
     with tempfile.TemporaryDirectory() as name:
         work = pathlib.Path(name)
@@ -323,6 +346,7 @@ def main() -> None:
         try_tables(path)
         try_threads(path)
         try_examples(folder, work)
+        try_pkg_config(folder, work)
         finish(wrongs)
 
 

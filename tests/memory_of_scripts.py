@@ -5,7 +5,8 @@
 
 The bound is a number of megabytes for each process, plus the longest message or document if --help says so. The streams
 have 300,000 words `BUFR` that begin no message, 300,000 small messages with bytes between them, 30,000 kinds of messages
-whose tables are missing, or messages of 16 MB; a text has no end. Of the first two a third takes almost as much memory.
+whose tables are missing, 200,000 kinds that lack no rows, or messages of 16 MB; a text has no end. Of the first two a
+third takes almost as much memory.
 """
 import os
 import pathlib
@@ -55,6 +56,13 @@ def kinds():
         yield lib.asking(lib.message(b"", rows), 14, 1, centre)
 
 
+def centres():
+    """200,000 kinds of messages that lack no rows."""
+    message = lib.message(b"\x14")
+    for centre in range(1000):
+        yield b"".join(lib.asking(message, 13, local, centre) for local in range(200))
+
+
 def long():
     """Four messages that are almost as long as they can be."""
     head = lib.message(b"")[: -len(b"\0\0\4\0" b"7777")]
@@ -87,9 +95,17 @@ def no_end():
 
 
 # Each stream, with the status that a script gives and how many fault lines.
-STREAMS = {strays: (1, 300_000), messages: (0, 0), kinds: (1, 30_040), long: (0, 0), long_lists: (1, 80), versions: (1, 0)}
+STREAMS = {
+    strays: (1, 300_000),
+    messages: (0, 0),
+    kinds: (1, 30_040),
+    centres: (0, 0),
+    long: (0, 0),
+    long_lists: (1, 80),
+    versions: (1, 0),
+}
 # Streams that matter to one script.
-ONLY = {long_lists: "bufr-auto", versions: "bufr-lacks"}
+ONLY = {long_lists: "bufr-auto", versions: "bufr-lacks", centres: "bufr-lacks"}
 TEXTS = {no_end: (1, 1)}
 
 

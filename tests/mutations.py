@@ -152,6 +152,11 @@ MUTATIONS = [
     ("release.sh", "kill -- \"-$running\"", "kill \"$running\"", "tests/release.sh"),
     ("release.sh", "! -type d ! -name SHA256SUMS", "-type f ! -name SHA256SUMS", "tests/release.sh"),
     ("release.sh", "setpriv --pdeathsig TERM ", "", "tests/release.sh"),
+    ("install.sh", "[ \"$(tail -n 1 \"$work/old\")\" = share/zsh/site-functions/_bufr_scripts ] && ", "", "tests/installation.sh"),
+    ("install.sh", "'^/.|(^|/)\\.\\.(/|$)'", "'^/.'", "tests/installation.sh"),
+    ("install.sh", "    root=$(realpath -- \"$root\") # rmdir does not accept a symbolic link\n", "", "tests/installation.sh"),
+    ("install.sh", "$(realpath -- \"$0\")", "$0", "tests/installation.sh"),
+    ("scripts/bufr_guard.py", ' or beside == os.path.normpath(f"{here}/../../bin/bufr")', "", "tests/installation.sh"),
     ("install.sh", "trap 'die interrupted' HUP INT TERM PIPE\n", "", "tests/installation.sh"),
     ("install.sh", "TERM PIPE\n", "TERM\n", "tests/installation.sh"),
     ("scripts/bufr-auto", "sys.excepthook = lambda *error: (sys.__excepthook__(*error), os._exit(2))\n", "", "tests/failures_of_scripts.py bufr-auto"),
@@ -416,6 +421,13 @@ MUTATIONS = [
     ("scripts/bufr_auto.py", "key = tables, reason.concerns, words", "key = tables, words", "tests/bufr_auto.py"),
     ("scripts/bufr_sets.py", "if len(row) > max(places):", "if row:", "tests/csv_command.py"),
     ("scripts/bufr_text.py", "            told.up_to(place.offset)\n            yield place", "            yield place", "tests/python_module.py"),
+    ("scripts/bufr-parallel", "len(os.sched_getaffinity(0))", "os.cpu_count()", "tests/parallel_dump.py"),
+    ("scripts/bufr-dask", "if len(ahead) > 100:", "if False:", "tests/dask_table.py"),
+    ("scripts/bufr_text.py", " if not _FAULT.match(line)", "", "tests/python_module.py"),
+    ("scripts/bufr_sets.py", 'encoding="utf-8-sig", errors="replace"', 'encoding="utf-8-sig"', "tests/failures_of_scripts.py bufr-lacks"),
+    ("scripts/bufr-lacks", "lru_cache(maxsize=1 << 10)", "lru_cache(maxsize=None)", "tests/memory_of_scripts.py bufr-lacks"),
+    ("scripts/bufr_auto.py", "kept = 0 if found >= 0 or self.has_ended else len(END) - 1", "kept = 0", "tests/bufr_auto.py encodes"),
+    ("scripts/bufr_auto.py", " or self.part.is_started", "", "tests/bufr_auto.py encodes"),
 ]
 
 

@@ -163,7 +163,7 @@ def leaves_no_process(program: str, folder: pathlib.Path) -> None:
 
 
 def runs_as_many_as_asked(program: str, folder: pathlib.Path) -> None:
-    """Of three processes three run at once, and no more: each waits a second, and tells when it begins and ends."""
+    """As many run at once as are asked for, or as there are processors for them: each waits, and tells when it runs."""
     (folder / "waiting").write_text(
         f'#!/bin/sh\n[ "$1" = ls ] && exec {program} ls\n{program} "$@" > $$.text\n[ -s $$.text ] || exit 0\n'
         "echo begin >> log; sleep 1; echo end >> log; cat $$.text\n"
@@ -171,13 +171,16 @@ def runs_as_many_as_asked(program: str, folder: pathlib.Path) -> None:
     (folder / "waiting").chmod(0o755)
     (folder / "nine.bufr").write_bytes(lib.message(bytes(250_000)) * 9)
     environment = {**os.environ, "BUFR": str(folder / "waiting")}
-    status, output, _ = run([*PARALLEL, "-P", "3", "dump", *TABLES, "nine.bufr"], cwd=folder, env=environment)
-    want((status, output.count(b"\nend\n")) == (0, 9), f"dumps that wait end with {status}")
-    running = most = 0
-    for line in (folder / "log").read_text().split():
-        running += 1 if line == "begin" else -1
-        most = max(most, running)
-    want(most == 3, f"{most} processes at once, not 3")
+    one_processor = {"preexec_fn": lambda: os.sched_setaffinity(0, [min(os.sched_getaffinity(0))])}
+    for words, others, wanted in ((["-P", "3"], {}, 3), ([], one_processor, 1)):
+        status, output, _ = run([*PARALLEL, *words, "dump", *TABLES, "nine.bufr"], cwd=folder, env=environment, **others)
+        want((status, output.count(b"\nend\n")) == (0, 9), f"dumps that wait end with {status}")
+        running = most = 0
+        for line in (folder / "log").read_text().split():
+            running += 1 if line == "begin" else -1
+            most = max(most, running)
+        want(most == wanted, f"{most} processes at once, not {wanted}")
+        (folder / "log").unlink()
 
 
 def closes_what_it_opens(folder: pathlib.Path) -> None:

@@ -670,6 +670,7 @@ class Runs(unittest.TestCase):
             ("kill -9 $$", "was killed .signal 9.", -9),
             ('[ "$1" = ls ] || exec > /dev/full; exec "$REAL" "$@"', "71 write failed$", 2),
             ("exit 7", "exited with status 7", 7),
+            ('[ "$1" = ls ] && exec "$REAL" "$@"; printf "offset 0: 1 cut\\nstrange\\n" >&2; exit 2', "^strange$", 2),
             ("exit 1", "exited with status 1", 1),
             ('[ "$1" = ls ] && exec "$REAL" "$@"; exit 1', "exited with status 1", 1),
             ("echo nonsense", "and bufr_text have different versions", 2),

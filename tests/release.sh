@@ -377,19 +377,24 @@ cron hourly-feed
 touch -d '40 days ago' /var/lib/feed/dump.old
 cron '-delete'
 [ ! -e /var/lib/feed/dump.old ] && [ "$(ls /var/lib/feed/dump.* | wc -l)" -eq 2 ] || fail "the crontab leaves $(ls /var/lib/feed)"
+sets=/opt/bufr-0.1.0/share/bufr/tables
+cp -r $sets/wmo-39 $sets/wmo-39+254-9
 types block6
 grep -q 'elements added: 0' told && grep -q '^> .*OWN NAME' told || fail "the trial shows $(cat told)"
 types block7
-[ -s /opt/bufr/share/bufr/tables/wmo-99/B.csv ] && [ "$(cat told)" = 'systemctl restart bufr-feed' ] || fail "a new set: $(cat told)"
+[ -s $sets/wmo-99/B.csv ] && [ "$(cat told)" = 'systemctl restart bufr-feed' ] || fail "a new set: $(cat told)"
+[ -s $sets/wmo-99+254-9/B.csv ] && [ ! -e $sets/new ] && [ ! -e /home/trial ] || fail "with a new set: $(ls $sets /home)"
 types block8
-[ ! -e /opt/bufr/share/bufr/tables/wmo-99 ] && [ "$(cat told)" = "$(printf 'systemctl %s bufr-feed\n' stop start)" ] ||
+[ ! -e $sets/wmo-99 ] && [ ! -e $sets/wmo-99+254-9 ] && [ "$(cat told)" = "$(printf 'systemctl %s bufr-feed\n' stop start)" ] ||
     fail "without the new set: $(cat told)"
+rm -r $sets/wmo-39+254-9
+types block6
 types block7
 tar -xzf *.tar.gz
 types block9
 [ ! -L /opt/bufr ] || fail "$page leaves its link"
-find /opt ! -type d ! -path '/opt/bufr-0.1.0/share/bufr/tables/wmo-99/*' > left
-[ ! -s left ] && [ -s /opt/bufr-0.1.0/share/bufr/tables/wmo-99/B.csv ] || fail "--uninstall of $page leaves $(cat left)"
+find /opt ! -type d ! -path "$sets/wmo-99/*" > left
+[ ! -s left ] && [ -s $sets/wmo-99/B.csv ] || fail "--uninstall of $page leaves $(cat left)"
 sed -n 's/^RUN \(.*install.sh\)/\1/p' steps > install
 [ -s install ] || fail "$page has no Dockerfile that installs"
 cp $examples/synop.* /home
