@@ -57,8 +57,6 @@ build() {
         rlib=$top/crates/$name/out/rlib
         [ -d "$top/crates/$name" ] || rlib=$kit/rlibs
         [ -d "$rlib/$name.rlib" ] || die "the crate $name is not proved; run rt ci at the top of the repository first"
-        [ ! -d "$top/crates/$name" ] || [ -z "$(find "$top/crates/$name" -path '*/out' -prune -o -type f -newer "$rlib/$name.rlib" -print)" ] ||
-            die "the crate $name changed after it was proved; run rt ci at the top of the repository first"
         set -- "$@" --extern "$name=$rlib/$name.rlib"
     done
     for rlib in "$top"/crates/*/out/rlib; do
