@@ -35,6 +35,20 @@ for file in "$work"/first/*; do
 done
 (cd "$work/first" && sha256sum --quiet -c SHA256SUMS) || fail "the sums are not those of the files"
 archive=$(echo "$work"/first/*.tar.gz)
+# RECORD has the length and the checksum of each file in the wheel, in the form that installers compare.
+python3 - "$work"/first/*.whl > "$work/told" 2>&1 << 'END' || fail "the wheel: $(< "$work/told")"
+import base64, csv, hashlib, io, sys, zipfile
+
+wheel = zipfile.ZipFile(sys.argv[1])
+[record] = [name for name in wheel.namelist() if name.endswith(".dist-info/RECORD")]
+rows = {name: tuple(more) for name, *more in csv.reader(io.StringIO(wheel.read(record).decode()))}
+for name in wheel.namelist():
+    octets = wheel.read(name)
+    digest = base64.urlsafe_b64encode(hashlib.sha256(octets).digest()).decode().rstrip("=")
+    wanted = ("", "") if name == record else (f"sha256={digest}", str(len(octets)))
+    assert rows.pop(name) == wanted, f"RECORD of {name}: not {wanted}"
+assert not rows, f"RECORD has {rows}"
+END
 
 # The pages of a release lead to what is there: it has each file of the repository, and its own test follows the links.
 mkdir "$work/read"
