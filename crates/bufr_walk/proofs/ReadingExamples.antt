@@ -1,12 +1,22 @@
 -- Worked examples of readings and texts, computed from the definitions.
-use Rattle.std.proofs.Common.{◌≡◌, ℕ, zero, suc, true, List, [], ◌∷◌, pos, negsuc, refl}
+use Rattle.std.proofs.Common.{◌≡◌, ℕ, zero, suc, true, false, map, List, [], ◌∷◌, pos, negsuc, refl}
 use Rattle.bufr_bits.specs.Prelude.{bits_of}
 use Rattle.bufr_tables.specs.Prelude.{Tree, bare, element, operator, delayed}
-use Rattle.bufr_walk.specs.Prelude.{FieldSpec, Content, number, shown_number, shown_text, shown_missing, shown_reference, data_end, increment, unequal_factor, next_item, Item, ReadsSubsets}
+use Rattle.bufr_walk.specs.Prelude.{FieldSpec, Content, number, text, missing, reference, same, shown_number, shown_text, shown_missing, shown_reference, data_end, increment, unequal_factor, next_item, Item, ReadsSubsets}
 use Rattle.bufr_walk.proofs.ExampleTables.{fxy, table, done, walk_fault, field_fault, one, together, gives}
 use Rattle.bufr_tables.specs.declared.table_b.Kind.TheVariants as kind
 use Rattle.bufr_walk.specs.declared.spec.TurnRefusal.TheVariants as refusal
 use Rattle.bufr_walk.specs.declared.spec.Role.TheVariants as role
+
+-- Two contents are the same if they are of one kind and have the same value.
+contents_compared : map (λ c. same c (number 2)) (number 2 ∷ number 3 ∷ missing ∷ []) ≡ true ∷ false ∷ false ∷ []
+contents_compared = refl
+
+texts_compared : map (same (text (65 ∷ 66 ∷ []))) (text (65 ∷ 66 ∷ []) ∷ text (65 ∷ 67 ∷ []) ∷ text (65 ∷ []) ∷ []) ≡ true ∷ false ∷ false ∷ []
+texts_compared = refl
+
+references_compared : map (same (reference (pos 1))) (reference (pos 1) ∷ reference (pos 2) ∷ reference (negsuc 0) ∷ []) ≡ true ∷ false ∷ false ∷ []
+references_compared = refl
 
 one_temperature : one (element (fxy 0 12 101) bare) (112 ∷ 143 ∷ []) ≡ gives ((3173, shown_number (pos 28815) (pos 2)) ∷ []) (done 0 2)
 unfolding one gives fxy
