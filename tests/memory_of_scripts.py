@@ -113,8 +113,7 @@ def stated(script: str) -> tuple:
     """The bound that the help of a script states: its megabytes, and whether the longest message comes on top."""
     words = [sys.executable, TOP / "scripts" / script, "--help"]
     text = " ".join(subprocess.run(words, stdout=subprocess.PIPE, text=True).stdout.split())
-    longest = r"(,? (?:and|plus),?(?: except with --encode,)? memory for the longest message)?"
-    found = re.search(rf"need (\d+) MB of memory{longest}", text)
+    found = re.search(r"needs? (?:at most )?(\d+) MB of memory(.*?memory for the longest message)?", text)
     return (int(found[1]), bool(found[2])) if found else (0, False)
 
 
