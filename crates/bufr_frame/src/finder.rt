@@ -215,11 +215,6 @@ impl Finder {
         ensures asked { R.asked r.new ≡ counted (R.asked r.old)
             (asked_by (max min_held self.old.longest - length self.old.rest)
             (input_left self.old) (input_left self.new)) }
-        // If no place was free, the octets that are left move to the start of the buffer.
-        ensures whole { self.old.free ≡ 0 → self.old.reads < self.new.reads
-            → self.new.free + length self.new.rest ≡ self.new.room }
-        ensures places { self.old.free + length self.old.rest
-            ≤ self.new.free + length self.new.rest }
         // The room is at least 8,192 octets. If it grows, it becomes twice what was held, or 8,192.
         ensures least { 0 < self.new.reads → 2 * min_held ≤ self.new.room }
         ensures grows { (self.new.room ≡ self.old.room)

@@ -18,8 +18,8 @@ const CHUNK: usize = 65536;
 /// The octets of an input that were read and not yet skipped. [`crate::Finder`] reads its stream by
 /// it, and a reader of lines its text. An input that is needed whole is read by [`read_to_end`].
 ///
-/// They slide to the start of its buffer only where at least as many were skipped, or where it
-/// grows to at least twice as many. So on average each octet is moved at most twice.
+/// They slide to the start of its buffer only where at least as many were skipped. So on average
+/// each octet is moved at most once.
 ///
 /// ```
 /// let mut input = InputBuffer::new(rt.alloc());
@@ -51,8 +51,7 @@ impl Model for InputBuffer {
     } };
 
     ghost invariant = { λ f. (f.start ≤ f.filled) × (f.filled ≤ vec_len f.octets)
-        × (f.reads ≤ max_reads) × (f.reads ≡ 0 → vec_len f.octets ≡ 0)
-        × (vec_len f.octets ≡ vec_capacity f.octets) };
+        × (f.reads ≤ max_reads) × (f.reads ≡ 0 → vec_len f.octets ≡ 0) };
 }
 
 impl InputBuffer {
@@ -121,11 +120,6 @@ impl InputBuffer {
         ensures grown { self.old.reads ≡ 0 → 0 < self.new.reads → room ≤ self.new.room }
         ensures grows { (self.new.room ≡ self.old.room) ⊎ (room ≤ self.new.room) }
         ensures most { self.new.room ≤ max self.old.room room }
-        // If no place was free, the octets that are held move to the start of the buffer.
-        ensures whole { self.old.free ≡ 0 → self.old.reads < self.new.reads
-            → self.new.free + length self.new.held ≡ self.new.room }
-        ensures places { self.old.free + length self.old.held
-            ≤ self.new.free + length self.new.held }
         ensures free { self.new.ended ≡ true → 0 < self.new.free }
         ensures sure { R.waits r.old ≡ false → result ≢ Err RunFault.Read }
         ensures failed { R.failures r.new ≡ read_failures_after (R.failures r.old) result }
@@ -163,10 +157,6 @@ fn make_room(
     ensures held { IfOk result (λ slid. slice_range octets.new.items (start - slid) (filled - slid)
         ≡ slice_range octets.old.items start filled) }
     ensures grown { IfOk result (λ _. vec_len octets.old ≡ 0 → vec_len octets.new ≡ room) }
-    ensures whole { IfOk result (λ slid. (filled < vec_len octets.old) ⊎ (slid ≡ start)) }
-    ensures places { vec_len octets.old ≤ vec_len octets.new }
-    ensures exact { vec_len octets.old ≡ vec_capacity octets.old
-        → vec_len octets.new ≡ vec_capacity octets.new }
     ensures refused { IfErr result (λ fault. (fault ≡ RunFault.Memory)
         × (vec_capacity octets.old < room) × (octets.new.items ≡ octets.old.items)
         × (vec_len octets.new ≡ vec_len octets.old)) }
@@ -186,14 +176,13 @@ fn make_room(
         return Err(RunFault::Memory);
     }
     let alloc = *octets.allocator();
-    let mut grown = replace(octets, Vec::new(alloc));
-    grown.copy_within(start..filled, 0);
     // In a local vector the loop compiles to one `memset`.
+    let mut grown = replace(octets, Vec::new(alloc));
     'places: while grown.len() < room {
         grown.push_reserved(0);
     }
     *octets = grown;
-    Ok(start)
+    Ok(0)
 }
 
 /// Reads once after the first `filled` octets of a buffer, up to index `to`, and returns how many.

@@ -1,5 +1,5 @@
 //! The documents of an input.
-ghost use Rattle.std.specs.Prelude.{◌≡◌, ◌≢◌, ◌≤◌, ◌<◌, ◌+◌, ◌-◌, ◌*◌, ℕ, List, None, Some, Err, true, false, length, IfSome, IfOk};
+ghost use Rattle.std.specs.Prelude.{◌≡◌, ◌≢◌, ◌≤◌, ◌<◌, ◌-◌, ◌*◌, ℕ, List, None, Some, Err, true, false, length, IfSome, IfOk};
 ghost use Rattle.bufr_text.specs.Prelude.{max_line, IsProper, has_no_feed, ReaderModel, new_reader, unfed, ReturnsNextDocument, failures_by, TakesHeldLines, GivesHeldDocument, FillsBuffer, ReadsMoreText, stopped, text_input};
 ghost use Rattle.bufr_bits.specs.Prelude.{counted};
 ghost use Rattle.bufr_frame.specs.Prelude.{read_failures_after, AddsReads, AsksAtMost, asked_by};
@@ -164,11 +164,6 @@ impl DumpReader {
         ensures asked { R.asked r.new ≡ counted (R.asked r.old)
             (asked_by max_line (text_input self.old self.old.held)
             (text_input self.new self.new.held)) }
-        // If no place was free, the octets that are held move to the start of the buffer.
-        ensures whole { self.old.free ≡ 0 → self.old.reads < self.new.reads
-            → 2 * max_line ≤ self.new.free + length self.new.held }
-        ensures places { self.old.free + length self.old.held
-            ≤ self.new.free + length self.new.held }
     {
         self.input.fill(r, MAX_LINE, 2 * MAX_LINE)?;
         if self.input.ended() && !self.input.held().is_empty() {
@@ -238,11 +233,6 @@ impl DumpReader {
         ensures asked { R.asked r.new ≡ counted (R.asked r.old)
             (asked_by max_line (text_input self.old self.old.held)
             (text_input self.new self.new.held)) }
-        // If no place was free, the octets that are held move to the start of the buffer.
-        ensures whole { self.old.free ≡ 0 → self.old.reads < self.new.reads
-            → 2 * max_line ≤ self.new.free + length self.new.held }
-        ensures places { self.old.free + length self.old.held
-            ≤ self.new.free + length self.new.held }
         ensures held { length self.new.held ≤ 2 * max_line }
         ensures again { IfSome self.old.fault (λ fault. result ≡ Err fault) }
         ensures same { IfSome self.old.fault (λ _. r.new ≡ r.old) }
