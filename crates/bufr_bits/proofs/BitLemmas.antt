@@ -1,10 +1,10 @@
 -- Bits as numbers and as octets: in parts, all ones, in windows, and as a writer pushes them.
 use Rattle.std.proofs.lemmas.Grind.{common_steps}
-use Rattle.std.proofs.Common.{◌≡◌, ℕ, zero, suc, min, ◌+◌, ◌-◌, ◌*◌, ◌/◌, ◌%◌, ◌^◌, ◌<◌, ◌≤◌, ◌==◌, Bool, true, false, if◌then◌else◌, List, [], ◌∷◌, ◌++◌, length, take, drop, get_or, refl, sym, ap, ◌∙◌, subst, arith, length-drop, take-append-drop, length-take-le, take-add, drop-drop, pow-add, pow_mono, ◌&&◌, eqb, replicate, append_assoc, mod-eq_of_lt, append-nil, length-append}
+use Rattle.std.proofs.Common.{◌≡◌, ℕ, ◌⊎◌, inl, inr, zero, suc, min, max, ◌+◌, ◌-◌, ◌*◌, ◌/◌, ◌%◌, ◌^◌, ◌<◌, ◌≤◌, ◌==◌, Bool, true, false, if◌then◌else◌, List, [], ◌∷◌, ◌++◌, length, take, drop, get_or, refl, sym, ap, ◌∙◌, subst, arith, length-drop, take-append-drop, length-take-le, take-add, drop-drop, pow-add, pow_mono, ◌&&◌, eqb, replicate, append_assoc, mod-eq_of_lt, append-nil, length-append}
 use Rattle.std.proofs.lemmas.Nat.{shr_high, mod_low, shl_whole, mod-pow-add, shr_split, shr_le, mod_below, shr-shr, pow_pos, shr_below, be_bytes_8}
 use Rattle.std.proofs.lemmas.List.{drop-append-le, take-append-le, take_all, drop_more, drop_all, take_at, drop_at, take_more, length-replicate, take_rest}
 use Rattle.std.proofs.Math.Nat.{pow-suc, mul-le-mul_right}
-use Rattle.bufr_bits.specs.Prelude.{bits_of_octet, bits_of, number_after_bits, number_of, bits_at, are_all_ones, bits_in, padding, IsWindow}
+use Rattle.bufr_bits.specs.Prelude.{bits_of_octet, bits_of, number_after_bits, number_of, bits_at, are_all_ones, bits_in, padding, IsWindow, room_after}
 use Rattle.std.specs.List.{list_all}
 use Rattle.std.specs.Int.{bytes_high_first, byte_at, from_be_bytes, w64}
 
@@ -553,3 +553,14 @@ field_in xs at first from width n h place fits few = grind (arith, common_steps,
 pub field_within : (xs : List ℕ) (at width n : ℕ) → IsWindow n (at / 8) xs → at % 8 + width ≤ 64 → width ≤ 63
     → n / 2 ^ (64 - at % 8 - width) % (1 * 2 ^ width % 18446744073709551616) ≡ number_of (bits_at xs at width)
 field_within xs at width n h fits few = field_in xs at (at / 8) (at % 8) width n h (omega arith) fits few
+
+-- the room after octets for which their capacity grew by as many as these, or as requested
+pub room_most : (len capacity capacity' count bits room written : ℕ) → capacity' ≤ max capacity (len + max (bits / 8 + 16) len) → room_after len capacity count ≡ room → written ≡ 8 * len + count
+    → room_after len capacity' count ≤ max room (max (bits + 128) written)
+room_most len capacity capacity' count bits room written most old size = omega arith
+
+-- the room after octets whose capacity doubled
+pub room_grows : (len capacity capacity' count room written : ℕ) → (capacity' ≡ capacity) ⊎ (2 * len ≤ capacity') → count < 64 → room_after len capacity count ≡ room → written ≡ 8 * len + count
+    → (room_after len capacity' count ≡ room) ⊎ (min written (2 ^ 63 - written) ≤ room_after len capacity' count + 128)
+room_grows len capacity capacity' count room written (inl same) few old size = inl (rw same old)
+room_grows len capacity capacity' count room written (inr doubles) few old size = inr (omega arith)

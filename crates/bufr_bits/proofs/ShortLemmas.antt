@@ -1,15 +1,15 @@
 -- Short decimal texts: their digits, their parts, and their number at a scale.
 use Rattle.std.proofs.lemmas.Grind.{common_steps}
-use Rattle.std.proofs.Common.{◌≡◌, ℕ, suc, ◌+◌, ◌-◌, ◌*◌, ◌/◌, ◌%◌, ◌^◌, ◌<◌, ◌≤◌, ◌==◌, ◌&&◌, Bool, true, false, if◌then◌else◌, List, [], ◌∷◌, length, take, drop, get_or, Ok, Err, refl, sym, ap, ◌∙◌, subst, arith, length-drop, length-take-le, zero, ◌++◌, replicate, Result, ℤ, pos, length-append, length-take, take-append-drop}
+use Rattle.std.proofs.Common.{◌≡◌, ℕ, suc, ◌+◌, ◌-◌, ◌*◌, ◌/◌, ◌%◌, ◌^◌, ◌<◌, ◌≤◌, ◌==◌, ◌&&◌, Bool, true, false, if◌then◌else◌, List, [], ◌∷◌, length, take, drop, get_or, Ok, Err, refl, sym, ap, ◌∙◌, subst, arith, length-drop, length-take-le, nat_le, zero, ◌++◌, replicate, Result, ℤ, pos, length-append, length-take, take-append-drop}
 use Rattle.std.specs.Int.{IsInRange}
 use Rattle.std.specs.Char.{is_ascii_digit}
 use Rattle.std.specs.Str.Parse.{digits_value_after, digits_value, starts_with_minus}
 use Rattle.std.proofs.lemmas.Str.{digit_value_digit}
 use Rattle.std.proofs.lemmas.Nat.{div-add-mod', mod_below}
 use Rattle.std.proofs.lemmas.Bool.Decides.{nat_tests}
-use Rattle.std.proofs.lemmas.List.{take_more, take_all, drop_more, length-replicate}
+use Rattle.std.proofs.lemmas.List.{get_or-take, get_or-drop, take_more, take_all, drop_more, length-replicate}
 use Rattle.std.proofs.Math.Nat.{pow-suc, mul-le-mul_right, pow-le-pow_right}
-use Rattle.bufr_bits.specs.Prelude.{all_digits, whole_quotient, decimal_text_of, unsigned_text, pointed, decimal_value_of, positive_scale, negative_scale, signed, ◌>>=◌, unsigned_part, signed_number, is_decimal_octet, IsPlainDecimal}
+use Rattle.bufr_bits.specs.Prelude.{all_digits, whole_quotient, decimal_text_of, unsigned_text, pointed, decimal_value_of, positive_scale, negative_scale, signed, ◌>>=◌, unsigned_part, signed_number, is_decimal_octet, continues_number, IsPlainDecimal}
 use Rattle.bufr_bits.specs.declared.decimal.NumberFault.TheVariants.{Inexact}
 use Rattle.bufr_bits.proofs.BitLemmas.{list_all-append}
 use Rattle.bufr_bits.proofs.DecimalLemmas.{value_after-is, value_after-append, value-below, quotient_is, ten_pos, ten_split, product_zero, sum_zero, and_first, and_second, own, unsigned_is_decimal, read_alone, read_after_minus, number_at, number_at_own}
@@ -335,3 +335,26 @@ pub plain_text : (text body : List ℕ) (count n places : ℕ) → false ≡ sta
     → take count text ≡ decimal_text_of (signed_number false n) (pos places)
 unfolding decimal_text_of
 plain_text text body count n places h e d = grind (arith, common_steps)
+
+-- an octet of a text, read in the part of it that is searched
+window_octet : (text : List ℕ) (most i : ℕ) → (most < length text → i < most) → get_or (take most text) i 0 ≡ get_or text i 0
+window_octet text most i h = by (nat_le (length text) most) refl
+  where
+    by : (b : Bool) → nat_le (length text) most ≡ b → get_or (take most text) i 0 ≡ get_or text i 0
+    by true q = ap (λ (t : List ℕ). get_or t i 0) (take_all most text (grind (arith, nat_tests)))
+    by false q = get_or-take most text i 0 (h (grind (arith, nat_tests)))
+
+-- a number without a point ends before an octet that is no digit and no point
+pub alone_ends : (text : List ℕ) (most count : ℕ) → (most < length text → most ≡ 19) → is_ascii_digit (get_or (take most text) count 0) ≡ false
+    → (get_or (take most text) count 0 ≡ 46 → ⊥) → count < 19 → continues_number 0 (get_or text count 0) ≡ false
+alone_ends text most count few digit point lt =
+    let same = window_octet text most count (λ long. omega (arith, few long)) in
+    grind (arith, common_steps, nat_tests)
+
+-- a number with a point ends before an octet that is no digit
+pub pointed_ends : (text fraction : List ℕ) (most count places : ℕ) → (most < length text → most ≡ 19) → fraction ≡ drop (count + 1) (take most text)
+    → is_ascii_digit (get_or fraction places 0) ≡ false → 0 < places → count + 1 + places < 19 → continues_number places (get_or text (count + 1 + places) 0) ≡ false
+pointed_ends text fraction most count places few f digit some lt =
+    let same = window_octet text most (count + 1 + places) (λ long. omega (arith, few long)) in
+    let after = get_or-drop (count + 1) (take most text) places 0 in
+    grind (arith, common_steps, nat_tests)

@@ -131,6 +131,14 @@ short_text d = decimal_text_of (signed_number d.negative d.digits) (pos d.places
 abbrev pub is_decimal_octet : ℕ → Bool
 is_decimal_octet c = is_ascii_digit c || (c == 45) || (c == 46)
 
+-- whether an octet continues a number with the given number of places: a digit, or the first point
+abbrev pub continues_number : (places octet : ℕ) → Bool
+continues_number places octet = is_ascii_digit octet || ((places == 0) && (octet == 46))
+
+-- how many octets at the start of a text are searched for a short number: 19 after the minus sign
+abbrev pub searched_octets : List ℕ → ℕ
+searched_octets text = if starts_with_minus text then 20 else 19
+
 -- the text of a number without its sign
 pub record IsPlainDecimal (text : List ℕ) (number places : ℕ) : Type 0 where
   pub is : text ≡ unsigned_text number (pos places)

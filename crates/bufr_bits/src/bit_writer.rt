@@ -1,5 +1,5 @@
 //! Bits that are written one after another, most significant first.
-ghost use Rattle.std.specs.Prelude.{◌≡◌, ◌≤◌, ◌<◌, ◌+◌, ◌*◌, ◌/◌, ◌%◌, ◌^◌, ◌++◌, [], Bool, List, ℕ, length, slice_index, vec_len, vec_capacity, OnOk, OnErr};
+ghost use Rattle.std.specs.Prelude.{◌≡◌, ◌⊎◌, ◌≤◌, ◌<◌, ◌+◌, ◌-◌, ◌*◌, ◌/◌, ◌%◌, ◌^◌, ◌++◌, [], Bool, List, ℕ, length, slice_index, min, max, vec_len, vec_capacity, OnOk, OnErr};
 ghost use Rattle.bufr_bits.specs.Bits.{bits_of, bits_in, bits_at, number_of, padding, BitWriterModel, IsWriting, room_after};
 
 use std::alloc::{AllocError, Global};
@@ -57,7 +57,8 @@ impl BitWriter {
         8 * self.octets.len() as u64 + u64::from(self.count)
     }
 
-    /// Makes room for so many more bits. There must be at most 2^63 bits with these.
+    /// Makes room for so many more bits. There must be at most 2^63 bits with these. If the writer
+    /// has to grow, it doubles at least.
     ///
     /// # Errors
     ///
@@ -67,11 +68,16 @@ impl BitWriter {
         requires { length self.old.bits + bits ≤ 2 ^ 63 }
         ensures bits { self.new.bits ≡ self.old.bits }
         ensures room { OnOk result (bits ≤ self.new.room) }
+        // At most, there is room for 128 bits more than requested, or for as many as were written.
+        ensures most { self.new.room ≤ max self.old.room (max (bits + 128) (length self.old.bits)) }
+        // If the room grows, it becomes about as many bits as were written, up to 2^63 in all.
+        ensures grows { (self.new.room ≡ self.old.room) ⊎ (min (length self.old.bits)
+            (2 ^ 63 - length self.old.bits) ≤ self.new.room + 128) }
     {
         if bits <= u64::from(self.free) {
             return Ok(());
         }
-        self.octets.reserve((bits / 8) as usize + 16)?;
+        reserve_octets(&mut self.octets, (bits / 8) as usize + 16)?;
         self.free = 63 - self.count;
         Ok(())
     }
@@ -194,6 +200,40 @@ impl BitWriter {
         put_last(&mut octets, last, count);
         octets
     }
+}
+
+/// Makes room for so many more octets. If `out` has to grow, it doubles at least.
+#[inline(always)]
+fn reserve_octets(out: &mut Vec<u8>, count: usize) -> Result<(), AllocError>
+    ensures items { out.new.items ≡ out.old.items }
+    ensures len { vec_len out.new ≡ vec_len out.old }
+    ensures ok { OnOk result (vec_len out.old + count ≤ vec_capacity out.new) }
+    ensures capacity { vec_capacity out.old ≤ vec_capacity out.new }
+    ensures most { vec_capacity out.new
+        ≤ max (vec_capacity out.old) (vec_len out.old + max count (vec_len out.old)) }
+    ensures grows { (vec_capacity out.new ≡ vec_capacity out.old)
+        ⊎ (2 * vec_len out.old ≤ vec_capacity out.new) }
+{
+    if count <= out.capacity() - out.len() {
+        return Ok(());
+    }
+    grow(out, count)
+}
+
+/// [`reserve_octets`] where room is missing.
+#[cold]
+#[inline(never)]
+fn grow(out: &mut Vec<u8>, count: usize) -> Result<(), AllocError>
+    ensures items { out.new.items ≡ out.old.items }
+    ensures len { vec_len out.new ≡ vec_len out.old }
+    ensures ok { OnOk result (vec_len out.old + count ≤ vec_capacity out.new) }
+    ensures capacity { vec_capacity out.old ≤ vec_capacity out.new }
+    ensures most { vec_capacity out.new
+        ≤ max (vec_capacity out.old) (vec_len out.old + max count (vec_len out.old)) }
+    ensures grows { (vec_capacity out.new ≡ vec_capacity out.old)
+        ⊎ (2 * vec_len out.old ≤ vec_capacity out.new) }
+{
+    out.reserve_exact(count.max(out.len()))
 }
 
 /// Appends octets for which there is room.

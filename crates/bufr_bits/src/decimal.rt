@@ -1,9 +1,10 @@
 //! Numbers with a decimal scale as text, and back: the number v at scale s is v / 10^s.
-ghost use Rattle.std.specs.Prelude.{◌≡◌, ◌≤◌, ◌<◌, ◌+◌, ◌*◌, ◌^◌, ◌++◌, ◌==◌, ℕ, true, false, length, replicate, take, vec_len, vec_capacity, IfSome, MatchOption, OnOk, OnErr};
+ghost use Rattle.std.specs.Prelude.{◌≡◌, ◌≤◌, ◌<◌, ◌+◌, ◌*◌, ◌^◌, ◌++◌, ◌==◌, ℕ, true, false, length, replicate, take, get_or, vec_len, vec_capacity, IfSome, MatchOption, OnOk, OnErr};
+ghost use Rattle.std.specs.Char.{is_ascii_digit};
 ghost use Rattle.std.specs.List.{list_all, position};
 ghost use Rattle.std.specs.Str.Parse.{digits_value, digits_value_after, starts_with_minus};
 ghost use Rattle.bufr_bits.specs.Device.{capped, capped_ok};
-ghost use Rattle.bufr_bits.specs.Decimal.{decimal_text_of, pointed, sign_of, decimal_value_of, unsigned_part, is_unsigned, all_digits, is_digits, IsParts, positive_scale, negative_scale, whole_quotient, signed, IsPlainDecimal, short_text, is_decimal_octet};
+ghost use Rattle.bufr_bits.specs.Decimal.{decimal_text_of, pointed, sign_of, decimal_value_of, unsigned_part, is_unsigned, all_digits, is_digits, IsParts, positive_scale, negative_scale, whole_quotient, signed, IsPlainDecimal, short_text, is_decimal_octet, continues_number, searched_octets};
 
 use crate::bit_writer::put;
 use itoa::Buffer;
@@ -278,6 +279,9 @@ impl ShortDecimal {
         ensures text { IfSome result (λ found. take found.1 text.now ≡ short_text found.0) }
         ensures octets { IfSome result
             (λ found. list_all is_decimal_octet (take found.1 text.now) ≡ true) }
+        // The next octet, if it is among those that are searched, does not continue the number.
+        ensures longest { IfSome result (λ found. found.1 < searched_octets text.now
+            → continues_number found.0.places (get_or text.now found.1 0) ≡ false) }
     {
         let (negative, body) = without_sign(text);
         let (digits, places, count) = unsigned_prefix(body)?;
@@ -326,6 +330,8 @@ fn unsigned_prefix(body: &[u8]) -> Option<(u64, u8, usize)>
     ensures within { IfSome result (λ found. found.2 ≤ length body.now) }
     ensures plain { IfSome result
         (λ found. IsPlainDecimal (take found.2 body.now) found.0 found.1) }
+    ensures longest { IfSome result (λ found. found.2 < 19
+        → continues_number found.1 (get_or body.now found.2 0) ≡ false) }
 {
     let window = &body[..body.len().min(MAX_DIGITS)];
     let (whole, count) = read_digits(0, window);
@@ -355,6 +361,7 @@ fn read_digits(number: u64, text: &[u8]) -> (u64, usize)
     ensures count { result.1 ≤ length text.now }
     ensures digits { all_digits (take result.1 text.now) ≡ true }
     ensures value { result.0 ≡ digits_value_after 10 number (take result.1 text.now) }
+    ensures stops { is_ascii_digit (get_or text.now result.1 0) ≡ false }
 {
     let mut value = number;
     let mut count = 0;

@@ -13,18 +13,16 @@ use Rattle.memchr.specs.Find.{FindsNeedle}
 use Rattle.bufr_frame.specs.Prelude.{Sections, StreamEvent, FrameAt, StrayAt, StartsWithBufr, cause_report, section_report, scan, scan_from, classify, stated_length, stream_event, candidate_len, has_word_at, sections_of}
 use Rattle.bufr_frame.specs.declared.fault.SectionFault.{SectionFault}
 use Rattle.bufr_frame.proofs.ScanLemmas.{holds-prefix, holds-there, stated-prefix, scan_from-here, scan_from-nil, scan_from-found, drop-twice}
-use Rattle.bufr_tables.specs.Prelude.{ReadsTableD, Record, Row, Sequence, Tree, records_of, table_b_of, table_d_of, table_report, template_report, tree_of, tables_of}
-use Rattle.bufr_tables.specs.declared.fault.TemplateFault.{TemplateFault}
+use Rattle.bufr_tables.specs.Prelude.{ReadsTableD, Record, Row, Sequence, records_of, table_b_of, table_d_of, table_report}
 use Rattle.bufr_tables.specs.declared.fault.TableFault.{TableFault}
 use Rattle.bufr_tables.specs.declared.fault.TableFault.TheVariants as tables
-use Rattle.bufr_walk.specs.Prelude.{data_of, data_report, fault_of, next_item, reading_of}
-use Rattle.bufr_walk.specs.declared.fault.WalkFault.{WalkFault}
+use Rattle.std.specs.Result.{result_map_both}
 use Rattle.bufr_frame.specs.declared.fault.RunFault.{RunFault}
 use Rattle.bufr_frame.specs.declared.fault.Cause.{Cause}
 use Rattle.bufr_text.specs.Prelude.{Writes, ls_line}
 use Rattle.bufr_text.specs.Prelude.{documents_of}
 use Rattle.bufr_text.specs.declared.encode.Form.{Form}
-use Rattle.bufr_cli.specs.Prelude.{encode_pieces, WritesPieces, Tallies, Piece, OnOutput, OnErrors, output_of, errors_of, is_accepted, is_refused, fault_line, ls_piece, ls_or_fault, dump_piece, message_piece, template_piece, text_or_fault, Writers, WritesWhole, event_pieces}
+use Rattle.bufr_cli.specs.Prelude.{encode_pieces, WritesPieces, Tallies, Piece, OnOutput, OnErrors, output_of, errors_of, is_accepted, is_refused, fault_line, ls_piece, dump_piece, dump_or_report, text_or_fault, Writers, WritesWhole, event_pieces}
 use Rattle.bufr_cli.specs.declared.outcome.Tally.{Tally}
 use Rattle.bufr_c.specs.Moving.{moved}
 use Rattle.bufr_frame.specs.declared.fault.Cause.TheVariants.{Cut, ShortLength, NoEnd}
@@ -71,7 +69,8 @@ pub record IsMoved (n : ℕ) (p q : Piece) : Type 0 where
   pub errors : moved n (errors_of p) ≡ errors_of q
   pub accepted : is_accepted p ≡ is_accepted q
 
-listed-by : (n : ℕ) (r : Result Sections SectionFault) → IsMoved n (ls_or_fault 0 r) (ls_or_fault n r)
+listed-by : (n : ℕ) (r : Result Sections SectionFault)
+    → IsMoved n (text_or_fault 0 (result_map_both (ls_line 0) section_report r)) (text_or_fault n (result_map_both (ls_line n) section_report r))
 listed-by n (Ok s) = record { output = moved-line n s; errors = refl; accepted = refl }
 listed-by n (Err fault) = record { output = refl; errors = moved-fault n (section_report fault); accepted = refl }
 
@@ -84,23 +83,12 @@ pub record HasMovedFault (n : ℕ) (p q : Piece) : Type 0 where
   pub errors : moved n (errors_of p) ≡ errors_of q
   pub accepted : is_accepted p ≡ is_accepted q
 
-fault-moved : (n : ℕ) (report : ℕ × List (List ℕ)) → HasMovedFault n (OnErrors (fault_line 0 report)) (OnErrors (fault_line n report))
-fault-moved n report = record { output = refl; errors = moved-fault n report; accepted = refl }
-
-data-moved : (n : ℕ) (fault : Option WalkFault) (text : List ℕ) → HasMovedFault n (text_or_fault 0 fault text) (text_or_fault n fault text)
-data-moved n None text = record { output = refl; errors = refl; accepted = refl }
-data-moved n (Some why) text = fault-moved n (data_report why)
-
-template-moved : (n : ℕ) (b : List Row) (s : Sections) (t : Result Tree TemplateFault) → HasMovedFault n (template_piece b 0 s t) (template_piece b n s t)
-template-moved n b s (Ok t) = data-moved n (fault_of (data_of s) (reading_of (next_item b t) (data_of s))) _
-template-moved n b s (Err why) = fault-moved n (template_report why)
-
-message-moved : (n : ℕ) (b : List Row) (d : List Sequence) (r : Result Sections SectionFault) → HasMovedFault n (message_piece b d 0 r) (message_piece b d n r)
-message-moved n b d (Ok s) = template-moved n b s (tree_of (tables_of b d) s.descriptors)
-message-moved n b d (Err fault) = fault-moved n (section_report fault)
+text-moved : (n : ℕ) (r : Result (List ℕ) (ℕ × List (List ℕ))) → HasMovedFault n (text_or_fault 0 r) (text_or_fault n r)
+text-moved n (Ok text) = record { output = refl; errors = refl; accepted = refl }
+text-moved n (Err report) = record { output = refl; errors = moved-fault n report; accepted = refl }
 
 pub dumped : (n : ℕ) (b : List Row) (d : List Sequence) (octets : List ℕ) → HasMovedFault n (dump_piece b d (FrameAt 0 octets)) (dump_piece b d (FrameAt n octets))
-dumped n b d octets = message-moved n b d (sections_of octets)
+dumped n b d octets = text-moved n (dump_or_report b d (sections_of octets))
 
 -- ---- A run over the octets of one message.
 

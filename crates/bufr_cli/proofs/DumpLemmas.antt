@@ -5,11 +5,15 @@ use Rattle.std.proofs.KnownBytes.{Appends-nil}
 use Rattle.bufr_frame.specs.Prelude.{Sections}
 use Rattle.bufr_frame.specs.declared.fault.RunFault.{RunFault}
 use Rattle.bufr_tables.specs.Prelude.{tree_of, tables_of, Row, Sequence, Tree}
+use Rattle.std.specs.Option.{option_map_or}
+use Rattle.bufr_bits.specs.Prelude.{◌>>=◌, map_err}
+use Rattle.bufr_tables.specs.Prelude.{template_report}
+use Rattle.bufr_tables.specs.declared.fault.TemplateFault.{TemplateFault}
 use Rattle.bufr_walk.specs.Prelude.{next_item, data_report, Read, data_of, Data, AnswersReading, ReadsData, reading_of, values_read, fault_of, fault_at}
 use Rattle.bufr_walk.specs.declared.fault.WalkFault.{WalkFault}
 use Rattle.bufr_walk.specs.declared.fault.WalkFault.TheVariants as walk
 use Rattle.bufr_text.specs.Prelude.{dump_text_of, WritesPrefix, GrowsByPrefix, Writes, dump_items}
-use Rattle.bufr_cli.specs.Prelude.{text_or_fault, data_piece, template_piece, message_piece, Piece, OnOutput, OnErrors, fault_line, LeavesPiece, Verdict, Writers}
+use Rattle.bufr_cli.specs.Prelude.{text_or_fault, dump_or_report, Piece, OnOutput, OnErrors, fault_line, LeavesPiece, Verdict, Writers}
 use Rattle.bufr_cli.specs.declared.outcome.Verdict.TheVariants.{Accepted, Refused}
 
 -- of a text nothing was written
@@ -42,12 +46,40 @@ errors-stopped : (before after : Writers) (text : List ℕ) (piece : Piece) (f :
 errors-stopped before after text piece f is writes same =
     rw is (record { output = rw same (grows-none before.output.taken []); errors = rw (append-nil text) writes })
 
+-- a text, or the report of the fault of its data
+abbrev pub data_or_report : Option WalkFault → (text : List ℕ) → Result (List ℕ) (ℕ × List (List ℕ))
+data_or_report fault text = option_map_or (λ why. Err (data_report why)) fault (Ok text)
+
+-- what is written for a message whose data are read by a template
+abbrev pub data_piece : List Row → ℕ → Sections → Tree → Piece
+data_piece table offset s template =
+    let r = reading_of (next_item table template) (data_of s) in
+    text_or_fault offset (data_or_report (fault_of (data_of s) r) (dump_text_of s (dump_items table s.subsets r.values)))
+
+-- what is written for a message, by the template of its descriptors, or by the fault of these
+abbrev pub template_piece : List Row → ℕ → Sections → Result Tree TemplateFault → Piece
+template_piece table offset s (Ok template) = data_piece table offset s template
+template_piece table offset s (Err fault) = OnErrors (fault_line offset (template_report fault))
+
+-- what is written for a message whose descriptors were expanded, or not
+abbrev piece_by : List Row → ℕ → Sections → Result Tree TemplateFault → Piece
+piece_by b offset s made = text_or_fault offset (map_err template_report made >>= λ template.
+    let r = reading_of (next_item b template) (data_of s) in data_or_report (fault_of (data_of s) r) (dump_text_of s (dump_items b s.subsets r.values)))
+
+piece-by : (b : List Row) (offset : ℕ) (s : Sections) (made : Result Tree TemplateFault) → piece_by b offset s made ≡ template_piece b offset s made
+piece-by b offset s (Ok template) = refl
+piece-by b offset s (Err fault) = refl
+
+pub piece-by-template : (b : List Row) (d : List Sequence) (offset : ℕ) (s : Sections)
+    → text_or_fault offset (dump_or_report b d (Ok s)) ≡ template_piece b offset s (tree_of (tables_of b d) s.descriptors)
+piece-by-template b d offset s = piece-by b offset s (tree_of (tables_of b d) s.descriptors)
+
 -- the piece of data that were read is their text
 pub read-piece : (table : List Row) (offset : ℕ) (s : Sections) (template : Tree) → (reading_of (next_item table template) (data_of s)).stop ≡ None
     → data_piece table offset s template ≡ OnOutput (dump_text_of s (dump_items table s.subsets (reading_of (next_item table template) (data_of s)).values))
 read-piece table offset s template none =
     let r = reading_of (next_item table template) (data_of s) in
-    ap (λ o. text_or_fault offset (option_map (λ why. fault_at why r.subset (length (data_of s).bits - length r.left)) o) (dump_text_of s (dump_items table s.subsets r.values))) none
+    ap (λ o. text_or_fault offset (data_or_report (option_map (λ why. fault_at why r.subset (length (data_of s).bits - length r.left)) o) (dump_text_of s (dump_items table s.subsets r.values)))) none
 
 -- the same as the reading says it itself
 text-piece : (table : List Row) (offset : ℕ) (s : Sections) (template : Tree) (r : Read) (steps : ℕ) → AnswersReading table template (data_of s) (Ok r) steps
@@ -89,9 +121,9 @@ refused-line specs table offset s template why steps cached some so piece is =
     let reads : ReadsData course (data_of s) (Err why) steps = subst (λ t. ReadsData (next_item t template) (data_of s) (Err why) steps) cached so in
     let fault : fault_of (data_of s) (reading_of course (data_of s)) ≡ Some why =
     elim reads as (λ _. fault_of (data_of s) (reading_of course (data_of s)) ≡ Some why) [ inl x ↦ x.0 | inr y ↦ absurd (some y.0) ] in
-    is ∙ ap (λ o. text_or_fault offset o (dump_text_of s (dump_items table s.subsets (reading_of course (data_of s)).values))) fault
+    is ∙ ap (λ o. text_or_fault offset (data_or_report o (dump_text_of s (dump_items table s.subsets (reading_of course (data_of s)).values)))) fault
 
 -- what is written for a message by the template that its descriptors make
 pub data-of : (table : List Row) (d : List Sequence) (offset : ℕ) (s : Sections) (template : Tree) → tree_of (tables_of table d) s.descriptors ≡ Ok template
-    → message_piece table d offset (Ok s) ≡ data_piece table offset s template
-data-of table d offset s template is = ap (template_piece table offset s) is
+    → text_or_fault offset (dump_or_report table d (Ok s)) ≡ data_piece table offset s template
+data-of table d offset s template is = piece-by-template table d offset s ∙ ap (template_piece table offset s) is

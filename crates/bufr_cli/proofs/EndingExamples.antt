@@ -189,13 +189,11 @@ table-is-not-70 fault of named tables opens (NoTableB opened (inl (inl (inl clos
 table-is-not-70 fault of named tables opens (NoTableB opened (inl (inl (inr is)))) = let memory : fault ≡ Memory = cc in subst IsOfReads memory of
 table-is-not-70 fault of named tables opens (NoTableB opened (inl (inr (f, is, (from, to, left, fails))))) =
     let same : f ≡ fault = cc in
-    let reads = rw same at fails.reads in
-    shows-neither fault of (rw same at fails.failures) (reads.0, reads.1, reads.2, reads.3)
+    shows-neither fault of (rw same at fails.failures) (rw same at fails.reads)
 table-is-not-70 fault of named tables opens (NoTableB opened (inr (f, is, reads))) = absurd cc
 table-is-not-70 fault of named tables opens (NoTableD opened b read (inl (inl (inl closed)))) = let is = closed.0 in absurd cc
 table-is-not-70 fault of named tables opens (NoTableD opened b read (inl (inl (inr is)))) = let memory : fault ≡ Memory = cc in subst IsOfReads memory of
 table-is-not-70 fault of named tables opens (NoTableD opened b read (inl (inr (f, is, (from, to, left, fails))))) =
     let same : f ≡ fault = cc in
-    let reads = rw same at fails.reads in
-    shows-neither fault of (rw same at fails.failures) (reads.0, reads.1, reads.2, reads.3)
+    shows-neither fault of (rw same at fails.failures) (rw same at fails.reads)
 table-is-not-70 fault of named tables opens (NoTableD opened b read (inr (f, is, reads))) = absurd cc

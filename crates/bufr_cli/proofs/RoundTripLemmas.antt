@@ -1,5 +1,5 @@
 -- What `dump` writes for a stream, or a text by hand, is encoded to messages with that text.
-use Rattle.std.proofs.Common.{◌-◌, None, option_map, ◌≡◌, ◌∙◌, ◌⊎◌, ℕ, suc, ◌+◌, ◌<◌, ◌≤◌, List, [], ◌∷◌, ◌++◌, length, map, Option, Some, Result, Ok, Err, refl, sym, ap, arith, inl, inr, length-append, flat_map, count_by, slice_index}
+use Rattle.std.proofs.Common.{subst, ◌-◌, None, option_map, ◌≡◌, ◌∙◌, ◌⊎◌, ℕ, suc, ◌+◌, ◌<◌, ◌≤◌, List, [], ◌∷◌, ◌++◌, length, map, Option, Some, Result, Ok, Err, refl, sym, ap, arith, inl, inr, length-append, flat_map, count_by, slice_index}
 use Rattle.std.specs.List.{AllByRecursion, AllZip, concat, filter}
 use Rattle.std.proofs.lemmas.List.Sums.{length-filter}
 use Rattle.bufr_tables.specs.Prelude.{tree_of, tables_of, Record, Row, AreRows, Sequence, Tree}
@@ -19,9 +19,9 @@ use Rattle.bufr_walk.proofs.NextField.{table_read}
 use Rattle.bufr_text.proofs.RoundTripLemmas.{accepted_again, encoded_again, same_text}
 use Rattle.bufr_text.proofs.LawLemmas.{spelled-proper}
 use Rattle.bufr_text.proofs.DumpTextLemmas.{text-spells}
-use Rattle.bufr_cli.specs.Prelude.{text_or_fault, data_piece, template_piece, message_piece, dump_piece, Piece, OnOutput, OnErrors, output_of, errors_of, is_accepted, is_refused, encoded, result_piece, up_to_refused, accepted_in, accepted_messages, dump_pieces, dumped, longer_by, rebuilding, rebuilt, IsBuiltAgain, IsWholeRound, IsCanonicalMessage, RoundTrips, Written, IsDumpedInOneSpelling, before_refused, built, form_pieces, normal_by, normal_text, normal_texts, holding, Tallies, WritesWhole, document_pieces, event_pieces}
+use Rattle.bufr_cli.specs.Prelude.{text_or_fault, dump_or_report, dump_piece, Piece, OnOutput, OnErrors, output_of, errors_of, is_accepted, is_refused, encoded, result_piece, up_to_refused, accepted_in, accepted_messages, dump_pieces, dumped, longer_by, rebuilding, rebuilt, IsBuiltAgain, IsWholeRound, IsCanonicalMessage, RoundTrips, Written, IsDumpedInOneSpelling, before_refused, built, form_pieces, normal_by, normal_text, normal_texts, holding, Tallies, WritesWhole, document_pieces, event_pieces}
 use Rattle.bufr_text.specs.declared.encode.Form.TheVariants.{AsWritten}
-use Rattle.bufr_cli.proofs.DumpLemmas.{read-piece}
+use Rattle.bufr_cli.proofs.DumpLemmas.{data-of, data_or_report, data_piece, piece-by-template, read-piece, template_piece}
 use Rattle.std.proofs.lemmas.List.{length-map}
 use Rattle.bufr_text.specs.declared.encode.Form.{Form}
 use Rattle.bufr_text.proofs.NormalLemmas.{dump_is_normal, encoded_again_same, encoded_read}
@@ -106,7 +106,7 @@ module _ (records : List Record) (b : List Row) (d : List Sequence) (rows : AreR
       → dump_piece b d (FrameAt offset m) ≡ OnOutput (dump_text_of s (dump_items b s.subsets values))
   accepted-piece m s template values used offset a =
       let is = reading_is (next_item b template) (sane s template a.expands) (data_of s) values used a.read in
-      ap (message_piece b d offset) a.sections ∙ ap (template_piece b offset s) a.expands ∙ read-piece b offset s template is.none
+      ap (λ parsed. text_or_fault offset (dump_or_report b d parsed)) a.sections ∙ data-of b d offset s template a.expands ∙ read-piece b offset s template is.none
       ∙ ap (λ v. OnOutput (dump_text_of s (dump_items b s.subsets v))) is.items
 
   module _ (offset : ℕ) (m : List ℕ) (small : AllByRecursion IsOctet m × (length m ≤ max_octets)) where
@@ -132,8 +132,8 @@ module _ (records : List Record) (b : List Row) (d : List Sequence) (rows : AreR
             let r = reading_of (next_item b template) (data_of s) in
             inl (
               _,
-              ap (λ o. text_or_fault offset (option_map (λ why. fault_at why r.subset (length (data_of s).bits - length r.left)) o)
-                  (dump_text_of s (dump_items b s.subsets r.values))) stops,
+              ap (λ o. text_or_fault offset (data_or_report (option_map (λ why. fault_at why r.subset (length (data_of s).bits - length r.left)) o)
+                  (dump_text_of s (dump_items b s.subsets r.values)))) stops,
             )
 
     template-kind : (s : Sections) (made : Result Tree TemplateFault) → sections_of m ≡ Ok s → tree_of (tables_of b d) s.descriptors ≡ made
@@ -141,8 +141,11 @@ module _ (records : List Record) (b : List Row) (d : List Sequence) (rows : AreR
     template-kind s (Ok template) sections expands = data-kind s template sections expands
     template-kind s (Err fault) sections expands = inl (_, refl)
 
-    message-kind : (parsed : Result Sections SectionFault) → sections_of m ≡ parsed → IsFault (message_piece b d offset parsed) ⊎ IsDumped b d (FrameAt offset m) (message_piece b d offset parsed)
-    message-kind (Ok s) sections = template-kind s (tree_of (tables_of b d) s.descriptors) sections refl
+    message-kind : (parsed : Result Sections SectionFault) → sections_of m ≡ parsed
+        → IsFault (text_or_fault offset (dump_or_report b d parsed)) ⊎ IsDumped b d (FrameAt offset m) (text_or_fault offset (dump_or_report b d parsed))
+    message-kind (Ok s) sections =
+        subst (λ piece. IsFault piece ⊎ IsDumped b d (FrameAt offset m) piece) (sym (piece-by-template b d offset s))
+        (template-kind s (tree_of (tables_of b d) s.descriptors) sections refl)
     message-kind (Err fault) sections = inl (_, refl)
 
   -- an event is at fault, or its message is accepted

@@ -1,7 +1,8 @@
 -- The lines that report the faults of a stream, of its messages, and of a document. (a choice of
 -- this project)
 -- Cited by public contracts.
-use Rattle.std.specs.Prelude.{ℕ, List, [], ◌∷◌, ◌++◌, codes, decimal, Option, Some, None}
+use Rattle.std.specs.Prelude.{ℕ, List, [], ◌∷◌, ◌++◌, codes, decimal, Option}
+use Rattle.std.specs.Option.{option_map_or}
 use Rattle.bufr_frame.specs.Prelude.{section_report}
 use Rattle.bufr_tables.specs.Prelude.{template_report}
 use Rattle.bufr_walk.specs.Prelude.{data_report}
@@ -45,12 +46,9 @@ abbrev pub line_of_read_fault : ReadFault → List ℕ
 line_of_read_fault (read.Line line fault) = refused_line line fault
 line_of_read_fault (read.Run fault) = []
 
--- the line of a report, where it has a line of the text
-abbrev pub line_if_any : Option ℕ → (report : ℕ × List (List ℕ)) → List ℕ
-line_if_any None report = []
-line_if_any (Some line) report = document_line line report
-
--- a document that is refused: its template's fault is reported as that of a message
+-- a document that is refused: its template's fault is reported as that of a message; want of memory
+-- is of no line, and ends a run
 -- rule: fault-lines-of-encoding
 abbrev pub refusal_line : DocumentFault → List ℕ
-refusal_line why = line_if_any (line_of_fault why) (document_report why)
+refusal_line why =
+    option_map_or (λ line. document_line line (document_report why)) (line_of_fault why) []

@@ -79,20 +79,16 @@ IsJobOf (Some subcommand) job =
     (subcommand.0 ≡ name_of job.command) × HasTables subcommand.1 job.command
     × (option_map (λ name. name.now) job.file ≡ first_of (codes "FILE") subcommand.1)
 
--- no tables have these values
-abbrev pub LacksTables : List Row → Type 0
-LacksTables rows = (tables : TableNames) → ¬ AreNamed rows tables
-
--- no form has this word
+-- why the subcommand that was met, of this name and with these values, gives no job: it is none of
+-- ours, or no tables have these values, or no form has this word
 -- rule: form-words
-abbrev pub LacksForm : List Row → Type 0
-LacksForm rows = (form : Form) → ¬ (word_of form ≡ first_of (codes "form") rows)
-
--- why the subcommand that was met, of this name and with these values, gives no job
 abbrev pub IsWhyNoJob : Text → List Row → NoJob → Type 0
 IsWhyNoJob name rows UnknownCommand = (command : Subcommand) → ¬ (name ≡ name_of command)
-IsWhyNoJob name rows MissingTable = ((name ≡ codes "dump") ⊎ (name ≡ codes "encode")) × LacksTables rows
-IsWhyNoJob name rows UnknownForm = (name ≡ codes "encode") × LacksForm rows
+IsWhyNoJob name rows MissingTable =
+    ((name ≡ codes "dump") ⊎ (name ≡ codes "encode"))
+    × ((tables : TableNames) → ¬ AreNamed rows tables)
+IsWhyNoJob name rows UnknownForm =
+    (name ≡ codes "encode") × ((form : Form) → ¬ (word_of form ≡ first_of (codes "form") rows))
 
 -- the usage text of a subcommand that gives no job
 abbrev pub no_job_text : NoJob → Text

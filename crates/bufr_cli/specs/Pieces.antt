@@ -1,15 +1,16 @@
 -- What each command writes for an input, in order, and on which writer. (a choice of this project)
 -- Cited by public contracts.
-use Rattle.std.specs.Prelude.{ℕ, Bool, true, false, List, [], ◌∷◌, map, Option, Some, None, Result, Ok, Err}
+use Rattle.std.specs.Prelude.{ℕ, Bool, true, false, List, [], ◌∷◌, map, Result, Ok, Err}
+use Rattle.std.specs.Option.{option_map_or}
+use Rattle.std.specs.Result.{result_map_both}
+use Rattle.bufr_bits.specs.Prelude.{◌>>=◌, map_err}
 use Rattle.bufr_frame.specs.Prelude.{StreamEvent, FrameAt, StrayAt, cause_report, section_report, Sections, sections_of}
 use Rattle.bufr_frame.specs.declared.fault.SectionFault.{SectionFault}
 use Rattle.bufr_text.specs.Prelude.{ls_line, dump_text_of, ParseResult, Complete, Refused, encoding_in, dump_items}
 use Rattle.bufr_text.specs.declared.fault.DocumentFault.{DocumentFault}
 use Rattle.bufr_cli.specs.FaultLine.{fault_line, refused_line, refusal_line}
-use Rattle.bufr_tables.specs.Prelude.{tree_of, tables_of, template_report, Row, Sequence, Tree}
-use Rattle.bufr_tables.specs.declared.fault.TemplateFault.{TemplateFault}
-use Rattle.bufr_walk.specs.Prelude.{next_item, data_report, data_of, reading_of, fault_of}
-use Rattle.bufr_walk.specs.declared.fault.WalkFault.{WalkFault}
+use Rattle.bufr_tables.specs.Prelude.{tree_of, tables_of, template_report, Row, Sequence}
+use Rattle.bufr_walk.specs.Prelude.{next_item, data_report, data_of, reading_of, fault_of, DataReading}
 use Rattle.bufr_text.specs.declared.encode.Form.{Form}
 
 -- a text for the output, or one for the errors
@@ -37,47 +38,37 @@ abbrev pub is_refused : Piece → Bool
 is_refused (OnOutput text) = false
 is_refused (OnErrors text) = true
 
--- the line of a message that was taken apart, or the fault line
-abbrev pub ls_or_fault : ℕ → Result Sections SectionFault → Piece
-ls_or_fault offset (Ok sections) = OnOutput (ls_line offset sections)
-ls_or_fault offset (Err fault) = OnErrors (fault_line offset (section_report fault))
+-- a text, or the fault line of a report
+-- rule: refused-messages-write-nothing
+abbrev pub text_or_fault : (offset : ℕ) → Result (List ℕ) (ℕ × List (List ℕ)) → Piece
+text_or_fault offset (Ok text) = OnOutput text
+text_or_fault offset (Err report) = OnErrors (fault_line offset report)
 
 -- what `ls` writes for an event
 -- rule: one-fault-a-message
 abbrev pub ls_piece : StreamEvent → Piece
-ls_piece (FrameAt offset octets) = ls_or_fault offset (sections_of octets)
-ls_piece (StrayAt offset cause) = OnErrors (fault_line offset (cause_report cause))
+ls_piece (FrameAt offset octets) =
+    text_or_fault offset (result_map_both (ls_line offset) section_report (sections_of octets))
+ls_piece (StrayAt offset cause) = text_or_fault offset (Err (cause_report cause))
 
--- a text, or the fault line of data
--- rule: refused-messages-write-nothing
-abbrev pub text_or_fault : ℕ → Option WalkFault → (text : List ℕ) → Piece
-text_or_fault offset None text = OnOutput text
-text_or_fault offset (Some why) text = OnErrors (fault_line offset (data_report why))
-
--- what is written for a message whose data are read by a template
-abbrev pub data_piece : List Row → ℕ → Sections → Tree → Piece
-data_piece table offset s template =
-    let r = reading_of (next_item table template) (data_of s) in
-    text_or_fault offset (fault_of (data_of s) r)
-    (dump_text_of s (dump_items table s.subsets r.values))
-
--- what is written for a message, by the template of its descriptors, or by the fault of these
+-- the dump text of a message, or the report of its first fault: of its sections, of its list of
+-- descriptors, or of its data
 -- rule: list-before-data
-abbrev pub template_piece : List Row → ℕ → Sections → Result Tree TemplateFault → Piece
-template_piece table offset s (Ok template) = data_piece table offset s template
-template_piece table offset s (Err fault) = OnErrors (fault_line offset (template_report fault))
-
--- what is written for a message, by its sections, or by the fault of these
-abbrev pub message_piece : List Row → List Sequence → ℕ → Result Sections SectionFault → Piece
-message_piece b d offset (Ok s) =
-    template_piece b offset s (tree_of (tables_of b d) s.descriptors)
-message_piece b d offset (Err fault) = OnErrors (fault_line offset (section_report fault))
+abbrev pub dump_or_report : List Row → List Sequence → Result Sections SectionFault
+    → Result (List ℕ) (ℕ × List (List ℕ))
+dump_or_report b d parsed = do
+  s ← map_err section_report parsed
+  template ← map_err template_report (tree_of (tables_of b d) s.descriptors)
+  let reading : DataReading = reading_of (next_item b template) (data_of s)
+  option_map_or (λ why. Err (data_report why)) (fault_of (data_of s) reading)
+      (Ok (dump_text_of s (dump_items b s.subsets reading.values)))
 
 -- what `dump` writes for an event
 -- rule: one-fault-a-message
 abbrev pub dump_piece : List Row → List Sequence → StreamEvent → Piece
-dump_piece b d (FrameAt offset octets) = message_piece b d offset (sections_of octets)
-dump_piece b d (StrayAt offset cause) = OnErrors (fault_line offset (cause_report cause))
+dump_piece b d (FrameAt offset octets) =
+    text_or_fault offset (dump_or_report b d (sections_of octets))
+dump_piece b d (StrayAt offset cause) = text_or_fault offset (Err (cause_report cause))
 
 -- the octets of a document, or the line of its fault
 abbrev pub encoded : Result (List ℕ) DocumentFault → Piece

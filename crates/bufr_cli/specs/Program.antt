@@ -3,10 +3,10 @@
 use Rattle.std.specs.Prelude.{◌≡◌, ◌≢◌, ◌⊎◌, ℕ, List, Option, Some, None, Result, Ok, Err, IfSome, [], ◌∷◌, ◌++◌, true, string_bytes}
 use Rattle.std.specs.Borrow.{Bor}
 use Rattle.bufr_frame.specs.declared.fault.RunFault.{RunFault}
-use Rattle.bufr_frame.specs.Prelude.{MakesReads, read_failures_after}
+use Rattle.bufr_frame.specs.Prelude.{read_failures_after}
 use Rattle.bufr_tables.specs.Prelude.{ReadsTableD, Record, Sequence, records_of, ReturnsUnlessMemory, Row, table_b_of}
 use Rattle.bufr_tables.specs.declared.fault.TableFault.{TableFault}
-use Rattle.bufr_cli.specs.Running.{Input, Writers, RunPieces, event_pieces, document_pieces, HasFailed, IsSame}
+use Rattle.bufr_cli.specs.Running.{Input, Writers, RunPieces, event_pieces, document_pieces, HasFailed, IsSame, ReadsAtMost, ReadsFewer}
 use Rattle.bufr_cli.specs.Pieces.{dump_piece, ls_piece}
 use Rattle.bufr_cli.specs.Ending.{EndsRun, WritesLine, last_line, run_line, status_of}
 use Rattle.bufr_cli.specs.declared.outcome.Outcome.{Outcome}
@@ -103,13 +103,15 @@ pub data RunOutcome {Standard File : Type 0} (pieces : RunPieces) (inputs : Know
       → RunsOverInput inputs file (λ from to. EndsRun pieces from to before after ran)
       → RunOutcome pieces inputs file before after outcome
 
--- An input was not read whole: a read of it failed, or 2^32 were made, or memory was wanted.
+-- An input was not read whole: a read of it failed, or 2^32 were made, or memory was wanted before
+-- that.
 pub record FailsToRead (fault : RunFault) (from to : Input) : Type 0 where
   pub octets : List ℕ
   pub read : Consumes from.left to.left octets
   pub none : fault ≢ ended.Write
   pub failures : to.failures ≡ read_failures_after {X = Unit {0}} from.failures (Err fault)
-  pub reads : MakesReads {X = Unit {0}} from.reads to.reads (Err fault)
+  pub reads : ReadsAtMost {X = Unit {0}} from.reads to.reads (Err fault)
+  pub fewer : fault ≡ ended.Memory → ReadsFewer from.reads to.reads
 
 -- a file of these octets was not read whole, and its counts say why
 -- rule: table-not-read

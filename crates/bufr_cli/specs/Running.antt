@@ -4,7 +4,7 @@
 use Rattle.std.specs.Prelude.{ℕ, Bool, true, OnOk, IfErr, IfOk, ◌≢◌, List, Option, ◌≡◌, ◌⊎◌, Result, Ok, Err, ◌<◌, ◌≤◌, false, ◌++◌, None, flat_map, count_by, option_to_list, map, [], IfSome, Vec, length}
 use Rattle.bufr_frame.specs.declared.fault.RunFault.{RunFault}
 use Rattle.bufr_frame.specs.declared.fault.RunFault.TheVariants.{Read, Write, InputTooLong, Memory}
-use Rattle.bufr_text.specs.Prelude.{Stays, Fails, CountsWrites, GrowsByPrefix, documents_of, open_documents_of}
+use Rattle.bufr_text.specs.Prelude.{CountsWrites, GrowsByPrefix, documents_of, open_documents_of}
 use Rattle.std.specs.Io.KnownBytes.{Consumes, Appends, IsAtEnd, Keeps}
 use Rattle.bufr_bits.specs.Prelude.{counted}
 use Rattle.bufr_frame.specs.Prelude.{max_reads, StreamEvent, scan, open_scan, read_failures_after}
@@ -93,28 +93,27 @@ abbrev pub OnlyWrites : {X : Type 0} → (before after : Writer) → Result X Ru
 OnlyWrites before after result =
     CountsCalls before after result × (after.failed_flushes ≡ before.failed_flushes)
 
--- a writer stays, or has failed, as it counts its failed calls and its empty writes
+-- no call of a writer failed, and no write took nothing
 abbrev pub IsSame : (before after : Writer) → Type 0
 IsSame before after =
-    Stays before.failures after.failures before.empty_writes after.empty_writes
+    (after.failures ≡ before.failures) × (after.empty_writes ≡ before.empty_writes)
 
+-- one call of a writer failed, or one write took nothing
 abbrev pub HasFailed : (before after : Writer) → Type 0
 HasFailed before after =
-    Fails before.failures after.failures before.empty_writes after.empty_writes
+    ((after.failures ≡ counted before.failures 1) × (after.empty_writes ≡ before.empty_writes))
+    ⊎ ((after.failures ≡ before.failures)
+    × (after.empty_writes ≡ counted before.empty_writes 1))
 
--- a write fault comes from one of the two writers; without one both stay
-abbrev pub Blames : {X : Type 0} → Result X RunFault
-    → (output_stays output_fails errors_stays errors_fails : Type 0) → Type 0
-Blames (Err Write) output_stays output_fails errors_stays errors_fails =
-    (output_fails × errors_stays) ⊎ (output_stays × errors_fails)
-Blames result output_stays output_fails errors_stays errors_fails = output_stays × errors_stays
-
--- a write fault comes from a call of the output or of the errors that this writer counts
+-- A write fault comes from one of the two writers, which counts it. Without a write fault, neither
+-- has failed.
 -- rule: fault-71
 abbrev pub BlamesWriter : {X : Type 0} → (before after : Writers) → Result X RunFault → Type 0
+BlamesWriter before after (Err Write) =
+    (HasFailed before.output after.output × IsSame before.errors after.errors)
+    ⊎ (IsSame before.output after.output × HasFailed before.errors after.errors)
 BlamesWriter before after result =
-    Blames result (IsSame before.output after.output) (HasFailed before.output after.output)
-    (IsSame before.errors after.errors) (HasFailed before.errors after.errors)
+    IsSame before.output after.output × IsSame before.errors after.errors
 
 -- All of the pieces were written, each on its writer, in order.
 -- rule: output-in-order
@@ -177,10 +176,6 @@ abbrev pub read_pieces : RunPieces → (ended : Bool) → List ℕ → List Piec
 read_pieces pieces true bs = pieces.whole bs
 read_pieces pieces false bs = pieces.certain bs
 
--- All that both writers took is handed on.
-abbrev pub AllHandedOn : Writers → Type 0
-AllHandedOn after = (after.output.all_flushed ≡ true) × (after.errors.all_flushed ≡ true)
-
 -- what was written to a writer is handed on: nothing was, or all that the writer took is
 abbrev pub IsHandedOn : (before after : Writer) → Type 0
 IsHandedOn before after = (after ≡ before) ⊎ (after.all_flushed ≡ true)
@@ -188,7 +183,8 @@ IsHandedOn before after = (after ≡ before) ⊎ (after.all_flushed ≡ true)
 -- where a run went through all is handed on; where a read of it failed, all that it wrote
 -- rule: output-held-back
 abbrev pub HandsOn : {X : Type 0} → (before after : Writers) → Result X RunFault → Type 0
-HandsOn before after (Ok x) = AllHandedOn after
+HandsOn before after (Ok x) =
+    (after.output.all_flushed ≡ true) × (after.errors.all_flushed ≡ true)
 HandsOn before after (Err Read) =
     IsHandedOn before.output after.output × IsHandedOn before.errors after.errors
 HandsOn before after (Err fault) = Unit {0}
@@ -199,7 +195,8 @@ pub record HandsOnBoth {X : Type 0} (before after : Writers) (result : Result X 
   where
     pub output : Keeps before.output.taken after.output.taken
     pub errors : Keeps before.errors.taken after.errors.taken
-    pub handed : OnOk result (AllHandedOn after)
+    pub handed : OnOk result
+        ((after.output.all_flushed ≡ true) × (after.errors.all_flushed ≡ true))
     pub none : OnOk result ((after.output.failed_flushes ≡ before.output.failed_flushes)
         × (after.errors.failed_flushes ≡ before.errors.failed_flushes))
     pub order : after.errors.failed_flushes ≢ before.errors.failed_flushes

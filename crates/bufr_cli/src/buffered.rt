@@ -40,7 +40,7 @@ impl<S: Sink> Buffered<S> {
         S: Drop,
         ensures sink { IfOk result (λ b. b.sink ≡ sink) }
         ensures none { IfOk result (λ b. b.held.items ≡ []) }
-        ensures room { IfOk result (λ b. capacity ≤ vec_capacity b.held) }
+        ensures room { IfOk result (λ b. vec_capacity b.held ≡ capacity) }
         ensures capacity { IfOk result (λ b. b.capacity ≡ capacity) }
         ensures failures { IfOk result (λ b. b.failures ≡ 0) }
         ensures failed_flushes { IfOk result (λ b. b.failed_flushes ≡ 0) }

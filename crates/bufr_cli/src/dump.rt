@@ -1,6 +1,6 @@
 //! `bufr dump`: writes the messages of a stream as text.
 ghost use Rattle.std.specs.Prelude.{◌≡◌, true, Ok, OnOk, refl};
-ghost use Rattle.bufr_cli.specs.Prelude.{LeavesDevices, event_pieces, dump_piece, message_piece, BlamesWriter, input_of, writers_of, StopsPiece, LeavesPiece};
+ghost use Rattle.bufr_cli.specs.Prelude.{LeavesDevices, event_pieces, dump_or_report, dump_piece, text_or_fault, BlamesWriter, input_of, writers_of, StopsPiece, LeavesPiece};
 
 use crate::fault_line::{StreamFault, write_fault};
 use crate::outcome::{Tally, Verdict};
@@ -56,8 +56,9 @@ fn dump_selected<W: Sink, E: Sink>(
     ensures templates { run.new.templates ≡ run.old.templates }
     ensures reports { LeavesPiece (writers_of W.Sink w.old E.Sink e.old)
         (writers_of W.Sink w.new E.Sink e.new)
-        (message_piece run.old.templates.table_b run.old.templates.table_d offset
-        (Ok message.now)) result }
+        (text_or_fault offset
+        (dump_or_report run.old.templates.table_b run.old.templates.table_d (Ok message.now)))
+        result }
     ensures stops { StopsPiece true result }
     ensures counts { BlamesWriter (writers_of W.Sink w.old E.Sink e.old)
         (writers_of W.Sink w.new E.Sink e.new) result }

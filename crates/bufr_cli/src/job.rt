@@ -4,7 +4,7 @@ ghost use Rattle.clap.specs.declared.builder.command.Command.TheViews.{out-Comma
 ghost use Rattle.clap.specs.Words.{app_of, fault_of, first_of, found_of, new_app, new_rule, rows_of, rule_of, subcommand_of, with_rule, with_subcommand};
 ghost use Rattle.bufr_cli.specs.declared.job.LineFault.TheVariants.{Memory};
 ghost use Rattle.bufr_text.specs.declared.encode.Form.{Form};
-ghost use Rattle.bufr_cli.specs.Prelude.{bufr_app, form_rule, name_of, no_job_text, table_rule, tables_app, top_app, word_of, AreNamed, HasTables, IsJobOf, IsWhyNoJob, LacksForm, LacksTables, SaysWhy};
+ghost use Rattle.bufr_cli.specs.Prelude.{bufr_app, form_rule, name_of, no_job_text, table_rule, tables_app, top_app, word_of, AreNamed, HasTables, IsJobOf, IsWhyNoJob, SaysWhy};
 
 use bufr_text::Form;
 use clap::error::ErrorKind;
@@ -270,7 +270,8 @@ fn command_line<'a>(alloc: Global) -> Result<clap::Command<'a>, AllocError>
 
 fn tables_of<'a>(found: &ArgMatches<'a>) -> Option<TableNames<'a>>
     ensures names { IfSome result (AreNamed (rows_of (found_of found.now))) }
-    ensures lacks { IfNone result (LacksTables (rows_of (found_of found.now))) }
+    ensures lacks { IfNone result
+        ((tables : TableNames) → ¬ AreNamed (rows_of (found_of found.now)) tables) }
 {
     let table_b = found.get_str("B")?;
     let table_d = found.get_str("D")?;
@@ -294,7 +295,8 @@ fn form_named(word: &str) -> Option<Form>
 fn form_of(found: &ArgMatches<'_>) -> Option<Form>
     ensures named { IfSome result
         (λ form. word_of form ≡ first_of (codes "form") (rows_of (found_of found.now))) }
-    ensures lacks { IfNone result (LacksForm (rows_of (found_of found.now))) }
+    ensures lacks { IfNone result
+        ((form : Form) → ¬ (word_of form ≡ first_of (codes "form") (rows_of (found_of found.now)))) }
 {
     match found.get_str("form") {
         None => Some(Form::AsWritten),

@@ -273,10 +273,17 @@ GivesHeldEvent old new (Some (Ok event)) =
 GivesHeldEvent old new (Some (Err fault)) = (old.fault ≡ Some fault) × (new ≡ old)
 GivesHeldEvent old new None = NeedsRead old new
 
--- the input of a finder as far as it is left
+-- the input of a finder as far as it is left; the gap before it is not in the model
 abbrev pub input_left : FinderModel → InputModel
 input_left s =
-    record { held = s.rest; ended = s.ended; reads = s.reads; room = s.room; free = s.free }
+    record {
+      held = s.rest;
+      ended = s.ended;
+      reads = s.reads;
+      room = s.room;
+      free = s.free;
+      gap = 0;
+    }
 
 -- One read: octets come after those that are left, or the end was reached, or a fault stops it.
 pub record ReadsMore (left left' : Option (List ℕ)) (old new : FinderModel)

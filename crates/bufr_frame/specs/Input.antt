@@ -1,6 +1,6 @@
 -- What reading an input gives, and how many reads it takes. (a choice of this project)
 -- Cited by public contracts.
-use Rattle.std.specs.Prelude.{◌≡◌, ℕ, ◌-◌, ◌*◌, min, ◌<◌, ◌≤◌, ◌^◌, Result, Ok, Err, ◌+◌, Bool, true, false, List, [], ◌++◌, length, Option, MatchResult}
+use Rattle.std.specs.Prelude.{◌≡◌, ◌⊎◌, ℕ, ◌-◌, ◌*◌, min, ◌<◌, ◌≤◌, ◌^◌, Result, Ok, Err, ◌+◌, Bool, true, false, List, [], ◌++◌, length, Option, MatchResult}
 use Rattle.bufr_bits.specs.Prelude.{counted}
 use Rattle.bufr_frame.specs.declared.fault.RunFault.{RunFault}
 use Rattle.bufr_frame.specs.declared.fault.RunFault.TheVariants.{Read, Write, InputTooLong, Memory}
@@ -41,10 +41,12 @@ pub record InputModel : Type 0 where
   pub room : ℕ
   -- how many places are free after the octets held
   pub free : ℕ
+  -- how many places are before them, whose octets were skipped
+  pub gap : ℕ
 
 -- a buffer of an input that was not read
 abbrev pub new_input : InputModel
-new_input = record { held = []; ended = false; reads = 0; room = 0; free = 0 }
+new_input = record { held = []; ended = false; reads = 0; room = 0; free = 0; gap = 0 }
 
 -- why no octets come: the read failed, or none was made after 2^32, or memory was refused
 abbrev pub FillFails : (refused : Type 0) → InputModel → InputModel → RunFault → Type 0
@@ -60,6 +62,10 @@ FillEnds refused old new bs (Ok u) =
     (new.reads ≡ old.reads + 1) × (new.ended ≡ true → bs ≡ []) × (bs ≡ [] → new.ended ≡ true)
 FillEnds refused old new bs (Err fault) =
     (bs ≡ []) × (new.ended ≡ false) × FillFails refused old new fault
+
+-- The octets held move to the start of the buffer only if at least as many were skipped.
+abbrev pub SlidesOver : (old new : InputModel) → Type 0
+SlidesOver old new = (new.gap ≡ old.gap) ⊎ ((new.gap ≡ 0) × (length old.held ≤ old.gap))
 
 -- how many octets the reads asked for that were made, of which there is one at most: for all that
 -- fit after those held, but at most `most`

@@ -1,7 +1,7 @@
 //! An input, read piece by piece or to its end.
 ghost use Rattle.std.specs.Prelude.{◌≡◌, ◌≢◌, ◌⊎◌, ◌≤◌, ◌<◌, ◌+◌, ◌-◌, ◌*◌, ◌^◌, ℕ, List, ◌++◌, take, length, drop, slice_range, Ok, Err, IsOk, IfOk, IfErr, vec_len, vec_capacity, [], ◌∷◌, true, false, max};
 ghost use Rattle.bufr_bits.specs.Prelude.{counted};
-ghost use Rattle.bufr_frame.specs.Input.{read_failures_after, max_reads, ReadsOnce, ReadsInput, AddsReads, InputModel, FillsInput, asked_by, new_input};
+ghost use Rattle.bufr_frame.specs.Input.{read_failures_after, max_reads, ReadsOnce, ReadsInput, AddsReads, InputModel, FillsInput, SlidesOver, asked_by, new_input};
 
 use crate::fault::RunFault;
 use bufr_bits::{Failed, Source};
@@ -48,6 +48,7 @@ impl Model for InputBuffer {
       reads = f.reads;
       room = vec_capacity f.octets;
       free = vec_len f.octets - f.filled;
+      gap = f.start;
     } };
 
     ghost invariant = { λ f. (f.start ≤ f.filled) × (f.filled ≤ vec_len f.octets)
@@ -85,7 +86,8 @@ impl InputBuffer {
     /// Skips the first `n` octets that are held.
     pub fn skip(&mut self, n: usize)
         requires { n ≤ length self.old.held }
-        ensures { self.new ≡ record self.old { held = drop n self.old.held } }
+        ensures { self.new
+            ≡ record self.old { held = drop n self.old.held; gap = self.old.gap + n } }
     {
         self.start += n;
     }
@@ -121,6 +123,7 @@ impl InputBuffer {
         ensures grows { (self.new.room ≡ self.old.room) ⊎ (room ≤ self.new.room) }
         ensures most { self.new.room ≤ max self.old.room room }
         ensures free { self.new.ended ≡ true → 0 < self.new.free }
+        ensures slides { SlidesOver self.old self.new }
         ensures sure { R.waits r.old ≡ false → result ≢ Err RunFault.Read }
         ensures failed { R.failures r.new ≡ read_failures_after (R.failures r.old) result }
         ensures counts { AddsReads (R.reads r.old) (R.reads r.new) self.old.reads self.new.reads }
@@ -156,6 +159,8 @@ fn make_room(
     ensures free { IfOk result (λ slid. (slid ≤ start) × (filled - slid < vec_len octets.new)) }
     ensures held { IfOk result (λ slid. slice_range octets.new.items (start - slid) (filled - slid)
         ≡ slice_range octets.old.items start filled) }
+    ensures slides { IfOk result
+        (λ slid. (slid ≡ 0) ⊎ ((slid ≡ start) × (filled - start ≤ start))) }
     ensures grown { IfOk result (λ _. vec_len octets.old ≡ 0 → vec_len octets.new ≡ room) }
     ensures refused { IfErr result (λ fault. (fault ≡ RunFault.Memory)
         × (vec_capacity octets.old < room) × (octets.new.items ≡ octets.old.items)

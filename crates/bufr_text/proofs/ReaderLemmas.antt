@@ -518,32 +518,33 @@ wants-at old new held from n is feed more = record {
 
 -- ---- What the steps of a reader of dump texts do.
 
-abbrev pub reader : (at : ℕ) → Parsing → List ℕ → Bool → Option ReadFault → (reads free : ℕ) → ReaderModel
-reader at parsing held ended fault reads free = record { at = at; parsing = parsing; held = held; ended = ended; fault = fault; reads = reads; free = free }
+abbrev pub reader : (at : ℕ) → Parsing → List ℕ → Bool → Option ReadFault → (reads room free : ℕ) → ReaderModel
+reader at parsing held ended fault reads room free = record { at = at; parsing = parsing; held = held; ended = ended; fault = fault; reads = reads; room = room; free = free }
 
 -- what lines report that were taken
-pub takes-reports : (old new : Progress) (f f' : Option ReadFault) (held : List ℕ) (len : ℕ) (ended : Bool) (reads free : ℕ) (effect : LineEffect) (p : Parsing)
+pub takes-reports : (old new : Progress) (f f' : Option ReadFault) (held : List ℕ) (len : ℕ) (ended : Bool) (reads room free : ℕ) (effect : LineEffect) (p : Parsing)
     → TakesLines old new held len effect → p ≡ parsing_after (effect, new.parts)
-    → ParsesHeldLines (reader old.at (parsing_of old) held ended f reads free) (reader new.at p (drop len held) ended f' reads free) (reported_at (new.at - 1) (effect, new.parts))
-takes-reports old new f f' held len ended reads free effect p h1 h2 = grind (arith, nat_tests, common_steps)
+    → ParsesHeldLines (reader old.at (parsing_of old) held ended f reads room free) (reader new.at p (drop len held) ended f' reads room free) (reported_at (new.at - 1) (effect, new.parts))
+takes-reports old new f f' held len ended reads room free effect p h1 h2 = grind (arith, nat_tests, common_steps)
 
 -- the input skips them
 pub taken-held : (old new : Progress) (before : ReaderModel) (f f' : Option ReadFault) (input input' : InputModel) (len : ℕ) (effect : LineEffect) (p : Parsing)
-    → reader old.at (parsing_of old) input.held input.ended f input.reads input.free ≡ before → TakesLines old new input.held len effect → p ≡ parsing_after (effect, new.parts)
-    → input' ≡ record input { held = drop len input.held }
-    → ParsesHeldLines before (reader new.at p input'.held input'.ended f' input'.reads input'.free) (reported_at (new.at - 1) (effect, new.parts))
+    → reader old.at (parsing_of old) input.held input.ended f input.reads input.room input.free ≡ before → TakesLines old new input.held len effect → p ≡ parsing_after (effect, new.parts)
+    → input' ≡ record input { held = drop len input.held; gap = input.gap + len }
+    → ParsesHeldLines before (reader new.at p input'.held input'.ended f' input'.reads input'.room input'.free) (reported_at (new.at - 1) (effect, new.parts))
 taken-held old new before f f' input input' len effect p is takes after skip =
     let results = reported_at (new.at - 1) (effect, new.parts) in
-    let B : ReaderModel → Type 0 = λ s. ParsesHeldLines s (reader new.at p (drop len input.held) input.ended f' input.reads input.free) results in
-    let I : InputModel → Type 0 = λ i. ParsesHeldLines before (reader new.at p i.held i.ended f' i.reads i.free) results in
-    subst I (sym skip) (subst B is (takes-reports old new f f' input.held len input.ended input.reads input.free effect p takes after))
+    let B : ReaderModel → Type 0 = λ s. ParsesHeldLines s (reader new.at p (drop len input.held) input.ended f' input.reads input.room input.free) results in
+    let I : InputModel → Type 0 = λ i. ParsesHeldLines before (reader new.at p i.held i.ended f' i.reads i.room i.free) results in
+    subst I (sym skip) (subst B is (takes-reports old new f f' input.held len input.ended input.reads input.room input.free effect p takes after))
 
 -- where memory was wanted
-pub wants-here : (old : Progress) (f : Option ReadFault) (held : List ℕ) (ended : Bool) (reads free : ℕ) → WantsAt old held → WantsHere (reader old.at (parsing_of old) held ended f reads free)
-wants-here old f held ended reads free w =
+pub wants-here : (old : Progress) (f : Option ReadFault) (held : List ℕ) (ended : Bool) (reads room free : ℕ) → WantsAt old held
+    → WantsHere (reader old.at (parsing_of old) held ended f reads room free)
+wants-here old f held ended reads room free w =
     let n = w.progress in
     record {
-      mid = reader n.at (parsing_of n) (drop w.offset held) ended None reads free;
+      mid = reader n.at (parsing_of n) (drop w.offset held) ended None reads room free;
       taken = record { goes = w.taking.goes ended; passes = w.taking.passes };
       ended = refl;
       reads = refl;
@@ -552,7 +553,7 @@ wants-here old f held ended reads free w =
 
 -- a reader that skips octets
 pub reader-skips : (f f' : Option ReadFault) (old new : Progress) (input : InputModel) (len : ℕ) → (f' ≡ None → IsProgress new (length (drop len input.held)) input.reads) → IsReader f old input
-    → IsReader f' new (record input { held = drop len input.held })
+    → IsReader f' new (record input { held = drop len input.held; gap = input.gap + len })
 reader-skips f f' old new input len progress is = (omega (arith, is.0, length-drop len input.held), is.1, λ ended. ends-drop len input.held (is.2 ended), progress, is.4)
 
 -- the progress of a reader that goes on

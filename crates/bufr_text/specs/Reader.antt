@@ -87,6 +87,8 @@ pub record ReaderModel : Type 0 where
   pub fault : Option ReadFault
   -- how many reads it made
   pub reads : ℕ
+  -- how many octets there is room for without taking memory
+  pub room : ℕ
   -- how many places are free after the octets held
   pub free : ℕ
 
@@ -100,6 +102,7 @@ new_reader =
       ended = false;
       fault = None;
       reads = 0;
+      room = 0;
       free = 0;
     }
 

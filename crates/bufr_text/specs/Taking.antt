@@ -186,10 +186,10 @@ TakesHeldLines old new (Err (Run fault)) = ⊥
 TakesHeldLines old new (Err (Line line fault)) =
     ParsesHeldLines old new (Refused line fault ∷ []) × (new.fault ≡ Some (Line line fault))
 
--- the input of a reader that holds these octets
+-- the input of a reader that holds these octets; its room and the gap before them do not matter
 abbrev pub text_input : ReaderModel → List ℕ → InputModel
 text_input s held =
-    record { held = held; ended = s.ended; reads = s.reads; room = 0; free = s.free }
+    record { held = held; ended = s.ended; reads = s.reads; room = 0; free = s.free; gap = 0 }
 
 -- One read: octets come after those that are held, or the end was reached, which ends the last
 -- line. Memory is refused only before the first one.

@@ -1,5 +1,5 @@
 //! The documents of an input.
-ghost use Rattle.std.specs.Prelude.{◌≡◌, ◌≢◌, ◌≤◌, ◌<◌, ◌-◌, ◌*◌, ℕ, List, None, Some, Err, true, false, length, IfSome, IfOk};
+ghost use Rattle.std.specs.Prelude.{◌≡◌, ◌≢◌, ◌≤◌, ◌<◌, ◌-◌, ◌*◌, ℕ, List, None, Some, Err, true, false, length, max, IfSome, IfOk};
 ghost use Rattle.bufr_text.specs.Prelude.{max_line, IsProper, has_no_feed, ReaderModel, new_reader, unfed, ReturnsNextDocument, failures_by, TakesHeldLines, GivesHeldDocument, FillsBuffer, ReadsMoreText, stopped, text_input};
 ghost use Rattle.bufr_bits.specs.Prelude.{counted};
 ghost use Rattle.bufr_frame.specs.Prelude.{read_failures_after, AddsReads, AsksAtMost, asked_by};
@@ -51,6 +51,7 @@ impl Model for DumpReader {
       ended = f.input.ended;
       fault = f.fault;
       reads = f.input.reads;
+      room = f.input.room;
       free = f.input.free;
     } };
 
@@ -164,6 +165,9 @@ impl DumpReader {
         ensures asked { R.asked r.new ≡ counted (R.asked r.old)
             (asked_by max_line (text_input self.old self.old.held)
             (text_input self.new self.new.held)) }
+        // The room becomes 8,192 octets at the first read, and does not grow after that.
+        ensures least { 0 < self.new.reads → 2 * max_line ≤ self.new.room }
+        ensures most { self.new.room ≤ max self.old.room (2 * max_line) }
     {
         self.input.fill(r, MAX_LINE, 2 * MAX_LINE)?;
         if self.input.ended() && !self.input.held().is_empty() {
@@ -233,6 +237,9 @@ impl DumpReader {
         ensures asked { R.asked r.new ≡ counted (R.asked r.old)
             (asked_by max_line (text_input self.old self.old.held)
             (text_input self.new self.new.held)) }
+        // The room becomes 8,192 octets at the first read, and does not grow after that.
+        ensures least { 0 < self.new.reads → 2 * max_line ≤ self.new.room }
+        ensures most { self.new.room ≤ max self.old.room (2 * max_line) }
         ensures held { length self.new.held ≤ 2 * max_line }
         ensures again { IfSome self.old.fault (λ fault. result ≡ Err fault) }
         ensures same { IfSome self.old.fault (λ _. r.new ≡ r.old) }

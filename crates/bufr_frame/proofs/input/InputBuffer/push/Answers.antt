@@ -9,7 +9,7 @@ returns c =
     let v = c.self.inside in
     let items = v.octets.items in
     let pushed = slice_set items v.filled c.args.octet in
-    let state : List ℕ → ℕ → InputModel = λ held free. record { held = held; ended = v.ended; reads = v.reads; room = vec_capacity v.octets; free = free } in
+    let state : List ℕ → ℕ → InputModel = λ held free. record { gap = v.start; held = held; ended = v.ended; reads = v.reads; room = vec_capacity v.octets; free = free } in
     let P : InputModel → Type 0 = λ o. state (slice_range pushed v.start (v.filled + 1)) (vec_len v.octets - (v.filled + 1)) ≡ record o { held = o.held ++ c.args.octet ∷ []; free = o.free - 1 } in
     let within : v.filled < vec_len v.octets = omega (arith, c.requires, ap (λ s. s.free) c.self.view_is) in
     let less : vec_len v.octets - (v.filled + 1) ≡ vec_len v.octets - v.filled - 1 = omega arith in

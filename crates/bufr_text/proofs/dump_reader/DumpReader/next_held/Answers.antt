@@ -29,7 +29,7 @@ returns-in-Between-clause-gives c = λ sound left mid first bs before waited.
     let end = subst R is (
       refl,
       held,
-      done-between (reader v.progress.at (parsing_of v.progress) v.input.held v.input.ended v.fault v.input.reads v.input.free) c.in-Between.is held,
+      done-between (reader v.progress.at (parsing_of v.progress) v.input.held v.input.ended v.fault v.input.reads v.input.room v.input.free) c.in-Between.is held,
     ) in
     end-next left mid first s s bs call waits went.1 (sym (ap (λ x. x.ended) is) ∙ ended) (Ok None) end
 

@@ -63,7 +63,7 @@ returns-in-Completes-clause-went c =
     let takes = subst (λ h. TakesLines v.progress n h c.in-Ok.len Completes) c.held-held.ensures (rw c.in-Completes.is at c.in-Ok.ensures.takes) in
     let none = c.replace-parts.ensures.after ∙ c.blank-blank.ensures in
     let i = c.skip.new.self in
-    let D : Document → Type 0 = λ x. ParsesHeldLines c.args.self.now (reader n.at p i.held i.ended v.fault i.reads i.free) (Complete x ∷ []) in
+    let D : Document → Type 0 = λ x. ParsesHeldLines c.args.self.now (reader n.at p i.held i.ended v.fault i.reads i.room i.free) (Complete x ∷ []) in
     let E : ReaderModel → Type 0 = λ s. TakesEndLine s.at s.held n.at (drop c.in-Ok.len v.input.held) in
     let H : InputModel → Type 0 = λ i. TakesEndLine c.args.self.now.at c.args.self.now.held n.at i.held in (
       subst D (sym c.replace-parts.ensures.value)
