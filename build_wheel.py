@@ -1,4 +1,8 @@
-"""Builds the wheels of `pip install .` and `pip install -e .`, which call `build_wheel` and `build_editable`."""
+"""Builds the wheels for `pip install .` and `pip install -e .`, which call `build_wheel` and `build_editable`.
+
+If there is a library for C, the wheel contains it, so that `import bufr` works. It is lib/libbufr.so.0, or the file in the
+setting `library`: `pip install . --config-settings library=FILE`. If that setting is empty, the wheel has no library.
+"""
 import base64
 import hashlib
 import pathlib
@@ -10,23 +14,26 @@ METADATA = """\
 Metadata-Version: 2.1
 Name: bufr-text
 Version: 0.1.0
-Summary: Reads and writes the text of bufr dump, and runs bufr
+Summary: Reads FM 94 BUFR messages into arrays and data frames, and reads and writes their dumps
 Requires-Python: >=3.9
 """
 WHEEL = """\
 Wheel-Version: 1.0
 Generator: build_wheel
-Root-Is-Purelib: true
-Tag: py3-none-any
+Root-Is-Purelib: {is_pure}
+Tag: {tag}
 """
+PURE, WITH_LIBRARY = "py3-none-any", "py3-none-manylinux_2_34_x86_64"
 
 
-def files():
-    """The name of each file in the wheel, and its octets."""
-    for path in [*TOP.glob("scripts/*.py"), *TOP.glob("scripts/*.awk")]:  # bufr-csv runs table.awk from beside the modules
+def files(library: str):
+    """Yields the name and contents of each file in the wheel. `library` is the path of the library for C, or empty."""
+    if library:
+        yield "libbufr.so.0", pathlib.Path(library).read_bytes()
+    for path in [*TOP.glob("scripts/*.py"), *TOP.glob("scripts/*.awk")]:  # bufr-csv needs table.awk next to the modules
         yield path.name, path.read_bytes()
     for path in TOP.glob("scripts/bufr-*"):
-        # pip writes its own Python in the place of this line.
+        # pip replaces this line with the path of its own Python.
         yield f"{NAME}.data/scripts/{path.name}", b"#!python\n" + path.read_bytes().partition(b"\n")[2]
     for path in TOP.glob("man/*.1"):
         yield f"{NAME}.data/data/share/man/man1/{path.name}", path.read_bytes()
@@ -35,7 +42,7 @@ def files():
 
 
 def linked_files():
-    """The name and the octets of each file in the wheel of an editable installation, which runs the files here."""
+    """Yields the name and contents of each file in the wheel for an editable installation, which runs the files here."""
     yield "bufr_text.pth", f"{TOP / 'scripts'}\n".encode()
     for path in TOP.glob("scripts/bufr-*"):
         words = f"#!python\nimport runpy, sys\n\nsys.argv[0] = {str(path)!r}\nrunpy.run_path(sys.argv[0], run_name='__main__')\n"
@@ -43,9 +50,13 @@ def linked_files():
 
 
 def write_wheel(folder: str, contents) -> str:
-    """Writes a wheel with these files into a folder, and returns its name. The same files give the same octets."""
-    name, record = f"{NAME}-py3-none-any.whl", f"{NAME}.dist-info/RECORD"
-    about = [(f"{NAME}.dist-info/METADATA", METADATA.encode()), (f"{NAME}.dist-info/WHEEL", WHEEL.encode())]
+    """Writes a wheel with these files to a directory, and returns its name. Identical files make identical wheels."""
+    contents = [*contents]
+    is_pure = all(path != "libbufr.so.0" for path, _ in contents)
+    tag = PURE if is_pure else WITH_LIBRARY
+    name, record = f"{NAME}-{tag}.whl", f"{NAME}.dist-info/RECORD"
+    wheel_file = WHEEL.format(tag=tag, is_pure=str(is_pure).lower())
+    about = [(f"{NAME}.dist-info/METADATA", METADATA.encode()), (f"{NAME}.dist-info/WHEEL", wheel_file.encode())]
     rows = []
     with zipfile.ZipFile(pathlib.Path(folder) / name, "w") as wheel:
 
@@ -63,7 +74,8 @@ def write_wheel(folder: str, contents) -> str:
 
 
 def build_wheel(folder: str, config_settings=None, metadata_directory=None) -> str:
-    return write_wheel(folder, files())
+    built = TOP / "lib/libbufr.so.0"
+    return write_wheel(folder, files((config_settings or {}).get("library", str(built) if built.is_file() else "")))
 
 
 def build_editable(folder: str, config_settings=None, metadata_directory=None) -> str:

@@ -1,14 +1,14 @@
 #!/usr/bin/env bash
-# Makes a release of the current commit: an archive that installs without the toolchain, the wheel, and their checksums.
+# Makes a release of the current commit: an archive that can be installed without the toolchain, a wheel, and checksums.
+# If the program is proved, the archive and the wheel contain the library for C.
 #
 #     ./release.sh [DIST]                         proves everything from scratch, which takes one to two hours
 #     ./release.sh --unproved PROGRAM [DIST]      packs this program, without the library for C, and records in BUILD that
 #                                                 it is unproved
 #
-# The files are written to the directory DIST, by default dist. If a step fails or is interrupted, the files there are
-# unchanged. From the same commit and program and with the same linker, every run makes identical files, in any directory
-# and for any user. Uncommitted changes are left out. The proof needs a few GB in TMPDIR (default: /tmp), and the library
-# needs a C compiler.
+# The files are written to the directory DIST (default: dist). If a step fails or is interrupted, the files there remain
+# unchanged. With the same commit, program and linker, every run makes identical files, in any directory and for any user.
+# Uncommitted changes are left out. The proof needs a few GB in TMPDIR (default: /tmp), and the library needs a C compiler.
 set -eu -o pipefail
 export LC_ALL=C
 
@@ -31,11 +31,11 @@ fi
 case $#${1-} in 0 | 1[!-]*) ;; *) usage ;; esac
 dist=$(realpath -m "${1:-$(dirname "$0")/dist}")
 cd "$(dirname "$0")"
-commit=$(git rev-parse HEAD) || die 'this directory is not a clone of the repository, which is needed to make a release'
+commit=$(git rev-parse HEAD) || die 'this directory is not a clone of the repository; a release can be made only in a clone'
 [ -z "$(git status --porcelain)" ] || echo "$0: the release does not contain the uncommitted changes in this directory" >&2
 
-# leave: stops what is still running, and removes the temporary files. A process that rt started may exit a moment later,
-# and create a file while rm removes its directory. The second rm then succeeds.
+# leave: stops any command that is still running, and removes the temporary files. A process that rt started may exit a
+# moment later, and create a file while rm removes its directory. The second rm then succeeds.
 leave() {
     trap '' HUP INT TERM
     kill -- "-$running" 2> /dev/null && wait || true
@@ -51,13 +51,13 @@ work=$(mktemp -d "$dist/.unfinished.XXXXXX")
 clone=$(mktemp -d -t bufr-release.XXXXXX)
 git clone -q --no-checkout . "$clone"
 cd "$clone"
-# The user's settings could change line endings and modes.
+# The user's Git settings could change line endings and file modes.
 export GIT_CONFIG_GLOBAL=/dev/null GIT_CONFIG_SYSTEM=/dev/null
 git checkout -q --detach "$commit"
 
-# prove WORD..: runs a command of the toolchain, and prints and logs what it says. A signal that ends this script ends the
-# command too: `wait` returns at once, and does not wait for the command as the shell would in the foreground. `set -m`
-# gives the command a process group, so that the processes that it started end with it.
+# prove WORD..: runs a toolchain command, and prints and logs its output. A signal that ends this script also ends the
+# command: `wait` returns immediately, whereas the shell would first wait for a command in the foreground. `set -m` gives
+# the command its own process group, so that the processes that it started end with it.
 prove() {
     : > "$work/log"
     set -m
@@ -72,10 +72,10 @@ prove() {
 }
 
 logic=$(sed -n 's/.*`logic \([0-9a-f]\{16\}\)`.*/\1/p' README.md | head -n 1)
-gate='not run' sources=unknown kit=unknown library=none
+gate='not run' sources=unknown kit=unknown lib='' library=none shared_library=none
 if [ $proof = proved ]; then
     program=crates/bufr/out/bufr
-    kit=$(rt version) || die 'the toolchain (rt) is not on PATH; use --unproved PROGRAM to release a program without a proof'
+    kit=$(rt version) || die 'the toolchain (rt) is not on PATH; use --unproved PROGRAM to release an unproved program'
     [ "${kit##* }" = "$logic" ] || die "the toolchain is $kit, but README.md names logic $logic"
     command -v "${CC:-cc}" > /dev/null || die "the library for C needs a C compiler, but ${CC:-cc} is not on PATH"
     shopt -s nullglob
@@ -83,18 +83,16 @@ if [ $proof = proved ]; then
     [ -z "$(git ls-files 'crates/*/out/*')" ] || die 'the commit contains files in crates/*/out, which only the toolchain may create'
     prove rt ci --anew || die 'the proofs or the tests failed (rt ci); see the output above'
     gate=$(tail -n 1 "$work/log")
-    # `rt ci` does not count an invalid must-fail edit, but succeeds anyway.
+    # `rt ci` succeeds even if a must-fail edit is invalid, but does not count that edit.
     [ "$gate" = "${#proved[@]} passed, 0 failed" ] || die "there are ${#proved[@]} crates and must-fail edits, but rt ci reports: $gate"
-    sources=$(find HANDLES crates.txt crates -name out -prune -o -type f -print | sort | xargs sha256sum | sha256sum | cut -c 1-64)
+    sources=$(find HANDLES crates.txt crates -name out -prune -o -type f -print0 | sort -z | xargs -0 sha256sum | sha256sum | cut -c 1-64)
 fi
 mark=$(grep -aom 1 'rattle logic=[0-9a-f]\{16\}' "$program" | cut -d = -f 2) || mark=none
 [ $proof = unproved ] || [ "$mark" = "$logic" ] || die "the program was built with logic $mark, but README.md names logic $logic"
 version=$("$program" --version) || die "$program does not run on this machine"
 version=${version#bufr }
-wheel=$(python3 -c 'import build_wheel, sys; print(build_wheel.build_wheel(sys.argv[1]))' "$work")
-case $wheel in bufr_text-"$version"-*) ;; *) die "the program has version $version, but the wheel is $wheel" ;; esac
 
-# The archive contains the whole repository, so that the links in its pages work.
+# The archive contains the whole repository, so that the links in the documentation work.
 name=bufr-$version-linux-x86_64
 mkdir "$work/$name"
 git archive HEAD | tar -x -C "$work/$name"
@@ -105,8 +103,11 @@ if [ $proof = proved ]; then
     mkdir "$include" "$lib/pkgconfig"
     mv "$lib/bufr.h" "$include"
     mv "$lib/bufr.pc" "$lib/pkgconfig"
-    library=$(sum_of "$lib/libbufr.a")
+    library=$(sum_of "$lib/libbufr.a") shared_library=$(sum_of "$lib/libbufr.so.0")
 fi
+wheel=$(python3 -c 'import build_wheel, sys; print(build_wheel.build_wheel(sys.argv[1], {"library": sys.argv[2]}))' \
+    "$work" "${lib:+$lib/libbufr.so.0}")
+case $wheel in bufr_text-"$version"-*) ;; *) die "the program has version $version, but the wheel is $wheel" ;; esac
 cat > "$work/$name/BUILD" << END
 version: $version
 commit: $commit
@@ -116,10 +117,11 @@ kit: $kit
 logic: $mark
 program: $(sum_of "$program")
 library: $library
+shared library: $shared_library
 sources: $sources
 gate: $gate
 END
-(cd "$work/$name" && find . ! -type d ! -name SHA256SUMS | sort | xargs sha256sum > SHA256SUMS)
+(cd "$work/$name" && find . ! -type d ! -name SHA256SUMS -print0 | sort -z | xargs -0 sha256sum > SHA256SUMS)
 tar -c -C "$work" --sort=name --format=ustar --owner=0 --group=0 --numeric-owner --mode=u=rwX,go=rX \
     --mtime="@$(git log -1 --format=%ct)" "$name" | gzip -n -9 > "$work/$name.tar.gz"
 cd "$work"

@@ -1,5 +1,5 @@
 #!/bin/sh
-# Dumps a BUFR file with a trial build of the program. This takes one or two minutes, and neither proves nor installs anything.
+# Dumps a BUFR file with a trial build of the program. This takes one or two minutes. It proves and installs nothing.
 #
 #     ./try.sh FILE
 set -eu

@@ -8,12 +8,13 @@ usage() {
     cat << END
 usage: $0 [--archive FILE] FOLDER
 
-Builds libbufr.so, libbufr.a and bufr.pc from the proved crate bufr_c, and copies bufr.h beside them. Run rt ci first: the
-crates below must be proved in this checkout. The crate bufr_c itself is then proved once more, which takes minutes.
-It needs the toolchain, a C compiler (\$CC, by default cc) and the GNU binutils ar, ld and objcopy.
+Builds libbufr.so, libbufr.a and bufr.pc in FOLDER from the proved crate bufr_c, and copies bufr.h to FOLDER. Run rt ci
+first: the crates that bufr_c depends on must already be proved in this clone. This script then proves bufr_c once more,
+which takes a few minutes. It needs the toolchain, a C compiler (\$CC; default: cc) and the programs ar, ld and objcopy from
+GNU binutils.
 
 options:
-  --archive FILE  take this libbufr_c.a, and prove nothing
+  --archive FILE  use this libbufr_c.a, and prove nothing
 END
 }
 
@@ -28,7 +29,7 @@ while [ $# -gt 0 ]; do
         -h | --help) usage && exit ;;
         --archive)
             [ $# -gt 1 ] || die '--archive needs a FILE' 2
-            [ -f "$2" ] || die "there is no archive '$2'"
+            [ -f "$2" ] || die "the archive '$2' does not exist or is not a regular file"
             archive=$(realpath -- "$2")
             shift
             ;;
@@ -47,10 +48,10 @@ kit=$(dirname "$(rt doc)")
 work=$(mktemp -d)
 trap 'rm -r "$work"' EXIT
 
-# deps CRATE: the libraries that a line of crates.txt lists.
+# deps CRATE: prints the libraries that crates.txt lists for this crate.
 deps() { sed -n "s/^$1\( staticlib\)\{0,1\}: *//p" "$top/crates.txt"; }
 
-# build: proves bufr_c over the proved crates below it, and compiles it.
+# build: proves bufr_c from the proved crates that it depends on, and compiles it.
 build() {
     set -- --crate-name bufr_c src/lib.rt --crate-type staticlib --extern "std=$kit/rlibs/std.rlib" -L "dependency=$kit/rlibs"
     for name in $(deps bufr_c); do
@@ -72,8 +73,8 @@ else
     build || die 'bufr_c was not built'
 fi
 cd "$work"
-# One object with the allocator of the toolchain, which calls malloc, realloc and free. Only the names of the calls are
-# global, so that no other name can clash with one of the program.
+# A single object contains the library and the toolchain's allocator, which calls malloc, realloc and free. Only the library's
+# functions are global symbols, so that no other symbol can clash with one in the user's program.
 ld -r -o bufr.o --whole-archive libbufr_c.a --no-whole-archive "$kit/c/liblibc_c.a"
 objcopy --wildcard --keep-global-symbol='bufr_*' bufr.o
 ar rcD libbufr.a bufr.o

@@ -45,6 +45,16 @@ find "$prefix" -xtype l > "$work/links"
 test ! -s "$work/links" || fail "links to nothing: $(< "$work/links")"
 grep -q "^For completions in zsh.*fpath=($prefix/share/zsh/site-functions" "$work/told" || fail "install.sh names no fpath"
 
+# The documentation has each file that its pages may refer to, and each shell finds its completions.
+for file in NOTICE *.md docs/*.md {docs/pictures,examples,library/examples}/*.* library/b* scripts/{b*,*.awk} \
+    tables/*.{md,py} tables/wmo-*/*.csv; do
+    cmp "$file" "$doc/$file" || fail "the documentation has no $file"
+done
+[ -x "$doc/library/build.sh" ] || fail "library/build.sh is no program"
+for place in bash-completion/completions/bufr:bufr.bash zsh/site-functions/_bufr:_bufr; do
+    cmp "completions/${place#*:}" "$prefix/share/${place%:*}" || fail "other completions in ${place%:*}"
+done
+
 # What was installed is what MANIFEST lists. With DESTDIR the same files are put elsewhere, and speak of the final place.
 (cd "$prefix" && find . ! -type d | cut -c 3-) | sort > "$work/installed"
 grep -v '/$' "$doc/MANIFEST" | diff - "$work/installed" || fail "MANIFEST lists other files"
@@ -52,9 +62,15 @@ ln -s "$top/install.sh" "$work/installer"
 (cd "$work" && DESTDIR=stage ./installer --program "$bufr" --unproved /usr) > "$work/staged"
 ! grep -q stage "$work/staged" || fail "install.sh speaks of DESTDIR: $(< "$work/staged")"
 diff -r -x MANIFEST "$prefix" "$work/stage/usr" || fail "DESTDIR gives other files"
-mkdir "$work/temporary"
-TMPDIR=$work/temporary DESTDIR=$work/stage "$top/install.sh" --uninstall /usr > "$work/output"
-grep -qx 'uninstalled bufr from /usr' "$work/output" || fail "--uninstall prints $(< "$work/output")"
+mkdir "$work/temporary" "$work/stage/usr/share/bufr/__pycache__"
+touch "$work/stage/usr/share/bufr/__pycache__/bufr_text.pyc"
+# A file that somebody removed is not a changed one: another installation restores it, and --uninstall does not name it.
+rm "$work/stage/usr/share/doc/bufr/README.md"
+DESTDIR=$work/stage "$top/install.sh" --program "$bufr" --unproved /usr > "$work/output" 2>&1 || fail "after a file was removed: $(< "$work/output")"
+cmp README.md "$work/stage/usr/share/doc/bufr/README.md"
+rm "$work/stage/usr/share/doc/bufr/README.md"
+TMPDIR=$work/temporary DESTDIR=$work/stage "$top/install.sh" --uninstall /usr > "$work/output" 2>&1
+echo 'uninstalled bufr from /usr' | cmp - "$work/output" || fail "--uninstall prints $(< "$work/output")"
 [ -z "$(ls -A "$work/temporary")" ] || fail "install.sh leaves temporary files"
 [ ! -e "$work/stage/usr" ] || fail "--uninstall with DESTDIR leaves $(find "$work/stage/usr")"
 (cd "$prefix" && sha256sum --quiet -c share/doc/bufr/SHA256SUMS) || fail "SHA256SUMS has other sums"
@@ -68,7 +84,7 @@ for words in '' '--wrong p' 'p --wrong' 'p q' '--program' '--uninstall'; do
 done
 ! (cd "$work/other" && "$top/install.sh" --program "$bufr" --unproved '') > "$work/output" 2> "$work/errors" &&
     grep -q 'the PREFIX to install in' "$work/errors" || fail "install.sh installs to '': $(< "$work/errors")"
-"$top/install.sh" --help | grep -q '^usage: ' || fail 'install.sh --help'
+for word in -h --help; do "$top/install.sh" $word | grep -q '^usage: ' || fail "install.sh $word"; done
 ! "$top/install.sh" --uninstall "$work/nothing" 2> "$work/errors" && grep -q MANIFEST "$work/errors" ||
     fail "install.sh uninstalls what is not installed: $(< "$work/errors")"
 ! "$top/install.sh" --program "$bufr" --unproved /dev/null/prefix > "$work/output" 2>&1 &&
@@ -183,6 +199,11 @@ bufr-auto "$examples/synop.bufr" | cmp - "$examples/synop.txt" || fail "bufr-aut
 bufr-lacks "$examples/synop.bufr" > lacks || fail "bufr-lacks: $(< lacks)"
 bufr dump -B "$prefix/share/bufr/tables/wmo-37/B.csv" -D "$prefix/share/bufr/tables/wmo-37/D.csv" "$examples/buoys.bufr" |
     awk -f "$prefix/share/bufr/table.awk" | grep -c '"TEMPERATURE/AIR TEMPERATURE"' > /dev/null || fail "table.awk: no temperature"
+# The command for a centre's tables is the installed one.
+python3 -c "import sys; sys.path.insert(0, '$top/tests'); import lib
+sys.stdout.buffer.write(lib.asking(lib.message(b'', lib.words('048001')), 39, 1))" > local
+! bufr-lacks local > output 2> errors && grep -q "run: $prefix/share/bufr/tables/convert.py " errors ||
+    fail "bufr-lacks on a centre's tables: $(< errors)"
 "$prefix/share/bufr/tables/convert.py" copy "$prefix/share/bufr/tables/wmo-39" &&
     cmp copy/D.csv "$prefix/share/bufr/tables/wmo-39/D.csv" || fail "convert.py: another set"
 # Its scripts run no other program than its own.

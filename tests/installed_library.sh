@@ -47,6 +47,7 @@ runs() {
 installs --library "$prefix"
 grep -q ', with the library for C$' "$work/told" || fail "install.sh does not say that it installed the library: $(< "$work/told")"
 grep -qx "library: $(sha256sum < "$prefix/lib/libbufr.a" | cut -c 1-64)" "$prefix/share/doc/bufr/BUILD" || fail 'BUILD has no checksum of the library'
+grep -qx "shared library: $(sha256sum < "$prefix/lib/libbufr.so.0" | cut -c 1-64)" "$prefix/share/doc/bufr/BUILD" || fail 'BUILD has no checksum of the shared library'
 (
     unset PKG_CONFIG_PATH
     eval "$(sed -n 's/^To find the library with pkg-config.*: export/export/p' "$work/told")"
@@ -56,7 +57,7 @@ grep -qx "library: $(sha256sum < "$prefix/lib/libbufr.a" | cut -c 1-64)" "$prefi
 # An installation without the library replaces it.
 installs "$prefix"
 ! grep -q 'the library' "$work/told" || fail "install.sh without --library says: $(< "$work/told")"
-grep -qx 'library: none' "$prefix/share/doc/bufr/BUILD" || fail 'BUILD names a library that is not installed'
+grep -qx 'library: none' "$prefix/share/doc/bufr/BUILD" && grep -qx 'shared library: none' "$prefix/share/doc/bufr/BUILD" || fail 'BUILD names a library that is not installed'
 [ ! -e "$prefix/lib" ] && [ ! -e "$prefix/include" ] || fail "install.sh without --library leaves $(find "$prefix/lib" "$prefix/include")"
 # A library of somebody else stays.
 mkdir "$prefix/lib"

@@ -35,11 +35,29 @@ for file in "$work"/first/*; do
 done
 (cd "$work/first" && sha256sum --quiet -c SHA256SUMS) || fail "the sums are not those of the files"
 archive=$(echo "$work"/first/*.tar.gz)
-# RECORD has the length and the checksum of each file in the wheel, in the form that installers compare.
-python3 - "$work"/first/*.whl > "$work/told" 2>&1 << 'END' || fail "the wheel: $(< "$work/told")"
-import base64, csv, hashlib, io, sys, zipfile
+[ -e "$work"/first/bufr_text-*-py3-none-any.whl ] || fail "the wheel of an unproved release: $(ls "$work/first")"
+# The wheel has the modules, scripts, man pages and tables. RECORD has the length and the checksum of each file in it, in
+# the form that installers compare.
+python3 - "$work"/first/*.whl "$work/one" > "$work/told" 2>&1 << 'END' || fail "the wheel: $(< "$work/told")"
+import base64, csv, hashlib, io, pathlib, sys, zipfile
 
-wheel = zipfile.ZipFile(sys.argv[1])
+wheel, top = zipfile.ZipFile(sys.argv[1]), pathlib.Path(sys.argv[2])
+files = {path.name: path.read_bytes() for path in top.glob("scripts/*.py")}
+files["table.awk"] = (top / "scripts/table.awk").read_bytes()
+data = "bufr_text-0.1.0.data"
+files.update({f"{data}/scripts/{path.name}": path.read_bytes() for path in top.glob("scripts/bufr-*")})
+files.update({f"{data}/data/share/man/man1/{path.name}": path.read_bytes() for path in top.glob("man/*.1")})
+files.update({f"{data}/data/share/bufr/{path.relative_to(top)}": path.read_bytes() for path in top.glob("tables/*/*.csv")})
+about = {f"bufr_text-0.1.0.dist-info/{name}" for name in ("METADATA", "RECORD", "WHEEL")}
+assert set(wheel.namelist()) == {*files, *about}, f"it has other files: {set(wheel.namelist()) ^ {*files, *about}}"
+for name, octets in files.items():
+    found, is_script = wheel.read(name), name.startswith(f"{data}/scripts/")
+    if is_script:
+        first, _, found = found.partition(b"\n")
+        assert first == b"#!python", f"{name} begins with {first}"
+        octets = octets.partition(b"\n")[2]
+    assert found == octets, f"{name} is another file"
+    assert wheel.getinfo(name).external_attr >> 16 == (0o100755 if is_script else 0o100644), f"the mode of {name}"
 [record] = [name for name in wheel.namelist() if name.endswith(".dist-info/RECORD")]
 rows = {name: tuple(more) for name, *more in csv.reader(io.StringIO(wheel.read(record).decode()))}
 for name in wheel.namelist():
@@ -167,9 +185,15 @@ grep -q "^$count passed, 0 failed$" "$work/told" || fail "release.sh hides what 
 mkdir "$work/unpacked"
 tar -xzf "$work"/proved/*.tar.gz -C "$work/unpacked" --strip-components 1
 for line in 'proof: proved' "kit: kit logic $logic" "gate: $count passed, 0 failed" "sources: $(sources_of .)" \
-    "program: $(sha256sum < "$work/marked" | cut -c 1-64)" "library: $(sha256sum < "$work/unpacked/lib/libbufr.a" | cut -c 1-64)"; do
+    "program: $(sha256sum < "$work/marked" | cut -c 1-64)" "library: $(sha256sum < "$work/unpacked/lib/libbufr.a" | cut -c 1-64)" \
+    "shared library: $(sha256sum < "$work/unpacked/lib/libbufr.so.0" | cut -c 1-64)"; do
     grep -qx "$line" "$work/unpacked/BUILD" || fail "BUILD: no line $line"
 done
+# The wheel contains the library too, and says for which systems.
+(cd "$work/proved" && python3 -m zipfile -e bufr_text-*-py3-none-manylinux_2_34_x86_64.whl "$work/wheel") && cmp "$work/wheel/libbufr.so.0" "$work/unpacked/lib/libbufr.so.0" ||
+    fail "the wheel of a proved release has no library: $(ls "$work/proved")"
+printf '%s\n' 'Wheel-Version: 1.0' 'Generator: build_wheel' 'Root-Is-Purelib: false' 'Tag: py3-none-manylinux_2_34_x86_64' |
+    diff - "$work"/wheel/*.dist-info/WHEEL || fail 'the wheel has other tags'
 "$work/unpacked/install.sh" "$work/installed" > "$work/told" || fail "a proved release: $(< "$work/told")"
 grep -q ', with the library for C$' "$work/told" || fail "install.sh does not say that it installed the library: $(< "$work/told")"
 for place in lib/libbufr.{a,so,so.0} include/bufr.h; do
@@ -178,6 +202,16 @@ done
 [ "$(readlink "$work/unpacked/lib/libbufr.so")" = libbufr.so.0 ] || fail 'libbufr.so is no link to libbufr.so.0'
 printf 'prefix=%s\nName: bufr\n' "$work/installed" | diff - "$work/installed/lib/pkgconfig/bufr.pc" || fail 'another bufr.pc is installed'
 "$work/unpacked/install.sh" --uninstall "$work/installed" > "$work/told"
+for file in libbufr.a libbufr.so.0; do # each file of the library is the one in BUILD
+    cp "$work/unpacked/lib/$file" "$work/kept"
+    echo x >> "$work/unpacked/lib/$file"
+    # SHA256SUMS also lists the link to the shared library
+    (cd "$work/unpacked" && cp SHA256SUMS "$work/sums" && sed -i "\|/${file%.0}|d" SHA256SUMS && sha256sum "./lib/${file%.0}"* >> SHA256SUMS)
+    ! "$work/unpacked/install.sh" "$work/installed" > "$work/told" 2>&1 && grep -qF 'not the one that BUILD describes' "$work/told" &&
+        [ ! -e "$work/installed" ] || fail "another $file is installed: $(< "$work/told")"
+    cp "$work/kept" "$work/unpacked/lib/$file"
+    cp "$work/sums" "$work/unpacked/SHA256SUMS"
+done
 [ ! -e "$work/installed" ] || fail "--uninstall leaves $(find "$work/installed")"
 PATH=${PATH#*:}
 # A full disk: at the archive, which is the largest file, and at once.
@@ -211,6 +245,9 @@ refuses_damaged './tables/wmo-99,' 'ln -s wmo-39 tables/wmo-99'
 refuses_damaged './tables/wmo-99,' 'mkdir tables/wmo-99'
 refuses_damaged './man/bufr.1,' 'echo x >> man/bufr.1; sed -i /man.bufr.1/d SHA256SUMS'
 refuses_damaged './docs/guide.md: ' 'rm docs/guide.md'
+# A library that BUILD does not describe.
+refuses_damaged 'the library for C in this release is not the one that BUILD describes' \
+    'mkdir lib; touch lib/libbufr.a lib/libbufr.so.0; sha256sum ./lib/* >> SHA256SUMS'
 # What Python caches beside the scripts is none of them, nor what the toolchain builds.
 mkdir -p "$work/damaged/crates/bufr/out"
 touch "$work/damaged/crates/bufr/out/bufr"

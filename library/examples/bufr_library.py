@@ -1,11 +1,11 @@
-"""Calls libbufr.so from Python through ctypes.
+"""Calls libbufr.so from Python, through ctypes.
 
-    library = Library("libbufr.so", table_b, table_d)     the contents of B.csv and D.csv, as bytes
+    library = Library("libbufr.so", table_b, table_d)  # the contents of B.csv and D.csv, as bytes
     lines, faults = library.list(stream)
     for items, texts, messages in library.parts(stream):  ..
     name, unit = library.elements()[items[0].fxy]
 
-Each method calls the library again with larger outputs for as long as the next message does not fit.
+If the next message does not fit into the output buffers, a method enlarges them and calls the library again.
 """
 import csv
 import ctypes
@@ -31,6 +31,33 @@ class Status(enum.IntEnum):
     TABLE_D_CYCLE = 143
     TABLE_D_SIZE = 144
     TABLE_D_CSV = 145
+
+
+class Fault(enum.IntEnum):
+    NONE = 0
+    CUT = 1
+    SHORT_LENGTH = 2
+    NO_END = 3
+    EDITION = 10
+    SECTION_SHORT = 11
+    SECTION_PAST_END = 12
+    SECTIONS_DO_NOT_MEET = 13
+    EDITION_3_LENGTH = 14
+    UNKNOWN_ELEMENT = 20
+    UNKNOWN_SEQUENCE = 21
+    OPERATOR = 22
+    GROUP_SHAPE = 23
+    NO_FACTOR = 24
+    EMPTY_GROUP = 25
+    DEPTH = 26
+    TEMPLATE_SIZE = 27
+    LOCAL_SHAPE = 28
+    DATA_END = 30
+    WIDTH = 31
+    DEFINING = 32
+    UNEQUAL_FACTOR = 33
+    INCREMENT = 34
+    TOO_MANY_VALUES = 35
 
 
 class Form(enum.IntEnum):
@@ -117,7 +144,7 @@ class Counts(ctypes.Structure):
 
 
 class LibraryError(RuntimeError):
-    """A call returned another status than 0 and 74."""
+    """A function returned a status other than 0 and 74."""
 
     def __init__(self, status: int) -> None:
         super().__init__(f"status {status}" + f" ({Status(status).name})" * (status in list(Status)))
@@ -125,17 +152,17 @@ class LibraryError(RuntimeError):
 
 
 def pointer(octets: bytes) -> "ctypes._Pointer[ctypes.c_uint8]":
-    """A pointer to octets, which must outlive it."""
+    """Returns a pointer to bytes. The bytes must outlive the pointer."""
     return ctypes.cast(octets, _Octets)
 
 
 def room(count: int, kind: type = ctypes.c_uint8) -> ctypes.Array:
-    """An output for so many values."""
+    """Returns a buffer for the given number of values."""
     return (kind * max(count, 1))()
 
 
 class Library:
-    """The library with the tables of one set. Several threads may use it at once."""
+    """The library with one table set. Several threads can use it at the same time."""
 
     def __init__(self, path: str, table_b: bytes = b"", table_d: bytes = b"", octets: int = 1 << 16) -> None:
         self.calls = ctypes.CDLL(path)
@@ -151,7 +178,7 @@ class Library:
         return Input(pointer(octets), len(octets), *tables, words, len(wanted), form)
 
     def _texts(self, call, *read) -> Tuple[bytes, bytes]:
-        """Calls until the end of the input: all that was written."""
+        """Calls a function until it reaches the end of the input, and returns everything that it wrote."""
         texts, outputs = Texts(), [b"", b""]
         rooms = [room(self.octets), room(self.octets)]
         while True:
@@ -166,19 +193,19 @@ class Library:
             rooms = [one if len(one) >= count else room(count) for one, count in zip(rooms, needed)]
 
     def list(self, octets: bytes) -> Tuple[bytes, bytes]:
-        """What `bufr ls` writes: the lines, and the fault lines."""
+        """Returns the output of `bufr ls`: the lines and the fault lines."""
         return self._texts(self.calls.bufr_list, pointer(octets), ctypes.c_size_t(len(octets)))
 
     def dump(self, octets: bytes) -> Tuple[bytes, bytes]:
-        """What `bufr dump` writes: the text, and the fault lines."""
+        """Returns the output of `bufr dump`: the text and the fault lines."""
         return self._texts(self.calls.bufr_dump, ctypes.byref(self.input(octets)))
 
     def encode(self, text: bytes, form: int = 0) -> Tuple[bytes, bytes]:
-        """What `bufr encode` writes: the messages, and the line of the document that was refused."""
+        """Returns the output of `bufr encode`: the messages, and the fault line of an invalid document."""
         return self._texts(self.calls.bufr_encode, ctypes.byref(self.input(text, form=form)))
 
     def parts(self, octets: bytes, wanted: Tuple[int, ...] = ()) -> Iterator[Tuple[ctypes.Array, bytes, List[Message]]]:
-        """The rows of items, the octets of their texts and the rows of messages, a part of the stream at a time."""
+        """Yields the rows of items, the octets of their strings, and the rows of messages, for each part of a stream."""
         read, counts = self.input(octets, wanted), Counts()
         items, texts, messages = room(self.octets // 24, Item), room(self.octets), room(self.octets // 1024, Message)
         while True:
@@ -197,25 +224,25 @@ class Library:
             texts = texts if len(texts) >= counts.octets_needed else room(counts.octets_needed)
 
     def elements(self) -> Dict[int, Tuple[str, str]]:
-        """The name and the unit of each element of Table B, by its descriptor, as in Item.fxy."""
+        """Returns the name and the unit of each element in Table B. The keys are descriptors as in `Item.fxy`."""
         rows = csv.DictReader(io.StringIO(self.table_b.decode(errors="replace")))
         return {fxy_of(int(row["fxy"])): (row["name"], row["unit"]) for row in rows}
 
 
 def fxy_of(written: int) -> int:
-    """A descriptor FXXYYY as the library has it."""
+    """Converts a descriptor FXXYYY to the form that the library uses."""
     return written // 100000 << 14 | written // 1000 % 100 << 8 | written % 1000
 
 
 def _shown(octet: int) -> bytes:
-    """An octet of a text as `bufr dump` writes it."""
+    """Returns an octet of a string as `bufr dump` writes it."""
     if octet in b'"\\':
         return b"\\%c" % octet
     return b"%c" % octet if 32 <= octet < 127 else b"\\x%02X" % octet
 
 
 def value_text(item: Item, texts: bytes) -> bytes:
-    """The value of an item as `bufr dump` writes it."""
+    """Returns the value of an item as `bufr dump` writes it."""
     if item.kind == Kind.MISSING:
         return b"MISSING"
     octets = texts[item.value : item.value + item.length]
@@ -229,6 +256,6 @@ def value_text(item: Item, texts: bytes) -> bytes:
 
 
 def item_line(item: Item, texts: bytes) -> bytes:
-    """The line of an item as `bufr dump` writes it, without the name and unit."""
+    """Returns the line for an item as `bufr dump` writes it, without the name and unit."""
     f, x, y = item.fxy >> 14, item.fxy >> 8 & 63, item.fxy & 255
     return b"%s%d%02d%03d %s" % (b"R " * (item.kind == Kind.REFERENCE), f, x, y, value_text(item, texts))

@@ -1,4 +1,4 @@
-/* Lists the messages of a file, as `bufr ls` does.
+/* Lists the messages in a file, as `bufr ls` does.
  *
  *     cc list_stream.c -lbufr -o list_stream && ./list_stream FILE
  */
@@ -7,7 +7,7 @@
 
 #include "bufr.h"
 
-/* The contents of a file, which the caller frees; null if it cannot be read. */
+/* Returns the contents of a file, which the caller must free, or null if the file cannot be read. */
 static uint8_t *contents(const char *name, size_t *length) {
     FILE *file = fopen(name, "rb");
     size_t room = 1 << 16;
@@ -34,7 +34,7 @@ static uint8_t *contents(const char *name, size_t *length) {
 }
 
 int main(int count, char **words) {
-    static uint8_t lines[1 << 16], faults[1 << 16]; /* every line fits */
+    static uint8_t lines[1 << 16], faults[1 << 16]; /* large enough for any line */
     struct bufr_texts texts = {0, 0, 0, 0, 0, 0, 0, 0};
     size_t length;
     uint8_t *stream;
@@ -48,7 +48,7 @@ int main(int count, char **words) {
     if (!stream)
         return 1;
     do {
-        /* Each call continues at texts.at, where the call before stopped. */
+        /* Each call continues at texts.at, where the previous call stopped. */
         status = bufr_list(stream, length, lines, sizeof lines, faults, sizeof faults, &texts);
         fwrite(lines, 1, texts.output_length, stdout);
         fwrite(faults, 1, texts.errors_length, stderr);

@@ -1,4 +1,4 @@
-/* Prints the numbers of the messages of a file, as `bufr dump` does.
+/* Prints the numbers in the messages of a file, as `bufr dump` does.
  *
  *     cc print_numbers.c -lbufr -o print_numbers && ./print_numbers TABLE_B TABLE_D FILE
  */
@@ -7,7 +7,7 @@
 
 #include "bufr.h"
 
-/* The contents of a file, which the caller frees; null if it cannot be read. */
+/* Returns the contents of a file, which the caller must free, or null if the file cannot be read. */
 static uint8_t *contents(const char *name, size_t *length) {
     FILE *file = fopen(name, "rb");
     size_t room = 1 << 16;
@@ -33,7 +33,7 @@ static uint8_t *contents(const char *name, size_t *length) {
     return octets;
 }
 
-/* By descriptor: where the name and the unit of an element are in Table B. */
+/* For each descriptor, where the name and unit of the element begin in Table B. */
 static const uint8_t *elements[1 << 16];
 
 /* Finds the elements. Each line of B.csv begins with a descriptor, such as 012101, and a comma. */
@@ -46,20 +46,20 @@ static void find_elements(const uint8_t *table, const uint8_t *end) {
         }
 }
 
-/* Prints a field of a line of B.csv without its quotes. Returns where the next field begins. */
+/* Prints a field in a line of B.csv without its quotes. Returns where the next field begins. */
 static const uint8_t *print_field(const uint8_t *at, const uint8_t *end) {
     int quoted = 0;
     for (; at < end && (quoted || (*at != ',' && *at != '\n')); at++)
         if (*at != '"')
             putchar(*at);
         else if ((quoted = !quoted) && at[-1] == '"')
-            putchar('"'); /* two quotes in quotes are one */
+            putchar('"'); /* inside quotes, two quotes stand for one */
     return at < end ? at + 1 : end;
 }
 
 /* Prints value / 10^scale exactly. */
 static void print_number(int64_t value, int scale) {
-    char digits[32];
+    char digits[1024]; /* every scale is below 1,000 */
     int length, point;
     if (scale <= 0) {
         printf("%lld", (long long)value);
@@ -91,21 +91,31 @@ static void print_items(const struct bufr_input *input, const struct bufr_item *
         }
 }
 
-/* Makes room for the next message. Returns 0 if memory ran out. */
+/* Prints a line for each refused message and each stray. */
+static void print_faults(const struct bufr_message *message, size_t messages) {
+    for (; messages > 0; messages--, message++)
+        if (message->fault != BUFR_FAULT_NONE)
+            fprintf(stderr, "offset %llu: fault %d\n", (unsigned long long)message->offset, message->fault);
+}
+
+/* Makes room for the next message. Doubles a buffer that is too small, so that later messages also fit. Returns 0 if memory
+ * ran out. */
 static int grow(struct bufr_rows *rows, const struct bufr_counts *counts) {
     if (counts->items_needed > rows->items_room) {
-        void *items = realloc(rows->items, counts->items_needed * sizeof *rows->items);
+        size_t room = counts->items_needed > 2 * rows->items_room ? counts->items_needed : 2 * rows->items_room;
+        void *items = realloc(rows->items, room * sizeof *rows->items);
         if (!items)
             return 0;
         rows->items = (struct bufr_item *)items;
-        rows->items_room = counts->items_needed;
+        rows->items_room = room;
     }
     if (counts->octets_needed > rows->texts_room) {
-        void *texts = realloc(rows->texts, counts->octets_needed);
+        size_t room = counts->octets_needed > 2 * rows->texts_room ? counts->octets_needed : 2 * rows->texts_room;
+        void *texts = realloc(rows->texts, room);
         if (!texts)
             return 0;
         rows->texts = (uint8_t *)texts;
-        rows->texts_room = counts->octets_needed;
+        rows->texts_room = room;
     }
     return 1;
 }
@@ -134,9 +144,10 @@ int main(int count, char **words) {
         (input.octets = stream = contents(words[3], &input.octets_length))) {
         find_elements(table_b, table_b + input.table_b_length);
         do {
-            /* Each call continues at counts.at, where the call before stopped. */
+            /* Each call continues at counts.at, where the previous call stopped. */
             status = bufr_items(&input, &rows, &counts);
             print_items(&input, rows.items, counts.items);
+            print_faults(messages, counts.messages);
         } while (status == BUFR_NO_ROOM && grow(&rows, &counts));
         if (status != BUFR_DONE)
             fprintf(stderr, "status %d\n", (int)status);

@@ -1,4 +1,4 @@
-! Prints the numbers of the messages of a file, with their descriptors.
+! Prints the numbers in the messages of a file, with their descriptors.
 !
 !     gfortran print_numbers.f90 -lbufr -o print_numbers && ./print_numbers TABLE_B TABLE_D FILE
 module bufr
@@ -64,7 +64,7 @@ module bufr
 
 contains
 
-  ! Reads the contents of a file, whose name is a word of the command line.
+  ! Reads the file that the given argument names.
   subroutine read_contents(word, octets)
     integer, intent(in) :: word
     integer(c_int8_t), allocatable, intent(out) :: octets(:)
@@ -78,7 +78,7 @@ contains
     close (unit)
   end subroutine
 
-  ! value / 10**scale, exactly.
+  ! Returns value / 10**scale exactly, as text.
   function decimal(value, scale) result(text)
     integer(c_int64_t), intent(in) :: value
     integer, intent(in) :: scale
@@ -101,6 +101,7 @@ contains
 end module
 
 program print_numbers
+  use, intrinsic :: iso_fortran_env, only: error_unit
   use bufr
   implicit none
   integer(c_int8_t), allocatable, target :: stream(:), table_b(:), table_d(:)
@@ -122,7 +123,7 @@ program print_numbers
     c_loc(table_d), size(table_d, kind=c_size_t), c_loc(all), 0_c_size_t)
   allocate (items(65536), texts(65536))
   do
-    ! Each call continues at counts%at, where the call before stopped.
+    ! Each call continues at counts%at, where the previous call stopped.
     rows = bufr_rows(c_loc(items), size(items, kind=c_size_t), c_loc(texts), size(texts, kind=c_size_t), &
       c_loc(messages), size(messages, kind=c_size_t))
     status = bufr_items(input, rows, counts)
@@ -131,6 +132,10 @@ program print_numbers
       fxy = iand(int(items(at)%fxy), 65535)
       print '(i1, i2.2, i3.3, 1x, a)', ishft(fxy, -14), iand(ishft(fxy, -8), 63), iand(fxy, 255), &
         decimal(items(at)%value, int(items(at)%scale))
+    end do
+    do at = 1, counts%messages
+      if (messages(at)%fault == 0) cycle
+      write (error_unit, '(a, i0, a, i0)') 'offset ', messages(at)%offset, ': fault ', messages(at)%fault
     end do
     if (status /= no_room) exit
     ! The next message may need more room than there is.
