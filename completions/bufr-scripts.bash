@@ -1,4 +1,4 @@
-# Completes the command lines of the scripts in bash: options, tables, listing fields and files.
+# Completes the scripts' command lines in bash: options, tables, listing fields and files.
 
 _bufr_scripts() {
     local word=${COMP_WORDS[COMP_CWORD]} before=${COMP_WORDS[COMP_CWORD - 1]} options='' words=''
@@ -41,4 +41,4 @@ _bufr_scripts() {
         fi
     fi
 }
-complete -F _bufr_scripts bufr-auto bufr-csv bufr-dask bufr-extract bufr-lacks bufr-parallel bufr-plot
+complete -F _bufr_scripts bufr-auto bufr-csv bufr-extract bufr-lacks bufr-parallel bufr-plot

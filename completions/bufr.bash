@@ -1,4 +1,4 @@
-# Completion of bufr for bash: commands, options, tables and files.
+# Completes bufr command lines in bash: commands, options, tables and files.
 
 _bufr() {
     local word=${COMP_WORDS[COMP_CWORD]} before=${COMP_WORDS[COMP_CWORD - 1]} command=${COMP_WORDS[1]} options
@@ -17,7 +17,7 @@ _bufr() {
             ;;
         *) return ;;
     esac
-    # Bash makes three words of `--form=plain`.
+    # Bash splits `--form=plain` into three words.
     [ "$word" != = ] || word=''
     [ "$before" != = ] || before=${COMP_WORDS[COMP_CWORD - 2]}
     case $before in

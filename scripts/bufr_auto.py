@@ -3,7 +3,7 @@
     status = bufr_auto.dump(["a.bufr", None], output=pipe)  # None is standard input
 
 This module finds the messages itself, so that it does not have to wait for a listing. It runs `bufr` once for each table
-set in each part of the stream. Parts are written in order, before the next read that may block.
+set that a part of the stream needs. The output for each part is written, in order, before the next read that may block.
 """
 from __future__ import annotations
 
@@ -23,22 +23,22 @@ if TYPE_CHECKING:
     from bufr_conditions import Conditions
 
     Octets = Union[bytes, memoryview]
-    # A message, a document or a stray: its place (an offset or a line number), its bytes, and the fault of a stray.
+    # A message, a document or a stray: its place (an offset or a line number), its bytes, and, for a stray, its fault.
     Piece = Tuple[int, Octets, bytes]
     Bytes = bufr_sets.Bytes
-    # The numbers in a header that determine the tables: centre, master table, version and local version.
+    # The numbers in a header that determine the table set: centre, master table, version and local version.
     Tables = Tuple[int, int, int, int]
 
-# The approximate maximum numbers of bytes and of pieces in a part, so that buffers do not grow with the stream.
+# The approximate maximum numbers of bytes and of pieces in a part. They keep buffers from growing with the stream.
 PART, PIECES = 1 << 22, 1 << 14
 BLOCK = 1 << 18
-# The maximum length of a line, and of the beginning of a document that contains the header and the descriptors.
+# The maximum length of a line, and of the first part of a document, up to the end of the descriptor lines.
 LINE, HEADER = 4096, 1 << 20
 END = b"\nend\n"
-# The maximum numbers of different notes, and of descriptor lists for which a result is cached.
+# The maximum numbers of different notes, and of descriptor lists with cached results.
 KINDS_OF_NOTES = 1000
 REMEMBERED = 1 << 8
-# The descriptors that have different definitions in version 13 and in versions up to 6.
+# The descriptors whose definitions differ between version 13 and versions up to 6.
 CHANGED_SINCE_6 = set(
     """
     001003 001022 002028 002160 004024 008006 008065 008066 012073 015003 015004 021017 022004 022062 025030 029002
@@ -117,9 +117,9 @@ class Finder:
         self.has_ended = not octets
 
     def find(self) -> Optional[Tuple[int, int, bytes]]:
-        """Returns where the next message or stray begins and ends, and the fault, or None if more bytes are needed.
+        """Returns where the next message or stray begins and ends, and its fault. Returns None if more bytes are needed.
 
-        A stray is the bytes `BUFR` where no complete message begins. For a complete message, the fault is empty.
+        A stray is the bytes `BUFR` where no complete message begins. The fault of a complete message is empty.
         """
         at = self.held.find(b"BUFR", self.at, self.end)
         if at < 0:
@@ -143,7 +143,7 @@ class Finder:
 
 
 def is_stray(fault: bytes) -> bool:
-    """Returns whether a text is the fault of a stray, rather than the report of a skipped message."""
+    """Returns whether the text `fault` is the fault of a stray, not the report of a skipped message."""
     return fault[:1].isdigit()
 
 
@@ -154,9 +154,9 @@ def stray_line(offset: int, fault: bytes, prefix: bytes = b"") -> bytes:
 
 
 class Masker:
-    """Hides messages that declare more than `longest` bytes from the program that reads the stream.
+    """Hides messages that declare more than `longest` bytes from the program that reads the stream, and reports them.
 
-    It replaces their first four bytes with zeros, so that offsets do not change, and reports each of these messages.
+    To keep the offsets of other messages unchanged, it replaces the first four bytes of each hidden message with zeros.
     """
 
     def __init__(self, longest: int) -> None:
@@ -181,9 +181,9 @@ class Masker:
 class Source:
     """The pieces of a file, in order. Each piece is valid until the next one is requested.
 
-    The iterator yields None before a read that may block. If `is_long` is true, the last piece that it yielded is only
-    the beginning of a long piece. In that case, `rest` yields the whole piece, block by block, and sets `lines` to its
-    number of lines.
+    The iterator yields None before a read that may block. If `is_long` is true, the piece that it yielded last is only the
+    beginning of a long piece. In that case, `rest` yields the whole piece, block by block, and sets `lines` to the number
+    of lines in the piece.
     """
 
     is_long = False
@@ -222,22 +222,24 @@ class Messages(Source):
 class Documents(Source):
     """The documents in a dump, with their line numbers.
 
-    Each piece includes the lines before its document. Any lines after the last document are a piece of their own.
+    Each piece includes the lines before its document. Any lines after the last document form a piece of their own.
     """
 
     def __init__(self, feed: Feed, _longest: Optional[int]) -> None:
         self.feed, self.held, self.has_ended = feed, bytearray(b"\n"), False
 
     def __iter__(self) -> Iterator[Optional[Piece]]:
-        # The line feed before a document is the end of the previous document.
+        # The line feed before a document ends the previous document.
         held, number, at = self.held, 1, 0
         while True:
+            begin = begin_of(held)
+            if begin > BLOCK:
+                # Drops most comments before a document, so that its first HEADER bytes contain the descriptors.
+                number += held.count(b"\n", 1, begin)
+                del held[1:begin]
+                at = 0
             found = held.find(END, at)
-            begin = begin_of(held) if found < 0 else 1
-            if found < 0 and not self.has_ended and (begin > 1 or len(held) <= PART):
-                if len(held) > PART:
-                    number += held.count(b"\n", 1, begin)
-                    del held[1:begin]
+            if found < 0 and not self.has_ended and len(held) <= PART:
                 at = max(0, len(held) - len(END))
                 if self.feed.may_wait():
                     yield None
@@ -288,7 +290,7 @@ def begin_of(text: bytearray) -> int:
 
 
 def may_begin(text: bytearray) -> bool:
-    """Returns whether a text can be the beginning of a dump. If the input is BUFR, for example, it cannot."""
+    """Returns whether a text can be the beginning of a dump. BUFR data, for example, cannot."""
     at = begin_of(text)
     end = text.find(b"\n", at)
     return len(text) - at <= LINE if end < 0 else text[at:end] == b"message"
@@ -349,7 +351,7 @@ class Run:
 
     @staticmethod
     def asked_by(piece: Bytes) -> Tables:
-        """Returns those numbers in the header of a piece that determine the table set."""
+        """Returns the numbers in the header of a piece that determine its table set."""
         raise NotImplementedError
 
     @staticmethod
@@ -367,7 +369,7 @@ class Run:
         raise NotImplementedError
 
     def start(self, output: Optional[int]) -> None:
-        """Starts the run. If `output` is None, the output is written to a temporary file, from which `copy` reads it."""
+        """Starts the run. If `output` is None, the output goes to a temporary file, from which `copy` reads it."""
         self.start_on(self.pieces.descriptor(), output)
 
     def start_on(self, given: int, output: Optional[int]) -> None:
@@ -389,7 +391,7 @@ class Run:
             self.read, self.at = b"", 0
 
     def take_fault(self) -> None:
-        """Reads the next fault line: its place into `place`, its text into `told`. At the end, `place` is `NOWHERE`."""
+        """Reads the next fault line, and sets `place` and `told` (the text). At the end, sets `place` to `NOWHERE`."""
         for line in self.errors:
             word, _, self.told = line.partition(b": ")
             if word.startswith(self.PLACE) and word[len(self.PLACE) :].isdigit():
@@ -399,7 +401,7 @@ class Run:
         self.place = bufr_guard.NOWHERE
 
     def fault(self, place: int, size: int) -> bytes:
-        """Returns the fault line for the next piece, or empty bytes if the piece has no fault."""
+        """Returns the fault line for the next piece, which is empty if the piece has no fault."""
         begin, self.passed = self.passed, self.passed + size
         if self.place >= self.passed:
             return b""
@@ -503,9 +505,9 @@ class Encode(Run):
 
 
 class Part:
-    """Consecutive pieces, and a run for each set. A piece has a place, a size, a run or a fault, and reasons for notes.
+    """Consecutive pieces, and a run for each table set. A piece has a place, a size, a run or a fault, and reasons for notes.
 
-    If there are conditions, the pieces are first added to `candidates`, and have no runs yet.
+    If there are conditions, pieces are first added to `candidates`, without a run.
     """
 
     def __init__(self) -> None:
@@ -531,9 +533,9 @@ class Notes:
         self.others = Reason(f"no table set matches exactly; only the first {KINDS_OF_NOTES:,} reasons are listed", bool)
 
     def known(self, reason: Reason) -> Reason:
-        """Records a reason, unless one with the same text is recorded already, and returns the recorded reason.
+        """Records a reason, unless one with the same text has already been recorded, and returns the recorded reason.
 
-        If too many reasons are recorded, returns the reason that stands for all others.
+        If there are already too many reasons, returns the one that stands for all others.
         """
         if reason.text not in self.reasons and len(self.reasons) >= KINDS_OF_NOTES:
             return self.others
@@ -569,19 +571,53 @@ def reasons(asked: Tables, tables: bufr_sets.TableSet) -> List[Reason]:
     return found
 
 
+class Chooser:
+    """Chooses the table set for each message or document, and records the notes on sets that do not match exactly."""
+
+    def __init__(self, kind: Type[Run]) -> None:
+        self.kind, self.sets, self.notes = kind, bufr_sets.TableSets(), Notes()
+        self.known: Dict[Tables, Tuple[bufr_sets.TableSet, List[Reason]]] = {}
+        self.remembered: Dict[Tuple[bufr_sets.TableSet, Callable[[str], bool], bytes], bool] = {}
+
+    def choose(self, piece: Bytes) -> Tuple[bufr_sets.TableSet, List[Reason]]:
+        """Returns the table set for a piece, and the reasons why the set may not match the piece exactly."""
+        asked = self.kind.asked_by(piece)
+        if asked not in self.known:
+            if len(self.known) == KINDS_OF_NOTES:
+                self.known.clear()
+            centre, _, version, local = asked
+            tables = self.sets.asked(centre, version, local)
+            self.known[asked] = tables, reasons(asked, tables)
+        tables, notes = self.known[asked]
+        if notes:
+            words = self.kind.words_of(piece)
+            notes = [self.notes.known(reason) for reason in notes if self.is_concerned(tables, reason, words)]
+        return tables, notes
+
+    def is_concerned(self, tables: bufr_sets.TableSet, reason: Reason, words: bytes) -> bool:
+        """Returns whether a reason concerns any descriptor that a descriptor list uses, directly or through sequences."""
+        key = tables, reason.concerns, words
+        if key in self.remembered:
+            return self.remembered[key]
+        is_concerned = any(map(reason.concerns, tables.used(self.kind.descriptors(words))))
+        if len(self.remembered) == REMEMBERED:
+            self.remembered.clear()
+        if len(words) <= 7 * REMEMBERED:
+            self.remembered[key] = is_concerned
+        return is_concerned
+
+
 class Work:
-    """Dumps or encodes all files. Records the exit status so far, and the lines to print at the end."""
+    """Dumps or encodes the files. Records the exit status so far, and the lines to print at the end."""
 
     def __init__(self, kind: Type[Run], files: Sequence[Optional[str]], output: int = 1) -> None:
-        self.kind, self.files, self.sets, self.target = kind, files, bufr_sets.TableSets(), bufr_guard.output(output)
+        self.kind, self.files, self.chooser, self.target = kind, files, Chooser(kind), bufr_guard.output(output)
         self.longest: Optional[int] = None
         self.conditions: Optional[Conditions] = None
         self.has_places = False
         self.more_notes: Callable[[], bytes] = bytes
         self.next_notes = time.monotonic() + bufr_guard.INTERVAL
-        self.known: Dict[Tables, Tuple[bufr_sets.TableSet, List[Reason]]] = {}
-        self.remembered: Dict[Tuple[bufr_sets.TableSet, Callable[[str], bool], bytes], bool] = {}
-        self.notes, self.status, self.is_over, self.done = Notes(), 0, False, 0
+        self.status, self.is_over, self.done = 0, False, 0
         self.last: List[bytes] = []
         self.part = Part()
         sizes = [os.path.getsize(file) for file in files if file is not None and os.path.isfile(file)]
@@ -610,11 +646,12 @@ class Work:
 
     def say_notes(self, so_far: str) -> None:
         """Prints the notes that have not been printed yet."""
-        notes, self.sets.notes = self.sets.notes, []
+        sets = self.chooser.sets
+        notes, sets.notes = sets.notes, []
         if self.conditions:
             notes += self.conditions.new_note(so_far)
         told = [os.fsencode(f"{bufr_guard.name()}: {bufr_guard.shown(note)}\n") for note in notes]
-        bufr_guard.say(b"".join([*self.notes.lines(self.kind.PIECE, so_far), *told]))
+        bufr_guard.say(b"".join([*self.chooser.notes.lines(self.kind.PIECE, so_far), *told]))
 
     def fail(self, unread: Unread) -> None:
         """Records why a file could not be read. Processing continues with the next file."""
@@ -622,7 +659,7 @@ class Work:
         self.status = 2
 
     def serve(self, file: Optional[str]) -> None:
-        """Processes a file. If a part has several runs, they start before the previous part is written."""
+        """Processes a file. If a part has several runs, they are started before the previous part is written."""
         try:
             feed = Feed(file, self.report)
         except Unread as unread:
@@ -648,7 +685,7 @@ class Work:
         feed.close()
 
     def parts(self, feed: Feed) -> Iterator[Optional[Part]]:
-        """Yields the parts of a file, and None when they must be written: before a read that may block, and at the end.
+        """Yields the parts of a file, and None whenever they must be written: before a read that may block, and at the end.
 
         This function must be short: to leave a `try` block that ends more than 256 instructions into a function, Python
         3.11 must allocate an integer, which fails if memory has run out.
@@ -716,7 +753,7 @@ class Work:
         part.pieces.append((place, source.lines, run, notes, b""))
 
     def selected(self, part: Part) -> Part:
-        """Returns a part that contains the candidates that meet the conditions or that `bufr ls` refuses."""
+        """Returns a part with the candidates that either meet the conditions or are refused by `bufr ls`."""
         if part.candidates is None:
             return part
         candidates, chosen, begin = part.candidates.descriptor(), Part(), 0
@@ -752,35 +789,13 @@ class Work:
 
     def assigned(self, part: Part, piece: Bytes) -> Tuple[Run, List[Reason]]:
         """Returns the run for a piece, and the reasons why the table set of the run may not match the piece exactly."""
-        asked = self.kind.asked_by(piece)
-        if asked not in self.known:
-            if len(self.known) == KINDS_OF_NOTES:
-                self.known.clear()
-            centre, _, version, local = asked
-            tables = self.sets.asked(centre, version, local)
-            self.known[asked] = tables, reasons(asked, tables)
-        tables, notes = self.known[asked]
-        if notes:
-            words = self.kind.words_of(piece)
-            notes = [self.notes.known(reason) for reason in notes if self.is_concerned(tables, reason, words)]
+        tables, notes = self.chooser.choose(piece)
         if tables not in part.runs:
             part.runs[tables] = self.kind(tables)
         return part.runs[tables], notes
 
-    def is_concerned(self, tables: bufr_sets.TableSet, reason: Reason, words: bytes) -> bool:
-        """Returns whether a reason concerns any of the descriptors that a list uses, directly or through sequences."""
-        key = tables, reason.concerns, words
-        if key in self.remembered:
-            return self.remembered[key]
-        is_concerned = any(map(reason.concerns, tables.used(self.kind.descriptors(words))))
-        if len(self.remembered) == REMEMBERED:
-            self.remembered.clear()
-        if len(words) <= 7 * REMEMBERED:
-            self.remembered[key] = is_concerned
-        return is_concerned
-
     def write(self, part: Part, feed: Feed) -> None:
-        """Writes the output of all runs of a part, in the order of the pieces."""
+        """Writes the output of every run in a part, in the order of the pieces."""
         for run in part.runs.values():
             run.finish()
         prefix, within = (b"", "") if len(self.files) == 1 else (os.fsencode(feed.name) + b":", f"in {feed.name} ")
@@ -792,7 +807,7 @@ class Work:
                 self.status = max(self.status, 1)
                 continue
             fault = one.fault(place, size)
-            if fault.partition(b": ")[2][:1] != b"1":  # otherwise it is not a message
+            if fault.partition(b": ")[2][:1] != b"1":  # otherwise the piece is not a message
                 for reason in notes:
                     reason.count += 1
                     reason.first = reason.first or f"{within}at {one.PLACE.decode()}{place}"
@@ -817,7 +832,7 @@ class Work:
             self.end(worst, is_whole)
 
     def end(self, run: Run, is_whole: bool) -> None:
-        """Records the exit status of a run, and the lines that the program printed besides fault lines."""
+        """Records the exit status of a run, and any lines that the program printed in addition to fault lines."""
         self.last += run.others
         for line in run.others:
             if line.startswith((b"table B: ", b"table D: ")):
@@ -841,9 +856,9 @@ def dump(
     """Dumps these files to a descriptor, and returns the exit status. None stands for standard input.
 
     Fault lines, notes and progress go to standard error, as in bufr-auto. Messages are skipped if they declare more than
-    `longest` bytes, or if they do not meet the conditions. With `has_places`, a comment before each document gives the
-    place of its message: `# offset=595 length=422 file=NAME`. `more_notes` is called whenever the notes on a feed are
-    printed, and returns more lines to print.
+    `longest` bytes or do not meet the conditions. With `has_places`, a comment before each document gives the place of
+    its message: `# offset=595 length=422 file=NAME`. `more_notes` is called whenever notes on a feed are printed, and
+    returns additional lines to print.
     """
     work = Work(Dump, files, output)
     work.more_notes = more_notes

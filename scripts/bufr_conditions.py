@@ -1,14 +1,14 @@
-"""Conditions KEY=VALUE and KEY!=VALUE on lines from `bufr ls`, for bufr-extract, bufr-csv and bufr_text.
+"""Conditions of the form KEY=VALUE or KEY!=VALUE on lines from `bufr ls`, for bufr-extract, bufr-csv and bufr_text.
 
     conditions = bufr_conditions.Conditions(["category=0", "time=2024-01-02"])
     for line in listing:        # a line as bytes
         if conditions.are_met(line):
             ..
-    note = conditions.note()    # how many edition 3 messages were left out, or an empty string
+    note = conditions.note()    # says how many edition 3 messages were left out; empty if none were
 
-KEY is the name of a field. VALUE must equal the whole field, or its beginning up to a separator (/, -, T or :): category=0
-matches 0/2/0, and time=2024-01-02 matches all times on that day. To match any of several values, separate them with commas.
-A line must meet all conditions. An invalid condition raises `ValueError`.
+KEY is the name of a field. VALUE must match the whole field, or the beginning of the field up to a separator (/, -, T or
+:). For example, category=0 matches 0/2/0, and time=2024-01-02 matches any time on that day. To accept several values,
+separate them with commas. A line must meet every condition. An invalid condition raises `ValueError`.
 """
 from __future__ import annotations
 
@@ -25,13 +25,13 @@ TIME = re.compile(r"\d{4,}(-\d{2,}(-\d{2,}(T\d{2,}(:\d{2,}(:\d{2,})?)?)?)?)?").f
 class Conditions:
     """Conditions on a line. `patterns` has a pair for each condition: whether it is negated, and the pattern to search for.
 
-    The patterns work both with grep -E and with `re`. Edition 3 messages contain only a two-digit year, which `bufr ls`
-    prints as 0024, so time=2024 does not match them. Edition 3 messages that are left out for this reason are counted.
+    The patterns work both with grep -E and with `re`. Edition 3 messages contain only a two-digit year: `bufr ls`
+    prints 2024 as 0024, so time=2024 does not match. `left_out` counts the messages that are left out for this reason.
     """
 
     def __init__(self, words: Iterable[str]) -> None:
         self.patterns: List[Tuple[bool, str]] = []
-        # The first condition on `time`, and the years in all such conditions as years of the century.
+        # The first condition on `time` that can leave out edition 3 messages, and the values that would select them.
         self.asked = ""
         self.of_century: List[str] = []
         self.left_out, self.is_told = 0, False
@@ -46,17 +46,17 @@ class Conditions:
             raise ValueError(f"'{word}' is not a condition: expected KEY=VALUE or KEY!=VALUE")
         key, negated, text = found.groups()
         if key not in KEYS:
-            raise ValueError(f"unknown key {key} in '{word}'; the keys are {' '.join(KEYS)}")
+            raise ValueError(f"unknown key '{key}' in '{word}'; the keys are {' '.join(KEYS)}")
         if not re.fullmatch(r"[0-9T:/-]+(,[0-9T:/-]+)*", text):
-            raise ValueError(f"the value in '{word}' cannot match: use only digits, T, colons, slashes and hyphens")
+            raise ValueError(f"the value in '{word}' can never match; use only digits, T, colons, slashes and hyphens")
         values = text.split(",")
         if key == "time" and not all(map(TIME, values)):
-            raise ValueError(f"the value in '{word}' cannot match: write times as in time=2023-03-14T18")
+            raise ValueError(f"the value in '{word}' can never match; write times as in time=2023-03-14T18")
         pattern = f"(^| ){key}=({'|'.join(values)})([ T:/-]|$)"
         if key == "time" and not negated:
             of_century = [f"00{year[2:]}" for year in values if f"00{year[2:4]}" not in {value[:4] for value in values}]
             if of_century:
-                # The pattern also matches edition 3 lines, so that they can be counted before they are left out.
+                # The pattern also matches edition 3 messages, so that they can be counted before they are left out.
                 self.asked = self.asked or word
                 self.of_century += of_century
                 pattern += f"| edition=3 .* time=({'|'.join(of_century)})[ T:-]"
@@ -65,12 +65,12 @@ class Conditions:
     def pattern_of_left_out(self) -> str:
         """Returns a pattern, without capturing groups, for lines that meet the conditions but are left out.
 
-        It never matches if no message can be left out.
+        If no message can be left out, the pattern never matches.
         """
         return f" edition=3 .* time=(?:{'|'.join(self.of_century)})[ T:-]" if self.of_century else "(?!)"
 
     def are_met(self, line: bytes) -> bool:
-        """Returns whether a line meets all conditions. Counts the edition 3 messages that are left out."""
+        """Returns whether a line meets every condition. Counts the edition 3 messages that are left out."""
         line = line.rstrip(b"\n")
         if any(bool(pattern.search(line)) == negated for negated, pattern in self.compiled):
             return False
@@ -79,16 +79,16 @@ class Conditions:
         return not is_left_out
 
     def note(self, so_far: str = "") -> str:
-        """Returns a note on edition 3 messages that were left out, or an empty string if there are none."""
+        """Returns a note that says how many edition 3 messages were left out, or an empty string if none were."""
         if not self.left_out:
             return ""
         messages = "1 message" if self.left_out == 1 else f"{self.left_out} messages"
         both = f"{self.asked},{','.join(self.of_century)}"
-        advice = f"to select messages of both editions, use {both}"
+        advice = f"to select messages in both editions, use {both}"
         return f"left out {messages}{so_far} in edition 3, which has only two-digit years; {advice}"
 
     def new_note(self, so_far: str) -> List[str]:
-        """Returns the note in a list. If there is no note, or this method has returned it before, the list is empty."""
+        """Returns the note in a list, which is empty if there is no note or if the note has already been returned."""
         notes = [self.note(so_far)] * (self.left_out > 0 and not self.is_told)
         self.is_told = self.left_out > 0
         return notes

@@ -1,4 +1,4 @@
-"""Code that the scripts share: error and signal handling, running programs, and output.
+"""Code that the scripts share for handling errors and signals, running programs, and writing output.
 
 A script passes its work to `run`, as a function that takes the command-line arguments and returns the exit status. The
 function raises `Failed` if it cannot continue.
@@ -17,7 +17,7 @@ function raises `Failed` if it cannot continue.
 - `start` and `wait` run a program. A signal that ends the script also ends the program. `checked` raises `Failed` if the
   program crashed.
 - `opened`, `temporary` and `copied` return file descriptors. They raise `Failed` if there is no space for temporary
-  files. `output` returns an object that writes to a descriptor, by default standard output, in large blocks.
+  files. `output` returns an object that writes to a descriptor (by default, standard output) in large blocks.
 - `say` writes lines to standard error, and `Progress` displays a temporary progress line. `bare` returns the note for a
   file that contains no message.
 
@@ -44,12 +44,12 @@ else:
     from _functools import partial
 
 BLOCK = 1 << 20
-# Notes on a feed are printed when the feed pauses for a second, and otherwise at this interval, in seconds.
+# Notes on a feed are printed when the feed pauses for a second, and otherwise at this interval (in seconds).
 INTERVAL = 60
 NOWHERE = float("inf")
 # The processes that were started but have not been waited for.
 RUNNING: list[list[int]] = []
-# Types of file that contain no message, by their first bytes. The text names a program that reads the type, if any.
+# Types of files that contain no messages, by their first bytes, and programs that can read them.
 KINDS_OF_FILES = {
     b"\x1f\x8b": "gzip data (use zcat)",
     b"BZh": "bzip2 data (use bzcat)",
@@ -75,7 +75,7 @@ class Question(Exception):
 
 
 def run(work: Callable[[List[str]], int], text: Optional[str], ends_by_pipe: bool = False) -> NoReturn:
-    """Runs the work of a script on its command-line arguments, and exits. `text` is the script's help text.
+    """Calls `work` with the script's command-line arguments, and exits. `text` is the script's help text.
 
     A signal ends the script and the programs that it runs. If the program that reads the script's output exits, the
     script reports a failed write or, with `ends_by_pipe`, exits silently.
@@ -88,7 +88,7 @@ def run(work: Callable[[List[str]], int], text: Optional[str], ends_by_pipe: boo
         for number in signals:
             if number == signal.SIGPIPE or signal.getsignal(number) != signal.SIG_IGN:
                 signal.signal(number, leave)
-        signal.signal(signal.SIGCHLD, signal.SIG_DFL)  # otherwise, if it is ignored, exit statuses are lost
+        signal.signal(signal.SIGCHLD, signal.SIG_DFL)  # if the signal were ignored, exit statuses would be lost
         status = guarded(work, text or "")
         stop()
     finally:
@@ -96,7 +96,7 @@ def run(work: Callable[[List[str]], int], text: Optional[str], ends_by_pipe: boo
 
 
 def take_descriptors() -> None:
-    """Opens any of descriptors 0 to 2 that are closed, so that no other file is given their numbers.
+    """Opens any of the descriptors 0 to 2 that are closed, so that no other file gets their numbers.
 
     Reading from descriptor 0, or writing to 1 or 2, still fails.
     """
@@ -105,7 +105,7 @@ def take_descriptors() -> None:
             os.fstat(number)
         except OSError:
             os.open(os.devnull, mode)
-    # Python sets these to None, and would then print errors to standard output.
+    # Python sets these to None if their descriptors are closed. It would then print errors to standard output.
     if sys.stdout is None:
         sys.stdout = open(1, "w", closefd=False)
     if sys.stderr is None:
@@ -134,7 +134,7 @@ def guarded(work: Callable[[List[str]], int], text: str) -> int:
 
 
 def end_badly(told: str) -> None:
-    """Flushes the output, and then reports why the script stops. Ignores failures in either step."""
+    """Flushes the output, and then reports why the script stops. Ignores any errors along the way."""
     Progress.clear()
     for file in written():
         try:
@@ -174,7 +174,7 @@ def answer(question: str, text: str) -> int:
 def build() -> str:
     """Returns the commit from which the program was built, and whether the program is proved.
 
-    install.sh records both, and the SHA-256 of the program, in a file next to the documentation.
+    install.sh records both, along with the SHA-256 of the program, in a file next to the documentation.
     """
     import hashlib
     import shutil
@@ -192,7 +192,7 @@ def build() -> str:
 
 
 def reason(error: BaseException) -> str:
-    """Returns the message for an exception. The message for an internal error includes the place in the code."""
+    """Returns the message for an exception. For an internal error, the message says where in the code it occurred."""
     if isinstance(error, Failed):
         return str(error)
     if isinstance(error, ModuleNotFoundError):
@@ -205,7 +205,7 @@ def reason(error: BaseException) -> str:
         is_write = error.errno in (errno.EPIPE, errno.ENOSPC, errno.EFBIG)
         return f"write failed: {error.strerror}" if is_write else error.strerror
     if isinstance(error, RuntimeError) and str(error) == "can't start new thread":
-        return "cannot start a thread; free memory, or raise the limit on processes (ulimit -u)"
+        return "cannot start a thread; free some memory, or raise the limit on processes (ulimit -u)"
     place, where = error.__traceback__, ""
     while place:
         where = f" ({os.path.basename(place.tb_frame.f_code.co_filename)}, line {place.tb_lineno})"
@@ -219,7 +219,7 @@ def name() -> str:
 
 
 def shown(text: str) -> str:
-    r"""Returns a string with \xHH in place of each unprintable byte."""
+    r"""Returns a string in which each unprintable byte is replaced with \xHH."""
     if text.isprintable():
         return text
     hidden = (sign if sign.isprintable() else "".join(f"\\x{octet:02X}" for octet in os.fsencode(sign)) for sign in text)
@@ -277,14 +277,14 @@ def write_all(descriptor: int, octets: Union[bytes, bytearray, memoryview]) -> N
 
 
 def say(lines: bytes) -> None:
-    """Adds lines to the buffer for standard error. The next `flush` prints them, unless the buffer fills up first."""
+    """Adds lines to the buffer for standard error. They are printed by the next `flush`, or when the buffer is full."""
     if lines:
         Progress.clear()
         output(2).write(lines)
 
 
 def bare(file: Optional[str], begin: bytes, piece: str = "message") -> bytes:
-    """Returns a note that a file contains no message or document (`piece`), with the type that the file seems to have."""
+    """Returns a note saying that a file contains no message or document (`piece`), and what it looks like instead."""
     head = begin.lstrip()
     if head[:1] == b"<":
         head = head.lower()
@@ -298,8 +298,8 @@ def bare(file: Optional[str], begin: bytes, piece: str = "message") -> bytes:
 class Progress:
     """A progress line on standard error, if that is a terminal. It is updated at most once a second.
 
-    The next output replaces the line. If text is written to standard output (`has_texts`), and that is also a terminal,
-    there is no progress line, because the text already shows the progress.
+    The next output replaces the line. If the script writes text to standard output (`has_texts`), and that is also a
+    terminal, there is no progress line, because the text already shows the progress.
     """
 
     is_shown: bool = False
@@ -314,7 +314,7 @@ class Progress:
             self.next = time.monotonic() + 1
             total = f" of {self.total / 1e6:.0f}" if self.total else ""
             Progress.is_shown = True
-            # If a program writes a fault line over this line, the fault line is longer and covers it.
+            # If a program writes a fault line over this line, it covers all of it, because fault lines are longer.
             self.put(f"\r\x1b[K{octets / 1e6:.0f}{total} MB\r".encode())
 
     @staticmethod
@@ -335,13 +335,13 @@ class Progress:
 
 
 def program() -> str:
-    """Returns the path of `bufr`: the value of BUFR, or the program next to the script, on PATH or in the repository."""
+    """Returns the path of `bufr`: the value of BUFR, or else the program next to the script, on PATH or in the repository."""
     named = os.environ.get("BUFR")
     if named:
         return named
     here = os.path.dirname(os.path.realpath(__file__))
     beside = os.path.join(os.path.dirname(os.path.realpath(sys.argv[0])), "bufr")
-    # An installed script runs only the program of its own version, even if that program is missing.
+    # An installed script runs only the program that was installed with it, even if that program is now missing.
     if is_program(beside) or beside == os.path.normpath(f"{here}/../../bin/bufr"):
         return beside
     built = os.path.join(here, "../crates/bufr/out/bufr")
@@ -354,7 +354,7 @@ def is_program(path: str) -> bool:
 
 
 def start(words: Sequence[str], given: int = 0, output: int = 1, errors: int = 2) -> int:
-    """Starts a program with these descriptors as standard input, output and error. Returns the process ID."""
+    """Starts a program with these descriptors as standard input, output and error. Returns its process ID."""
     actions = [(os.POSIX_SPAWN_DUP2, source, target) for target, source in enumerate((given, output, errors))]
     spawn = partial(os.posix_spawnp, file_actions=actions, setsigdef=[signal.SIGPIPE])
     process: List[int] = []
@@ -381,7 +381,7 @@ def lines_from(
 ) -> Iterator[bytes]:
     """Yields blocks of whole lines from a pipe and, at the end, the incomplete last line, if any.
 
-    While waiting, displays `place()` as the progress. Calls `report()` after each second without a block, and every minute.
+    While waiting, displays the progress, `place()`. Calls `report()` after each second without a block, and once a minute.
     """
     rest, block, due = b"", b" ", time.monotonic() + INTERVAL
     while block:
@@ -397,7 +397,7 @@ def lines_from(
         block = os.read(pipe, BLOCK)
         lines, end, rest = (rest + block).rpartition(b"\n")
         if len(rest) > BLOCK:
-            raise Failed("a line in the listing is longer than 1 MB, so bufr ls did not print it")
+            raise Failed("a line in the listing is longer than 1 MB, so it cannot have come from 'bufr ls'")
         yield lines + end
     yield rest
 
@@ -433,7 +433,7 @@ def leave(number: int, _frame: Optional[FrameType]) -> None:
 
 
 def opened(file: Optional[str]) -> int:
-    """Returns a descriptor that can be read at any offset: that of a regular file, or of a copy of any other file.
+    """Returns a descriptor that can be read at any offset: that of a regular file, or that of a copy of any other file.
 
     If `file` is None, reads standard input.
     """
@@ -530,7 +530,7 @@ def fault_lines(errors: int) -> Iterator[tuple[float, bytes]]:
         lines.seek(0)
         for line in lines:
             if not line.endswith(b"\n"):
-                return  # the disk was full before the end of the line
+                return  # the disk was full before the whole line was written
             offset = line[7 : line.find(b":")]
             yield (int(offset) if line.startswith(b"offset ") and offset.isdigit() else NOWHERE), line
 
@@ -538,7 +538,7 @@ def fault_lines(errors: int) -> Iterator[tuple[float, bytes]]:
 class Faults:
     """The lines that `bufr` wrote to the file `errors`. Fault lines can be printed between the dumps of messages.
 
-    Lines that do not report faults in messages are printed at the end. If there were any, `has_told` is then true.
+    Lines that do not report faults in messages are printed at the end. `has_told` is then true if there were any.
     """
 
     def __init__(self, errors: int) -> None:
@@ -546,7 +546,7 @@ class Faults:
         self.next = next(self.lines, (NOWHERE, b""))
 
     def tell_before(self, offset: float) -> None:
-        """Prints those of the remaining fault lines whose offsets are less than `offset`."""
+        """Prints the remaining fault lines that report offsets less than `offset`."""
         while self.next[0] < offset:
             say(self.next[1])
             self.next = next(self.lines, (NOWHERE, b""))

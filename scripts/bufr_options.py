@@ -1,4 +1,4 @@
-"""Parses the command line of a script into options and operands.
+"""Parses a script's command line into options and operands.
 
     def work(words):
         asked = bufr_options.Asked(words, flags=["--json"], values={"-c": str, "--max-length": bufr_options.from_12})
@@ -8,7 +8,7 @@
             ..
     bufr_guard.run(work, __doc__)
 
-`-c VALUE` and `-cVALUE` have the same effect, and so do `--name VALUE` and `--name=VALUE`. Options may follow operands.
+`-c VALUE` means the same as `-cVALUE`, and `--name VALUE` the same as `--name=VALUE`. Options may follow operands.
 After `--`, every word is an operand. A function in `values` converts a word to a value, or raises a `ValueError` that
 says what was expected.
 
@@ -77,7 +77,7 @@ class Asked:
         return name in self.given
 
     def all(self, name: str) -> list[Any]:
-        """Returns a list of the values given for an option, in order."""
+        """Returns a list of all values given for an option, in order."""
         return self.given.get(name, [])
 
     def last(self, name: str, default: Any = None) -> Any:
@@ -87,12 +87,12 @@ class Asked:
     def files(self, skipped: int = 0) -> list[Optional[str]]:
         """Returns the operands after the first `skipped` ones as file names.
 
-        Standard input, given as `-` or by leaving out the operands, is returned as None.
+        None stands for standard input, which is given as `-` or by leaving out these operands.
         """
         return [None if file == "-" else file for file in self.operands[skipped:]] or [None]
 
     def conditions(self) -> Optional[Conditions]:
-        """Returns the conditions from --where, or None without --where."""
+        """Returns the conditions given with --where, or None if --where was not given."""
         if not self.has("--where"):
             return None
         import bufr_conditions
@@ -111,7 +111,7 @@ def is_condition(word: str) -> bool:
 
 
 def parts(word: str) -> tuple[str, Optional[str]]:
-    """Splits `--name=VALUE` or `-cVALUE` into the option and its value, which is None if the word contains none."""
+    """Splits `--name=VALUE` or `-cVALUE` into the option and its value, or None if the word contains no value."""
     if word.startswith("--"):
         name, equals, value = word.partition("=")
         return name, value if equals else None
@@ -124,15 +124,15 @@ def misused(why: str) -> bufr_guard.Failed:
 
 
 def number_from(least: int) -> Callable[[str], int]:
-    """Returns a function that converts a word to a whole number of at least `least`, or raises `ValueError`."""
+    """Returns a function that converts a word to a whole number of at least `least`, or raises a `ValueError`."""
 
     def number(word: str) -> int:
         if not (word.isascii() and word.isdigit() and len(word) < 19) or int(word) < least:
-            raise ValueError(f"expected a whole number, at least {least}")
+            raise ValueError(f"expected a whole number of at least {least}")
         return int(word)
 
     return number
 
 
-# For --max-length: a message has at least twelve bytes.
+# For --max-length: the shortest possible message has twelve bytes.
 from_12 = number_from(12)

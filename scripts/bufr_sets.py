@@ -10,19 +10,19 @@ TYPE_CHECKING = False
 if TYPE_CHECKING:
     from typing import Callable, Dict, FrozenSet, Iterator, List, Optional, Tuple
 
-    # Returns the bytes of a message from an offset, up to a given number of bytes.
+    # Takes an offset in a message and a maximum number of bytes. Returns the bytes from that offset.
     Bytes = Callable[[int, int], bytes]
 
 # The approximate maximum number of descriptors in a template.
 LONGEST = 1 << 16
-# The number of sets whose tables are cached.
+# The maximum number of sets whose tables are cached.
 CACHED = 8
 
 
 class TableSet:
-    """A directory with the tables for a WMO version.
+    """A directory with Tables B and D for a version of WMO's tables.
 
-    `own` is the centre and the local version of its local rows, or None if it contains only WMO's rows.
+    `own` gives the centre and the local version of the local rows, or is None if the set contains only WMO's rows.
     """
 
     def __init__(self, folder: str, version: int, own: Optional[Tuple[int, int]]) -> None:
@@ -34,42 +34,33 @@ class TableSet:
         return os.path.join(self.folder, name)
 
     def rows(self, name: str, *columns: str) -> Iterator[List[str]]:
-        """Yields the values of these columns for each row in a table. Skips short rows, because `bufr` reports them."""
-        import csv
-
-        csv.field_size_limit(1 << 30)
-        with open(self.file(name), encoding="utf-8-sig", errors="replace", newline="") as file:
-            rows = csv.reader(line.replace("\0", "?") for line in file)
-            header: List[str] = next(rows, [])
-            if set(columns) <= set(header):
-                places = [header.index(column) for column in columns]
-                for row in rows:
-                    if len(row) > max(places):
-                        yield [row[place] for place in places]
+        return rows_of(self.file(name), *columns)
 
     def names(self) -> Dict[str, Tuple[str, str]]:
         """Returns a dictionary with the name and the unit of each element."""
         return {fxy: (name, unit) for fxy, name, unit in self.rows("B.csv", "fxy", "name", "unit")}
 
     def has(self, fxy: str) -> bool:
-        """Returns whether the set contains an element or a sequence."""
-        if self.elements is None:
-            self.elements = frozenset(fxy for [fxy] in self.rows("B.csv", "fxy"))
+        """Returns whether the set contains this element or sequence."""
+        elements = self.elements  # another thread may drop the cached tables
+        if elements is None:
+            elements = self.elements = frozenset(fxy for [fxy] in self.rows("B.csv", "fxy"))
             self.cached()
-        return fxy in self.elements or fxy in self.members()
+        return fxy in elements or fxy in self.members()
 
     def members(self) -> Dict[str, Tuple[str, ...]]:
         """Returns a dictionary with the members of each sequence."""
-        if self.sequences is None:
+        sequences = self.sequences
+        if sequences is None:
             found: Dict[str, List[str]] = {}
             for fxy, member in self.rows("D.csv", "fxy", "member"):
                 found.setdefault(fxy, []).append(member)
-            self.sequences = {fxy: tuple(members) for fxy, members in found.items()}
+            sequences = self.sequences = {fxy: tuple(members) for fxy, members in found.items()}
             self.cached()
-        return self.sequences
+        return sequences
 
     def cached(self) -> None:
-        """Records that the set is cached. If too many sets are cached, drops the tables of the oldest one."""
+        """Records that the set is cached. If there are now too many cached sets, drops the tables of the oldest one."""
         if self not in cache:
             cache.append(self)
         if len(cache) > CACHED:
@@ -97,10 +88,25 @@ class TableSet:
 cache: List[TableSet] = []
 
 
+def rows_of(file: str, *columns: str) -> Iterator[List[str]]:
+    """Yields the values in these columns for each row of a table. Skips rows that are too short: `bufr` reports them."""
+    import csv
+
+    csv.field_size_limit(1 << 30)
+    with open(file, encoding="utf-8-sig", errors="replace", newline="") as lines:
+        rows = csv.reader(line.replace("\0", "?") for line in lines)
+        header: List[str] = next(rows, [])
+        if set(columns) <= set(header):
+            places = [header.index(column) for column in columns]
+            for row in rows:
+                if len(row) > max(places):
+                    yield [row[place] for place in places]
+
+
 class TableSets:
     """All table sets in a directory, such as `wmo-13`, or `wmo-13+98-102` with local rows (centre 98, local version 102).
 
-    A set that lacks one of its tables is ignored, and `notes` contains a line about it.
+    A set that lacks one of its tables is ignored, and a line in `notes` says so.
     """
 
     def __init__(self) -> None:
@@ -120,7 +126,7 @@ class TableSets:
                 else:
                     self.sets.setdefault(key, {})[tables.version] = tables
         if None not in self.sets:
-            raise bufr_guard.Failed("; ".join([f"{self.folder} contains no table set such as wmo-39", *self.notes]))
+            raise bufr_guard.Failed("; ".join([f"{self.folder} contains no table sets, such as wmo-39", *self.notes]))
 
     def latest(self) -> TableSet:
         """Returns the latest set without local rows."""
@@ -129,7 +135,7 @@ class TableSets:
     def asked(self, centre: int, version: int, local: int) -> TableSet:
         """Returns the set for a centre, a version and a local version.
 
-        This is WMO's set for the version or, if there is none, the set for the next later version or else the latest set.
+        This is WMO's set for the version; if there is none, it is the set for the next later version, or else the latest.
         A set with the centre's local rows takes precedence if its version lies between `version` and that of WMO's set.
         """
         of_wmo = self.sets[None]
@@ -160,7 +166,7 @@ def folder_of_sets() -> str:
 
 
 def words_of(message: Bytes) -> bytes:
-    """Returns the descriptors in section 3 of a message, two bytes each, but at most as many as a template can have."""
+    """Returns the descriptors in section 3 of a message (two bytes each), but no more than a template can have."""
     begin = message(0, 26)
     at, flags = 8, begin[17 if begin[7:8] == b"\4" else 15 :][:1]
     for _ in range(2 if flags >= b"\x80" else 1):
@@ -179,7 +185,7 @@ def descriptors(words: bytes) -> Tuple[str, ...]:
 
 WREPORT = "/usr/share/wreport"
 ECCODES = "/usr/share/eccodes/definitions"
-# The tables that these Debian packages contain: (version, centre, local version), or (centre, local version).
+# The local tables in these Debian packages: (version, centre, local version) for wreport, (centre, local version) for ecCodes.
 WREPORT_HAS = {(14, 85, 0), (14, 85, 1), (13, 98, 1), (13, 98, 102), (16, 98, 1), (19, 254, 1)}
 ECCODES_HAS = {(39, 1), *((78, local) for local in range(1, 9)), (98, 1), (98, 2), (98, 3), (98, 4), (98, 101), (254, 1)}
 
@@ -187,12 +193,12 @@ NEWER = "get newer tables from WMO (wmo-im/BUFR4 on GitHub), and convert them wi
 
 
 def is_local(fxy: str) -> bool:
-    """Returns whether a descriptor is local, which means that each centre defines it for itself."""
+    """Returns whether a descriptor is local, that is, whether each centre defines it for itself."""
     return int(fxy[1:3]) >= 48 or int(fxy[3:]) >= 192
 
 
 def advice(tables: TableSet, centre: int, version: int, local: int) -> str:
-    """Returns advice on how to get a set with a centre's local rows: run a command, or ask the centre for its tables."""
+    """Returns advice on how to get a set with a centre's local rows: a command to run, or whom to ask for the tables."""
     folders = [*os.environ.get("ECCODES_DEFINITION_PATH", "").split(":"), ECCODES]
     of_eccodes = [f"{folder}/bufr/tables/0/local/{local}/{centre}/0" for folder in folders]
     of_wreport = f"{WREPORT}/B00000000{centre:05}{version:03}{local:03}.txt"
@@ -214,12 +220,12 @@ def advice(tables: TableSet, centre: int, version: int, local: int) -> str:
 
 
 def lookup(centre: int) -> str:
-    """Returns a remark, in parentheses, on how to find the name of a centre with this number."""
+    """Returns a remark, in parentheses, on how to find the name of the centre with this number."""
     return f"(to find the centre's name, look up {centre} in WMO's Common Code Table C-11)"
 
 
 def command(tables: TableSet, centre: int, local: int, *sources: str) -> str:
-    """Returns the command that makes, from these sources, a table set with a centre's local rows."""
+    """Returns the command that makes a table set with a centre's local rows from these sources."""
     import shlex
 
     out = os.path.join(os.path.dirname(tables.folder), own_name(tables, centre, local))

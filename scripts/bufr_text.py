@@ -1,4 +1,4 @@
-"""Runs `bufr` from Python, and reads and writes the output of `bufr dump`. Needs only the standard library.
+"""Runs `bufr` from Python, and reads and writes dumps. Needs only the standard library.
 
     import bufr_text
     for row in bufr_text.rows("synop.bufr", ["001015", "012101"], ["year"], where=["category=0"]):
@@ -8,13 +8,13 @@
             air = bufr_text.find(subset, "012101")
             print(message.offset, air.value, air.unit)
 
-`rows` and `levels` yield the rows of a table as tuples. `dump` yields messages, `listing` yields their places and headers,
-and `encode` converts messages to BUFR. These functions run `bufr`. `read` and `write` convert between dumps and messages
-without running it.
+`rows` and `levels` yield the rows of a table as tuples. `dump` yields messages, `listing` yields the place and the header
+of each message, and `encode` converts messages to BUFR. All of these run `bufr`. `read` and `write` convert between dumps
+and messages without running it.
 
-Messages are read one at a time, so memory use depends on the longest message in a file, not on the length of the file.
-It is 48 MB including Python, plus 1 KB for each item in that message, plus twice the length of its dump. The list of faults
-and the result of `encode` need additional memory.
+Messages are read one at a time, so memory use depends on the longest message in a file, not on the length of the file:
+48 MB including Python, plus 1 KB for each item in that message, plus twice the length of its dump. The list of faults and
+the result of `encode` need additional memory.
 """
 from __future__ import annotations
 
@@ -30,7 +30,8 @@ import tempfile
 import warnings
 from dataclasses import dataclass, field, replace
 from decimal import Decimal
-from typing import IO, Dict, Iterable, Iterator, List, NamedTuple, Optional, Sequence, Tuple, Union
+from typing import IO, Any, Container, Dict, Iterable, Iterator, List, NamedTuple, Optional, Sequence, Tuple
+from typing import TypeVar, Union
 
 TYPE_CHECKING = False
 if TYPE_CHECKING:
@@ -46,6 +47,7 @@ Value = Union[Decimal, bytes, None]
 #: A value in a row: an integer, another number, a string, or `None`.
 Cell = Union[int, float, str, None]
 _Path = Union[str, "os.PathLike[str]"]
+_Word = TypeVar("_Word")
 
 #: The header keys of a message, in the order of their lines. `optional` and `subsets` are derived from the message.
 HEADER = (
@@ -53,7 +55,7 @@ HEADER = (
     "year month day hour minute second observed compressed"
 ).split()
 
-# The bytes between two quotes: plain bytes and escapes.
+# The contents of a quoted string: plain bytes and escapes.
 _QUOTED = rb'[ !#-\[\]-~]*(?:\\(?:["\\]|x[0-9A-F]{2})[ !#-\[\]-~]*)*'
 _FXY = rb"[0-3](?:[0-5]\d|6[0-3])(?:[01]\d\d|2[0-4]\d|25[0-5])"
 _COLUMN = re.compile(_FXY.decode() + r"(?::[1-9]\d*)?")
@@ -71,7 +73,7 @@ _NOTE = re.compile(rb"bufr-auto: (\d+) messages?(?: so far)?,(?: the first)? at 
 _UNPRINTED = re.compile(rb'["\\]|[^ -~]')
 
 
-# Patterns of invalid lines, and their likely causes. The cause of the first matching pattern is reported.
+# Patterns that match invalid lines, and the likely causes. The first pattern that matches determines the cause.
 _CAUSES = [
     (re.compile(pattern, re.DOTALL), cause)
     for pattern, cause in [
@@ -81,7 +83,7 @@ _CAUSES = [
         (rb">.*", "a > from a quoted email"),
         (rb"[^\"#]*\t.*", "a tab instead of a space"),
         (rb" .*", "a space at the beginning"),
-        (rb"message", "message; the previous document has no end line"),
+        (rb"message", "'message'; the previous document has no 'end' line"),
         (rb"(?:R )?\d{1,5} .*", "a descriptor of fewer than six digits"),
         (rb"[^\"#]*\S  +[^ #].*", "two spaces instead of one"),
         (rb"[^\"#]*[^\"# ]#.*|[^\"]*\".*\"#.*", "no space before #"),
@@ -89,7 +91,7 @@ _CAUSES = [
         (rb"[^\"#]* -?[\d.]+[Ee].*", "an exponent in a number"),
         (rb"[^\"#]* -?\d*,.*", "a decimal comma"),
         (rb"[^\"#]* -?(?:[Nn][Aa][Nn]|[Ii]nf)\b.*", "a value that is not a number; write MISSING for a missing value"),
-        (rb"[^\"#]* (?!MISSING)(?i:missing)\b.*", "MISSING in lower case"),
+        (rb"[^\"#]* (?!MISSING)(?i:missing)\b.*", "MISSING that is not in capitals"),
         (rb"[^\"#]* -?(?:\d+\.|\.\d+)(?: .*)?", "a decimal point without a digit on each side"),
         (rb"\d{6} ?", "no value; write MISSING for a missing value"),
         (rb".* ", "a space at the end"),
@@ -103,7 +105,7 @@ _CAUSES = [
 
 
 class TextError(ValueError):
-    """Reports an invalid line in a dump, what was expected, and the likely cause.
+    """Reports an invalid line in a dump: its number, what was expected, and the likely cause.
 
     `line` is the number of the line, counted from 1.
     """
@@ -131,8 +133,20 @@ class RunError(RuntimeError):
         return str(self.args[1])
 
 
+class BufrError(RuntimeError):
+    """Reports a refused message, a stray or an invalid table. Only the module `bufr` raises it."""
+
+
 class DumpWarning(UserWarning):
-    """Warns about a file without messages, messages that were refused or left out, or ambiguous levels."""
+    """Warns that a file has no messages, that messages were refused or left out, or that levels are ambiguous."""
+
+
+def warn(text: str) -> None:
+    """Issues a `DumpWarning` for the line that called this module or the module `bufr`."""
+    level, frame = 2, sys._getframe(1)
+    while frame.f_globals["__name__"] in ("bufr", "bufr_parts", "bufr_text") and frame.f_back:
+        level, frame = level + 1, frame.f_back
+    warnings.warn(text, DumpWarning, stacklevel=level)
 
 
 class Fault(NamedTuple):
@@ -147,7 +161,7 @@ class Fault(NamedTuple):
 
 
 class Listed(NamedTuple):
-    """A line from `bufr ls`: the offset of a message in the file, its length, and its header values (see `HEADER`).
+    """A line from `bufr ls`: a message's offset in the file, its length, and its header values (see `HEADER`).
 
     `descriptors` is the number of descriptors in section 3.
     """
@@ -179,7 +193,7 @@ class Listed(NamedTuple):
 
 @dataclass
 class Item:
-    """An item in a subset: its descriptor as six digits, its value, and its name and unit from Table B.
+    """An item in a subset: its six-digit descriptor, its value, and its name and unit from Table B.
 
     The name and the unit are `None` if the item was read without a row in Table B. `reference` is true if the item is a
     new reference value that is defined in the data (a line that begins with `R`).
@@ -197,8 +211,8 @@ class Message:
     """A message: its header (a number for each key in `HEADER`), its descriptors, and its subsets.
 
     `local1` contains the local-use bytes of section 1. `section2` contains the bytes of section 2, or is `None` if there
-    is no section 2. Each subset is a list of items. `offset` and `length` give the place of the message in the file if
-    `dump` read the message, and are `None` otherwise.
+    is no section 2. Each subset is a list of items. If `dump` read the message, `offset` and `length` give its place in
+    the file; otherwise, they are `None`.
     """
 
     header: Dict[str, int]
@@ -211,7 +225,7 @@ class Message:
 
 
 class _Lines:
-    """The lines of a dump, without empty lines and comments. `line` is the current line, and `number` is its number."""
+    """The lines of a dump, without empty lines and comments. `number` is the number of the current line, `line`."""
 
     def __init__(self, stream: Iterable[bytes]) -> None:
         self.rest = iter(stream)
@@ -238,32 +252,32 @@ class _Lines:
         return line
 
     def refused(self, expected: str) -> TextError:
-        """Returns the error for the current line: what was expected, and the likely cause, if it is known."""
+        """Returns the error for the current line, which names what was expected and, if known, the likely cause."""
         if self.line is None:
             return TextError(self.number, expected, "the end of the input")
         cause = next((cause for pattern, cause in _CAUSES if pattern.fullmatch(self.line)), "")
         return TextError(self.number, expected, cause)
 
     def count(self, key: str) -> int:
-        """Returns the number in the next line, after the key. Raises `TextError` if it has more than five digits."""
+        """Returns the number after the key in the next line. Raises `TextError` if the number has more than five digits."""
         found = re.fullmatch(key.encode() + rb" 0*(\d{1,5})", self.inside(key))
         if not found:
-            raise self.refused(f"{key} and a number")
+            raise self.refused(f"'{key}' and a number")
         return int(found[1])
 
 
 def read(stream: Iterable[bytes]) -> Iterator[Message]:
-    """Yields the messages in a dump. `stream` yields its lines as bytes, like a file opened in mode "rb".
+    """Yields the messages in a dump. `stream` yields the lines of the dump as bytes, like a file opened in mode "rb".
 
-    Raises `TextError` at the first invalid line. `read` does not check the ranges of header values, or whether the items
-    match the descriptors; `bufr encode` does. A number such as `1.` raises `TextError` here, and is fault 52 in
+    Raises `TextError` at the first invalid line. `read` does not check whether header values are in range or whether the
+    items match the descriptors; `bufr encode` does. A number such as `1.` raises `TextError` here, but is fault 52 in
     `bufr encode`.
     """
     lines = _Lines(stream)
     line = lines.take()
     while line is not None:
         if line != b"message":
-            raise lines.refused("message")
+            raise lines.refused("'message'")
         yield _read_message(lines)
         line = lines.take()
 
@@ -272,36 +286,36 @@ def _read_message(lines: _Lines) -> Message:
     header = {key: lines.count(key) for key in HEADER}
     optional = lines.count("optional")
     if optional > 1:
-        raise lines.refused("optional 0 or 1")
+        raise lines.refused("'optional 0' or 'optional 1'")
     subsets = lines.count("subsets")
     local_use = {word: bytearray() for word in (b"local1", b"section2")[: 1 + optional]}
-    line = lines.inside("descriptors")
+    line = lines.inside("'descriptors'")
     for word, octets in local_use.items():
         while line.startswith(word + b" "):
             digits = line[len(word) + 1 :]
             if not _HEX.fullmatch(digits):
                 raise lines.refused("hexadecimal digits for 1 to 32 bytes")
             octets += bytes.fromhex(digits.decode())
-            line = lines.inside("descriptors")
+            line = lines.inside("'descriptors'")
     section2 = bytes(local_use[b"section2"]) if optional else None
     message = Message(header, [], [], bytes(local_use[b"local1"]), section2)
     while line.startswith(b"descriptors "):
         if not _DESCRIPTORS.fullmatch(line):
             raise lines.refused("one to eight descriptors of six digits")
         message.descriptors += line.decode().split()[1:]
-        line = lines.inside("subset or end")
+        line = lines.inside("'subset' or 'end'")
     while len(message.subsets) < subsets:
         number = re.fullmatch(rb"subset 0*(\d{1,5})", line)
         if not number or int(number[1]) != len(message.subsets) + 1:
-            raise lines.refused(f"subset {len(message.subsets) + 1}")
+            raise lines.refused(f"'subset {len(message.subsets) + 1}'")
         items: List[Item] = []
         message.subsets.append(items)
-        line = lines.inside("an item, subset or end")
+        line = lines.inside("an item, 'subset' or 'end'")
         while line != b"end" and not line.startswith(b"subset "):
             items.append(_read_item(lines, line))
-            line = lines.inside("an item, subset or end")
+            line = lines.inside("an item, 'subset' or 'end'")
     if line != b"end":
-        raise lines.refused("end")
+        raise lines.refused("'end'")
     return message
 
 
@@ -323,7 +337,7 @@ def _read_item(lines: _Lines, line: bytes) -> Item:
 def write(messages: Iterable[Message], stream: IO[bytes]) -> None:
     """Writes messages as a dump. `read` followed by `write` reproduces the output of `bufr dump` exactly.
 
-    `write` numbers the subsets, so you can add and remove subsets. Raises `TypeError` for a value that is not a `Decimal`,
+    `write` numbers the subsets itself, so you can add or remove some. Raises `TypeError` for a value that is not a `Decimal`,
     bytes or `None` (a `float` is not an exact decimal), and `ValueError` for a `Decimal` that is not a number.
     """
     for message in messages:
@@ -373,7 +387,7 @@ def _escaped(found: re.Match[bytes]) -> bytes:
 def find(subset: List[Item], fxy: str, count: int = 1) -> Optional[Item]:
     """Returns the `count`-th item with this descriptor in a subset, or `None` if there are fewer.
 
-    New reference values that are defined in the data are not counted.
+    New reference values (items whose `reference` is true) are not counted.
     """
     for item in subset:
         if item.fxy == fxy and not item.reference:
@@ -395,16 +409,20 @@ def rows(
     The tuples can be passed to `csv.writer` or a DataFrame.
 
     `messages` is the name of a file, or messages from `dump` or `read`. For a file, `faults` and `where` have the same
-    meaning as for `dump`. A column is a descriptor such as `"012101"`, or `"012101:2"` for the second such item in the
-    subset. `header` can contain keys from `HEADER`, `"optional"`, `"subsets"`, `"offset"` and `"length"`, and
-    `"message"` and `"subset"` for the numbers of the message and the subset, counted from 1.
+    meaning as for `dump`. A column is a descriptor such as `"012101"`, or `"012101:2"` for the second item with that
+    descriptor in the subset. `header` can contain keys from `HEADER`, `"optional"`, `"subsets"`, `"offset"`, `"length"`,
+    and `"message"` and `"subset"` for the numbers of the message and the subset (counted from 1).
 
     A number is an `int` if its scale allows no decimal places, and otherwise the nearest `float`. A string contains the
-    same escapes as in a dump, but no trailing spaces. A value is `None` if it is missing or the subset has no such item.
-    Raises `ValueError` for a word that is not a column. If Table B contains names with this word, the error lists the
-    descriptors of those elements.
+    same escapes as in a dump, but no trailing spaces. A value is `None` if it is missing or if the subset does not contain
+    the item. Raises `ValueError` for a word that is not a column. If the word occurs in the names of elements in Table B,
+    the error lists their descriptors.
     """
-    _check([*columns], _COLUMN, header)
+    check(columns, has_counts=True)
+    check_header(header)
+    found = _by_library("rows", messages, faults, where, columns, header)
+    if found is not None:
+        return found
     asked = [(word[:6], int(word[7:] or 1)) for word in columns]
     return (
         (*before, *(_cell(find(subset, fxy, count)) for fxy, count in asked))
@@ -422,27 +440,74 @@ def levels(
 ) -> Iterator[Tuple[Cell, ...]]:
     """Yields a tuple for each level of a sounding: header values, then the values for `keep`, then column values.
 
-    A level is one repetition (pass) of a delayed replication. It has a tuple if it contains the descriptor of the first
-    column and, if there are several columns, the descriptor of at least one other column. Each column selects the first
-    item with that descriptor in the level, and each descriptor in `keep` selects the first one in the whole subset. In all
+    A level is one repetition (pass) of a delayed replication. It has a tuple only if it contains the descriptor of the
+    first column and, if there are other columns, at least one of their descriptors. Each column selects the first item
+    with that descriptor in the level, and each descriptor in `keep` selects the first one in the whole subset. In all
     other respects, `levels` works like `rows`.
 
-    A subset is skipped if its levels are ambiguous because the descriptor that begins a level occurs in it again. A
+    A subset is skipped if its levels are ambiguous because the descriptor that begins a level occurs again in it. A
     `DumpWarning` at the end says how many subsets were skipped.
     """
-    _check([*columns, *keep], re.compile(_FXY.decode()), header)
+    check(columns, has_counts=False)
+    check(keep, has_counts=False)
+    check_header(header)
+    found = _by_library("levels", messages, faults, where, columns, header, keep)
+    if found is not None:
+        return found
     messages = _messages(messages, faults, where)
     return _levels(_subsets(messages, [*header, "message", "subset"]), columns, keep)
 
 
-def _check(columns: List[str], form: re.Pattern[str], header: Sequence[str]) -> None:
+def _by_library(
+    call: str, file: Any, faults: Optional[List[Fault]], where: Sequence[str], *words: Sequence[str]
+) -> Optional[Iterator[Tuple[Cell, ...]]]:
+    """Returns the rows from the module `bufr`, which reads files faster.
+
+    Returns `None` if the module is not available, or if the user wants to run another `bufr`.
+    """
+    if not isinstance(file, (str, os.PathLike)) or os.environ.get("BUFR"):
+        return None
+    try:
+        import bufr
+    except ImportError:
+        return None
+    told = _Told(file, faults)
+    try:
+        return _reported(told, getattr(bufr, call)(file, *words, where=where, faults=told))
+    except BufrError as error:
+        raise RunError(2, str(error)) from None
+
+
+def _reported(told: _Told, found: Iterator[Tuple[Cell, ...]]) -> Iterator[Tuple[Cell, ...]]:
+    """Yields rows, and reports the faults as `dump` does."""
+    try:
+        yield from found
+    except BufrError as error:
+        raise RunError(2, str(error)) from None
+    told.warn()
+
+
+def check(columns: Sequence[str], has_counts: bool) -> None:
+    """Raises `ValueError` if a column is not a descriptor, which may have a count."""
+    form = _COLUMN if has_counts else re.compile(_FXY.decode())
+    _check_list(columns)
     for word in columns:
-        if not form.fullmatch(word):
-            raise ValueError(f"expected a descriptor such as 012101, found '{word}'{_named(word)}")
-    keys = (*HEADER, "optional", "subsets", "offset", "length", "message", "subset")
+        if not form.fullmatch(str(word)):
+            raise ValueError(f"expected a descriptor such as 012101, found '{word}'{_named(str(word))}")
+
+
+def check_header(header: Sequence[str], more: Sequence[str] = ()) -> None:
+    """Raises `ValueError` if a header key does not exist. `more` contains additional keys."""
+    keys = (*HEADER, "optional", "subsets", "offset", "length", "message", "subset", *more)
+    _check_list(header)
     for word in header:
         if word not in keys:
             raise ValueError(f"the header has no key '{word}'; the keys are {', '.join(keys)}")
+
+
+def _check_list(words: Sequence[str]) -> None:
+    if isinstance(words, str):
+        raise ValueError(f"expected a list such as ['{words}'], found the string '{words}'")
 
 
 def _named(word: str) -> str:
@@ -469,7 +534,7 @@ def _messages(
     if isinstance(messages, (str, os.PathLike)):
         return dump(messages, faults=faults, where=where)
     if faults is not None or where:
-        raise TypeError("faults= and where= need a file name; if you pass messages, give these arguments to dump() instead")
+        raise TypeError("faults= and where= can be used only with a file name; for messages, pass them to dump() instead")
     return messages
 
 
@@ -487,72 +552,106 @@ def _cell(item: Optional[Item]) -> Cell:
     if item is None or item.value is None:
         return None
     if isinstance(item.value, bytes):
-        return _UNPRINTED.sub(_escaped, item.value.rstrip(b" ")).decode()
+        return text_cell(item.value)
     # not str, which writes 0.0000003 as 3E-7
     return float(item.value) if "." in format(item.value, "f") else int(item.value)
+
+
+def text_cell(octets: bytes) -> str:
+    """Returns the cell for a string: with the escapes of a dump, and without trailing spaces."""
+    return _UNPRINTED.sub(_escaped, octets.rstrip(b" ")).decode()
 
 
 def _levels(
     subsets: Iterable[Tuple[List[Cell], List[Item]]], columns: Sequence[str], keep: Sequence[str]
 ) -> Iterator[Tuple[Cell, ...]]:
-    unclear, first = 0, ""
+    skipped = Skipped()
     for (*header, message, count), subset in subsets:
         try:
-            passes = _passes(subset)
-        except ValueError as twice:
-            where = f"message {message} subset {count} ({twice} begins a level and occurs in it again)"
-            unclear, first = unclear + 1, first or where
+            found_passes = _passes(subset)
+        except Ambiguous as twice:
+            skipped.add(message, count, twice)
             continue
         kept = [_cell(find(subset, fxy)) for fxy in keep]
-        for one in passes:
+        for one in found_passes:
             found = [find(one, fxy) for fxy in columns]
             if found[0] and (len(found) == 1 or any(found[1:])):
                 yield (*header, *kept, *map(_cell, found))
-    if unclear:
-        what = "with ambiguous levels"
-        skipped = f"a subset {what}:" if unclear == 1 else f"{unclear} subsets {what}; the first is"
-        warnings.warn(f"skipped {skipped} {first}", DumpWarning, stacklevel=2)
+    skipped.warn()
 
 
 def _passes(subset: List[Item]) -> List[List[Item]]:
-    """Returns the items in each pass of each delayed replication. Raises `ValueError` if the passes are ambiguous.
+    """Returns the items in each pass of each delayed replication. Raises `Ambiguous` if the passes are ambiguous."""
+    items = [item for item in subset if not item.reference]
+    counts = [int(item.value) if item.fxy in FACTORS and isinstance(item.value, Decimal) else 0 for item in items]
+    return [items[begin:end] for begin, end in passes([item.fxy for item in items], counts, FACTORS)]
 
-    `left` passes of the replication have not begun. Each pass begins with the descriptor `opener`. `one` is the current
-    pass. So far, it has `items` items and `inner` factors; the previous pass had `pass_items` and `pass_inner`.
+
+class Skipped:
+    """The subsets that were skipped because their levels are ambiguous: how many there are, and which one is the first."""
+
+    def __init__(self) -> None:
+        self.count, self.first = 0, ""
+
+    def add(self, message: Cell, subset: Cell, fxy: object) -> None:
+        self.count += 1
+        self.first = self.first or f"message {message} subset {subset} ({fxy} begins a level and occurs in it again)"
+
+    def warn(self) -> None:
+        if self.count:
+            what = "with ambiguous levels"
+            skipped = f"a subset {what}:" if self.count == 1 else f"{self.count} subsets {what}; the first is"
+            warn(f"skipped {skipped} {self.first}")
+
+
+class Ambiguous(ValueError):
+    """The levels of a subset are ambiguous, because a descriptor that begins a level occurs in the level again."""
+
+
+#: The descriptors of the factors of delayed replications.
+FACTORS = ("031000", "031001", "031002")
+
+
+def passes(words: Sequence[_Word], counts: Sequence[int], factors: Container[_Word]) -> List[Tuple[int, int]]:
+    """Returns where each pass of each delayed replication begins and ends, as indices of items.
+
+    `words` contains the descriptor of each item, without new reference values. `counts` contains the value of each factor,
+    at the index of the factor. Raises `Ambiguous` if the passes are ambiguous.
+
+    `left` passes of the replication have not begun. Each pass begins with the descriptor `opener`. The current pass begins
+    at `begin`, which is -1 outside a pass, and has `inner` factors so far. The previous one had `pass_items` items and
+    `pass_inner` factors.
     """
-    passes: List[List[Item]] = []
-    one: Optional[List[Item]] = None
-    left = opened = items = inner = pass_items = pass_inner = 0
-    opener = ""
-    for item in subset:
-        if item.reference:
-            continue
-        if left and opener in ("", item.fxy):
-            if opened > 1 and not pass_inner and items != pass_items:
-                raise ValueError(opener)
-            one, opener, opened, left = [], item.fxy, opened + 1, left - 1
-            passes.append(one)
-            pass_items, pass_inner, items, inner = items, inner, 0, 0
-        elif one is not None and not left and opened > 1 and not pass_inner:
-            if items == pass_items:
-                one = None
-            elif item.fxy == opener:
-                raise ValueError(opener)
-        if item.fxy in ("031000", "031001", "031002"):
-            if one is not None and (left or inner < pass_inner):
+    found: List[Tuple[int, int]] = []
+    left = opened = inner = pass_items = pass_inner = 0
+    begin = -1
+    opener: Optional[_Word] = None
+    for at, fxy in enumerate(words):
+        if left and opener in (None, fxy):
+            if begin >= 0:
+                found.append((begin, at))
+            if opened > 1 and not pass_inner and at - begin != pass_items:
+                raise Ambiguous(fxy)
+            pass_items, pass_inner = at - begin, inner
+            begin, opener, opened, left, inner = at, fxy, opened + 1, left - 1, 0
+        elif begin >= 0 and not left and opened > 1 and not pass_inner:
+            if at - begin == pass_items:
+                found.append((begin, at))
+                begin = -1
+            elif fxy == opener:
+                raise Ambiguous(fxy)
+        if fxy in factors:
+            if begin >= 0 and (left or inner < pass_inner):
                 inner += 1
             else:
-                one, opener, opened, inner = None, "", 0, 0
-                left = int(item.value) if isinstance(item.value, Decimal) else 0
-                continue
-        items += 1
-        if one is not None:
-            one.append(item)
-    return passes
+                if begin >= 0:
+                    found.append((begin, at))
+                begin, opener, opened, inner, left = -1, None, 0, 0, counts[at]
+    return found if begin < 0 else [*found, (begin, len(words))]
 
 
 def listing(file: _Path, faults: Optional[List[Fault]] = None) -> Iterator[Listed]:
-    """Yields a `Listed` for each line that `bufr ls` prints. Reports faults and raises exceptions as `dump` does."""
+    """Yields a `Listed` for each line that `bufr ls` prints. Reports faults and raises exceptions like `dump`."""
     told = _Told(file, faults)
     with _opened(file) as stream, tempfile.TemporaryFile() as errors:
         for place in _listed(stream, errors, told):
@@ -586,13 +685,13 @@ def dump(
     """Yields the messages in a file. Runs `bufr dump` with these two tables, or `bufr-auto` if you pass no tables.
 
     `where` is a list of conditions `KEY=VALUE` or `KEY!=VALUE`, as for bufr-extract: `["category=0", "centre!=98"]`. Only
-    messages that meet all conditions are dumped. Instead of `where`, you can pass results of `listing` as `places`.
+    messages that meet every condition are dumped. Instead of `where`, you can pass results of `listing` as `places`.
 
     Faults are appended to the list `faults`, in order: when you get a message, the list contains all earlier faults.
-    Without a list, faults are printed to `sys.stderr`, and a `DumpWarning` at the end counts them. There is also a
-    `DumpWarning` for each note from `bufr-auto`, and for a file without messages.
+    Without a list, faults are printed to `sys.stderr`, and a `DumpWarning` at the end says how many there were. There is
+    also a `DumpWarning` for each note from `bufr-auto`, and for a file without messages.
 
-    `dump` first lists the file, and then reads its messages. If the file is a pipe, `dump` copies it to a temporary file.
+    `dump` lists the file before it reads any messages. If the file is a pipe, `dump` first copies it to a temporary file.
     Raises `ValueError` for an invalid condition, `RunError` if a program exits with a status over 1, and `OSError` if a
     file cannot be read. To use a different `bufr`, set the environment variable `BUFR` to its path.
     """
@@ -609,7 +708,7 @@ def dump(
 
 def _dumped(words: List[str], told: _Told, places: Optional[Iterable[Listed]]) -> Iterator[Message]:
     with _opened(told.file) as stream, tempfile.TemporaryFile() as errors:
-        # which messages were refused is known only after the run of a part
+        # a part must be dumped first, because only then is it known which of its messages are refused
         for part in parts(_listed(stream, errors, told) if places is None else places):
             with tempfile.TemporaryFile() as octets, tempfile.TemporaryFile() as text:
                 for place in part:
@@ -621,7 +720,7 @@ def _dumped(words: List[str], told: _Told, places: Optional[Iterable[Listed]]) -
                 for place in part:
                     told.up_to(place.offset)
                     if place.offset in refused:
-                        told.tell(refused[place.offset])
+                        told.append(refused[place.offset])
                         continue
                     message = next(messages, None)
                     if message is None:
@@ -632,7 +731,7 @@ def _dumped(words: List[str], told: _Told, places: Optional[Iterable[Listed]]) -
 
 
 class _Told:
-    """Reports the faults in a file and the strays between its messages, in order, and then the notes."""
+    """Reports the faults and strays in a file, in order, and then the notes."""
 
     def __init__(self, file: _Path, faults: Optional[List[Fault]]) -> None:
         self.file, self.faults, self.count, self.is_bare = file, faults, 0, False
@@ -642,7 +741,7 @@ class _Told:
         self.notes: Dict[bytes, List[int]] = {}
         self.conditions: Optional[Conditions] = None
 
-    def tell(self, fault: Fault) -> None:
+    def append(self, fault: Fault) -> None:
         self.count += 1
         self.first = self.first or fault
         if self.faults is not None:
@@ -653,11 +752,11 @@ class _Told:
     def up_to(self, offset: float) -> None:
         """Reports the strays before this offset."""
         while self.stray and self.stray.offset < offset:
-            self.tell(self.stray)
+            self.append(self.stray)
             self.stray = next(self.strays, None)
 
     def of_part(self, errors: bytes, part: List[Listed]) -> Dict[int, Fault]:
-        """Returns a dictionary of the faults in a part, by offset. Counts the notes, which are reported at the end."""
+        """Returns the faults in a part, by offset. Counts the notes, which are reported at the end."""
         begins = itertools.accumulate((place.length for place in part), initial=0)
         offsets = {begin: place.offset for begin, place in zip(begins, part)}
         refused = {}
@@ -674,9 +773,12 @@ class _Told:
         return refused
 
     def end(self, stream: IO[bytes]) -> None:
-        """Reports the remaining strays. Then issues a warning that counts the faults, and one for each note."""
+        """Reports the remaining strays. Then issues a warning with the number of faults, and one for each note."""
         self.up_to(float("inf"))
-        told = [f"the file contains no message{_looks(stream)}"] * self.is_bare
+        self.warn([f"the file contains no message{looks(os.pread(stream.fileno(), 256, 0))}"] * self.is_bare)
+
+    def warn(self, told: Sequence[str] = ()) -> None:
+        told = [*told]
         if self.faults is None and self.count:
             faults = "1 fault" if self.count == 1 else f"{self.count} faults, the first"
             told.append(f"{faults}: {self.first}")
@@ -686,7 +788,7 @@ class _Told:
         if self.conditions and self.conditions.note():
             told.append(self.conditions.note())
         for text in told:
-            warnings.warn(f"{os.fsdecode(self.file)}: {text}", DumpWarning, stacklevel=3)
+            warn(f"{os.fsdecode(self.file)}: {text}")
 
 
 def _opened(file: _Path) -> IO[bytes]:
@@ -708,11 +810,11 @@ def _octets(stream: IO[bytes], place: Listed) -> bytes:
     return octets
 
 
-def _looks(stream: IO[bytes]) -> str:
+def looks(begin: bytes) -> str:
     """Returns what a file without messages looks like, such as `: it is empty`, or an empty string if this is unknown."""
-    words, begin = [_program("bufr-auto")], os.pread(stream.fileno(), 256, 0)
-    told = subprocess.run(words, input=begin, stdout=subprocess.PIPE, stderr=subprocess.PIPE).stderr
-    return told.decode(errors="replace").rstrip().rpartition("contains no message")[2]
+    import bufr_guard
+
+    return bufr_guard.bare(None, begin[:256]).decode(errors="replace").rstrip().partition("contains no message")[2]
 
 
 def _listed(stream: IO[bytes], errors: IO[bytes], told: _Told) -> Iterator[Listed]:
@@ -759,7 +861,7 @@ def encode(
         octets.seek(0)
         encoded = octets.read()
     for line in done.stderr.splitlines():
-        warnings.warn(line.decode(errors="replace"), DumpWarning, stacklevel=2)
+        warn(line.decode(errors="replace"))
     return encoded
 
 
@@ -781,7 +883,7 @@ def _run(words: List[str], source: IO[bytes], target: IO[bytes]) -> subprocess.C
 
 
 def _failure(status: int, words: List[str], errors: Iterable[bytes]) -> RunError:
-    """Returns the error for a failed program: what the program printed, or else its status. Says if the disk is full."""
+    """Returns the error for a failed program: what it printed, or else its status, with a remark if the disk is full."""
     told = b"".join(line for line in errors if not _FAULT.match(line)).decode(errors="replace").strip()
     told = told or f"{words[0]} " + (f"was killed (signal {-status})" if status < 0 else f"exited with status {status}")
     folder = tempfile.gettempdir()  # all output is in temporary files
@@ -795,7 +897,7 @@ def _bufr() -> str:
 def _program(name: str) -> str:
     """Returns the path of a program next to this file, or in the `bin` directory of this installation or of Python.
 
-    If there is none, returns the name of the program, which is then looked up on PATH.
+    If there is none, returns just the name of the program, which is then looked up on PATH.
     """
     here = pathlib.Path(__file__).resolve().parent
     for path in (here / name, here.parent.parent / "bin" / name, pathlib.Path(sys.prefix) / "bin" / name):

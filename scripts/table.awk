@@ -5,57 +5,57 @@
 #     bufr dump -B B.csv -D D.csv FILE |
 #       awk -v levels=1 -v keep=year,001001,001002 -v columns=007004,012101,012103 -f scripts/table.awk
 #
-# Without columns, each item has a row: message, subset, item, descriptor, value, name, unit. Messages, subsets and items
-# are counted from 1. An item that `bufr` read without a row in Table B has no name and no unit. A new reference value that
-# is defined in the data has the name REFERENCE. The columns in `keep`, which must be header keys, come after the subset.
+# Without `columns`, each item has a row: message, subset, item, descriptor, value, name, unit. Messages, subsets and items
+# are numbered from 1. An item that `bufr` read without a row in Table B has no name or unit. A new reference value that is
+# defined in the data has the name REFERENCE. The columns in `keep`, which must be header keys, come after the subset.
 #
-# With columns, each subset has a row. A column is a descriptor or a header key (the first word of a header line). The
-# column 012101 contains the first item with this descriptor in the subset, and 012101:2 contains the second one. If a
-# subset has no such item, the field is empty.
+# With `columns`, each subset has a row. A column is a descriptor or a header key (the first word of a header line). The
+# column 012101 contains the value of the first item with this descriptor in the subset, and 012101:2 that of the second. If
+# a subset does not contain the item, the field is empty.
 #
-# With levels=1, each level has a row. A level is one repetition (pass) of a delayed replication, whose factor (031000 to
-# 031002) is in the data. A level has a row if it contains an item for the first column and, if there are several columns,
-# for at least one other column. The columns in `keep` describe the whole subset and come first.
+# With levels=1, each row is a level. A level is one repetition (pass) of a delayed replication, whose factor (031000 to
+# 031002) is in the data. A level has a row only if it contains an item for the first column and, if there are other
+# columns, for at least one of them. The columns in `keep` apply to the whole subset and come first.
 #
-# A dump does not mark where a pass begins. The first pass begins after the factor. The next pass begins at the next item
-# with the same descriptor as the first item, so a pass with two equal halves counts as two. A replication inside a pass
-# belongs to that pass. A subset is skipped if it has no levels, or if its levels are ambiguous because the descriptor that
-# begins a pass also occurs inside a pass.
+# A dump does not mark where passes begin. The first pass begins after the factor. Each later pass begins at the next item
+# with the descriptor that began the first pass, so a pass with two equal halves counts as two passes. A replication inside
+# a pass belongs to that pass. A subset is skipped if it has no levels, or if its levels are ambiguous because the
+# descriptor that begins a pass also occurs inside one.
 #
-# Strings are quoted, and trailing spaces are dropped. They contain the same escapes as in a dump (\", \\, \xHH). A
+# Strings are quoted, and trailing spaces are dropped. Strings contain the same escapes as in a dump (\", \\, \xHH). A
 # missing value is an empty field. With json=1, each row is a JSON object, a missing value is null, and \xHH becomes the
 # character with that code point.
 #
-# A dump does not contain offsets, so the columns `offset` and `length` need a listing. The fault lines of the dump show
-# which messages in the listing are not in the dump:
+# A dump contains no offsets, so the columns `offset` and `length` also need a listing. The fault lines of the dump show
+# which messages in the listing are missing from the dump:
 #
 #     bufr ls FILE > listing
 #     bufr dump -B B.csv -D D.csv FILE 2> faults |
 #       awk -v columns=offset,012101 -v listing=listing -v faults=faults -f scripts/table.awk
 #
-# Notes on standard error name the columns for which no row has an item, and count the subsets that were skipped. The exit
-# status is 1 if a subset was skipped because its levels are ambiguous. It is 2 if a column is neither a descriptor nor a
+# Notes on standard error name the columns for which there are no items, and give the number of skipped subsets. The exit
+# status is 1 if a subset was skipped because its levels were ambiguous. It is 2 if a column is neither a descriptor nor a
 # header key, if the dump ends inside a message, or if the listing and the fault lines do not match the dump. The script
 # runs in any awk.
 #
-# bufr-csv sets three more variables: each note begins with `name`; with placed=1, a comment before each message contains
-# its offset, length and file, which can then be columns; and with feed=0, rows are not flushed after each message. The
-# environment variable BUFR_CSV_LABELS contains the column headings, one per line.
+# bufr-csv sets three more variables. Each note begins with `name`. With placed=1, a comment before each message gives the
+# message's offset, length and file, which can then be used as columns. With feed=0, rows are not flushed after each
+# message. bufr-csv also sets the environment variable BUFR_CSV_LABELS to the column headings, one per line.
 
 function fail(text) {
     print name ": " text | "cat >&2"
     exit failed = 2
 }
 
-# Prints the note on skipped subsets. In a feed, bufr-csv prints it after the first such subset, when the count is 0.
+# Prints a note about skipped subsets. In a feed, it is printed for the first subset only, with 0 as the count.
 function tell_skipped(count, kind, where) {
     kind = count > 1 ? count " subsets " kind "; the first is" : "a subset " kind ":"
-    print name ": skipped " kind " message " where (count ? "" : "; further such subsets are not reported") | "cat >&2"
+    print name ": skipped " kind " message " where (count ? "" : "; others will not be reported") | "cat >&2"
     close("cat >&2")
 }
 
-# Quotes a string. The string of an item contains escapes: JSON uses the same \" and \\, and \u00HH for \xHH. A plain
-# string contains no escapes.
+# Quotes a string. A string from an item contains escapes: JSON has the same \" and \\, but \u00HH for \xHH. A plain string
+# contains no escapes.
 function quoted(text, is_plain,   parts, count, part) {
     if (!json)
         gsub(/"/, "\"\"", text)
@@ -119,14 +119,14 @@ function next_listed(   line, words, is_read) {
     return 1
 }
 
-# Returns whether a word is a descriptor of six digits. For the whole subset, a colon and a count from 1 may follow.
+# Returns whether a word is a six-digit descriptor. If it is for the whole subset, a colon and a count may follow.
 function is_descriptor(word, of_subset) {
     if (of_subset)
         sub(/:[1-9][0-9]*$/, "", word)
     return word ~ /^[0-3][0-9][0-9][0-9][0-9][0-9]$/ && substr(word, 2, 2) < 64 && substr(word, 4, 3) < 256
 }
 
-# Splits a list of columns and returns their number. `keys` lists the words that are allowed besides descriptors.
+# Splits a list of columns. Returns the number of columns. `keys` lists the words that are allowed besides descriptors.
 function split_columns(words, list, keys,   count, column, word) {
     count = split(words, list, /[ ,]+/)
     for (column = 1; column <= count; column++) {
@@ -134,11 +134,11 @@ function split_columns(words, list, keys,   count, column, word) {
         if (index(keys, " " word " "))
             is_key[word] = wanted[word] = 1
         else if (by_item)
-            fail("without columns, keep can contain only header keys, found: " word)
+            fail("without columns=, keep= can contain only header keys, found '" word "'")
         else if (is_descriptor(word, keys != ""))
             wanted[substr(word, 1, 6)] = 1
         else
-            fail("expected a descriptor of six digits" (keys == "" ? "" : " or a header key") ", found: " word)
+            fail("expected a six-digit descriptor" (keys == "" ? "" : " or a header key") ", found '" word "'")
         if (!(++total in label))
             label[total] = json ? "\"" word "\"" : word
         before[total] = json ? "," label[total] ":" : ","
@@ -159,7 +159,7 @@ function name_and_unit(comment,   parts, part, count, title, unit) {
     return cell(name_begin, title == "" ? "" : quoted(title, 1)) cell(unit_begin, unit == "" ? "" : quoted(unit, 1)) row_end
 }
 
-# Writes the row of an item. Names and units are cached by their comments.
+# Writes the row for an item. Names and units are cached by comment.
 function write_item(   is_reference, comment) {
     is_reference = sub(/^R /, "")
     comment = $0
@@ -240,7 +240,7 @@ function skip_subset(fxy) {
     split("", values)
 }
 
-# Processes an item in or before the passes of a replication. `left` passes have not begun. Each pass begins with the
+# Processes an item in or before the passes of a replication. `left` passes have yet to begin. Each pass begins with the
 # descriptor `opener`. So far, the open pass has `items` items and `inner` factors; the previous pass had `pass_items` and
 # `pass_inner`.
 function item(fxy) {
@@ -286,9 +286,9 @@ BEGIN {
         name = "table.awk"
     by_item = columns == ""
     if (levels && by_item)
-        fail("levels=1 needs columns, for example -v columns=007004,012101")
+        fail("levels=1 needs columns=, for example columns=007004,012101")
     if (keep != "" && !levels && !by_item)
-        fail("keep works only with levels=1 or without columns")
+        fail("keep= can be used only if levels=1 is set or columns= is not")
     keys = " offset length edition master centre subcentre update category subcategory localsubcategory masterversion" \
         " localversion year month day hour minute second observed compressed optional subsets "
     if (placed)
@@ -299,7 +299,7 @@ BEGIN {
         level_count = split_columns(columns, level, "")
     is_joined = !placed && ("offset" in is_key || "length" in is_key)
     if (is_joined && (listing == "" || faults == ""))
-        fail("columns offset and length need -v listing=FILE (the output of bufr ls) and -v faults=FILE (the standard error of bufr dump)")
+        fail("the columns 'offset' and 'length' need listing=FILE (output of bufr ls) and faults=FILE (standard error of bufr dump)")
     fault = -1
     for (column = 1; column <= kept_count; column++) {
         word = kept[column]

@@ -3,9 +3,9 @@
 
     tables/changes.py OLD NEW
 
-OLD and NEW are directories that contain B.csv and D.csv. changes.py lists an element as changed if the change affects how
-data are read: if its scale, reference or width differs, or if its unit makes it a different kind of value (number, code or
-string). It does not list changed names, which affect only the comments in a dump.
+OLD and NEW are directories that contain B.csv and D.csv. An element counts as changed only if the change affects how data
+are read: if its scale, reference or width differs, or if its unit makes it a different kind of value (number, code or
+string). Changed names are not listed, because they affect only the comments in a dump.
 """
 import os
 import sys
@@ -31,13 +31,13 @@ def kind(unit: str) -> str:
 
 
 def rows(folder: str, name: str, *columns: str):
-    """Yields a list for each row of a table: the values in these columns."""
+    """Yields the values in these columns, as a list, for each row of a table."""
     path = pathlib.Path(folder) / name
     with open(path, encoding="utf-8-sig", errors="surrogateescape", newline="") as file:
         table = csv.DictReader(file)
         missing = [column for column in columns if column not in (table.fieldnames or [])]
         if missing:
-            raise bufr_guard.Failed(f"{path} has no column {missing[0]}")
+            raise bufr_guard.Failed(f"{path} has no column '{missing[0]}'")
         for row in table:
             yield [row[column] or "" for column in columns]
 

@@ -3,16 +3,16 @@
 
     tables/convert.py OUT SOURCE..
 
-Each SOURCE is a directory. convert.py recognizes its format by the files in it:
+Each SOURCE is a directory. convert.py recognizes the format by the files that the directory contains:
 
-    B.csv, D.csv                      a table set, like those in this directory
+    B.csv, D.csv                      a table set, like those next to this script
     BUFRCREX_TableB_en*.csv,          the CSV files that WMO publishes
     BUFR_TableD_en*.csv
-    element.table, sequence.def       ecCodes definition files, including those of local tables
+    element.table, sequence.def       ecCodes definition files, including those for local tables
     B*.txt, D*.txt                    the fixed-column files of wreport
 
-A wreport directory contains many tables. To choose one of them, pass its B*.txt file instead of the directory. convert.py
-also reads the D*.txt file whose name is the same after the first letter.
+A wreport directory contains many tables. To choose one, pass its B*.txt file instead of the directory. convert.py then also
+reads the D*.txt file whose name is the same after the first letter.
 
 If several sources define the same descriptor, the last one takes precedence, so pass master tables before local tables. The
 new tables are OUT/B.csv and OUT/D.csv, sorted by descriptor.
@@ -40,12 +40,12 @@ import re  # noqa: E402
 import bufr_options  # noqa: E402
 from bufr_guard import Failed  # noqa: E402
 
-# The columns that are used in WMO's files, which may contain other columns.
+# The columns to read from WMO's files, which may contain other columns as well.
 WMO_B = "FXY ElementName_en BUFR_Unit BUFR_Scale BUFR_ReferenceValue BUFR_DataWidth_Bits".split()
 WMO_D = "FXY1 FXY2".split()
 OURS_B = "fxy name unit scale reference width".split()
 OURS_D = "fxy member".split()
-# The positions in wreport's B*.txt at which the six columns of OURS_B begin, and at which the last one ends.
+# The positions in wreport's B*.txt at which the six columns of OURS_B begin, and the position at which the last one ends.
 WREPORT_B = [1, 8, 73, 97, 101, 114, 118]
 # Prefixes of units that are abbreviated in wreport's files.
 WREPORT_UNITS = {
@@ -65,14 +65,14 @@ def one_line(text: str) -> str:
 
 
 def of_csv(folder: pathlib.Path, pattern: str, columns: list):
-    """Yields a list for each row of the matching files: the values in these columns. Ignores a byte order mark."""
+    """Yields the values in these columns, as a list, for each row of the matching files. Ignores byte order marks."""
     for path in sorted(folder.glob(pattern)):
         with open(path, newline="", **{**AS_IT_IS, "encoding": "utf-8-sig"}) as file:
             rows = csv.reader(file)
             header = next(rows, [])
             for column in columns:
                 if column not in header:
-                    raise Failed(f"{path} has no column {column}")
+                    raise Failed(f"{path} has no column '{column}'")
             places = [header.index(column) for column in columns]
             try:
                 for row in filter(None, rows):
@@ -84,7 +84,7 @@ def of_csv(folder: pathlib.Path, pattern: str, columns: list):
 
 
 def sequences_of(rows):
-    """Yields a list for each sequence: its descriptor, followed by its members.
+    """Yields a list for each sequence: its descriptor and then its members.
 
     The rows of each sequence must be consecutive.
     """
@@ -121,7 +121,7 @@ def of_sequence_def(path: pathlib.Path):
 
 
 def of_wreport_b(path: pathlib.Path):
-    """Yields a list for each row of wreport's B*.txt: the values in the six columns of `OURS_B`."""
+    """Yields the values in the six columns of `OURS_B`, as a list, for each row of wreport's B*.txt."""
     for number, line in lines_of(path):
         fxy, name, unit, *numbers = (one_line(line[at:end]) for at, end in zip(WREPORT_B, WREPORT_B[1:]))
         if not all(numbers):
@@ -161,7 +161,7 @@ def of_wreport(path: pathlib.Path):
 
 
 def source(folder: pathlib.Path):
-    """Returns the rows of Table B and the sequences of Table D that a source contains."""
+    """Returns the rows of Table B and the sequences of Table D from a source."""
     if (folder / "B.csv").exists() or (folder / "D.csv").exists():
         return of_csv(folder, "B.csv", OURS_B), sequences_of(of_csv(folder, "D.csv", OURS_D))
     elements, sequences = folder / "element.table", folder / "sequence.def"
@@ -248,7 +248,7 @@ def shown(words: list) -> str:
 
 
 def taken(folder: pathlib.Path, entries, refused) -> tuple:
-    """Reports each entry that `bufr` refuses. Returns the other entries, by descriptor, and the number of refused ones."""
+    """Reports the entries that `bufr` refuses. Returns the other entries, by descriptor, and the number of refused ones."""
     found, left_out = {}, 0
     for entry in entries:
         found.setdefault(entry[0], []).append(entry)
@@ -265,7 +265,7 @@ def taken(folder: pathlib.Path, entries, refused) -> tuple:
 
 
 def write(path: pathlib.Path, aside: pathlib.Path, header: list, rows) -> None:
-    """Writes a table to the temporary file `aside`. Errors are reported for `path`, which the file will replace."""
+    """Writes a table to the temporary file `aside`. Error messages name `path`, which this file will replace."""
     try:
         with open(aside, "w", newline="", **AS_IT_IS) as file:
             table = csv.writer(file, lineterminator="\n")

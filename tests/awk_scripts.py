@@ -84,7 +84,7 @@ def wrong_json(awk: list, chance: random.Random):
     """What is wrong with the JSON of texts, of numbers, of missing values, and of names with quotes and backslashes."""
     items, wanted = [], []
     for text in texts(chance):
-        name, unit = (chance.choice(["", 'A "B" \\C', "A[B]", "A]B", '\\\\ "', "\u00b0C"]) for _ in range(2))
+        name, unit = (chance.choice(["", 'A "B" \\C', 'A "B"', "A[B]", "A]B", '\\\\ "', "\u00b0C"]) for _ in range(2))
         items.append(b'001015 "%s"  # %s [%s]\n' % (escaped(text), name.encode(), unit.encode()))
         wanted.append((text.rstrip(b" ").decode("latin-1"), name or None, unit or None))
     numbers = "0 -1 0.0000003 -0.50 99999999999999999999.125 170141183460469231731687303715884105727".split()

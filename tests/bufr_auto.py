@@ -132,7 +132,7 @@ class Trial:
 
     def stops(self) -> None:
         """Where a table is at fault what stands before is written, and no more: the status is 2."""
-        tables = self.place / "tables"
+        tables, shown = self.place / "tables \x1b", f"{self.place}/tables \\x1B"
         shutil.copytree(TABLES, tables)
         for name in ("wmo-x", "wmo-13+98", "wmo-13+98-1-2", "wmo-\u0661\u0663", "wmo-1234567890", "own-39"):
             (tables / name).mkdir()  # not names of sets
@@ -140,7 +140,7 @@ class Trial:
             file.write("no row\n")
         (self.place / "17").write_bytes(made(17, LISTS[1], b"\1" * 3))
         done = self.auto(*[str(self.place / "17")] * 2, BUFR_TABLES=str(tables))
-        told = f"table D: 45 csv\nbufr-auto: cannot use {tables}/wmo-17/D.csv: 45 csv\n"
+        told = f"table D: 45 csv\nbufr-auto: cannot use {shown}/wmo-17/D.csv: 45 csv\n"
         self.same("two files with a table at fault", (done.stdout, done.stderr.decode(), done.returncode), (b"", told, 2))
         with open(tables / "wmo-17/B.csv", "a") as file:
             file.write("no row\n")
@@ -150,19 +150,22 @@ class Trial:
         for given in (stream, stream[len(before) :]):
             done = self.auto(stream=given, BUFR_TABLES=str(tables))
             begun = (texts, faults) if given == stream else (b"", b"")
-            told = f"table B: 45 csv\nbufr-auto: cannot use {tables}/wmo-17/B.csv: 45 csv\n"
+            told = f"table B: 45 csv\nbufr-auto: cannot use {shown}/wmo-17/B.csv: 45 csv\n"
             wanted = (begun[0], begun[1] + told.encode(), 2)
             self.holds("a table at fault", (done.stdout, done.stderr, done.returncode) == wanted, (done, wanted))
         # A folder that lacks a table counts as not installed, and stops nothing.
-        (tables / "wmo-40").mkdir()
+        for version in (40, 21, 36, 25):
+            (tables / f"wmo-{version}").mkdir()
         (tables / "wmo-17/D.csv").unlink()
         done = self.auto(stream=stream, BUFR_TABLES=str(tables))
         notes = b"".join(
-            b"bufr-auto: ignored %s/%s, which has no %s.csv; add this file, or remove the directory\n" % (bytes(tables), *missing)
-            for missing in ((b"wmo-17", b"D"), (b"wmo-40", b"B"))
+            b"bufr-auto: ignored %s/%s, which has no %s.csv; add this file, or remove the directory\n" % (shown.encode(), *missing)
+            for missing in ((b"wmo-17", b"D"), (b"wmo-21", b"B"), (b"wmo-25", b"B"), (b"wmo-36", b"B"), (b"wmo-40", b"B"))
         )
         whole = (done.stdout.count(b"message\n"), done.stderr == faults + notes, done.returncode)
         self.holds("an incomplete set", whole == (stream.count(b"BUFR") - 1, True, 1), done)
+        done = self.auto(stream=made(13, "001192", b"\1", local=102), BUFR_TABLES=str(tables))
+        self.holds("the command for such a folder", b" '%s/wmo-13+98-102' " % bytes(tables) in done.stderr, done)
         (tables / "wmo-6").symlink_to(TABLES / "wmo-13")
         done = self.auto(stream=made(6, "012073", b"\1\1"), BUFR_TABLES=str(tables))
         self.holds("a set of version 6", b"012073" in done.stdout and b"version 6" not in done.stderr, done)
@@ -223,12 +226,33 @@ class Trial:
         text = self.auto(stream=made(39, LISTS[0], b"\1\1")).stdout.replace(b"masterversion 39", b"masterversion 41")
         done = self.auto("--encode", stream=b"\n\n" + text)
         self.same("a note", (done.stdout[21:22], done.stderr, done.returncode), (b"\x29", note.replace(b"3", b"1", 1), 0))
+        # The header of a document, and each of its descriptors, matter for notes.
+        text = text.replace(b"masterversion 41", b"masterversion 13").replace(b"centre 98", b"centre 7")
+        text = text.replace(b"master 0", b"master 10").replace(b"localversion 0", b"localversion 3")
+        reasons = [b"master table 10 is not WMO's", b"there is no table set wmo-13+7-3 for local version 3 of centre 7"]
+        for descriptors in (b"descriptors 012101 001192", b"descriptors 012101\ndescriptors 001192"):
+            done = self.auto("--encode", stream=text.replace(b"descriptors 012101", descriptors))
+            told = [line.partition(b": ")[2] for line in done.stderr.splitlines() if line.startswith(b"bufr-auto: ")]
+            starts = [line.startswith(b"1 document, at line 1: " + reason) for line, reason in zip(told, reasons)]
+            self.holds(f"notes on {descriptors}", starts == [True, True], done)
         # A line may have 4,096 bytes, and a document begins behind a comment of that length.
         one = made(39, LISTS[1], b"\1\1\0")
         for length, wanted in ((4096, (one, b"", 0)), (4097, (b"", b"line 1: 50 line\n", 1))):
             done = self.in_pieces(b"#".ljust(length, b"x") + b"\n" + self.one_by_one(one)[0], "--encode")
             self.same(f"a comment of {length} bytes", (done.stdout, done.stderr, done.returncode), wanted)
-        comments = b"# A comment on BUFR in a document.\n" * 200_000
+        # The first 4,096 bytes of such a comment arrive alone.
+        pipes = dict(stdin=subprocess.PIPE, stdout=subprocess.PIPE, stderr=subprocess.PIPE, bufsize=0)
+        with subprocess.Popen([*AUTO, "--encode"], **pipes, env=self.environment) as child:
+            child.stdin.write(b"#".ljust(4096, b"x"))
+            self.wait(lambda: fcntl.ioctl(child.stdin, termios.FIONREAD, bytes(4)) == bytes(4))
+            output, told = child.communicate(b"\n" + self.one_by_one(one)[0])
+        self.same("a comment in two reads", (output, told, child.returncode), (one, b"", 0))
+        # The tables are those of the document, however many comments come before it.
+        later = made(39, LISTS[3], b"\1\0\0")
+        for count in (40_000, 200_000):
+            comments = b"# A comment on BUFR in a document.\n" * count
+            done = self.auto("--encode", stream=(comments + self.one_by_one(later)[0]) * 2)
+            self.same(f"{count} comments", (done.stdout, done.stderr, done.returncode), (later * 2, b"", 0))
         for text, line in ((comments + b"\nmessage\nedition 4\nnonsense\n", 200004), (b"message\nnonsense\n" + comments, 2)):
             done = self.auto("--encode", stream=text)
             self.same("many comments", (done.stdout, done.stderr, done.returncode), (b"", b"line %d: 50 line\n" % line, 1))
@@ -296,12 +320,27 @@ class Trial:
             (later * 2, texts[0] * 2, b""),
             (latest, texts[1], note % (3 * len(later), 42)),
         ]
+        begin = time.monotonic()
         self.feed("notes", [], steps, (b"", b""), 0)
-        # This feed does not pause. The first part has 16,384 messages.
+        seconds = time.monotonic() - begin
+        self.holds("two notes come after two seconds", seconds >= 2, seconds)
+        # So does a note on an incomplete set.
+        sets = self.place / "incomplete"
+        (sets / "wmo-40").mkdir(parents=True)
+        (sets / "wmo-39").symlink_to(TABLES / "wmo-39")
+        note = b"bufr-auto: ignored %s/wmo-40, which has no B.csv; add this file, or remove the directory\n" % bytes(sets)
+        self.environment["BUFR_TABLES"] = str(sets)
+        synop, text = ((TOP / f"examples/synop.{kind}").read_bytes() for kind in ("bufr", "txt"))
+        self.feed("an incomplete set", [], [(synop, text, note), (synop, text, b"")], (b"", b""), 0)
+        del self.environment["BUFR_TABLES"]
+        # This feed does not pause. The first part has 16,384 messages. The notes on a file come at the end.
         minute = "import sys; sys.path.insert(0, sys.argv[1]); import bufr_auto, bufr_guard; bufr_guard.INTERVAL = 0; "
-        words = [sys.executable, "-c", minute + "bufr_auto.dump([None])", TOP / "scripts"]
-        done = subprocess.run(words, input=later * 20_000, capture_output=True, env=self.environment)
-        self.holds("notes of a feed without a pause", b" 16384 messages so far, the first at offset 0: " in done.stderr, done.stderr)
+        (self.place / "many").write_bytes(later * 20_000)
+        for file, told in ((None, b"16384 messages so far"), (str(self.place / "many"), b"20000 messages")):
+            words = [sys.executable, "-c", f"{minute}bufr_auto.dump([{file!r}])", TOP / "scripts"]
+            done = subprocess.run(words, input=later * 20_000, capture_output=True, env=self.environment)
+            note = b"%s, the first at offset 0: " % told
+            self.holds(f"notes on {file or 'a feed'} without a pause", note in done.stderr, done.stderr)
 
     def few_files(self) -> None:
         """40 parts of a feed with at most 32 open files, and 60 files with at most 40, most of them open at once."""
@@ -360,15 +399,15 @@ class Trial:
         seven, both = made(13, LISTS[1], b"\1\1\0", 7), made(39, LISTS[1], b"\1\1\0", 98, section_2=bytes(5_000_000))
         stream = seven + b"BUFR" + both + made(13, "063255", b"", 98) + seven[:-30] + both + made(39, "063255", b"", 7)
         stream += b"BUFR\0\0\x0c\x047777"  # shorter than the bytes that are read in advance
-        (self.place / "a file").write_bytes(stream)
+        (self.place / "a \x1bfile").write_bytes(stream)
         texts = {centre: self.one_by_one(message)[0] for centre, message in ((7, seven), (98, both))}
         comment = "# offset={} length={} file={}\n"
-        for file in ("a file", "/dev/stdin"):
+        for file, name in (("a \x1bfile", "a \\x1Bfile"), ("/dev/stdin", "/dev/stdin")):
             words = [sys.executable, "-c", code, str(TOP / "scripts"), "centre=98", file]
-            with open(self.place / "a file", "rb") as given:
+            with open(self.place / "a \x1bfile", "rb") as given:
                 done = subprocess.run(words, stdin=given, cwd=self.place, env=self.environment, capture_output=True)
             places = (stream.find(both), stream.rfind(both))
-            wanted = b"".join(comment.format(place, len(both), file).encode() + texts[98] for place in places)
+            wanted = b"".join(comment.format(place, len(both), name).encode() + texts[98] for place in places)
             at = [found.start() for found in re.finditer(b"BUFR", stream)]
             told = f"offset {at[1]}: 3 no end\noffset {at[3]}: 20 unknown element 063255\noffset {at[4]}: 3 no end\n"
             told += f"offset {at[7]}: 12 section 1 past the end\n"
@@ -411,13 +450,14 @@ class Trial:
         self.same("files", (done.stdout, done.stderr, done.returncode), (b"".join(texts), told, 2))
         # The progress counts the bytes of all files.
         code = "import sys; sys.path.insert(0, sys.argv[1]); import bufr_auto, bufr_guard\n"
-        code += "bufr_guard.Progress.at = lambda _, octets: bufr_guard.say(b'%d\\n' % octets)\n"
+        code += "bufr_guard.Progress.at = lambda self, octets: bufr_guard.say(b'%d of %d\\n' % (octets, self.total))\n"
         code += "bufr_guard.run(lambda words: bufr_auto.dump(words[1:]), '')"
         words = [sys.executable, "-c", code, str(TOP / "scripts"), "file 0", "file 1"]
         done = subprocess.run(words, cwd=self.place, env=self.environment, capture_output=True)
         sizes = [(self.place / name).stat().st_size for name in ("file 0", "file 1")]
-        told = [int(line) for line in done.stderr.splitlines() if line.isdigit()]
-        self.holds("progress", [*dict.fromkeys(told)] == [sizes[0], sum(sizes)], told)
+        told = [line for line in done.stderr.decode().splitlines() if line[:1].isdigit()]
+        wanted = [f"{octets} of {sum(sizes)}" for octets in (sizes[0], sum(sizes))]
+        self.holds("progress", [*dict.fromkeys(told)] == wanted, told)
         for number, text in enumerate(texts):
             (self.place / f"text {number}").write_bytes(text)
         (self.place / "text 1").write_bytes(texts[1].replace(b"\n012101 ", b"\n012101 x", 1))
@@ -450,6 +490,7 @@ class Trial:
             (b"\1\r\r\n123\r\r\nSMVD01 EKMI 010000\tA\r\r\n\3", "looks like text", 0),
             (b"", "is empty", 0),
             (b"\0\7\xff", None, 0),
+            (b"x" * 255 + b"\0", None, 0),
         ):
             file = self.place / "other"
             file.write_bytes(begin)
@@ -514,10 +555,10 @@ class Trial:
         done = self.auto(stream=refused)
         self.holds("no note of what is no message", done.stderr == b"offset 0: 11 section 1 short\n", done)
         other = bytearray(made(13, "012101", b"\1\1"))
-        other[11] = 10
-        note = b"bufr-auto: 1 message, at offset 0: master table 10 is not WMO's table for meteorology\n"
-        done = self.auto(stream=bytes(other))
-        self.holds("a master table", done.stderr == note, done)
+        for other[11] in (1, 10):
+            note = b"bufr-auto: 1 message, at offset 0: master table %d is not WMO's table for meteorology\n" % other[11]
+            done = self.auto(stream=bytes(other))
+            self.holds("a master table", done.stderr == note, done)
 
     def command_line(self) -> None:
         """Help, the version, and what is mistaken: options, folders of sets, files, the program."""
@@ -536,8 +577,8 @@ class Trial:
             (["-xyz", file], "unknown option -xyz"),
             (["--encode=1"], "--encode takes no value"),
             ([file, "--max-length"], "--max-length needs a value"),
-            (["--max-length", "11"], "--max-length '11': expected a whole number, at least 12"),
-            (["--max-length=\u0663\u0663"], "--max-length '\u0663\u0663': expected a whole number, at least 12"),
+            (["--max-length", "11"], "--max-length '11': expected a whole number of at least 12"),
+            (["--max-length=\u0663\u0663"], "--max-length '\u0663\u0663': expected a whole number of at least 12"),
             (["--encode", "--max-length=99"], "--max-length cannot be used with --encode"),
         ):
             done = self.auto(*words)
@@ -556,6 +597,16 @@ class Trial:
         for words in (["-"], ["--", "-"]):
             done = self.auto(*words, stream=pathlib.Path(file).read_bytes())
             self.holds(f"standard input by {words}", done.stdout == (TOP / "examples/synop.txt").read_bytes(), done)
+        done = self.auto("-", "-", stream=pathlib.Path(file).read_bytes())
+        told = b"bufr-auto: standard input contains no message: it is empty\n"
+        wanted = ((TOP / "examples/synop.txt").read_bytes(), told, 0)
+        self.same("standard input twice", (done.stdout, done.stderr, done.returncode), wanted)
+        done = self.auto(file, BUFR_TABLES="")
+        self.holds("an empty BUFR_TABLES", done.stdout == (TOP / "examples/synop.txt").read_bytes(), done)
+        shutil.copytree(TOP / "scripts", self.place / "alone")
+        done = subprocess.run([self.place / "alone/bufr-auto", file], env=self.environment, capture_output=True)
+        told = f"bufr-auto: there is no directory {self.place}/alone/tables; set BUFR_TABLES"
+        self.holds("no tables", done.returncode == 2 and done.stderr.decode().startswith(told), done)
         shutil.copy(file, self.place / "-dashed")
         done = subprocess.run([*AUTO, "--", "-dashed"], cwd=self.place, env=self.environment, capture_output=True)
         self.holds("a name with a dash", done.stdout == (TOP / "examples/synop.txt").read_bytes(), done)
@@ -564,7 +615,7 @@ class Trial:
         for told, words, environment in (
             ("BUFR_TABLES is /nosuch, which is not a directory", [file], {"BUFR_TABLES": "/nosuch"}),
             (f"BUFR_TABLES is {file}, which is not a directory", [file], {"BUFR_TABLES": file}),
-            (f"{empty} contains no table set such as wmo-39", [file], {"BUFR_TABLES": str(empty)}),
+            (f"{empty} contains no table sets, such as wmo-39", [file], {"BUFR_TABLES": str(empty)}),
             ("cannot open nosuch: No such file or directory", ["nosuch"], {}),
             ("cannot open '': No such file or directory", [""], {}),
             ("cannot run /nosuch: No such file or directory; install bufr, or set BUFR to its path", [file], {"BUFR": "/nosuch"}),

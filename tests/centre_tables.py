@@ -100,9 +100,10 @@ def of_definitions(place: pathlib.Path, script, holds) -> None:
         holds(f"a dump with the rows of an earlier set after {name}", (status, "063255 3 " in output, errors), (0, True, ""))
         for set in ("wmo-17+9-5", "wmo-18+9-5"):
             shutil.rmtree(place / "tables" / set, ignore_errors=True)
-        unknown = script("bufr-lacks", made(17, 5, 7, "063254", b"\3"))[2]
         asking = "bufr-lacks: the table set wmo-17+7-5 lacks some rows; ask centre 7 for its tables " + LOOKUP.format(7)
-        holds("a set without a row", unknown, asking)
+        for fxy in ("063254", "001191"):
+            unknown = script("bufr-lacks", made(17, 5, 7, fxy, b"\3"))[2]
+            holds(f"a set without a row for {fxy}", unknown, asking)
         shutil.rmtree(place / "tables/wmo-17+7-5")
 
 
@@ -132,6 +133,9 @@ def versions_and_editions(script, holds) -> None:
     asking = "bufr-lacks: the table set wmo-13 lacks some rows; " + question
     wanted = "1 message of centre 98/0, tables 0/13/0, lacks 013164\n"
     holds("a row of another version", script("bufr-lacks", made(13, 0, 98, "013164", b"\1")), (1, wanted, asking))
+    rows = ["063255", "063001", "063254", "063002", "063253", "063003"]
+    _, output, _ = script("bufr-lacks", made(13, 0, 98, " ".join(rows), b""))
+    holds("the rows in order", output.split()[-len(rows) :], sorted(rows))
     for edition, flag in ((3, 15), (4, 17)):
         message = bytearray(lib.message(b"\1", lib.words("063255"), edition=edition))
         message[flag] = 0x80
@@ -149,9 +153,14 @@ def limits(script, holds) -> None:
     holds("the kinds that are listed", (status, output.count("\n"), output.count("2 messages")), (1, 1000, 1000))
     first = "bufr-lacks: left out 6 messages, because bufr-lacks lists at most 1,000 combinations of centre and table versions"
     holds("the notes on kinds", (errors.splitlines()[0], errors.count("\n")), (first, 1001))
+    _, _, errors = script("bufr-lacks", b"".join(made(13, 1, centre, "063255", b"") for centre in range(1, 1002)))
+    holds("one message of too many kinds", errors.startswith("bufr-lacks: left out 1 message, "), True)
     # Two kinds whose missing set is the same.
     _, output, errors = script("bufr-lacks", made(12, 1, 7, "063255", b"") + made(13, 1, 7, "063255", b""))
     holds("one note for a set", (output.count("\n"), errors.count("\n")), (2, 1))
+    # The last descriptor of a long list, after another message.
+    long = lib.asking(lib.message(b"", lib.words("001001") * 40_000 + lib.words("063255")), 13)
+    holds("a long list", script("bufr-lacks", made(13, 0, 98, "001001", b"\1") + long)[1], "1 message of centre 98/0, tables 0/13/0, lacks 063255\n")
     many = " ".join(f"0{x}{y:03}" for x in range(48, 64) for y in range(256))
     status, output, errors = script("bufr-lacks", b"".join(made(13, 1, centre, many, b"") for centre in range(1, 15)))
     rows = sum(len(line.partition("lacks")[2].split()) for line in output.splitlines())
@@ -216,6 +225,8 @@ def main() -> None:
         )
         errors = f"{cut}bufr-lacks: there is no table set wmo-13+98-102; {made_by}\n{other_notes}"
         holds("bufr-lacks", script("bufr-lacks", stream), (1, lines + other_lines, errors))
+        earlier = "bufr-lacks: there is no table set wmo-13+98-102; " + ASK.format(98)
+        holds("an earlier version", script("bufr-lacks", made(12, 102, 98, "301250", b""))[2], earlier)
         note = f"bufr-auto: 1 message, at offset 0: there is no table set wmo-13+98-102 for local version 102 of centre 98; {made_by}\n"
         refused = "offset 0: 21 unknown sequence 301250\n"
         holds("bufr-auto before", script("bufr-auto", message), (1, "", refused + note))
@@ -235,6 +246,12 @@ def main() -> None:
         of_earlier = f"to make it, run: {TOP}/tables/convert.py {tables}/wmo-16+98-102 {tables}/wmo-13+98-102 {tables}/wmo-16\n"
         behind = other_notes.removesuffix(ASK.format(98)) + of_earlier
         holds("bufr-lacks behind", script("bufr-lacks", message + b"".join(others)), (1, other_lines, behind))
+        # Of several earlier sets, the latest one of this centre.
+        for name in ("wmo-12+98-102", "wmo-15+198-102", "xmo-15+98-102"):
+            shutil.copytree(tables / "wmo-13+98-102", tables / name)
+        holds("the latest earlier set", script("bufr-lacks", others[2])[2].endswith(of_earlier), True)
+        for name in ("wmo-12+98-102", "wmo-15+198-102", "xmo-15+98-102"):
+            shutil.rmtree(tables / name)
         holds("nothing lacks", script("bufr-lacks", message), (0, "", ""))
         told = "bufr-lacks: standard input contains no message: it looks like HTML\n"
         holds("no message", script("bufr-lacks", b"<HTML>"), (0, "", told))
@@ -260,12 +277,14 @@ def main() -> None:
         limits(script, holds)
         # An incomplete set counts as not installed, and an invalid one is named.
         synop = (TOP / "examples/synop.bufr").read_bytes()
+        (place / "odd \x1b").symlink_to("tables")
+        environment["BUFR_TABLES"], shown = str(place / "odd \x1b"), f"{place}/odd \\x1B"
         (tables / "wmo-40").mkdir()
-        told = f"bufr-lacks: ignored {tables}/wmo-40, which has no B.csv; add this file, or remove the directory\n"
+        told = f"bufr-lacks: ignored {shown}/wmo-40, which has no B.csv; add this file, or remove the directory\n"
         holds("an incomplete set", script("bufr-lacks", synop), (0, "", told))
         shutil.copytree(TOP / "tables/wmo-39", tables / "wmo-40", dirs_exist_ok=True)
         (tables / "wmo-40/D.csv").write_text("no table\n")
-        told = f"table D: 40 header\nbufr-lacks: cannot use the table set {tables}/wmo-40, because bufr refuses it (see above)\n"
+        told = f"table D: 40 header\nbufr-lacks: cannot use the table set {shown}/wmo-40, because bufr refused it (see above)\n"
         holds("an invalid set", script("bufr-lacks", made(40, 0, 98, "001191", b"\1")), (2, "", told))
         shutil.rmtree(tables / "wmo-40")
         # A byte order mark, which `bufr` skips too.
@@ -277,9 +296,9 @@ def main() -> None:
         holds("those of others", (status, output), (1, ""))
 
         words = [sys.executable, TOP / "scripts/bufr-lacks"]
-        for more, wanted in ((["--help"], 0), (["a", "b"], 2), (["nosuch"], 2)):
-            done = subprocess.run([*words, *more], capture_output=True, env=environment)
-            holds(f"bufr-lacks {more}", done.returncode, wanted)
+        for more, wanted, told in ((["--help"], 0, ""), (["a", "b"], 2, "cat a b | bufr-lacks"), (["nosuch"], 2, "nosuch")):
+            done = subprocess.run([*words, *more], capture_output=True, env=environment, text=True)
+            holds(f"bufr-lacks {more}", (done.returncode, told in done.stderr), (wanted, True))
 
         if WREPORT.exists():
             words = [TOP / "tables/convert.py", place / "tables/wmo-13+98-102", WREPORT, TOP / "tables/wmo-13"]

@@ -38,6 +38,7 @@ subset 1
 012101 7.0
 031000 0
 012101 8.0
+012103 8.5
 031002 2
 007004 400
 012101 9.0
@@ -46,6 +47,10 @@ subset 1
 012103 2.5
 end
 """
+# three passes with inner groups of different lengths; groups behind them, of which one has no pass; lines that are no items
+VARIED = b"message\nsubset 1\n031001 3\nR 012101 5\n# a note\n\n007004 1\n031001 2\n011001 3\n011001 4\n012101 1.0\n"
+VARIED += b"007004 2\n031001 0\n012101 2.0\n007004 3\n031001 1\n011001 3\n012101 3.0\n"
+VARIED += b"031001 0\n" + b"".join(b"031001 1\n007004 %d\n012101 %d.0\n" % (level, level) for level in (4, 5, 6)) + b"end\n"
 # passes that begin and end with the same descriptor, two and three of them
 ENCLOSED = b"message\nsubset 1\n031001 %d\n" + b"008002 1\n020011 2\n008002 MISSING\n" * 3 + b"end\n"
 # escapes, what is passed over, and comments whose octets are no characters
@@ -81,25 +86,30 @@ def run(awk: list, text: bytes, **variables) -> tuple:
 
 
 def tries_wide(awk: list, text: bytes) -> None:
-    head = "message,subset,001002,012101:10,012104\n"
-    told = "table.awk: column 012101:10 is empty, because no row has an item for it\ntable.awk: column 012104 is empty, because no row has an item for it\n"
+    head = "message,subset,001002,012101:100,063255\n"
+    told = "table.awk: column 012101:100 is empty, because no row has an item for it\ntable.awk: column 063255 is empty, because no row has an item for it\n"
     wanted = (0, head + "1,1,836,,\n1,2,772,,\n1,3,680,,\n", told)
     want(
-        run(awk, text, columns="001002, 012101:10,012104") == wanted,
+        run(awk, text, columns="001002, 012101:100,063255") == wanted,
         f"{awk}: empty columns have no note",
     )
     status, output, errors = run(awk, ODD, columns="centre,012101,012101:2,001015,001015:2,001015:3")
     rows = list(csv.reader(output.splitlines()))[1:]
     wanted = ["1", "1", "74", "28.5", "", 'A \\"B\\\\', '\\\\\\\\\\" # \\\\\\"', ""]
     want((status, rows, errors) == (0, [wanted], ""), f"{awk}: of odd texts there are {rows}: {errors}")
+    second = list(csv.reader(run(awk, ODD, columns="001015:2")[1].splitlines()))[1:]
+    want(second == [wanted[:2] + wanted[-2:-1]], f"{awk}: a second text alone is {second}")
     want(run(awk, b"", columns="012101") == (0, "message,subset,012101\n", ""), f"{awk}: without a message, something is reported")
+    bare, told = run(awk, b"message\nend\n", columns="012101"), "table.awk: column 012101 is empty, because no row has an item for it\n"
+    want(bare == (0, "message,subset,012101\n", told), f"{awk}: of a message without a subset it makes {bare}")
     head = re.findall(rb"^(\w+) (\d+)$", text, re.M)[:20]
     status, output, errors = run(awk, text, columns=",".join(key.decode() for key, _ in head))
     row = output.splitlines()[-1].split(",")
     want(row == ["1", "3", *(value.decode() for _, value in head)], f"{awk}: the header's columns are {row}")
     for word in [*WORDS, "012101:0", "012101:", "012101:x"]:
         status, output, errors = run(awk, text, columns=word)
-        want(status == 2 and not output and "expected a descriptor of six digits" in errors, f"{awk}: it takes {word}")
+        told = f"table.awk: expected a six-digit descriptor or a header key, found '{word.rpartition(',')[2]}'\n"
+        want((status, output, errors) == (2, "", told), f"{awk}: it takes {word}: {errors}")
     for words in ({"keep": "year", "columns": "012101"}, {"keep": "012101"}, {"levels": "1"}):
         status, output, _ = run(awk, text, **words)
         want((status, output) == (2, ""), f"{awk}: it takes {words}")
@@ -123,7 +133,7 @@ class Stream:
             done = subprocess.run(
                 [lib.program(), *words, folder / "stream"], stdout=subprocess.PIPE, stderr=subprocess.PIPE
             )
-            path.write_bytes(done.stdout if output == 1 else b"note 99999999: of another program\n" + done.stderr)
+            path.write_bytes(done.stdout if output == 1 else b"1 message, at offset 99999999: of another program\n" + done.stderr)
         self.text, self.places = done.stdout.replace(b"\nedition", b"\n# a note\nedition"), []
         # which messages are dumped, by a run for each alone
         for offset, length in re.findall(rb"^offset=(\d+) length=(\d+) ", self.listing.read_bytes(), re.M):
@@ -145,8 +155,9 @@ def tries_offsets(awk: list, stream: Stream) -> None:
     want((str(stream.sounding), "2023") in rows and status == 0, f"{awk}: levels have offsets {rows}: {errors}")
     for columns in ({"columns": "length"}, {"levels": "1", "keep": "offset", "columns": "007004"}):
         for given, told in [
-            ({}, "columns offset and length need"),
-            ({"listing": stream.listing}, "columns offset and length need"),
+            ({}, "columns 'offset' and 'length' need"),
+            ({"listing": stream.listing}, "columns 'offset' and 'length' need"),
+            ({"faults": stream.faults}, "columns 'offset' and 'length' need"),
             ({"listing": stream.listing, "faults": stream.empty}, "the listing has more messages than the dump"),
             ({"listing": stream.empty, "faults": stream.faults}, "the dump has more messages than the listing"),
             ({"listing": stream.faults, "faults": stream.faults}, "is not the output of bufr ls"),
@@ -223,6 +234,12 @@ def tries_levels(awk: list, sounding: bytes, synop: bytes) -> None:
     rows += "1,1,1.0,400,9.0,\n1,1,1.0,500,9.5,\n"
     nested = run(awk, NESTED, levels="1", keep="012101", columns="007004,012101,011001")
     want(nested == (0, rows, ""), f"{awk}: nested groups give {nested}")
+    varied = run(awk, VARIED, levels="1", columns="007004,012101")
+    rows = "".join(f"1,1,{level},{level}.0\n" for level in range(1, 7))
+    want(varied == (0, "message,subset,007004,012101\n" + rows, ""), f"{awk}: levels of different lengths are {varied}")
+    # a level without the descriptor of the first column has no row
+    first = run(awk, NESTED, levels="1", columns="011001,007004")
+    want(first == (0, "message,subset,011001,007004\n1,1,1,100\n", ""), f"{awk}: levels by an inner descriptor are {first}")
     behind = run(awk, NESTED, levels="1", columns="007004,012103")
     told = "table.awk: column 007004 is empty, because no row has an item for it\ntable.awk: column 012103 is empty, because no row has an item for it\n"
     told += "table.awk: skipped a subset without a level: message 1 subset 1\n"
@@ -274,10 +291,9 @@ def tries_levels(awk: list, sounding: bytes, synop: bytes) -> None:
     for word in WORDS:
         for names in ({"columns": word}, {"columns": "007004:2"}, {"keep": word, "columns": "007004"}):
             status, output, errors = run(awk, sounding, levels="1", **names)
-            want(
-                status == 2 and not output and "expected a descriptor of six digits" in errors,
-                f"{awk}: levels take {names}",
-            )
+            more, last = " or a header key" * ("keep" in names), list(names.values())[0].rpartition(",")[2]
+            told = f"table.awk: expected a six-digit descriptor{more}, found '{last}'\n"
+            want((status, output, errors) == (2, "", told), f"{awk}: levels take {names}: {errors}")
 
 
 def main() -> None:

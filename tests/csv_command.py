@@ -262,13 +262,19 @@ def names(folder: pathlib.Path) -> None:
     shutil.copytree(TOP / "tables/wmo-13", folder / "tables/wmo-13")
     rows = (tables / "B.csv").read_text(encoding="utf-8")
     odd = 'STATION, "OR" \\ SIT\u00c9'
-    rows = rows.replace("001015,STATION OR SITE NAME,", '001015,"' + odd.replace('"', '""') + '",')
+    for name, other in (("001015,STATION OR SITE NAME", odd), ("001001,WMO BLOCK NUMBER", "BLOCK, WMO"), ("001002,WMO STATION NUMBER", 'The "WMO" number')):
+        holds(f"the name of {name}", f"\n{name}," in rows)
+        rows = rows.replace(f"{name},", name[:7] + '"' + other.replace('"', '""') + '",')
     (tables / "B.csv").write_text(rows, encoding="utf-8")
-    heading = ["message", "subset", f"001015 {odd}", "012101:2 TEMPERATURE/AIR TEMPERATURE", "year", "048255"]
+    heading = ["message", "subset", f"001015 {odd}", "001001 BLOCK, WMO", '001002 The "WMO" number']
+    heading += ["012101:2 TEMPERATURE/AIR TEMPERATURE", "year", "063255"]
     columns = [word[:8] if ":" in word else word[:6] for word in heading[2:]]
     for options in ([], ["--json"]):
         done = run("--names", "-c", ",".join(columns), *options, SYNOP, environment={"BUFR_TABLES": str(tables.parent)})
         alike(f"--names {options}", done, heading, wanted_rows([SYNOP], columns), bool(options))
+        holds("a heading with quotes", bool(options) or b',"001002 The ""WMO"" number",' in done.stdout, done.stdout[:300])
+        done = run("-c", "wmo\" NUM", *options, SYNOP, environment={"BUFR_TABLES": str(tables.parent)})
+        holds("a part of a name in lower case", b"names contain 'wmo\" NUM': 001002; see" in done.stderr, done)
         done = run(*options, SYNOP, environment={"BUFR_TABLES": str(tables.parent)})
         found = (rows_of_json if options else rows_of_csv)(done.stdout)[1][2]
         holds(f"a name of an item {options}", found[5] == odd.encode(), found)
@@ -319,6 +325,8 @@ def several_files(folder: pathlib.Path) -> None:
     holds("faults of the middle file", (done.returncode, done.stderr) == (1, wanted.stderr), done)
     holds("they have its name", done.stderr.startswith(os.fsencode(FAULTY) + b":offset 131: 1 cut\n"), done.stderr)
     alike("files with faults", done, ["message", "subset", "file", "year"], wanted_rows(files, ["file", "year"]), False)
+    places = ["file", "offset", "length"]
+    alike("places alone", run("-c", ",".join(places), *files), ["message", "subset", *places], wanted_rows(files, places), False)
     for middle in (folder / "nosuch", folder):
         done = run("-c", "file,year", SYNOP, middle, BUOYS)
         rows = wanted_rows([SYNOP, BUOYS], ["file", "year"])
@@ -355,7 +363,7 @@ def notes(folder: pathlib.Path) -> None:
     (folder / "twice").write_bytes(twice)
     told = b"bufr-csv: skipped a subset with ambiguous levels: message 1 subset 1 (008002 begins a level and occurs in it again)%s\n"
     of_file = run("--levels", "-c", "020011", folder / "twice")
-    for what, done, rest in (("a file", of_file, b""), ("a pipe", done, b"; further such subsets are not reported")):
+    for what, done, rest in (("a file", of_file, b""), ("a pipe", done, b"; others will not be reported")):
         holds(f"ambiguous levels of {what}", (done.returncode, done.stderr) == (1, told % rest), done)
     done = run("--levels", "-c", "020011", folder / "nosuch", folder / "twice")
     holds("ambiguous levels after a missing file", done.returncode == 2, done)
@@ -366,13 +374,13 @@ def notes(folder: pathlib.Path) -> None:
 
 def refusals(_folder: pathlib.Path) -> None:
     """Command lines that are not understood: status 2, nothing written, and one line that says what to do."""
-    keys = b"file, offset, length, or a header key (edition master"
+    keys = b"'file', 'offset', 'length', or a header key (edition master"
     for words, told in [
         (["-x"], b"unknown option -x"),
         (["--column", "001001"], b"unknown option --column"),
         (["-c=001001"], b"unknown column '=001001'"),
-        (["-c", ""], b"empty column"),
-        (["-c", "001001,"], b"empty column"),
+        (["-c", ""], b"empty column name"),
+        (["-c", "001001,"], b"empty column name"),
         (["-c", "AIR TEMPERATURE"], b"names contain 'AIR TEMPERATURE': 012001, 012101, 012004, 012104"),
         (["-c", "air temperature"], b"names contain 'air temperature': 012001, 012101, 012004, 012104"),
         (["-c", "001001,AIR TEMPERATURE"], b"'AIR TEMPERATURE'"),
@@ -381,29 +389,32 @@ def refusals(_folder: pathlib.Path) -> None:
         (["-c", "airTemperature"], keys),
         (["-c", "01210"], keys),
         (["-c", "0121011"], keys),
+        (["-c", "01210x"], keys),
+        (["-c", "01210\u0661"], keys),
         (["-c", "412101"], keys),
         (["-c", "064001"], keys),
         (["-c", "001256"], keys),
         (["-c", "\u0661\u0662\u0663\u0664\u0665\u0666"], keys),
-        (["-c", "012101:0"], b"a whole number of at least 1 after the colon"),
-        (["-c", "012101:"], b"a whole number of at least 1 after the colon"),
-        (["-c", "012101:x"], b"a whole number of at least 1 after the colon"),
-        (["-c", "012101:\u0662"], b"a whole number of at least 1 after the colon"),
+        (["-c", "012101:0"], b"a positive whole number after the colon"),
+        (["-c", "012101:"], b"a positive whole number after the colon"),
+        (["-c", "012101:x"], b"a positive whole number after the colon"),
+        (["-c", "012101:\u0662"], b"a positive whole number after the colon"),
         (["-c", "message"], keys),
-        (["-c", "time"], b"use year,month,day,hour,minute"),
-        (["-c", "001001,tables"], b"use master,masterversion,localversion"),
+        (["-c", "time"], b"use 'year,month,day,hour,minute'"),
+        (["-c", "001001,tables"], b"use 'master,masterversion,localversion'"),
         (["-c", "year", "--where=", "category=0"], b"'' is not a condition"),
         (["--levels"], b"--levels needs -c"),
         (["--levels", "-c", "year"], b"pass it to --keep"),
+        (["--levels", "-c", "007004,year"], b"pass it to --keep"),
         (["--levels", "-c", "012101:2"], b"pass it to --keep"),
-        (["--keep", "012101"], b"without -c, --keep accepts only header keys"),
-        (["--keep", "012101:2"], b"without -c, --keep accepts only header keys"),
-        (["--keep", "year", "-c", "012101"], b"--keep works only with --levels"),
+        (["--keep", "012101"], b"without -c, only header keys, file, offset"),
+        (["--keep", "012101:2"], b"without -c, only header keys, file, offset"),
+        (["--keep", "year", "-c", "012101"], b"--keep can be used only with --levels"),
         (["--names"], b"--names needs -c"),
-        (["--json", "-c", "012101,012101"], b"012101 is given twice"),
-        (["--json", "--levels", "-c", "012101", "--keep", "012101"], b"012101 is given twice"),
+        (["--json", "-c", "012101,012101"], b"column '012101' is given twice"),
+        (["--json", "--levels", "-c", "012101", "--keep", "012101"], b"column '012101' is given twice"),
         (["--where", "category"], b"category"),
-        (["--where", "nokey=1"], b"unknown key nokey"),
+        (["--where", "nokey=1"], b"unknown key 'nokey'"),
         (["--max-length", "11"], b"at least 12"),
     ]:
         done = run(*words, SYNOP)
@@ -479,7 +490,7 @@ def failures(folder: pathlib.Path) -> None:
         holds(f"AWK={word!r}", (done.returncode, done.stdout.count(b"\n")) == (0, 4), done)
     (folder / "no-tables/wmo-39").mkdir(parents=True)
     done = run("-c", "AIR TEMPERATURE", SYNOP, environment={"BUFR_TABLES": str(folder / "no-tables")})
-    told = f"contains no table set such as wmo-39; ignored {folder}/no-tables/wmo-39, which has no B.csv".encode()
+    told = f"contains no table sets, such as wmo-39; ignored {folder}/no-tables/wmo-39, which has no B.csv".encode()
     holds("there is no table", done.returncode == 2 and told in done.stderr, done)
     done = run("-c", "AIR TEMPERATURE", SYNOP, environment={"BUFR_TABLES": "/nosuch"})
     holds("there are no tables", done.returncode == 2 and b"/nosuch" in done.stderr, done)
@@ -517,12 +528,26 @@ def feed(awk: list, _folder: pathlib.Path) -> None:
         while told.count(b"\n") < 2 and select.select([process.stderr], [], [], 20)[0]:
             told += os.read(process.stderr.fileno(), 1 << 16)
         is_right = told.startswith(b"bufr-csv: 1 message so far, at offset 0: table version 45 ") and told.endswith(
-            b"\nbufr-csv: skipped a subset without a level: message 1 subset 1; further such subsets are not reported\n"
+            b"\nbufr-csv: skipped a subset without a level: message 1 subset 1; others will not be reported\n"
         )
         holds(f"{awk}: the notes of a live feed", is_right, told)
         process.stdin.close()
         told = process.stderr.read()
         holds(f"{awk}: the notes of a live feed at its end", told == b"bufr-csv: column 020011 is empty, because no row has an item for it\n", told)
+
+
+def note_on_years(_folder: pathlib.Path) -> None:
+    """On a live feed, the note on messages that were left out says that it counts those so far."""
+    command, pipe = [sys.executable, TOP / "scripts/bufr-csv", "-c", "001006", "--where", "time=2006"], subprocess.PIPE
+    environment, told = {**os.environ, "BUFR": program()}, b""
+    with subprocess.Popen(command, stdin=pipe, stdout=subprocess.DEVNULL, stderr=pipe, env=environment) as process:
+        process.stdin.write((TOP / "examples/aircraft.bufr").read_bytes())
+        process.stdin.flush()
+        while b"\n" not in told and select.select([process.stderr], [], [], 20)[0]:
+            told += os.read(process.stderr.fileno(), 1 << 16)
+        holds("a note on years", told.startswith(b"bufr-csv: left out 1 message so far in edition 3, "), told)
+        process.stdin.close()
+        process.stderr.read()
 
 
 def few_files(_folder: pathlib.Path) -> None:
@@ -570,7 +595,11 @@ def main() -> None:
     with tempfile.TemporaryDirectory() as place:
         folder = pathlib.Path(place)
         feeds = [functools.partial(feed, awk) for awk in AWKS if shutil.which(awk[0])]
-        parts = [names, selection, several_files, notes, refusals, failures, few_files, against_bufr_text, same_with_each_awk]
+        if shutil.which("mawk"):  # by another name, as awk is on Debian
+            (folder / "other").symlink_to(shutil.which("mawk"))
+            feeds.append(functools.partial(feed, [str(folder / "other")]))
+        parts = [names, selection, several_files, notes, refusals, failures, note_on_years, few_files]
+        parts += [against_bufr_text, same_with_each_awk]
         for part in [*parts, *feeds, seconds]:
             if not complaints:
                 part(folder)

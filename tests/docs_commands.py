@@ -8,7 +8,7 @@ begin with `> `. Below a command stands what it writes, both outputs as one. The
 and a line `(status N)` at the end for a status other than 0. All commands of a document run one after another in one
 shell. They begin in an empty folder, with `bufr` and the scripts on the path and links to examples/, scripts/ and
 tables/: those of the repository, or of the installation that has the document. A block whose fence ends in `if=WORD` is skipped where neither
-a program nor a module of python3 has that name.
+a program nor a module of python3 or of scripts/ has that name. There may be several words, with commas between them.
 """
 import os
 import pathlib
@@ -21,18 +21,19 @@ import tempfile
 from lib import DOCS, finish, program
 
 
-def is_there(word: str) -> bool:
-    known = subprocess.run(["python3", "-c", f"import {word}"], stderr=subprocess.DEVNULL)
+def is_there(word: str, scripts: pathlib.Path) -> bool:
+    environment = {**os.environ, "PYTHONPATH": str(scripts)}
+    known = subprocess.run(["python3", "-c", f"import {word}"], env=environment, stderr=subprocess.DEVNULL)
     return shutil.which(word) is not None or known.returncode == 0
 
 
 def blocks(text: str):
-    """The first line's number, the word that a block needs, and the lines of each block of commands."""
+    """The first line's number, the words that a block needs, and the lines of each block of commands."""
     for found in re.finditer(r"^( *)```([^\n`]*)\n(.*?)^ *```$", text, re.M | re.S):
         lines = [line[len(found[1]) :] for line in found[3].splitlines()]
         if lines and lines[0].startswith("$ "):
-            needs = re.search(r"if=(\w+)", found[2])
-            yield text.count("\n", 0, found.start(3)) + 1, needs and needs[1], lines
+            needs = re.search(r"if=([\w,]+)", found[2])
+            yield text.count("\n", 0, found.start(3)) + 1, needs[1].split(",") if needs else [], lines
 
 
 def commands(first: int, lines: list):
@@ -78,8 +79,9 @@ def wrongs(path: pathlib.Path) -> list:
     top = next(folder for folder in path.parents if (folder / "examples").is_dir())
     doc, told = path.relative_to(top), []
     for first, needs, lines in blocks(path.read_text(encoding="utf-8")):
-        if needs and not is_there(needs):
-            print(f"docs_commands: {doc}:{first}: skipped, {needs} is not there")
+        lacking = [word for word in needs if not is_there(word, top / "scripts")]
+        if lacking:
+            print(f"docs_commands: {doc}:{first}: skipped, {' and '.join(lacking)} is not there")
         else:
             told += commands(first, lines)
     with tempfile.TemporaryDirectory() as place:

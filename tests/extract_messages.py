@@ -17,6 +17,7 @@ import shutil
 import subprocess
 import sys
 import tempfile
+import time
 
 import lib
 from lib import TOP, want
@@ -50,31 +51,40 @@ CONDITIONS = [
     (["length=55,56"], lambda n, m: len(m) in (55, 56)),
     (["--awk", 'value["length"] > 56 && $6 ~ /=[34]\\//'], lambda n, m: len(m) > 56 and n % 5 > 2),
     (["--awk", "/ category=4/", "centre=74"], lambda n, m: n % 5 == 4 and n // 5 % 2 == 1),
+    (["--awk", "/ category=[34]/", "--awk", "/ subsets=2/"], lambda n, m: n % 5 > 2 and n % 3 == 1),
 ]
 # words that are refused with status 2, and part of the message
 REFUSED = [
-    (["categori=0"], "unknown key categori in 'categori=0'"),
-    (["category=land"], "the value in 'category=land' cannot match: use only digits"),
-    (["category="], "the value in 'category=' cannot match"),
-    (["time=18"], "the value in 'time=18' cannot match: write times as in time=2023-03-14T18"),
-    (["time!=2024,2024-01-02T3"], "the value in 'time!=2024,2024-01-02T3' cannot match"),
-    (["category", SYNOP], "the key category has no value; write category=VALUE"),
-    ([SYNOP, "time"], "the key time has no value; write time=VALUE"),
-    (["--awk", "1)"], "awk does not accept the --awk condition '1)'"),
+    (["categori=0"], "unknown key 'categori' in 'categori=0'"),
+    (["tab=0"], "unknown key 'tab' in 'tab=0'"),
+    (["category=land"], "the value in 'category=land' can never match; use only digits"),
+    (["category="], "the value in 'category=' can never match"),
+    (["category=0x"], "the value in 'category=0x' can never match"),
+    (["category=0,"], "the value in 'category=0,' can never match"),
+    (["time=2024-1"], "the value in 'time=2024-1' can never match"),
+    (["time=2024-01-2"], "the value in 'time=2024-01-2' can never match"),
+    (["time=2024-01-02T03:4"], "the value in 'time=2024-01-02T03:4' can never match"),
+    (["time=2024-01-02T03:04:5"], "the value in 'time=2024-01-02T03:04:5' can never match"),
+    (["time=18"], "the value in 'time=18' can never match; write times as in time=2023-03-14T18"),
+    (["time!=2024,2024-01-02T3"], "the value in 'time!=2024,2024-01-02T3' can never match"),
+    (["category", SYNOP], "the key 'category' has no value; write category=VALUE"),
+    ([SYNOP, "time"], "the key 'time' has no value; write time=VALUE"),
+    (["--awk", "1)"], "awk rejected the --awk condition '1)'"),
     (["--awk", ""], "the --awk condition is empty"),
     (["--awk", " # length"], "the --awk condition is empty"),
     (["--awk", ";\n# one\n\n  # other\n"], "the --awk condition is empty"),
     (["--awk"], "--awk needs a value"),
-    (["--max-length", "11"], "--max-length '11': expected a whole number, at least 12"),
-    (["--max-length", "1" * 19], f"--max-length '{'1' * 19}': expected a whole number, at least 12"),
+    (["--max-length", "11"], "--max-length '11': expected a whole number of at least 12"),
+    (["--max-length", "1" * 19], f"--max-length '{'1' * 19}': expected a whole number of at least 12"),
     (["--all"], "unknown option --all"),
-    (["one", "two"], "expected at most one file; to read several, use cat one two | bufr-extract"),
+    (["one", "two"], "expected at most one file; to read several, use 'cat one two | bufr-extract ..'"),
     (["nosuch"], "cannot open nosuch"),
     (["/"], "cannot read the input: Is a directory"),
 ]
 # Conditions of awk that do more than select lines.
 NO_CONDITIONS = [
     "1;1",
+    'BEGIN { print "x" } 1',
     '$0 = "offset=5 length=3"',
     '$2 = "length=54"',
     '$2 = "length=99999999"',
@@ -133,7 +143,7 @@ def refuses_what_it_cannot(path: pathlib.Path) -> None:
             ("a pipe", run(["--awk", condition], input=path.read_bytes(), timeout=60)),
         ):
             lines = done.stderr.decode().splitlines()
-            told = "a line in the listing is longer than 1 MB" if "while" in condition else "the --awk condition may only select lines, but it printed or changed this line"
+            told = "a line in the listing is longer than 1 MB" if "while" in condition else "the --awk condition must only select lines, but it printed or changed this line"
             is_refused = done.returncode == 2 and done.stdout in (b"", made(1)) and len(lines) == 1 and told in lines[0]
             want(is_refused, f"--awk '{condition}' over {name}: {done}")
     done = run(["--awk", 'NR == 2 { print last } { last = $0; next }', path])
@@ -143,9 +153,17 @@ def refuses_what_it_cannot(path: pathlib.Path) -> None:
     done = run(["--awk", 'NR == 2 { system("kill -9 $PPID") } 1', path])
     told = b"bufr-extract: awk was killed (signal 9); output is incomplete\n"
     want((done.returncode, done.stderr) == (2, told), f"of an awk that is killed: {done}")
+    # A grep that is killed, or that is not there.
+    (path.parent / "bin").mkdir()
+    (path.parent / "bin/grep").write_text("#!/bin/sh\nkill -9 $$\n")
+    killed, denied = "grep was killed (signal 9); output is incomplete", "cannot run grep: Permission denied"
+    for mode, told in ((0o755, killed), (0o644, denied)):
+        (path.parent / "bin/grep").chmod(mode)
+        done = run(["category=0", path], env={**os.environ, "PATH": str(path.parent / "bin")})
+        want((done.returncode, done.stderr.decode()) == (2, f"bufr-extract: {told}\n"), f"of grep: {done}")
     # A line is repeated after all others were read.
     done = run(["--awk", 'NR == 1 { first = $0 } 1; END { fflush(); system("sleep 0.2"); print first }', path])
-    want(done.returncode == 2 and b"the --awk condition may only select lines" in done.stderr, f"a line that comes twice: {done.stderr}")
+    want(done.returncode == 2 and b"the --awk condition must only select lines" in done.stderr, f"a line that comes twice: {done.stderr}")
     # More lines than a pipe holds: `bufr ls` does not wait for an awk that has ended.
     path.write_bytes(made(1) * 4000)
     done = run(["--awk", "NR == 2 { exit 2 } 1", path], timeout=60)
@@ -163,7 +181,12 @@ def refuses_what_it_cannot(path: pathlib.Path) -> None:
     done = run(["--help"])
     want(done.returncode == 0 and b"system()" in done.stdout, "--help does not say that a condition is a program")
     want(run([path, "category=9"]).returncode == 0, "no message to take is a fault")
-
+    # Every field of a line is a condition, which the message meets.
+    path.write_bytes(made(1) + made(2))
+    listed = subprocess.run([os.environ["BUFR"], "ls", path], stdout=subprocess.PIPE, text=True).stdout.splitlines()
+    for number, line in enumerate(listed, 1):
+        want(run([path, *line.split()]).stdout == made(number), f"no message is selected by {line}")
+    path.write_bytes(made(1))
 
     for name in ("time", "A=1", "a1=1", "\u00e9=1"):
         path.with_name(name).write_bytes(made(1))
@@ -188,7 +211,7 @@ def tells_years_of_the_century(folder: pathlib.Path) -> None:
     path = folder / "years.bufr"
     path.write_bytes(b"".join(messages.values()))
     first, second, next_year, whole, of_14, whole_next = dates
-    two_digits = "in edition 3, which has only two-digit years; to select messages of both editions, use"
+    two_digits = "in edition 3, which has only two-digit years; to select messages in both editions, use"
     for words, taken, told in (
         (["time=2014"], [whole], f"2 messages {two_digits} time=2014,0014"),
         (["time=2014-06"], [], f"1 message {two_digits} time=2014-06,0014-06"),
@@ -297,11 +320,13 @@ def tells_a_feed() -> None:
     """The note on messages that are left out comes in a pause of a feed, or after a minute, and once."""
     message = lib.message(b"\x14", edition=3)
     year = 2000 + message[8 + 12]
-    rest = f" in edition 3, which has only two-digit years; to select messages of both editions, use time={year},00{year - 2000:02}\n"
+    rest = f" in edition 3, which has only two-digit years; to select messages in both editions, use time={year},00{year - 2000:02}\n"
     note = f"bufr-extract: left out 2 messages so far{rest}".encode()
     with subprocess.Popen([sys.executable, EXTRACT, f"time={year}"], stdin=subprocess.PIPE, stderr=subprocess.PIPE, bufsize=0) as feed:
+        begin = time.monotonic()
         feed.stdin.write(message * 2)
         is_there = select.select([feed.stderr], [], [], 20)[0]
+        want(time.monotonic() - begin >= 1, "a live feed's note on years comes before the feed pauses for a second")
         told = feed.stderr.read(1 << 16) if is_there else b""
         want(told == note, f"a live feed's note on years is {told}")
         feed.stdin.write(message)

@@ -17,6 +17,18 @@ def program() -> str:
     return str(pathlib.Path(sys.argv[1] if len(sys.argv) > 1 else BUILT).resolve())
 
 
+def use_python_with(*modules: str) -> None:
+    """Runs the test by a Python that has these modules, if this one lacks them. Ends the test if none has them."""
+    for python in (sys.executable, "/usr/bin/python3"):
+        known = subprocess.run([python, "-c", f"import {', '.join(modules)}"], stderr=subprocess.DEVNULL)
+        if known.returncode == 0:
+            if python != sys.executable:
+                os.execv(python, [python, *sys.argv])
+            return
+    print(f"{pathlib.Path(sys.argv[0]).stem}: skipped, no python3 here has {' and '.join(modules)}")
+    sys.exit()
+
+
 def finish(wrongs: list) -> None:
     """Ends a test: prints what is wrong, with the name of the test."""
     test = pathlib.Path(sys.argv[0]).resolve().relative_to(TOP)

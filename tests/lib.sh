@@ -16,7 +16,7 @@ fail() {
 
 # sources_of FOLDER: the checksum of the sources that BUILD has.
 sources_of() {
-    (cd "$1" && find HANDLES crates.txt crates -name out -prune -o -type f -print | LC_ALL=C sort | xargs sha256sum) | sha256sum |
+    (cd "$1" && find HANDLES crates.txt crates -name out -prune -o -type f -print0 | LC_ALL=C sort -z | xargs -0 sha256sum) | sha256sum |
         cut -c 1-64
 }
 

@@ -1,23 +1,28 @@
 #!/usr/bin/env python3
 """Compares the library for C with the program, on examples/, tests/vectors and random hostile streams.
 
-    tests/library.py [PROGRAM [FOLDER]]        FOLDER: the library that library/build.sh made; it is built if left out
+    tests/library.py [PROGRAM [FOLDER]]        FOLDER: the library that library/build.sh made. If it is left out, it is
+                                               the one of the variable BUFR_LIBRARY, or else it is built.
 
 The outputs must be the same, with large and with small rooms, and from several threads at once. The rows of items must
 say what `bufr dump` says, and those of messages what `bufr ls` says. The structures and numbers of bufr_library.py must
 be those of bufr.h. Then the examples in C and Fortran are compiled, compared, and run under valgrind.
 """
 import ctypes
+import fcntl
 import os
 import pathlib
 import random
 import re
 import shlex
 import shutil
+import struct
 import subprocess
 import sys
 import tempfile
+import termios
 import threading
+import time
 from concurrent.futures import ThreadPoolExecutor
 
 from lib import TOP, finish, program
@@ -173,8 +178,10 @@ def try_header(path: str) -> None:
     header = re.sub(r"/\*.*?\*/", "", (TOP / "library/bufr.h").read_text(), flags=re.S)
     of_python = {f"bufr_{it.lower()}": getattr(bufr_library, it) for it in dir(bufr_library) if it[0].isupper()}
     for name, body in re.findall(r"^enum (\w+) \{(.*?)\n\};", header, re.S | re.M):
-        numbers = {word: int(number) for word, number in re.findall(r"BUFR_(\w+) = (\d+)", body)}
+        numbers = {word: int(number) for word, number in re.findall(r"BUFR_(?:FAULT_)?(\w+) = (\d+)", body)}
         alike(f"enum {name}", {it.name: it.value for it in of_python[name]}, numbers)
+    section = (TOP / "docs/texts.md").read_text().partition("## Fault lines\n")[2].partition("\n## ")[0]
+    alike("faults", [0, *map(int, re.findall(r"^\| `(\d+) ", section, re.M))], [it.value for it in bufr_library.Fault])
     structs = {}
     for name, body in re.findall(r"^struct (\w+) \{(.*?)\n\};", header, re.S | re.M):
         fields = []
@@ -268,14 +275,30 @@ def try_examples(folder: pathlib.Path, work: pathlib.Path) -> None:
     faulty, stream = TOP / "examples/bulletins.bufr", TOP / "examples/synop.bufr"
     listing = said_by(["ls"], faulty.read_bytes())
     text, _ = said_by(["dump", "-B", SETS[0][0], "-D", SETS[0][1]], stream.read_bytes())
-    named = b"".join(re.findall(rb"^\d{6} -?[\d.]+  # .*\n", text, re.M))
+    number = re.compile(rb"^\d{6} -?[\d.]+  # .*\n", re.M)
+    named = b"".join(number.findall(text))
     numbers = re.sub(rb"  # .*", b"", named)
+    text, faults = said_by(["dump", "-B", SETS[0][0], "-D", SETS[0][1]], faulty.read_bytes())
+    refused = b"".join(number.findall(text)), re.sub(rb"(: )(\d+) .*", rb"\1fault \2", faults)
+    refused_numbers = re.sub(rb"  # .*", b"", refused[0]), refused[1]
     examples = TOP / "library/examples"
+    # an element with more decimal places than a number of 64 bits has digits
+    small, fine = work / "small.bufr", (work / "B.csv", SETS[0][1])
+    fine[0].write_bytes(SETS[0][0].read_bytes() + b"001192,FINE,Numeric,100,0,8\n")
+    document = (VECTORS / "texts/one_block_number.txt").read_bytes().replace(b"001001 10", b"001192 0." + b"0" * 98 + b"10")
+    small.write_bytes(said_by(["encode", "-B", fine[0], "-D", fine[1]], document.replace(b"001001", b"001192"))[0])
+    many_places = b"001192 0." + b"0" * 98 + b"10  # FINE [Numeric]\n"
+    of_c = ["-std=c99", "-D_POSIX_C_SOURCE=200809L", "-Wall", "-Wextra", "-pedantic", "-Werror"]
+    of_fortran = ["-std=f2018", "-Wall", "-Werror", f"-J{work}"]
     tries = [
-        ("gcc", ["-std=c99", "-Wall", "-Wextra", "-pedantic", "-Werror"], "list_stream.c", [faulty], listing),
-        ("gcc", ["-std=c99", "-Wall", "-Wextra", "-pedantic", "-Werror"], "print_numbers.c", [*SETS[0], stream], (named, b"")),
+        ("gcc", of_c, "list_stream.c", [faulty], listing),
+        ("gcc", of_c, "print_numbers.c", [*fine, small], (many_places, b"")),
+        ("gcc", of_c, "print_numbers.c", [*SETS[0], stream], (named, b"")),
+        ("gcc", of_c, "print_numbers.c", [*SETS[0], faulty], refused),
+        ("gcc", of_c, "read_pipe.c", [*SETS[0]], (b"", b"")),
         ("g++", ["-x", "c++", "-Wall", "-Werror"], "list_stream.c", [faulty], listing),
-        ("gfortran", ["-std=f2018", "-Wall", "-Werror", f"-J{work}"], "print_numbers.f90", [*SETS[0], stream], (numbers, b"")),
+        ("gfortran", of_fortran, "print_numbers.f90", [*SETS[0], stream], (numbers, b"")),
+        ("gfortran", of_fortran, "print_numbers.f90", [*SETS[0], faulty], refused_numbers),
     ]
     for compiler, flags, source, words, wanted in tries:
         if not shutil.which(compiler):
@@ -289,17 +312,41 @@ def try_examples(folder: pathlib.Path, work: pathlib.Path) -> None:
                 wrongs.append(f"{compiler} {source}, {way}: {done.stdout}")
                 continue
             alike(f"{compiler} {source}, {way}: asks for libbufr.so.0", b"\0libbufr.so.0\0" in built.read_bytes(), way == "shared")
-            run = subprocess.run([built, *words], stdout=subprocess.PIPE, stderr=subprocess.PIPE)
+            run = subprocess.run([built, *words], input=b"", stdout=subprocess.PIPE, stderr=subprocess.PIPE)
             alike(f"{compiler} {source}, {way}", (run.returncode, run.stdout, run.stderr), (0, *wanted))
             if way == "shared" and not shutil.which("valgrind"):
                 print("tests/library.py: valgrind is not installed, so no example runs under it", file=sys.stderr)
             elif way == "shared":
                 check = ["valgrind", "-q", "--error-exitcode=9", "--leak-check=full", "--show-leak-kinds=all", str(built)]
-                run = subprocess.run([*check, *map(str, words)], stdout=subprocess.PIPE, stderr=subprocess.PIPE)
+                run = subprocess.run([*check, *map(str, words)], input=b"", stdout=subprocess.PIPE, stderr=subprocess.PIPE)
                 alike(f"{source} under valgrind", (run.returncode, run.stdout, run.stderr), (0, *wanted))
                 for few, status in (([], 2), ([*words[:-1], work / "none"], 1)) if compiler == "gcc" else ():
                     run = subprocess.run([*check, *map(str, few)], stdout=subprocess.PIPE, stderr=subprocess.PIPE)
                     alike(f"{source} with {len(few)} words under valgrind", run.returncode, status)
+
+
+def try_pipe(folder: pathlib.Path, work: pathlib.Path) -> None:
+    """The example that reads a pipe prints the same messages, however many octets arrive at a time."""
+    built = work / "read_pipe.c.gcc.static"
+    if not built.exists():
+        return
+    long = (TOP / "examples/sounding.bufr").read_bytes() * 600  # longer than the first buffer
+    examples = b"".join(path.read_bytes() for path in sorted((TOP / "examples").glob("*.bufr")))
+    beyond = b"BUFR\xff\xff\xff\4" + b" " * 8  # declares a length that exceeds the pipe
+    of_library = bufr_library.Library(str(folder / "libbufr.so"), *(table.read_bytes() for table in SETS[0]))
+    bulletins = (TOP / "examples/bulletins.bufr").read_bytes()
+    for stream, size in ((bulletins, 1), (examples + b"BUF", 7), (long + examples + beyond + examples, 1 << 16), (b"", 1)):
+        rows = [row for _, _, messages in of_library.parts(stream, (0xFFFF,)) for row in messages]
+        wanted = "".join(f"offset={row.offset} length={row.length} fault={row.fault}\n" for row in rows).encode()
+        with subprocess.Popen([built, *SETS[0]], stdin=subprocess.PIPE, stdout=subprocess.PIPE) as run:
+            with ThreadPoolExecutor(1) as pool:
+                printed = pool.submit(run.stdout.read)
+                for at in range(0, len(stream), size):
+                    os.write(run.stdin.fileno(), stream[at : at + size])
+                    while struct.unpack("i", fcntl.ioctl(run.stdin, termios.FIONREAD, bytes(4)))[0]:
+                        time.sleep(0)  # the program reads these octets by themselves
+                run.stdin.close()
+                alike(f"a pipe, {size} octets at a time", (printed.result(), run.wait()), (wanted, 0))
 
 
 def try_pkg_config(folder: pathlib.Path, work: pathlib.Path) -> None:
@@ -327,8 +374,9 @@ def try_pkg_config(folder: pathlib.Path, work: pathlib.Path) -> None:
 def main() -> None:
     with tempfile.TemporaryDirectory() as name:
         work = pathlib.Path(name)
-        folder = pathlib.Path(sys.argv[2]).resolve() if len(sys.argv) > 2 else work / "library"
-        if len(sys.argv) < 3:
+        named = sys.argv[2] if len(sys.argv) > 2 else os.path.dirname(os.environ.get("BUFR_LIBRARY", ""))
+        folder = pathlib.Path(named).resolve() if named else work / "library"
+        if not named:
             if not shutil.which(os.environ.get("CC", "cc")) or not shutil.which("rt"):
                 print("tests/library.py: skipped, since it needs rt and cc, a C compiler", file=sys.stderr)
                 return
@@ -346,6 +394,7 @@ def main() -> None:
         try_tables(path)
         try_threads(path)
         try_examples(folder, work)
+        try_pipe(folder, work)
         try_pkg_config(folder, work)
         finish(wrongs)
 

@@ -81,6 +81,13 @@ def long_lists():
         yield lib.asking(lib.message(b"", bytes([0x30, number]) * 65_000), 13, 1)
 
 
+def many_long_lists():
+    """300 messages with different lists, of which no row is missing."""
+    for number in range(300):
+        words = bytes([0x30, number & 255]) * 64_900 + bytes([0x31, number >> 8]) * 100
+        yield lib.asking(lib.message(b"", words), 13, 1)
+
+
 def versions():
     """Messages of 40 versions, each with a set of tables of its own."""
     for version in range(1, 41):
@@ -102,10 +109,11 @@ STREAMS = {
     centres: (0, 0),
     long: (0, 0),
     long_lists: (1, 80),
+    many_long_lists: (1, 0),
     versions: (1, 0),
 }
 # Streams that matter to one script.
-ONLY = {long_lists: "bufr-auto", versions: "bufr-lacks", centres: "bufr-lacks"}
+ONLY = {long_lists: "bufr-auto", many_long_lists: "bufr-lacks", versions: "bufr-lacks", centres: "bufr-lacks"}
 TEXTS = {no_end: (1, 1)}
 
 

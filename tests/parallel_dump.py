@@ -19,6 +19,8 @@ import lib
 from lib import TABLES, TOP, want
 
 PARALLEL = [sys.executable, TOP / "scripts/bufr-parallel"]
+# a word that begins no message, and its fault at the beginning of a stream
+STRAY, STRAY_TOLD = b"BUFR\0\0\0\4", b"offset 0: 2 short length\n"
 
 
 def run(words: list, **streams) -> tuple:
@@ -92,6 +94,15 @@ def same_as_one_run(program: str, folder: pathlib.Path) -> None:
     status, output, errors = run([*PARALLEL, "dump", *TABLES, small])
     told = f"offset 2: 2 short length\nbufr-parallel: {small} contains no message: it looks like gzip data (use zcat)\n"
     want((status, output, errors.decode()) == (1, b"", told), f"of a wrong file it is told {errors}")
+    both = run([*PARALLEL, "dump", *TABLES, os.devnull, "-"], stdin=subprocess.DEVNULL)
+    told = b"bufr-parallel: /dev/null standard input contains no message: it is empty\n"
+    want(both == (0, b"", told), f"of two empty files comes {both}")
+    # A fault of a part comes before the dump of the next one.
+    octets = STRAY + lib.message(bytes(70_000)) * 2
+    words = [*PARALLEL, "dump", *TABLES]
+    output = subprocess.run(words, input=octets, stdout=subprocess.PIPE, stderr=subprocess.STDOUT).stdout
+    before, told, behind = output.partition(STRAY_TOLD)
+    want((before.count(b"\nend\n"), told, behind.count(b"\nend\n")) == (1, STRAY_TOLD, 1), "a fault is told late")
 
 
 def tells_what_fails(program: str, folder: pathlib.Path) -> None:
@@ -106,9 +117,9 @@ def tells_what_fails(program: str, folder: pathlib.Path) -> None:
         "a missing file is told otherwise",
     )
     for words, told in (
-        (["ls", path], "expected the command dump with -B FILE and -D FILE"),
-        (["dump", path], "expected the command dump with -B FILE and -D FILE"),
-        ([], "expected the command dump with -B FILE and -D FILE"),
+        (["ls", path], "expected 'dump -B FILE -D FILE'"),
+        (["dump", path], "expected 'dump -B FILE -D FILE'"),
+        ([], "expected 'dump -B FILE -D FILE'"),
         (["dump", *TABLES, "-Q"], "unknown option -Q"),
         (["dump", *TABLES, "-P"], "-P needs a value"),
         *(
@@ -132,14 +143,23 @@ def tells_what_fails(program: str, folder: pathlib.Path) -> None:
     failing.chmod(0o755)
     message = lib.message(bytes(60_000))
     marked = lib.message(b"HEADING2" + bytes(60_000))
-    (folder / "marked.bufr").write_bytes(message * 4 + marked + message * 4)
+    (folder / "marked.bufr").write_bytes(STRAY + message * 4 + marked + message * 4 + STRAY)
     status, output, errors = run(
         [*PARALLEL, "-P", "2", "dump", *TABLES, "marked.bufr"], cwd=folder, env={**os.environ, "BUFR": str(failing)}
     )
     want(
-        (status, output.count(b"\nend\n"), errors) == (2, 5, b"bufr: 73 out of memory\n"),
+        (status, output.count(b"\nend\n"), errors) == (2, 5, STRAY_TOLD + b"bufr: 73 out of memory\n"),
         f"a failed process ends with {status}, {errors}",
     )
+    # a file that goes, and a listing that ends before it has read all that a pipe can hold
+    for script, told in (
+        ("cat > listed; rm two.bufr; exec {0} ls < listed", b"cannot open two.bufr: No such file or directory\n"),
+        ("kill -9 $$", b"bufr was killed (signal 9); output is incomplete\n"),
+    ):
+        (folder / "two.bufr").write_bytes(message * 2)
+        failing.write_text(f'#!/bin/sh\n[ "$1" != ls ] || {{ {script.format(program)}; }}\nexec {program} "$@"\n')
+        done = run([*PARALLEL, "dump", *TABLES, "two.bufr"], cwd=folder, env={**os.environ, "BUFR": str(failing)})
+        want(done == (2, b"", b"bufr-parallel: " + told), f"{script} ends with {done}")
 
 
 def leaves_no_process(program: str, folder: pathlib.Path) -> None:
@@ -150,10 +170,10 @@ def leaves_no_process(program: str, folder: pathlib.Path) -> None:
         "echo $$ > begun; mv begun number; exec sleep 60\n"
     )
     (folder / "lasting").chmod(0o755)
-    (folder / "two.bufr").write_bytes(lib.message(b"FIRST" + bytes(70_000)) + lib.message(bytes(70_000)))
+    (folder / "two.bufr").write_bytes(STRAY + lib.message(b"FIRST" + bytes(70_000)) + lib.message(bytes(70_000)))
     environment = {**os.environ, "BUFR": str(folder / "lasting")}
     status, _, errors = run([*PARALLEL, "-P", "2", "dump", *TABLES, "two.bufr"], cwd=folder, env=environment, timeout=50)
-    told = b"bufr-parallel: bufr exited with status 3; output is incomplete\n"
+    told = STRAY_TOLD + b"bufr-parallel: bufr exited with status 3; output is incomplete\n"
     want((status, errors) == (2, told), f"a dump that fails ends with {status}: {errors}")
     number = int((folder / "number").read_text())
     end = time.monotonic() + 5
@@ -209,7 +229,7 @@ def reads_each_octet_once(program: str, folder: pathlib.Path) -> None:
     )
     want(listed == [len(stream)], f"of {len(stream)} octets {listed} are listed")
     want(len(report) * 1000 <= sum(dumped) <= len(stream), f"of {len(stream)} octets {dumped} are dumped")
-    want(len(dumped) > 4, f"{len(dumped)} parts for four processes")
+    want(4 < len(dumped) <= 100, f"{len(dumped)} parts for four processes")
 
 
 def main() -> None:

@@ -65,8 +65,17 @@ def strange(python: str, folder: pathlib.Path) -> None:
     want(draw(referred) == plain, "a reference value is taken for a latitude")
     want(draw(stations(3, longitude="180.0")) != draw(stations(3, longitude="-180.0")), "180 degrees are wrapped")
     for latitude, pole in (("91.5", "90.0"), ("-100.0", "-90.0")):
-        told = (draw(stations(3, pole))[0], "bufr-plot: 2 latitudes are beyond a pole; their points are drawn at the pole\n")
+        at_pole, told = draw(stations(3, pole))
+        want(told == "", f"of latitude {pole} it tells {told}")
+        told = (at_pole, "bufr-plot: 2 latitudes are beyond a pole; their points are drawn at the pole\n")
         want(draw(stations(3, latitude)) == told, f"latitude {latitude} is not clipped, or not told")
+    _, told = draw(stations(2, "91.5"))
+    want(told == "bufr-plot: 1 latitude is beyond a pole; its point is drawn at the pole\n", f"of one latitude it tells {told}")
+    # A value of 0 has a label, but not a missing value, nor that of a subset without a place.
+    odd = stations(4).replace(b" 281.5", b" 0.00").replace(b" 282.5", b" MISSING").replace(b"subset 3\n005001 50.5", b"subset 3")
+    drawn, _ = draw(odd, "--value", "012101")
+    labels = re.findall(r">(0\.00|None|28\d\.5)</text>", drawn)
+    want(labels == ["0.00", "284.5"] and ">3 points: 012101 []<" in drawn, f"the labels are {labels}")
     # half of the world from 10.5 north and 20.5 east, and slightly more than half
     for place, is_whole in (
         ({"longitude": "-159.5"}, False), ({"latitude": "-79.5"}, False), ({"longitude": "-160.0"}, True), ({"latitude": "-80.0"}, True)
@@ -93,7 +102,7 @@ def strange(python: str, folder: pathlib.Path) -> None:
     want(radius in drawn and radius not in draw(stations(101))[0], "101 points are as large as 100")
     drawn, told = draw(stations(101), "--value", "012101")
     want("281.5" not in drawn, "101 values have labels")
-    want(told == "bufr-plot: drew the points without values: there are 101 values, and at most 100 can be shown\n", f"of 101 values it tells {told}")
+    want(told == "bufr-plot: drew no values next to the points: there are 101, but at most 100 can be shown\n", f"of 101 values it tells {told}")
     drawn, told = draw(stations(2, name=b"$x^{..$ \\\\$\\x07\\xFF"), "--value", "001015")
     want("$x^{..$ \\$?\ufffd" in drawn and "[$y$]" in drawn, "a text is taken for a formula")
     want(told == "", f"of a text it tells {told}")
@@ -120,6 +129,24 @@ def first_of_a_level(python: str, folder: pathlib.Path, text: bytes) -> None:
     want(draw(text.replace(b"subset 1\n", odd)) == whole, "what is no level is drawn")
     one = text.partition(b"subset 1\n")[0] + b"subset 1\n007004 50000\n012101 250\nend\n"
     want(run(python, ["sounding", folder / "picture.svg"], one, cwd=folder).returncode == 1, "one level is drawn")
+
+
+def chosen_sounding(python: str, folder: pathlib.Path) -> None:
+    """The first sounding is drawn, or the first one of those that are asked for. Each has a title with its numbers."""
+    bare, level = b"subset 1\n012101 250\n", b"007004 %d00\n012101 273.15\n"
+    head = stations(1).partition(b"subset 1\n")[0].replace(b"subsets 1", b"subsets 3")
+    text = head + bare + b"".join(b"subset %d\n" % number + level % 1000 + level % 500 for number in (2, 3)) + b"end\n"
+    text += text.replace(b"\nyear 2023", b"\nyear 2022").replace(b"\nhour 18", b"\nhour 6").replace(b"\nmonth 3", b"\nmonth 11")
+    for words, title in (
+        ([], "message 1, subset 2: centre 78, 2023-03-14 18:00"),
+        (["--message", "2"], "message 2, subset 2: centre 78, 2022-11-14 06:00"),
+        (["--subset", "3"], "message 1, subset 3: centre 78, 2023-03-14 18:00"),
+        (["--subset", "3", "--message", "2"], "message 2, subset 3: centre 78, 2022-11-14 06:00"),
+    ):
+        done = run(python, ["sounding", *words, folder / "picture.svg", "-"], text, cwd=folder)
+        want(done.returncode == 0, f"a sounding of {words} ends with {done.returncode}: {done.stderr}")
+        titles = re.findall(">(message .*?)<", (folder / "picture.svg").read_text(encoding="utf-8"))
+        want(titles == [title], f"a sounding of {words} has the titles {titles}, not {title}")
 
 
 def memory_of_points(python: str, folder: pathlib.Path) -> None:
@@ -199,6 +226,9 @@ def draws(python: str, program: str, folder: pathlib.Path) -> None:
     coarse = texts["synop"].replace(b"\n005001", b"\n005002").replace(b"\n006001", b"\n006002")
     want(run(python, ["map", folder / "a.png"], coarse).returncode == 0, "no PNG is drawn")
     want((folder / "a.png").read_bytes().startswith(b"\x89PNG"), "a PNG is none")
+    (folder / "linked.pdf").symlink_to(folder / "a.pdf")
+    want(run(python, ["map", folder / "linked.pdf"], coarse).returncode == 0, "no PDF is drawn")
+    want((folder / "a.pdf").read_bytes().startswith(b"%PDF"), "a PDF is none, or does not stand where a link leads")
     for words, text, status, told in [
         (["map", folder / "b.png"], texts["one_block_number"], 1, "no subset has both a latitude and a longitude"),
         (["map", "--value", "012104", folder / "b.png"], texts["synop"], 1, "no subset contains 012104"),
@@ -210,20 +240,22 @@ def draws(python: str, program: str, folder: pathlib.Path) -> None:
         (["sounding", folder / "b.png"], b"# a note\n", 1, "bufr-plot: the input contains no message"),
         (["map", "--value", "", folder / "b.png"], texts["synop"], 2, "--value '': expected a descriptor such as 012101, found ''"),
         (["map", "--value", "T", folder / "b.png"], texts["synop"], 2, "--value 'T': expected a descriptor such as 012101, found 'T'"),
-        (["map", ""], texts["synop"], 2, "the file name of PICTURE must end in .png, .svg or .pdf, found ''"),
+        (["map", ""], texts["synop"], 2, "the name of PICTURE must end in .png, .svg or .pdf, but it is ''"),
         (["map", folder / "b.png", ""], b"", 2, "cannot open ''"),
-        (["sounding", "--message", "x", folder / "b.png"], b"", 2, "--message 'x': expected a whole number, at least 1"),
-        (["sounding", "--subset", "0", folder / "b.png"], b"", 2, "--subset '0': expected a whole number, at least 1"),
+        (["sounding", "--message", "x", folder / "b.png"], b"", 2, "--message 'x': expected a whole number of at least 1"),
+        (["sounding", "--subset", "0", folder / "b.png"], b"", 2, "--subset '0': expected a whole number of at least 1"),
         (["sounding", "--value", "012101", folder / "b.png"], b"", 2, "unknown option --value"),
         (["map", "--message", "1", folder / "b.png"], b"", 2, "unknown option --message"),
-        (["map"], b"", 2, "expected one PICTURE and at most one DUMP after map"),
-        (["map", folder / "b.png", folder / "c", folder / "d"], b"", 2, "expected one PICTURE and at most one DUMP after map"),
-        ([], b"", 2, "expected map or sounding as the first argument"),
-        (["map", folder / "b.png"], b"no dump\n", 2, "line 1: expected message"),
+        (["map"], b"", 2, "expected one PICTURE and at most one DUMP after 'map'"),
+        (["map", folder / "b.png", folder / "c", folder / "d"], b"", 2, "expected one PICTURE and at most one DUMP after 'map'"),
+        ([], b"", 2, "expected 'map' or 'sounding' as the first argument"),
+        (["map", folder / "b.png"], b"no dump\n", 2, "line 1: expected 'message'"),
         (["map", folder / "b.png", folder / "nosuch"], b"", 2, "nosuch"),
         (["map", folder / "no" / "b.png"], texts["synop"], 2, f"cannot write {folder / 'no' / 'b.png'}: No such file"),
-        (["map", folder / "b.text"], texts["synop"], 2, "text"),
-        (["picture", folder / "b.png"], b"", 2, "expected map or sounding as the first argument"),
+        (["map", folder / "b.text"], texts["synop"], 2, "must end in .png, .svg or .pdf, but it is '"),
+        (["map", folder / "b.png.old"], texts["synop"], 2, "must end in .png, .svg or .pdf, but it is '"),
+        (["map", folder / "bpng"], texts["synop"], 2, "must end in .png, .svg or .pdf, but it is '"),
+        (["picture", folder / "b.png"], b"", 2, "expected 'map' or 'sounding' as the first argument"),
     ]:
         done = run(python, words, text)
         want(
@@ -242,6 +274,7 @@ def draws(python: str, program: str, folder: pathlib.Path) -> None:
     want(done.stdout.startswith(b"bufr-plot, with bufr "), f"its version is {done.stdout}")
     strange(python, folder)
     first_of_a_level(python, folder, texts["sounding"])
+    chosen_sounding(python, folder)
     draws_whole(python, folder)
     memory_of_points(python, folder)
 

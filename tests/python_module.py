@@ -67,7 +67,7 @@ MISTAKES = [
     (24, b"> 001001 10\n", "a > from a quoted email"),
     (24, b"001001\t10\n", "a tab instead of a space"),
     (24, b" 001001 10\n", "a space at the beginning"),
-    (25, b"message\n", "message; the previous document has no end line"),
+    (25, b"message\n", "'message'; the previous document has no 'end' line"),
     (24, b"1001 10\n", "a descriptor of fewer than six digits"),
     (2, b"edition  4\n", "two spaces instead of one"),
     (22, b"descriptors  001001\n", "two spaces instead of one"),
@@ -80,8 +80,8 @@ MISTAKES = [
     (24, b"012101 282,55  # NAME [K]\n", "a decimal comma"),
     (24, b"012101 NaN\n", "a value that is not a number; write MISSING for a missing value"),
     (24, b"012101 -inf\n", "a value that is not a number; write MISSING for a missing value"),
-    (24, b"012101 missing  # NAME [K]\n", "MISSING in lower case"),
-    (24, b"012101 missing  # A +B 2.8E2 NaN, A#B\n", "MISSING in lower case"),
+    (24, b"012101 missing  # NAME [K]\n", "MISSING that is not in capitals"),
+    (24, b"012101 missing  # A +B 2.8E2 NaN, A#B\n", "MISSING that is not in capitals"),
     (24, b"012101 282.  # NAME [K]\n", "a decimal point without a digit on each side"),
     (24, b"012101 .5\n", "a decimal point without a digit on each side"),
     (24, b"012101\n", "no value; write MISSING for a missing value"),
@@ -223,7 +223,9 @@ class Texts(unittest.TestCase):
                 self.assertTrue(str(told.exception).endswith(f", found {cause}"), told.exception)
                 done = run(lib.program(), "encode", *lib.TABLES, input=with_line(number, line))
                 self.assertRegex(done.stderr.decode(), f"^line {number}: 5[012] ")
-        with self.assertRaisesRegex(bufr_text.TextError, "^line 25: expected an item, subset or end, found the end of the"):
+        with self.assertRaisesRegex(bufr_text.TextError, "^line 24: expected an item$"):  # of which no cause is known
+            list(bufr_text.read(io.BytesIO(with_line(24, b"001001 10 x\n"))))
+        with self.assertRaisesRegex(bufr_text.TextError, "^line 25: expected an item, 'subset' or 'end', found the end of the"):
             list(bufr_text.read(lines_of(ONE)[:24]))
         told = {cause for _, _, cause in MISTAKES}
         self.assertEqual(told, {cause for _, cause in bufr_text._CAUSES})
@@ -247,6 +249,12 @@ class Texts(unittest.TestCase):
         item = message.subsets[0][0]
         self.assertEqual((item.name, item.unit), ("T\xe9 \udcdf", "\udcb0C"))
         self.assertEqual(written([message]), text)
+
+    def test_a_name_or_a_unit_may_be_missing(self):
+        [message] = bufr_text.read(lines_of(ONE))
+        for name, unit, comment in [("N", None, b"  # N []"), (None, "K", b"  #  [K]"), (None, None, b"")]:
+            message.subsets[0] = [bufr_text.Item("001001", Decimal(10), name, unit)]
+            self.assertIn(b"\n001001 10" + comment + b"\n", written([message]))
 
     def test_an_empty_section_2_is_present(self):
         [message] = bufr_text.read(lines_of(ONE))
@@ -373,7 +381,7 @@ class Tables(unittest.TestCase):
             table = pathlib.Path(without_tables, "wmo-39/B.csv")
             pathlib.Path(without_tables, "wmo-39/D.csv").touch()
             for text, told in (
-                ("fxy,name,unit\nshort\n012101,AIR TEMPERATURE,K\n", ", which occurs in the names of 012101"),
+                ("fxy,name,unit\nshort\n001001,Old air temperature,K\n012101,Air temperature,K\n", ", which occurs in the names of 012101, 001001"),
                 ("fxy,unit\n012101,K\n", ""),
                 ("", ""),
             ):
@@ -390,6 +398,8 @@ class Tables(unittest.TestCase):
         texts += [with_line(24, enclosed % passes) for passes in (2, 3)]
         texts.append(with_line(24, b"031001 MISSING\n007004 1\n"))
         texts.append(with_line(24, b"031001 3\n" + b"007004 1\n007004 2\n031001 1\n011001 3\n" * 3))
+        # nested groups, then a group without a pass, then another one
+        texts.append(with_line(24, b"031001 2\n" + b"007004 1\n031001 1\n011001 3\n" * 2 + b"031001 0\n031001 1\n007004 5\n012101 6\n"))
         lists = [("001015", "007004,012101,012103"), ("001001", "007004"), ("007004", "012101,007004"), ("", "020012,020011"), ("", "008002")]
         unclear, count = 0, 0
         for keep, columns in lists:
@@ -409,6 +419,12 @@ class Tables(unittest.TestCase):
             unclear += done.returncode
         self.assertGreater(count, 100)
         self.assertGreater(unclear, 0)
+        said = r"^skipped a subset with ambiguous levels: message 1 subset 1 \(008002 begins a level and occurs in it again\)$"
+        with self.assertWarnsRegex(bufr_text.DumpWarning, said):
+            list(bufr_text.levels(bufr_text.read(io.BytesIO(texts[-5])), ["020011"]))
+        with warnings.catch_warnings():
+            warnings.simplefilter("error")
+            self.assertEqual(len(list(bufr_text.levels(bufr_text.read(io.BytesIO(texts[0])), ["007004"]))), 29)
 
 
 def document(chance: random.Random) -> bytes:
@@ -448,6 +464,8 @@ class Runs(unittest.TestCase):
         for tables in (TABLES, []):
             [message] = bufr_text.dump(TOP / "examples/synop.bufr", *tables)
             self.assertEqual(written([message]), (TOP / "examples/synop.txt").read_bytes())
+            # a message of a dump equals it, although that has no place in a file
+            self.assertEqual([message], list(bufr_text.read(lines_of(TOP / "examples/synop.txt"))))
 
     def test_faults_and_places(self):
         done = run(lib.program(), "dump", *[f"-{word}{table}" for word, table in zip("BD", OLD_TABLES)], self.stream)
@@ -553,7 +571,7 @@ class Runs(unittest.TestCase):
         self.assertEqual(levels, list(bufr_text.levels(bufr_text.dump(self.stream, faults=[]), ["007004"], ["offset"])))
         for call in (bufr_text.rows, bufr_text.levels):
             for given in ({"faults": []}, {"where": ["category=0"]}):
-                with self.assertRaisesRegex(TypeError, r"give these arguments to dump\(\) instead"):
+                with self.assertRaisesRegex(TypeError, r"pass them to dump\(\) instead"):
                     call([land], ["012101"], **given)
 
     def test_messages_left_out_by_their_year_are_warned_of(self):
@@ -567,7 +585,7 @@ class Runs(unittest.TestCase):
             for call in (bufr_text.dump, lambda file, where: bufr_text.rows(file, ["012101"], where=where)):
                 with self.subTest(where), self.assertRaises(ValueError):
                     call(self.stream, where=where)
-        with self.assertRaisesRegex(ValueError, "unknown key categori in 'categori=0'; the keys are offset length"):
+        with self.assertRaisesRegex(ValueError, "unknown key 'categori' in 'categori=0'; the keys are offset length"):
             bufr_text.dump(self.stream, where=["categori=0"])
         with self.assertRaises(TypeError):
             bufr_text.dump(self.stream, places=[], where=["category=0"])
@@ -601,6 +619,10 @@ class Runs(unittest.TestCase):
             text = f"{self.stream}: {len(lines)} faults, the first: {lines[0]}"
             self.assertEqual(str(warned.warning), text)
             self.assertEqual(warned.filename, __file__)
+        self.stream.write_bytes((TOP / "examples/synop.bufr").read_bytes() + b"BUFR")
+        with self.assertWarnsRegex(bufr_text.DumpWarning, f"^{self.stream}: 1 fault: offset 595: 1 cut$"):
+            with contextlib.redirect_stderr(io.StringIO()):
+                list(bufr_text.dump(self.stream, *TABLES))
         with warnings.catch_warnings():
             warnings.simplefilter("error")
             list(bufr_text.dump(TOP / "examples/synop.bufr", *TABLES))
@@ -631,11 +653,20 @@ class Runs(unittest.TestCase):
             warnings.simplefilter("always")
             self.assertEqual(len(list(bufr_text.dump(self.stream, *TABLES))), 1)
         self.assertEqual(str(told[1].message), f"{self.stream}: 1 message, at offset 0: strange\ufffd")
+        with self.assertWarnsRegex(bufr_text.DumpWarning, "^strange\ufffd$"):
+            bufr_text.encode([], *TABLES)
         # their kinds are bounded, as what is held is
         seen = bufr_text._Told(self.stream, None)
         for number in range(5000):
             seen.of_part(b"note %d\n" % number, [bufr_text.Listed(0, 48, *[0] * 21)])
         self.assertEqual((len(seen.notes), seen.notes[b"other notes"]), (1001, [4000, 0]))
+
+    def test_parts_are_at_least_as_long_as_asked_for(self):
+        places = [bufr_text.Listed(100 * number, 100, *[0] * 21) for number in range(5)]
+        for octets, lengths in [(1, [1] * 5), (100, [1] * 5), (101, [2, 2, 1]), (200, [2, 2, 1]), (500, [5]), (501, [5])]:
+            found = list(bufr_text.parts(iter(places), octets))
+            self.assertEqual(([len(part) for part in found], sum(found, [])), (lengths, places))
+        self.assertEqual(list(bufr_text.parts([])), [])
 
     def test_a_file_without_a_message_is_warned_of(self):
         web = b"<html>BUFR</html>" * 20
@@ -670,7 +701,7 @@ class Runs(unittest.TestCase):
             ("kill -9 $$", "was killed .signal 9.", -9),
             ('[ "$1" = ls ] || exec > /dev/full; exec "$REAL" "$@"', "71 write failed$", 2),
             ("exit 7", "exited with status 7", 7),
-            ('[ "$1" = ls ] && exec "$REAL" "$@"; printf "offset 0: 1 cut\\nstrange\\n" >&2; exit 2', "^strange$", 2),
+            ('[ "$1" = ls ] && exec "$REAL" "$@"; printf "offset 0: 1 cut\\nstrange\\377\\nlines\\n" >&2; exit 2', "^strange\ufffd\nlines$", 2),
             ("exit 1", "exited with status 1", 1),
             ('[ "$1" = ls ] && exec "$REAL" "$@"; exit 1', "exited with status 1", 1),
             ("echo nonsense", "and bufr_text have different versions", 2),

@@ -11,6 +11,13 @@ program=$(realpath -m "${1:-"$(dirname "$0")/../crates/bufr/out/bufr"}")
 cd "$(dirname "$0")/.."
 [ -x "$program" ] || { echo "$0: there is no $program; build it first (README.md)" >&2 && exit 2; }
 count=0 failed=()
+# Building the library for C takes minutes, so the tests share one.
+if [ -z "${BUFR_LIBRARY-}" ] && command -v rt > /dev/null && command -v "${CC:-cc}" > /dev/null; then
+    library=$(mktemp -d)
+    trap 'rm -r "$library"' EXIT
+    library/build.sh "$library" > "$library/log" 2>&1 || { cat "$library/log" >&2 && failed+=(library/build.sh); }
+    export BUFR_LIBRARY=$library/libbufr.so.0
+fi
 for test in tests/*.py tests/*.sh tests/vectors/run.py bench/count_instructions.py; do
     case $test in tests/lib.* | tests/run.sh) continue ;; esac
     count=$((count + 1))

@@ -111,7 +111,9 @@ ONE = """\
 001036,D,CCITT IA5,0,0,8
 001037,E,FLAG TABLE,0,0,8
 001038,F
-""", "301001,001033\n301002,001033\n"
+001040,H,K,0,0,8
+001041,I,K,0,0,8
+""", "301001,001033\n301002,001033\n301003,001035\n301003,001036\n"
 OTHER = """\
 001033,A,COMMON CODE TABLE C-1,0,0,8
 001035,C,M,0,0,9
@@ -119,20 +121,31 @@ OTHER = """\
 001037,E,Code table,0,0,8
 001038,F
 001039,G,K,0,0,8
-""", "301001,001034\n"
+001040,H,K,1,0,8
+001041,I,K,0,1,8
+""", "301001,001034\n301003,001036\n301003,001035\n"
 TOLD = """\
-one to other
-  elements changed: 2: 001035 001036
+one to ot\\x1Bher
+  elements changed: 4: 001035 001036 001040 001041
   elements removed: 1: 001034
   elements added: 1
-  sequences changed: 1: 301001
+  sequences changed: 2: 301001 301003
   sequences removed: 1: 301002
   sequences added: 0
 """
 TWICE = "source: left out %s: the source has different rows for this descriptor\n"
 SOURCES = [
     ("B.csv", f"{HEADERS['B']}\n{ELEMENT}\n{ELEMENT}", 0, "", ELEMENT),
-    ("B.csv", "", 2, "source/B.csv has no column fxy\n", None),
+    ("B.csv", "", 2, "source/B.csv has no column 'fxy'\n", None),
+    ("B.csv", f"\ufeff{HEADERS['B']}\n{ELEMENT}", 0, "", ELEMENT),
+    ("B.csv", f'{HEADERS["B"]}\n012101,"A  NAME\n OF TWO LINES ",K,2,0,16\n', 0, "", "012101,A NAME OF TWO LINES,K,2,0,16\n"),
+    (
+        "B.csv",
+        f"{HEADERS['B']}\n064000,A\x1bB,K,2,0,16\n064000,\udcff,K,2,0,16\n",
+        1,
+        "source: left out 064000 A\\x1bB K 2 0 16: X is over 63\nsource: left out 064000 \\udcff K 2 0 16: X is over 63\n",
+        "",
+    ),
     (
         "B.csv",
         f"{HEADERS['B']}\n064000,{'N' * 64},K,2,0,16\n064001,{'N' * 65},K,2,0,16\n",
@@ -157,7 +170,7 @@ SOURCES = [
     ),
     (
         "sequence.def",
-        '"307060" = [ 001001, 12101, 001002 ]\n"307061" = [ ]\n"307062" = [ 001001 , 001002, ] # a comment\n',
+        '"307060" = [ 001001, 12101, 001002 ]\n"307061" = [ ]\n"307062" = [ 001001 , 001002, ] # a \udcb0 comment\n',
         1,
         "source: left out 307060 001001 12101 001002: member '12101': expected six digits, beginning with 0-3\n"
         "source: left out 307061: no members\n",
@@ -170,7 +183,8 @@ SOURCES = [
         "source: left out 012101 A NAME K 2 0: the scale must be a whole number from -127 to 127\n",
         "",
     ),
-    ("element.table", "012101|a|long|NAME|K|2|0\n", 2, "source/element.table, line 1: expected at least eight fields, found 7\n", None),
+    ("element.table", "#\n012101|a|long|NAME|K|2|0\n", 2, "source/element.table, line 2: expected at least eight fields, found 7\n", None),
+    ("element.table", "012101|a|long|NO # \udcb0|K|2|0|16\n", 0, "", "012101,NO # \udcb0,K,2,0,16\n"),
     ("sequence.def", '"307060" = 001001\n', 2, 'source/sequence.def: expected "FXY" = [ MEMBER, .. ], found "307060" = 001001\n', None),
     (
         "B.csv",
@@ -179,7 +193,7 @@ SOURCES = [
         "source/B.csv, line 2: 7 fields, but the header has 6\n",
         None,
     ),
-    ("D.csv", "fxy\n307060\n", 2, "source/D.csv has no column member\n", None),
+    ("D.csv", "fxy\n307060\n", 2, "source/D.csv has no column 'member'\n", None),
     ("other.csv", "", 2, "source contains no tables in a known format; see convert.py --help\n", None),
     # wreport's layout: units without spaces, a sign apart, a name that fills its columns, letters of two octets.
     (
@@ -213,6 +227,7 @@ SOURCES = [
     ("Dmade.txt", " 307210  2 001210\n", 2, "source/Dmade.txt: 307210 declares 2 members but has 1\n", None),
     ("Dmade.txt", "           001210\n", 2, "source/Dmade.txt, line 1: expected a sequence or one of its members\n", None),
     ("Dmade.txt", " D07210  1 B01210\n", 2, "source/Dmade.txt, line 1: expected a sequence or one of its members\n", None),
+    ("Dmade.txt", "\n 307210  1 0012101\n", 2, "source/Dmade.txt, line 2: expected a sequence or one of its members\n", None),
     (
         "Bmade.txt",
         wreport_row("012101", "NAME", "K", "2", "0", ""),
@@ -259,6 +274,37 @@ def wrong_row(place: pathlib.Path, table: str, row: str, reason: str) -> str:
     return "" if (done.returncode, done.stderr) == said else f"the program says {done.stderr!r}"
 
 
+def several_sources(place: pathlib.Path) -> list:
+    """What is wrong of a set of two sources: the last one counts, but for what is left out of it. Both are reported."""
+    tables = {
+        "fi\x1brst/B.csv": "012103,OLD,K,2,0,16\n064000,NAME,K,2,0,16\n012102,OLD,K,2,0,16\n012101,OLD,K,2,0,16\n",
+        "fi\x1brst/D.csv": "301002,001002\n301001,001002\n301001,001001\n",
+        "second/B.csv": "012102,NEW,K,2,0,64\n012101,NEW,K,2,0,16\n",
+    }
+    for name, rows in tables.items():
+        (place / name).parent.mkdir(exist_ok=True)
+        (place / name).write_text(f"{HEADERS[name[-5]]}\n{rows}")
+    wanted = "012101,NEW,K,2,0,16\n012102,OLD,K,2,0,16\n012103,OLD,K,2,0,16\n301001,001002\n301001,001001\n301002,001002\n"
+    told = "fi\\x1Brst: left out 064000 NAME K 2 0 16: X is over 63\n"
+    last = f"second: left out 012102 NEW K 2 0 64: {WIDE}\n"
+    wrongs = []
+    for rows, more in ((tables["second/B.csv"], last), ("012101,NEW,K,2,0,16\n", "")):
+        (place / "second/B.csv").write_text(f"{HEADERS['B']}\n{rows}")
+        words = [sys.executable, TOP / "tables/convert.py", "both", "fi\x1brst", "second"]
+        done = subprocess.run(words, cwd=place, stdout=subprocess.PIPE, stderr=subprocess.PIPE, text=True)
+        made = "".join((place / f"both/{name}.csv").read_text().partition("\n")[2] for name in HEADERS)
+        if (done.returncode, done.stdout, done.stderr, made) != (1, "", told + more, wanted):
+            wrongs.append(f"two sources: {done}, {made!r}")
+    # one folder with both tables of wreport
+    (place / "pair").mkdir()
+    (place / "pair/Bone.txt").write_text(wreport_row("001210", "MADE UP", "CCITTIA5", "0", "0", "72"))
+    (place / "pair/Done.txt").write_text(" 307210  1 001210\n")
+    done = subprocess.run([*words[:2], "out", "pair"], cwd=place, stdout=subprocess.PIPE, stderr=subprocess.PIPE)
+    if done.returncode or behind_headers(place) != "001210,MADE UP,CCITT IA5,0,0,72\n307210,001210\n":
+        wrongs.append(f"two files of wreport: {done}, {behind_headers(place)!r}")
+    return wrongs
+
+
 def failures(place: pathlib.Path) -> list:
     """What is wrong where nothing can be written, or a folder or a column is not there: the set stays as it was."""
     wrongs = []
@@ -300,18 +346,23 @@ def failures(place: pathlib.Path) -> list:
     old = TOP / "tables/wmo-39"
     for told, words in (
         ("expected OLD and NEW; see changes.py --help", [old]),
+        ("expected OLD and NEW; see changes.py --help", [old, old, old]),
         ("nosuch/B.csv: No such file or directory", ["nosuch", old]),
-        ("out/D.csv has no column member", [old, "out"]),
+        ("out/D.csv has no column 'member'", [old, "out"]),
+        ("empty/B.csv has no column 'fxy'", [old, "empty"]),
     ):
+        (place / "empty").mkdir(exist_ok=True)
+        (place / "empty/B.csv").touch()
         (place / "out/D.csv").write_text("fxy\n")
         holds(f"changes.py {words}", run("changes.py", *words), (2, "", f"changes.py: {told}\n"))
     status, told, _ = run("changes.py", TOP / "tables/wmo-13", TOP / "tables/wmo-14")
     holds("changes.py", (status, told.splitlines()[:2]), (0, ["wmo-13 to wmo-14", CHANGED]))
-    for name, elements, sequences in (("one", *ONE), ("other", *OTHER)):
+    holds("the next line of changes.py", told.splitlines()[2][:10], "    014029")
+    for name, elements, sequences in (("one", *ONE), ("ot\x1bher", *OTHER)):
         (place / name).mkdir()
         (place / name / "B.csv").write_text(f"\ufeff{HEADERS['B']}\n{elements}", **AS_IT_IS)
         (place / name / "D.csv").write_text(f"{HEADERS['D']}\n{sequences}")
-    holds("changes.py of two small sets", run("changes.py", "one", "other"), (0, TOLD, ""))
+    holds("changes.py of two small sets", run("changes.py", "one/", "ot\x1bher"), (0, TOLD, ""))
     for name in ("convert.py", "changes.py"):
         holds(f"{name} --help", run(name, "--help")[0], 0)
     return wrongs
@@ -331,7 +382,7 @@ def main() -> None:
             told = f"convert.py: {told}" if status == 2 else told
             if (done.returncode, done.stderr, behind_headers(place)) != (status, told, kept):
                 wrongs.append(f"{text!a} in {name}: {done.returncode}, {done.stderr!r}, {behind_headers(place)!r}")
-        wrongs += failures(place)
+        wrongs += several_sources(place) + failures(place)
     finish(wrongs)
 
 

@@ -1,0 +1,462 @@
+"""Reads BUFR messages into NumPy arrays and pandas data frames, through the library for C.
+
+    >>> import bufr
+    >>> frame = bufr.frame("synop.bufr", ["001015", "012101"], header=["time"])
+    >>> print(frame)
+                     time     001015  012101
+    0 2023-03-14 18:00:00  SODANKYLA  259.35
+    1 2023-03-14 18:00:00   HEATHROW  282.55
+    2 2023-03-14 18:00:00    SAENTIS  270.55
+
+`frame` returns a data frame with a row for each subset (usually a station) or for each level of a sounding, and `rows` and
+`levels` yield the same rows as tuples. `items` returns all values, and `messages` a row for each message. `pieces` divides
+files into pieces that several processes can read at the same time.
+
+Each function takes a source: the name of a file, `"-"` for standard input, bytes, an open binary file, a `Piece`, or a list
+of these. A source is read in parts of a few MB, so it can be larger than the available memory. Each message is read with the
+table set that bufr-auto would choose, unless you pass the names of two tables as `tables=(B, D)`. To select messages, pass a
+list of conditions `KEY=VALUE` or `KEY!=VALUE` as `where`, as for bufr-extract. `faults` determines what happens if a message
+is refused, or if the word `BUFR` occurs where no message begins:
+
+- `"warn"` (default): at the end of each file, a `DumpWarning` counts these faults.
+- `"raise"`: the first fault raises `BufrError`.
+- `"ignore"`: faults are not reported, but `messages` still returns a row for each of them.
+- a list: a `Fault` is appended to the list for each fault.
+
+A `DumpWarning` also reports files without messages, and messages whose tables are missing. This module needs NumPy, and
+`frame` needs pandas. The library is the file libbufr.so.0 next to this module, or in the directory `lib` of the installation
+or clone. To use another file, set the environment variable BUFR_LIBRARY to its path. If there is no library, importing this
+module raises `ImportError`.
+"""
+from __future__ import annotations
+
+import os
+import re
+from decimal import Decimal
+from typing import Any, Dict, Iterable, Iterator, List, NamedTuple, Optional, Sequence, Tuple
+
+import numpy
+
+import bufr_calls
+import bufr_sets
+import bufr_text
+from bufr_calls import MISSING, NUMBER, REFERENCE, TEXT, WIDE, Array
+from bufr_parts import Faults, Part, Piece, Reader, Source, TwoTables, guarded, pieces
+from bufr_text import BufrError, Cell, DumpWarning, Fault, Value
+
+__all__ = (
+    "MISSING NUMBER REFERENCE TEXT WIDE BufrError Cell DumpWarning Fault Items Piece "
+    "frame items levels messages pieces rows"
+).split()
+
+_FACTORS = frozenset(map(bufr_calls.word, bufr_text.FACTORS))
+# The units of elements whose values are numbers in a table.
+_is_table = re.compile("(common )?(code|flag) table", re.IGNORECASE).match
+
+
+# What the items of a part contain.
+
+
+def _floats(part: Part, items: Array) -> Array:
+    """Returns the number in each item as the nearest float, or NaN if the item has no number."""
+    value, scale, kind = items["value"], items["scale"].astype("i4"), items["kind"]
+    is_number = (kind == NUMBER) | (kind == REFERENCE)
+    # If the integer and the power of ten are both exact floats, only their quotient or product is rounded.
+    is_exact = is_number & (value <= 1 << 53) & (value >= -(1 << 53)) & (abs(scale) <= 22)
+    power = 10.0 ** numpy.minimum(abs(scale), 22)
+    found = numpy.full(len(items), numpy.nan)
+    numpy.divide(value, power, out=found, where=is_exact & (scale >= 0))
+    numpy.multiply(value, power, out=found, where=is_exact & (scale < 0))
+    others = numpy.flatnonzero((is_number | (kind == WIDE)) & ~is_exact)
+    for index, integer in zip(others, _integers(part, items[others])):
+        places = int(scale[index])
+        found[index] = integer / 10**places if places > 0 else float(integer * 10**-places)
+    return found
+
+
+def _integers(part: Part, items: Array) -> List[int]:
+    """Returns the integer of each number: the number is this integer, divided by a power of ten."""
+    found: List[int] = items["value"].tolist()
+    for index in numpy.flatnonzero(items["kind"] == WIDE).tolist():
+        found[index] = _wide(part.texts, found[index])
+    return found
+
+
+def _wide(texts: bytes, begin: int) -> int:
+    return int.from_bytes(texts[begin : begin + 16], "little", signed=True)
+
+
+def _decimal(integer: int, scale: int) -> Decimal:
+    """Returns `integer / 10**scale` exactly, with the digits that `bufr dump` prints."""
+    return Decimal(integer * 10**-scale) if scale <= 0 else Decimal(f"{integer}E-{scale}")
+
+
+def _cells(part: Part, items: Array, is_exact: bool = False) -> List[Any]:
+    """Returns the cell of each item: a number, a string, or `None`."""
+    kind, scale = items["kind"], items["scale"]
+    cells: List[Any] = [None] * len(items)
+    is_float = (kind != MISSING) & (kind != TEXT) & (scale > 0) & (not is_exact)
+    some = numpy.flatnonzero(is_float)
+    for index, number in zip(some.tolist(), _floats(part, items[some]).tolist()):
+        cells[index] = number
+    some = numpy.flatnonzero((kind != MISSING) & (kind != TEXT) & ~is_float)
+    for index, integer, places in zip(some.tolist(), _integers(part, items[some]), scale[some].tolist()):
+        cells[index] = _decimal(integer, places) if is_exact else integer * 10**-places
+    some = numpy.flatnonzero(kind == TEXT)
+    for index, begin, length in zip(some.tolist(), items["value"][some].tolist(), items["length"][some].tolist()):
+        cells[index] = bufr_text.text_cell(part.texts[begin : begin + length])
+    return cells
+
+
+def _times(messages: Array) -> Array:
+    """Returns the time of each message, or NaT if the time does not exist or pandas cannot represent it.
+
+    Edition 3 has only the year of the century. As in POSIX, 69 to 99 stand for 1969 to 1999, and 0 to 68 for 2000 to 2068.
+    """
+    year = messages["year"].astype("i8")
+    of_century = year % 100
+    year = numpy.where(messages["edition"] == 3, of_century + numpy.where(of_century < 69, 2000, 1900), year)
+    month = (year - 1970) * 12 + messages["month"] - 1
+    day = month.astype("M8[M]").astype("M8[D]") + (messages["day"].astype("i8") - 1)
+    seconds = (messages["hour"].astype("i8") * 60 + messages["minute"]) * 60 + messages["second"]
+    is_time = (year > 1677) & (year < 2262) & (messages["month"] >= 1) & (messages["month"] <= 12)
+    is_time &= day.astype("M8[M]").astype("i8") == month  # the month has such a day
+    is_time &= (messages["hour"] < 24) & (messages["minute"] < 60) & (messages["second"] < 60)
+    return numpy.where(is_time, day.astype("M8[s]") + seconds, numpy.datetime64("NaT"))
+
+
+# The tables of rows and levels.
+
+
+class _Table(NamedTuple):
+    """The rows of a table that come from one part.
+
+    `message` and `subset` contain the index of the message and the number of the subset for each row. Each column contains
+    the index of an item for each row, or -1 if the row has no such item.
+    """
+
+    part: Part
+    message: Array
+    subset: Array
+    columns: List[Array]
+
+    def header(self, key: str) -> Array:
+        """Returns the values of a header key."""
+        messages = self.part.messages
+        if key == "subset":
+            return self.subset
+        if key == "message":
+            return (self.part.accepted + numpy.cumsum(messages["fault"] == 0))[self.message]
+        if key == "file":
+            return numpy.full(len(self.message), self.part.name, object)
+        if key == "time":
+            return _times(messages)[self.message]
+        if key == "optional":
+            flags = (octets[17 if octets[7] == 4 else 15] if len(octets) > 17 else 0 for octets in self.part.octets)
+            return numpy.array([flag >> 7 for flag in flags], "u1")[self.message]
+        # A smaller type would overflow without a warning, for example in 60 * hour.
+        return messages[key].astype("i8")[self.message]
+
+
+def _check(columns: Sequence[str], header: Sequence[str], keep: Sequence[str] = (), has_counts: bool = False) -> None:
+    bufr_text.check(columns, has_counts)
+    bufr_text.check(keep, has_counts)
+    bufr_text.check_header(header, ["file", "time"])
+
+
+def _subsets(part: Part) -> Tuple[Array, Array, Array]:
+    """Returns the message and the number of each subset in a part, and the index of the subset of each item."""
+    count = numpy.where(part.messages["fault"] == 0, part.messages["subsets"], 0).astype("i8")
+    first = numpy.cumsum(count) - count
+    message = numpy.repeat(numpy.arange(len(count)), count)
+    subset = numpy.arange(len(message)) - first[message] + 1
+    return message, subset, first[part.items["message"]] + part.items["subset"] - 1
+
+
+def _table_of_subsets(part: Part, columns: Sequence[str]) -> _Table:
+    """Returns a table with a row for each subset."""
+    message, subset, row = _subsets(part)
+    is_value = part.items["kind"] != REFERENCE
+    found = []
+    for column in columns:
+        places = numpy.flatnonzero(is_value & (part.items["fxy"] == bufr_calls.word(column)))
+        # Where the items of each subset begin and end in `places`.
+        begins = numpy.flatnonzero(numpy.diff(row[places], prepend=-1))
+        ends = numpy.append(begins[1:], len(places))[: len(begins)]
+        chosen = begins + int(column[7:] or 1) - 1
+        chosen = places[chosen[chosen < ends]]
+        indices = numpy.full(len(message), -1, "i8")
+        indices[row[chosen]] = chosen
+        found.append(indices)
+    return _Table(part, message, subset, found)
+
+
+def _tables_of_levels(parts: Iterable[Part], columns: Sequence[str], keep: Sequence[str]) -> Iterator[_Table]:
+    """Yields tables with a row for each level, and then warns about subsets whose levels are ambiguous."""
+    skipped = bufr_text.Skipped()
+    for part in parts:
+        yield _table_of_levels(part, [*map(bufr_calls.word, columns)], [*map(bufr_calls.word, keep)], skipped)
+    skipped.warn()
+
+
+def _table_of_levels(part: Part, columns: List[int], keep: List[int], skipped: bufr_text.Skipped) -> _Table:
+    message, subset, row = _subsets(part)
+    places = numpy.flatnonzero(part.items["kind"] != REFERENCE)
+    items = part.items[places]
+    words, counts = items["fxy"].tolist(), [0] * len(items)
+    factors = numpy.flatnonzero(numpy.isin(items["fxy"], list(_FACTORS)))
+    for index, cell in zip(factors.tolist(), _cells(part, items[factors])):
+        counts[index] = int(cell or 0)
+    ends = numpy.searchsorted(row[places], numpy.arange(len(message) + 1)).tolist()
+    rows: List[int] = []
+    found: List[List[int]] = []
+    for at, (begin, end) in enumerate(zip(ends, ends[1:])):
+        own = words[begin:end]
+        try:
+            passes = bufr_text.passes(own, counts[begin:end], _FACTORS)
+        except bufr_text.Ambiguous as twice:
+            number = part.accepted + int(numpy.count_nonzero(part.messages["fault"][: message[at] + 1] == 0))
+            skipped.add(number, int(subset[at]), bufr_calls.fxy(twice.args[0]))
+            continue
+        kept = [begin + own.index(word) if word in own else -1 for word in keep]
+        for first, last in passes:
+            level = own[first:last]
+            values = [begin + first + level.index(word) if word in level else -1 for word in columns]
+            if values[0] >= 0 and (len(values) == 1 or max(values[1:]) >= 0):
+                rows.append(at)
+                found.append(kept + values)
+    indices = numpy.array(found, "i8").reshape(len(found), len(keep) + len(columns))
+    indices = numpy.where(indices < 0, -1, numpy.append(places, -1)[indices])
+    chosen = numpy.array(rows, "i8")
+    return _Table(part, message[chosen], subset[chosen], [*indices.T])
+
+
+def _tuples(tables: Iterable[_Table], header: Sequence[str]) -> Iterator[Tuple[Cell, ...]]:
+    for table in tables:
+        found: List[List[Any]] = [table.header(key).astype("O").tolist() for key in header]
+        for indices in table.columns:
+            cells: List[Cell] = [None] * len(indices)
+            rows = numpy.flatnonzero(indices >= 0)
+            for row, cell in zip(rows.tolist(), _cells(table.part, table.part.items[indices[rows]])):
+                cells[row] = cell
+            found.append(cells)
+        yield from zip(*found) if found else [()] * len(table.message)
+
+
+def _column(part: Part, indices: Array, unit: str, is_exact: bool) -> Any:
+    """Returns the values of a column of a data frame: floats, `Int64`, or objects."""
+    import pandas  # type: ignore[import]
+
+    is_there = indices >= 0
+    items = part.items[indices[is_there]]
+    kind = items["kind"]
+    if is_exact or unit == "CCITT IA5" or (kind == TEXT).any():
+        cells = numpy.full(len(indices), None, object)
+        cells[is_there] = _cells(part, items, is_exact)
+        return cells
+    if _is_table(unit) and not items["scale"].any() and not (kind == WIDE).any():
+        values, is_missing = numpy.zeros(len(indices), "i8"), numpy.ones(len(indices), bool)
+        values[is_there], is_missing[is_there] = items["value"], kind == MISSING
+        return pandas.arrays.IntegerArray(values, is_missing)
+    floats = numpy.full(len(indices), numpy.nan)
+    floats[is_there] = _floats(part, items)
+    return floats
+
+
+def _elements(columns: Iterable[str], tables: TwoTables) -> Dict[str, Dict[str, str]]:
+    """Returns the name and the unit of each column, from the latest table set or from the given Table B."""
+    if tables is None:
+        names = guarded(lambda: bufr_sets.TableSets().latest().names())
+    else:
+        names = {fxy: (name, unit) for fxy, name, unit in bufr_sets.rows_of(os.fspath(tables[0]), "fxy", "name", "unit")}
+    return {word: dict(zip(("name", "unit"), names.get(word[:6], ("", "")))) for word in columns}
+
+
+def frame(
+    source: Source,
+    columns: Sequence[str],
+    header: Sequence[str] = (),
+    *,
+    levels: bool = False,
+    keep: Sequence[str] = (),
+    exact: bool = False,
+    where: Sequence[str] = (),
+    tables: TwoTables = None,
+    faults: Faults = "warn",
+) -> Any:
+    """Returns the rows of `rows` or, with `levels=True`, those of `levels`, as a pandas data frame.
+
+    Numbers are the nearest floats, and missing numbers are NaN. Values from code tables and flag tables are `Int64`, strings
+    are `str` or `None`, and the header key `"time"` is `datetime64`. With `exact=True`, numbers are `Decimal`. `frame.attrs`
+    contains the name and unit of each element, from the latest table set.
+
+        >>> frame = bufr.frame("synop.bufr", ["001015", "012101"], header=["time"])
+        >>> frame.attrs["012101"]
+        {'name': 'TEMPERATURE/AIR TEMPERATURE', 'unit': 'K'}
+        >>> frame["012101"].mean().round(2)
+        270.82
+        >>> bufr.frame("sounding.bufr", ["007004", "012101"], levels=True, keep=["001002"]).iloc[0].tolist()
+        [836.0, 98520.0, 258.55]
+    """
+    import pandas
+
+    _check(columns, header, keep, has_counts=not levels)
+    if keep and not levels:
+        raise TypeError("keep= needs levels=True")
+    asked = [*keep, *columns]
+    elements = _elements(asked, tables)
+    reader = Reader(source, None if levels else columns, where, tables, faults)
+    found = _tables_of_levels(reader, columns, keep) if levels else (_table_of_subsets(part, columns) for part in reader)
+    frames = []
+    for table in found:
+        values = [table.header(key) for key in header]
+        for word, indices in zip(asked, table.columns):
+            values.append(_column(table.part, indices, elements[word]["unit"], exact))
+        frames.append(pandas.DataFrame(dict(enumerate(values)), index=range(len(table.message))))
+    result = pandas.concat(frames, ignore_index=True)
+    result.columns = [*header, *asked]
+    result.attrs.update(elements)
+    return result
+
+
+def rows(
+    source: Source,
+    columns: Sequence[str],
+    header: Sequence[str] = (),
+    *,
+    where: Sequence[str] = (),
+    tables: TwoTables = None,
+    faults: Faults = "warn",
+) -> Iterator[Tuple[Cell, ...]]:
+    """Yields a tuple for each subset: header values, then column values. The tuples are those of `bufr_text.rows`.
+
+    A column is a descriptor such as `"012101"`, or `"012101:2"` for the second such item in the subset. `header` can contain
+    the header keys of a dump, such as `"year"`; `"file"`, `"offset"`, `"length"` and `"time"` of the message; and
+    `"message"` and `"subset"`, which count from 1. A number is an `int` if its scale allows no decimal places, and otherwise
+    the nearest `float`. A value is `None` if it is missing, or if the subset has no such item.
+
+        >>> next(bufr.rows("synop.bufr", ["001015", "012101"], ["year", "subset"]))
+        (2023, 1, 'SODANKYLA', 259.35)
+    """
+    _check(columns, header, has_counts=True)
+    reader = Reader(source, columns, where, tables, faults)
+    return _tuples((_table_of_subsets(part, columns) for part in reader), header)
+
+
+def levels(
+    source: Source,
+    columns: Sequence[str],
+    header: Sequence[str] = (),
+    keep: Sequence[str] = (),
+    *,
+    where: Sequence[str] = (),
+    tables: TwoTables = None,
+    faults: Faults = "warn",
+) -> Iterator[Tuple[Cell, ...]]:
+    """Yields a tuple for each level of a sounding: header values, then the values for `keep`, then column values.
+
+    The tuples are those of `bufr_text.levels`, which explains what a level is. In all other respects, `levels` works like
+    `rows`.
+
+        >>> next(bufr.levels("sounding.bufr", ["007004", "012101"], keep=["001002"]))
+        (836, 98520, 258.55)
+    """
+    _check(columns, header, keep)
+    reader = Reader(source, None, where, tables, faults)
+    return _tuples(_tables_of_levels(reader, columns, keep), header)
+
+
+class Items(NamedTuple):
+    """The items of a source, and its messages.
+
+    `items` is a structured array with a row for each item: `message` (the index of its message), `subset` (from 1), `fxy`
+    (the descriptor as a number: 12101 for 012101), `kind` (`bufr.NUMBER`, `bufr.TEXT` and so on), and `value` (a float, or
+    NaN if the item is missing or a string). If the kind is `NUMBER`, the value is exactly `integer / 10**scale`. `exact`
+    returns the value of any item. `messages` is the result of `bufr.messages`.
+    """
+
+    items: Array
+    messages: Array
+    texts: bytes
+
+    def exact(self, index: int) -> Value:
+        """Returns the value of an item: a `Decimal`, a string as bytes, or `None` if it is missing.
+
+        >>> bufr.items("synop.bufr", ["012101"]).exact(0)
+        Decimal('259.35')
+        """
+        kind, value, scale, length = self.items[index][["kind", "integer", "scale", "length"]].tolist()
+        if kind == MISSING:
+            return None
+        if kind == TEXT:
+            return self.texts[value : value + length]
+        return _decimal(_wide(self.texts, value) if kind == WIDE else value, scale)
+
+
+_ITEM = numpy.dtype(
+    [("message", "u4"), ("subset", "u2"), ("fxy", "u4"), ("kind", "u1"), ("value", "f8")]
+    + [("integer", "i8"), ("scale", "i2"), ("length", "u4")]
+)
+
+
+def items(
+    source: Source,
+    columns: Optional[Sequence[str]] = None,
+    *,
+    where: Sequence[str] = (),
+    tables: TwoTables = None,
+    faults: Faults = "warn",
+) -> Items:
+    """Returns all items of a source, or those with the descriptors in `columns`, and its messages.
+
+        >>> found = bufr.items("synop.bufr", ["012101"])
+        >>> found.items["value"].max()
+        282.55
+        >>> found.items["subset"].tolist()
+        [1, 2, 3]
+    """
+    _check(columns or (), ())
+    found, rows, texts, count = [], [], bytearray(), 0
+    for part in Reader(source, columns, where, tables, faults):
+        some = numpy.empty(len(part.items), _ITEM)
+        for name in ("subset", "kind", "scale", "length"):
+            some[name] = part.items[name]
+        fxy = part.items["fxy"].astype("u4")
+        some["message"] = part.items["message"] + count
+        some["fxy"] = (fxy >> 14) * 100000 + (fxy >> 8 & 63) * 1000 + (fxy & 255)
+        some["value"] = _floats(part, part.items)
+        some["integer"] = part.items["value"] + numpy.where(bufr_calls.is_place(part.items), len(texts), 0)
+        found.append(some)
+        rows.append(_message_rows(part))
+        texts += part.texts
+        count += len(part.messages)
+    return Items(numpy.concatenate(found), numpy.concatenate(rows), bytes(texts))
+
+
+_KEYS = [name for name in bufr_calls.MESSAGE.names or () if name not in ("first", "items", "reserved")]
+# Smaller types would overflow without a warning, for example in 60 * hour.
+_MESSAGE = numpy.dtype([("file", "O"), *((name, "i8") for name in _KEYS), ("time", "M8[s]")])
+
+
+def messages(
+    source: Source, *, where: Sequence[str] = (), tables: TwoTables = None, faults: Faults = "warn"
+) -> Array:
+    """Returns a structured array with a row for each message, and for each word `BUFR` where no message begins.
+
+    Its columns are `file`, `offset`, `length`, the header keys of a dump, `subsets`, `fault` and `time`. `fault` is 0 if the
+    message is accepted, and otherwise the number of its fault. `time` is the time of the message.
+
+        >>> bufr.messages("synop.bufr")[["offset", "length", "centre", "subsets", "fault"]].tolist()
+        [(0, 595, 78, 3, 0)]
+        >>> pandas.DataFrame(bufr.messages("synop.bufr"))["time"].max()
+        Timestamp('2023-03-14 18:00:00')
+    """
+    return numpy.concatenate([_message_rows(part) for part in Reader(source, (), where, tables, faults)])
+
+
+def _message_rows(part: Part) -> Array:
+    rows = numpy.empty(len(part.messages), _MESSAGE)
+    for name in _KEYS:
+        rows[name] = part.messages[name]
+    rows["file"], rows["time"] = part.name, _times(part.messages)
+    return rows

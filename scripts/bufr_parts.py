@@ -1,0 +1,323 @@
+"""Reads a source in parts, for the module `bufr`.
+
+    for part in bufr_parts.Reader("synop.bufr", ["012101"]):
+        print(part.messages["offset"], part.items["value"])
+
+A part has about 8 MB of messages, or 1 MB if all items are wanted. A single call of the library reads all messages in a part
+that need the same table set.
+"""
+from __future__ import annotations
+
+import io
+import itertools
+import os
+import sys
+from dataclasses import dataclass
+from typing import IO, Any, Callable, Dict, Iterable, Iterator, List, NamedTuple, Optional, Sequence, Tuple, Union, cast
+
+import numpy
+
+import bufr_auto
+import bufr_calls
+import bufr_conditions
+import bufr_guard
+import bufr_sets
+from bufr_calls import Array, Path, Tables
+from bufr_text import BufrError, Fault, looks, warn
+
+_One = Union[Path, "Piece", bytes, bytearray, memoryview, IO[bytes]]
+Source = Union[_One, Iterable[_One]]
+TwoTables = Optional[Tuple[Path, Path]]
+Faults = Union[str, List[Fault]]
+
+_BLOCK = 1 << 20
+# The approximate number of bytes in a part, if only some items are wanted, and if all of them are.
+_PART, _PART_OF_ALL = 1 << 23, 1 << 20
+
+
+@dataclass(frozen=True)
+class Piece:
+    """A range of bytes in a file that begins and ends between messages, so that another process can read it."""
+
+    file: str
+    begin: int
+    end: int
+
+
+class Part(NamedTuple):
+    """A part of a stream: its messages and strays in order, their bytes (none for a stray), and the items of the messages.
+
+    The member `message` of an item is the index of its message, and `texts` contains the bytes of strings. `accepted` is the
+    number of messages that were accepted in earlier parts of the source.
+    """
+
+    name: str
+    accepted: int
+    messages: Array
+    octets: List[bytes]
+    items: Array
+    texts: bytes
+
+
+class _Found(NamedTuple):
+    """A message, or a stray with its fault and without bytes."""
+
+    offset: int
+    octets: bytes
+    fault: bytes
+
+
+class _Stream:
+    """A file or stream, and the range of bytes in it that is being read.
+
+    `is_whole` is false for a piece of a file.
+    """
+
+    def __init__(
+        self, name: str, file: IO[bytes], begin: int = 0, length: float = float("inf"), is_whole: bool = True
+    ) -> None:
+        self.name, self.file, self.begin, self.left, self.is_whole = name, file, begin, length, is_whole
+        self.start, self.has_message = b"", False
+
+    def block(self) -> bytes:
+        """Returns the next block of bytes, which is empty at the end."""
+        octets = self.file.read(int(min(_BLOCK, self.left)))
+        self.left -= len(octets)
+        self.start = self.start or octets[:256]
+        return octets
+
+    def warn_of_no_message(self) -> None:
+        """Warns that a file contains no message, and says what it looks like."""
+        if self.is_whole:
+            warn(f"{self.name}: the file contains no message{looks(self.start)}")
+
+
+def _opened(source: Source) -> Iterator[_Stream]:
+    """Yields the streams of a source, and closes the files that it has opened."""
+    if isinstance(source, Piece):
+        with open(source.file, "rb") as file:
+            file.seek(source.begin)
+            yield _Stream(source.file, file, source.begin, source.end - source.begin, is_whole=False)
+    elif isinstance(source, (bytes, bytearray, memoryview)):
+        yield _Stream("bytes", io.BytesIO(source))
+    elif source == "-":
+        yield _Stream("-", sys.stdin.buffer)
+    elif isinstance(source, (str, os.PathLike)):
+        with open(source, "rb") as file:
+            yield _Stream(os.fspath(source), file)
+    elif isinstance(source, io.TextIOBase):
+        raise TypeError("the source is a text file; open it with mode 'rb'")
+    elif hasattr(source, "read"):
+        yield _Stream(str(getattr(source, "name", "stream")), cast(IO[bytes], source))
+    else:
+        for one in source:
+            yield from _opened(one)
+
+
+def _size(source: Source) -> int:
+    """Returns the size of a source in bytes. A stream counts as 0, because its size is unknown before it is read."""
+    if isinstance(source, Piece):
+        return source.end - source.begin
+    if isinstance(source, (str, os.PathLike)):
+        return os.path.getsize(source) if os.path.isfile(source) else 0
+    if isinstance(source, (list, tuple)):
+        return sum(map(_size, source))
+    return len(source) if isinstance(source, (bytes, bytearray, memoryview)) else 0
+
+
+def _divided(stream: _Stream, size: int, are_pieces: bool = False) -> Iterator[Tuple[int, List[_Found]]]:
+    """Yields the offset at which each part of a stream ends, with a list of the messages and strays in it.
+
+    Each part except the last contains at least `size` bytes. If only pieces are wanted, the lists are empty, and each piece
+    extends at least to the declared end of each stray in it, so that the stray has the same fault if the piece is read alone.
+    """
+    finder, found, length, reach = bufr_auto.Finder(), [], 0, 0
+    while True:
+        one = finder.find()
+        if one:
+            begin, end, fault = one
+            if are_pieces and fault:
+                declared = int.from_bytes(finder.held[begin + 4 : begin + 7], "big")
+                reach = max(reach, finder.passed + begin + max(declared, 8))
+            if not are_pieces:
+                octets = b"" if fault else bytes(finder.held[begin:end])
+                found.append(_Found(stream.begin + finder.passed + begin, octets, fault))
+            stream.has_message = stream.has_message or not fault
+            length += end - begin
+            if length >= size and reach <= finder.passed + end:
+                yield stream.begin + finder.passed + end, found
+                found, length = [], 0
+        elif finder.has_ended:
+            yield stream.begin + finder.passed + finder.end, found
+            return
+        else:
+            finder.put(stream.block())
+
+
+def pieces(files: Union[Path, Iterable[Path]], size: int = 1 << 26) -> List[Piece]:
+    """Divides files into pieces of about `size` bytes, and returns the pieces in order. Together, they cover the whole files.
+
+    A piece begins and ends between messages. If the word `BUFR` occurs where no message begins, a piece may be up to 16 MB
+    longer. Pass each piece to a function of this module, for example in another process:
+
+        >>> from concurrent.futures import ProcessPoolExecutor
+        >>> from functools import partial
+        >>> read = partial(bufr.frame, columns=["001015", "012101"])
+        >>> with ProcessPoolExecutor(2) as pool:
+        ...     frame = pandas.concat(pool.map(read, bufr.pieces(["synop.bufr", "aircraft.bufr"])))
+        >>> len(frame)
+        11
+    """
+    found: List[Piece] = []
+    for file in [files] if isinstance(files, (str, os.PathLike)) else files:
+        begin = 0
+        for stream in _opened(file):
+            for end, _ in _divided(stream, size, are_pieces=True):
+                found.append(Piece(stream.name, begin, end))
+                begin = end
+            if not stream.has_message:
+                stream.warn_of_no_message()
+    return found
+
+
+class Reader:
+    """Reads the parts of a source, with the items of these columns or, for `None`, all items. Reports faults and notes."""
+
+    def __init__(
+        self,
+        source: Source,
+        columns: Optional[Sequence[str]],
+        where: Sequence[str] = (),
+        tables: TwoTables = None,
+        faults: Faults = "warn",
+    ) -> None:
+        if faults not in ("warn", "raise", "ignore") and not hasattr(faults, "append"):
+            raise ValueError(f"faults must be 'warn', 'raise', 'ignore' or a list, not {faults!r}")
+        if isinstance(where, str):
+            raise ValueError(f"where must be a list of conditions, such as ['{where}'], not a string")
+        self.source, self.where, self.faults = source, where, faults
+        self.wanted, self.size = bufr_calls.words(columns), _PART_OF_ALL if columns is None else _PART
+        self.tables = None if tables is None else Tables(*tables)
+        self.chooser = None if tables else guarded(lambda: bufr_auto.Chooser(bufr_auto.Dump))
+        self.sets: Dict[bufr_sets.TableSet, Tables] = {}
+        self.accepted = 0
+        self.begin_file("")
+
+    def __iter__(self) -> Iterator[Part]:
+        progress, done = bufr_guard.Progress(_size(self.source), False), 0
+        if isinstance(self.source, (list, tuple)) and not self.source:
+            yield self.part([])
+        try:
+            for stream in _opened(self.source):
+                self.begin_file(stream.name)
+                for end, found in _divided(stream, self.size):
+                    yield self.part(found)
+                    progress.at(done + end - stream.begin)
+                done += end - stream.begin
+                if self.is_bare:
+                    stream.warn_of_no_message()
+                self.end_file()
+        finally:
+            progress.clear()
+
+    def begin_file(self, name: str) -> None:
+        self.name, self.is_bare, self.count, self.first = name, True, 0, ""
+        self.conditions = bufr_conditions.Conditions(self.where)
+        if self.chooser is not None:
+            self.chooser.notes = bufr_auto.Notes()
+            self.chooser.known.clear()  # it contains the counts of the previous notes
+
+    def end_file(self) -> None:
+        """Warns of the faults in a file, of table sets that may not match, and of messages that were left out."""
+        told = []
+        if self.faults == "warn" and self.count:
+            faults = "1 fault" if self.count == 1 else f"{self.count} faults, the first"
+            told.append(f"{faults}: {self.first}")
+        if self.chooser is not None:
+            lines = self.chooser.notes.lines("message", "")
+            told += [line.decode(errors="replace").partition(": ")[2].rstrip("\n") for line in lines]
+        for text in filter(None, [*told, self.conditions.note()]):
+            warn(f"{self.name}: {text}")
+
+    def part(self, found: List[_Found]) -> Part:
+        """Reads a part. Messages that need the same tables are read together, and then sorted by their places."""
+        every, found = found, self.selected(found)
+        groups: Dict[Tables, List[int]] = {}
+        notes: Dict[int, List[bufr_auto.Reason]] = {}
+        messages = numpy.zeros(len(found), bufr_calls.MESSAGE)
+        for index, (_, octets, fault) in enumerate(found):
+            if fault:
+                messages["length"][index], messages["fault"][index] = 4, int(fault.split()[0])
+                continue
+            tables, reasons = self.chosen(octets)
+            groups.setdefault(tables, []).append(index)
+            if reasons:
+                notes[index] = reasons
+        items, texts = [numpy.empty(0, bufr_calls.ITEM)], bytearray()
+        for tables, indices in groups.items():
+            some, rows, octets = tables.items(b"".join(found[index].octets for index in indices), self.wanted)
+            messages[indices] = rows
+            some["message"] = numpy.array(indices)[some["message"]]
+            some["value"][bufr_calls.is_place(some)] += len(texts)
+            items.append(some)
+            texts += octets
+        messages["offset"] = [one.offset for one in found]
+        all_items = items[-1] if len(items) <= 2 else numpy.concatenate(items)
+        if len(groups) > 1:
+            all_items = all_items[numpy.argsort(all_items["message"], kind="stable")]
+        # Like `bufr ls`, this does not count messages whose header cannot be read.
+        self.is_bare = self.is_bare and len(found) == len(every) and not messages["edition"].any()
+        self.report(found, messages["fault"], groups)
+        for index, reasons in notes.items():
+            if str(messages["fault"][index])[0] != "1":  # otherwise it is not a message
+                for reason in reasons:
+                    reason.count += 1
+                    reason.first = reason.first or f"at offset {found[index].offset}"
+        part = Part(self.name, self.accepted, messages, [one.octets for one in found], all_items, bytes(texts))
+        self.accepted += int(numpy.count_nonzero(messages["fault"] == 0))
+        return part
+
+    def selected(self, found: List[_Found]) -> List[_Found]:
+        """Returns the strays, the messages that meet the conditions, and those that `bufr ls` does not list."""
+        if not self.where:
+            return found
+        octets = [one.octets for one in found]
+        begins = itertools.accumulate(map(len, octets), initial=0)
+        left_out = {begin for begin, line in bufr_calls.lines(b"".join(octets)) if not self.conditions.are_met(line)}
+        return [one for one, begin in zip(found, begins) if one.fault or begin not in left_out]
+
+    def chosen(self, octets: bytes) -> Tuple[Tables, List[bufr_auto.Reason]]:
+        """Returns the tables for a message, and the reasons why they may not match it exactly."""
+        if self.tables is not None:
+            return self.tables, []
+        assert self.chooser is not None
+        chosen, reasons = self.chooser.choose(lambda at, length: octets[at : at + length])
+        if chosen not in self.sets:
+            self.sets[chosen] = Tables(chosen.file("B.csv"), chosen.file("D.csv"))
+        return self.sets[chosen], reasons
+
+    def report(self, found: List[_Found], numbers: Array, groups: Dict[Tables, List[int]]) -> None:
+        """Reports refused messages and strays. Looks up the text of a fault only if it is needed."""
+        refused = numpy.flatnonzero(numbers).tolist()
+        self.count += len(refused)
+        if self.faults == "ignore" or self.faults == "warn" and self.first or not refused:
+            return
+        texts = {index: found[index].fault.decode() for index in refused}
+        for tables, indices in groups.items():
+            some = [index for index in indices if numbers[index]]
+            texts.update(zip(some, tables.faults([found[index].octets for index in some])))
+        faults = [Fault(found[index].offset, int(numbers[index]), texts[index].partition(" ")[2]) for index in refused]
+        self.first = self.first or str(faults[0])
+        if self.faults == "raise":
+            raise BufrError(f"{self.name}: {faults[0]}")
+        if not isinstance(self.faults, str):
+            for fault in faults:
+                self.faults.append(fault)
+
+
+def guarded(call: Callable[[], Any]) -> Any:
+    """Returns the result of a call. Raises `BufrError` if there are no table sets."""
+    try:
+        return call()
+    except bufr_guard.Failed as failed:
+        raise BufrError(str(failed)) from None

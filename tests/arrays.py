@@ -1,0 +1,701 @@
+#!/usr/bin/env python3
+"""Compares the module `bufr` with bufr_text, which reads the texts of the program, and tries what `bufr` alone can do.
+
+    tests/arrays.py [PROGRAM [TEST..]]        TEST: the name of a class or a method, such as Same.test_examples
+
+The streams are those of examples/ and of the vectors, and random hostile ones. Also tried are the kinds of sources, exact
+values, times, faults, several processes with a worker that is killed, memory, and the examples in docstrings. The test needs
+the library for C, which the variable BUFR_LIBRARY names, NumPy, pandas and, for one part, Dask. What is not there is skipped.
+"""
+import concurrent.futures
+import contextlib
+import ctypes
+import doctest
+import functools
+import io
+import os
+import pathlib
+import random
+import re
+import shutil
+import signal
+import subprocess
+import sys
+import tempfile
+import unittest
+import unittest.mock
+import warnings
+from concurrent.futures.process import BrokenProcessPool
+from decimal import Decimal
+
+import lib
+from lib import TOP
+
+SCRIPTS = TOP / "scripts"
+if __name__ == "__main__":
+    lib.use_python_with("numpy", "pandas")
+    if "BUFR_LIBRARY" not in os.environ:
+        print("arrays: skipped, BUFR_LIBRARY does not name libbufr.so.0 (library/build.sh builds it)")
+        sys.exit()
+sys.path[:0] = [str(SCRIPTS), str(TOP / "tests/hostile"), str(TOP / "library/examples")]
+
+import numpy
+import pandas
+
+import bufr
+import bufr_calls
+import bufr_guard
+import bufr_library
+import bufr_parts
+import bufr_text
+import random_trial
+
+TABLES = tuple(lib.TABLES[1::2])
+VECTORS = TOP / "tests/vectors"
+OF_VECTORS = (str(VECTORS / "tables/B.csv"), str(VECTORS / "tables/D.csv"))
+EXAMPLES = sorted((TOP / "examples").glob("*.bufr"))
+SYNOP = TOP / "examples/synop.bufr"
+HEADER = [*bufr_text.HEADER, "optional", "subsets", "offset", "length", "message", "subset"]
+HOSTILE = 300
+
+
+# The comparison, which hostile/array_trial.py uses too.
+
+
+def told_by(call):
+    """What a call returns, and the texts of its warnings."""
+    with warnings.catch_warnings(record=True) as told:
+        warnings.simplefilter("always")
+        found = call()
+    return found, [str(one.message) for one in told]
+
+
+def shown(rows) -> list:
+    """Rows with the type of each cell, so that 1 and 1.0 differ."""
+    return [repr(row) for row in rows]
+
+
+def differences(path: pathlib.Path, tables: tuple, rng: random.Random) -> list:
+    """How what `bufr` reads from a stream differs from what bufr_text reads from the texts of the program."""
+    wrongs = []
+
+    def same(what: str, given, wanted) -> None:
+        if given != wanted:
+            pairs = zip(given, wanted) if isinstance(given, list) else ()
+            both = next(((one, other) for one, other in pairs if one != other), (given, wanted))
+            wrongs.append(f"{what}: {str(both[0])[:300]} in place of {str(both[1])[:300]}")
+
+    asked = {"tables": tables or None}
+    wanted_faults = []
+    messages, wanted_notes = told_by(lambda: list(bufr_text.dump(path, *tables, faults=wanted_faults)))
+    there = sorted({item.fxy for message in messages for subset in message.subsets for item in subset}) or ["012101"]
+    drawn = rng.choices(there, k=3)
+    columns = [*drawn, f"{drawn[0]}:2", f"{drawn[1]}:{rng.randint(1, 4)}", "012101"]
+    of_levels = drawn[: rng.randint(1, 3)], ["offset", "subset"], drawn[2:]
+    for name, words in (("rows", (columns, HEADER)), ("levels", of_levels)):
+        faults = []
+        found, notes = told_by(lambda: list(getattr(bufr, name)(path, *words, faults=faults, **asked)))
+        wanted, skipped = told_by(lambda: list(getattr(bufr_text, name)(messages, *words)))
+        same(f"{name} {words}", shown(found), shown(wanted))
+        same(f"{name}: faults", faults, wanted_faults)
+        same(f"{name}: notes", sorted(notes), sorted(wanted_notes + skipped))
+    rows = list(bufr_text.rows(messages, columns))
+    with warnings.catch_warnings():
+        warnings.simplefilter("ignore")
+        frame, exact = (bufr.frame(path, columns, exact=is_exact, **asked) for is_exact in (False, True))
+        items, listed = bufr.items(path, **asked), list(bufr_text.listing(path, []))
+        pieces = bufr.pieces(path, rng.choice((1, rng.randint(1, path.stat().st_size + 1))))
+        faults, of_pieces = [], []
+        for piece in pieces:
+            rows_of_piece = bufr.rows(piece, columns, ["offset", "subset"], faults=faults, **asked)
+            of_pieces += [(row, piece.begin) for row in rows_of_piece]
+        whole = list(bufr.rows(path, columns, ["offset", "subset"], **asked))
+    for at in range(len(columns)):
+        same(f"column {at} of the frame", [*map(number_of, frame.iloc[:, at])], [number_of(row[at]) for row in rows])
+    same("exact frame", [*map(cell_of, exact.to_numpy().ravel())], [cell for row in rows for cell in map(cell_of, row)])
+    same("items", *item_lines(items, messages))
+    same("messages", *message_lines(items.messages, listed, wanted_faults))
+    same(f"pieces {pieces}", [row for row, _ in of_pieces], whole)
+    same(f"faults of pieces {pieces}", faults, wanted_faults)
+    same("places of pieces", all(begin <= row[0] for row, begin in of_pieces), True)
+    return wrongs
+
+
+def number_of(cell):
+    """A cell as a float where it is a number, and None where it is missing."""
+    return cell if isinstance(cell, str) else None if cell is None or pandas.isna(cell) else float(cell)
+
+
+def cell_of(cell):
+    return float(cell) if isinstance(cell, (int, Decimal)) else cell
+
+
+def item_lines(found: bufr.Items, messages: list) -> tuple:
+    """The items as lines: the place of the message, the subset, the descriptor, the exact value and the float."""
+    given = []
+    for index, (row, offset) in enumerate(zip(found.items, found.messages["offset"][found.items["message"]].tolist())):
+        value, fxy = found.exact(index), f"{row['fxy']:06}"
+        is_reference = row["kind"] == bufr.REFERENCE
+        given.append((offset, int(row["subset"]), fxy, is_reference, bufr_text._value_text(value), str(row["value"])))
+    wanted = []
+    for message in messages:
+        for number, subset in enumerate(message.subsets, 1):
+            for item in subset:
+                nearest = str(float(item.value)) if isinstance(item.value, Decimal) else "nan"
+                text = bufr_text._value_text(item.value)
+                wanted.append((message.offset, number, item.fxy, item.reference, text, nearest))
+    return given, wanted
+
+
+def item_values(found: bufr.Items) -> list:
+    """The exact values of items, and the places of their messages."""
+    return [(found.messages["offset"][row["message"]], found.exact(index)) for index, row in enumerate(found.items)]
+
+
+def message_lines(rows, listed: list, faults: list) -> tuple:
+    """The rows of messages with a header, as `bufr ls` lists them, and the faults."""
+    names = [name for name in bufr_text.Listed._fields if name not in ("optional", "descriptors")]
+    given = [tuple(row[name].item() for name in names) for row in rows if row["edition"]]
+    wanted = [tuple(getattr(one, name) for name in names) for one in listed]
+    given += [(row["offset"].item(), row["fault"].item()) for row in rows if row["fault"]]
+    return given, [*wanted, *((fault.offset, fault.number) for fault in faults)]
+
+
+class WithFolder(unittest.TestCase):
+    def setUp(self):
+        place = tempfile.TemporaryDirectory()
+        self.addCleanup(place.cleanup)
+        self.folder = pathlib.Path(place.name)
+        self.stream = self.folder / "stream"
+
+    def without_warnings(self) -> None:
+        contexts = contextlib.ExitStack()
+        self.addCleanup(contexts.close)
+        contexts.enter_context(warnings.catch_warnings())
+        warnings.simplefilter("ignore")
+
+
+class Same(WithFolder):
+    """The same as bufr_text."""
+
+    def alike(self, name: str, octets: bytes, tables: tuple) -> None:
+        self.stream.write_bytes(octets)
+        with self.subTest(name):
+            self.assertEqual(differences(self.stream, tables, random.Random(name)), [])
+
+    def test_examples(self):
+        for path in EXAMPLES:
+            self.alike(path.name, path.read_bytes(), ())
+        self.alike("all", b"".join(path.read_bytes() for path in EXAMPLES), ())
+        # tables that lack sequences and elements, so that messages are refused
+        old = tuple(table.replace("wmo-39", "wmo-13") for table in TABLES)
+        self.alike("all by old tables", b"BUFR".join(path.read_bytes() for path in EXAMPLES), old)
+
+    def test_vectors(self):
+        for path in sorted((VECTORS / "messages").iterdir()):
+            self.alike(path.name, path.read_bytes(), OF_VECTORS)
+
+    def test_hostile_streams(self):
+        streams = [random_trial.stream_of(random.Random(f"arrays {number}")) for number in range(HOSTILE)]
+        for number in range(0, HOSTILE, 10):
+            # one at a time by WMO's tables, and ten together by those that each message asks for
+            self.alike(f"hostile streams from {number} on", b"\r\n".join(streams[number : number + 10]), ())
+        for number, stream in enumerate(streams):
+            self.alike(f"hostile stream {number}", stream, TABLES)
+
+    def test_ambiguous_levels_are_warned_of(self):
+        bits = lib.Bits()
+        for number, width in [(2, 8), *[(1, 6), (2, 4), (3, 6)] * 2]:
+            bits.put(number, width)
+        octets = lib.message(bits.octets(), lib.words("103000 031001 008002 020011 008002"))
+        self.alike("ambiguous levels", octets, TABLES)
+        said = "^skipped 2 subsets with ambiguous levels; the first is message 1 subset 1 "
+        with self.assertWarnsRegex(bufr.DumpWarning, said) as one:
+            self.assertEqual(list(bufr.levels([octets, octets], ["008002"])), [])
+        self.assertEqual(one.filename, __file__)
+
+    def test_parts_of_any_size(self):
+        self.without_warnings()
+        octets = b"BUFR\0\0\1".join([*(path.read_bytes() for path in EXAMPLES), b""])
+        wanted, faults = [], []
+        for call in (bufr.rows, bufr.levels):
+            wanted.append(list(call(octets, ["007004", "012101"], ["message", "offset", "time"], faults=faults)))
+        for size in (1, 700, 5000):
+            with unittest.mock.patch.multiple(bufr_parts, _PART=size, _PART_OF_ALL=size):
+                found, told = [], []
+                for call in (bufr.rows, bufr.levels):
+                    found.append(list(call(octets, ["007004", "012101"], ["message", "offset", "time"], faults=told)))
+                items = bufr.items(octets)
+            self.assertEqual((found, told), (wanted, faults))
+            self.assertEqual(item_values(items), item_values(bufr.items(octets)))
+
+    def test_a_message_with_more_items_than_there_is_room_for(self):
+        octets = SYNOP.read_bytes() * 2 + EXAMPLES[0].read_bytes()
+        wanted = bufr.items(octets)
+        for room in (16, 64, 256):
+            with unittest.mock.patch("bufr_calls.ROOM", room):
+                found = bufr.items(octets)
+            self.assertEqual(found.items.tobytes(), wanted.items.tobytes())
+            self.assertEqual((found.texts, found.messages.tolist()), (wanted.texts, wanted.messages.tolist()))
+
+    def test_bufr_text_uses_the_library(self):
+        """With the library switched on and off: rows, faults, warnings and their places, errors, and what is printed."""
+        self.stream.write_bytes(b"BUFR\0\0\1".join([*(path.read_bytes() for path in EXAMPLES), b""]))
+        (self.folder / "empty").touch()
+        calls = [
+            lambda faults: list(bufr_text.rows(self.stream, ["012101", "001015"], ["offset"], faults)),
+            lambda faults: list(bufr_text.levels(self.stream, ["007004", "012101"], ["offset"], ["001001"], faults)),
+            lambda faults: list(bufr_text.rows(self.stream, ["012101"], [], faults, ["time=2006"])),
+            lambda faults: list(bufr_text.rows(self.folder / "empty", ["012101"], [], faults)),
+            lambda faults: list(bufr_text.rows(self.folder / "none", ["012101"], [], faults)),
+            lambda faults: bufr_text.rows(self.stream, ["012101"], [], faults, ["categori=0"]),
+            lambda faults: bufr_text.levels(self.stream, "012101", [], faults=faults),
+        ]
+        for number, call in enumerate(calls):
+            for faults in (None, []):
+                with self.subTest(number=number, faults=faults):
+                    off = self.outcome(call, faults)
+                    with unittest.mock.patch.dict(os.environ), unittest.mock.patch("subprocess.run") as run:
+                        del os.environ["BUFR"]
+                        self.assertEqual(self.outcome(call, faults), off)
+                    run.assert_not_called()
+        with unittest.mock.patch.dict(os.environ, BUFR_TABLES=str(self.folder / "none")):
+            del os.environ["BUFR"]
+            with self.assertRaisesRegex(bufr_text.RunError, "BUFR_TABLES is .*, which is not a directory"):
+                calls[0]([])
+
+    def outcome(self, call, faults) -> tuple:
+        told, faults = io.StringIO(), None if faults is None else []
+        with warnings.catch_warnings(record=True) as warned, contextlib.redirect_stderr(told):
+            warnings.simplefilter("always")
+            try:
+                found = shown(call(faults))
+            except (OSError, ValueError) as error:
+                found = f"{type(error).__name__}: {error}"
+        places = {one.filename for one in warned}
+        return found, faults, told.getvalue(), sorted(str(one.message) for one in warned), places
+
+
+class Sources(WithFolder):
+    def test_kinds(self):
+        octets = SYNOP.read_bytes()
+        wanted = list(bufr.rows(SYNOP, ["001015", "012101"], ["offset", "time"]))
+        self.assertEqual(len(wanted), 3)
+        with open(SYNOP, "rb") as file, open(SYNOP, "rb", 0) as raw:
+            with subprocess.Popen(["cat", SYNOP], stdout=subprocess.PIPE) as run:
+                in_memory = octets, bytearray(octets), memoryview(octets), io.BytesIO(octets)
+                for source in (str(SYNOP), *in_memory, file, raw, run.stdout):
+                    self.assertEqual(list(bufr.rows(source, ["001015", "012101"], ["offset", "time"])), wanted, source)
+        for source in ([SYNOP, octets], (SYNOP, bufr.Piece(str(SYNOP), 0, 595)), (one for one in [SYNOP, SYNOP])):
+            self.assertEqual(list(bufr.rows(source, ["001015", "012101"], ["offset", "time"])), wanted * 2)
+        rows = list(bufr.rows([SYNOP, io.BytesIO(octets), octets], [], ["file", "message", "subset"]))
+        self.assertEqual(rows[::3], [(str(SYNOP), 1, 1), ("stream", 2, 1), ("bytes", 3, 1)])
+
+    def test_standard_input(self):
+        code = "import sys; sys.path.insert(0, sys.argv[1]); import bufr; print(len(bufr.frame('-', ['012101'])))"
+        done = subprocess.run([sys.executable, "-c", code, SCRIPTS], input=SYNOP.read_bytes(), stdout=subprocess.PIPE)
+        self.assertEqual(done.stdout, b"3\n")
+
+    def test_what_is_no_source(self):
+        for source in (io.StringIO("BUFR"), open(SYNOP)):
+            with source, self.assertRaisesRegex(TypeError, "is a text file; open it with mode 'rb'"):
+                bufr.frame(source, ["012101"])
+        others = [("none", FileNotFoundError), (self.folder, IsADirectoryError), (None, TypeError), ([5], TypeError)]
+        for source, error in others:
+            with self.assertRaises(error):
+                bufr.frame(source, ["012101"])
+
+    def test_no_sources_and_no_columns(self):
+        for faults in ("error", None, (), False):
+            with self.assertRaisesRegex(ValueError, "faults must be 'warn', 'raise', 'ignore' or a list, not "):
+                bufr.frame([], ["012101"], faults=faults)
+        frame = bufr.frame([], ["001015", "012101", "002001"], ["time", "file", "year"])
+        kinds = "datetime64[ns] object int64 object float64 Int64".split()
+        self.assertEqual([str(kind) for kind in frame.dtypes], kinds)
+        self.assertEqual([len(it) for it in (frame, bufr.items([]).items, bufr.messages([]), [*bufr.rows([], [])])], [0] * 4)
+        whole = bufr.frame(SYNOP, ["001015", "012101", "002001"], ["time", "file", "year"])
+        self.assertEqual([str(kind) for kind in whole.dtypes], kinds)
+        self.assertEqual((len(bufr.frame(SYNOP, [])), list(bufr.rows(SYNOP, []))), (3, [()] * 3))
+        self.assertEqual(len(bufr.items(SYNOP, []).items), 0)
+        twice = bufr.frame(SYNOP, ["012101", "012101"])
+        self.assertEqual(twice["012101"].shape, (3, 2))
+
+    def test_a_file_without_messages_is_warned_of(self):
+        gzip = b"\x1f\x8b\0", ": it looks like gzip data (use zcat)"
+        for octets, told in [(b"", ": it is empty"), gzip, (b"BUFR\0\0\0 no", "")]:
+            self.stream.write_bytes(octets)
+            for call in (bufr.messages, bufr.pieces, bufr.items, lambda source: bufr.frame(source, ["012101"])):
+                with self.assertWarns(bufr.DumpWarning) as warned:
+                    call(self.stream)
+                self.assertEqual(str(warned.warning), f"{self.stream}: the file contains no message{told}")
+                self.assertEqual(warned.filename, __file__)
+        # but not of a piece of a file
+        self.stream.write_bytes(SYNOP.read_bytes() + b"BUFR\0\0\1" * 9)
+        *_, last = bufr.pieces(self.stream, 1)
+        rows, told = told_by(lambda: bufr.messages(last, faults=[]))
+        self.assertEqual((last.begin, set(rows["fault"]), told), (595, {1, 2}, []))
+
+    def test_progress(self):
+        self.stream.write_bytes(SYNOP.read_bytes() * 9)
+        shown = []
+        with contextlib.ExitStack() as patches:
+            patches.enter_context(unittest.mock.patch("os.isatty", lambda _: True))
+            patches.enter_context(unittest.mock.patch("time.monotonic", iter(range(99)).__next__))
+            patches.enter_context(unittest.mock.patch.object(bufr_guard.Progress, "put", shown.append))
+            patches.enter_context(unittest.mock.patch.object(bufr_parts, "_PART", 2000))
+            bufr.frame([self.stream, self.stream], ["012101"])
+        self.assertEqual((shown[0], shown[-1]), (b"\r\x1b[K0 of 0 MB\r", b"\r\x1b[K"))
+
+    def test_conditions(self):
+        octets = b"".join(path.read_bytes() for path in EXAMPLES)
+        self.stream.write_bytes(octets)
+        for where in (["category=0/2"], ["category!=0", "edition=4"], ["time=2023", "subsets=3"]):
+            wanted = [one.offset for one in bufr_text.dump(self.stream, *TABLES, [], where=where)]
+            rows = bufr.messages(self.stream, where=where, faults="ignore")
+            self.assertEqual(rows["offset"][rows["fault"] == 0].tolist(), wanted)
+            self.assertTrue(wanted)
+        for where in (["categori=0"], "category=0"):
+            with self.assertRaises(ValueError):
+                bufr.rows(self.stream, ["012101"], where=where)
+        # each file has its own note
+        old = self.folder / "old"
+        one = next(one for one in bufr_text.listing(self.stream, []) if one.edition == 3)
+        old.write_bytes(octets[one.offset :][: one.length])
+        _, told = told_by(lambda: bufr.frame([old, SYNOP, old], ["012101"], where=["time=2006"]))
+        self.assertEqual([text.partition(" in ")[0] for text in told], [f"{old}: left out 1 message"] * 2)
+
+
+class Values(WithFolder):
+    def test_exact(self):
+        """Wide numbers, scales of 127 and -127, and numbers whose nearest float is not the quotient of two floats."""
+        rows = [f"0010{at:02},N,M,{scale},{reference},{width}\n" for at, (scale, reference, width) in enumerate(NUMBERS)]
+        tables = self.folder / "B.csv", self.folder / "D.csv"
+        tables[0].write_text("fxy,name,unit,scale,reference,width\n" + "".join(rows))
+        tables[1].write_text("fxy,member\n")
+        rng, bits = random.Random(1), lib.Bits()
+        raws = [[rng.getrandbits(rng.randint(1, width - 1)) for _, _, width in NUMBERS] for _ in range(50)]
+        for raw in raws:
+            for number, (_, _, width) in zip(raw, NUMBERS):
+                bits.put(number, width)
+        words = [f"0010{at:02}" for at in range(len(NUMBERS))]
+        octets = lib.message(bits.octets(), lib.words(" ".join(words)), len(raws))
+        exact = bufr.frame(octets, words, exact=True, tables=tables)
+        floats, tuples = bufr.frame(octets, words, tables=tables), list(bufr.rows(octets, words, tables=tables))
+        found = bufr.items(octets, tables=tables)
+        self.assertIn(bufr.WIDE, found.items["kind"])
+        for row, raw in enumerate(raws):
+            for at, (scale, reference, _) in enumerate(NUMBERS):
+                integer = raw[at] + reference
+                value = Decimal(integer).scaleb(-scale) if scale > 0 else Decimal(integer * 10**-scale)
+                self.assertEqual(exact.iloc[row, at], value)
+                self.assertEqual(found.exact(row * len(NUMBERS) + at), value)
+                self.assertEqual(floats.iloc[row, at], float(value))
+                cell = float(value) if scale > 0 else int(value)
+                self.assertEqual((tuples[row][at], type(tuples[row][at])), (cell, type(cell)))
+
+    def test_times(self):
+        def octets(edition: int, *time: int) -> bytes:
+            one = bytearray(lib.message(b"\x14", edition=edition))
+            if edition == 4:
+                one[23:30] = time[0].to_bytes(2, "big") + bytes(time[1:])
+            else:
+                one[20:25] = bytes(time[:5])
+            return bytes(one)
+
+        for edition, time, wanted in [
+            (4, (2024, 2, 29, 23, 59, 58), "2024-02-29T23:59:58"),
+            (4, (2023, 2, 29, 0, 0, 0), "NaT"),
+            (4, (2023, 0, 1, 0, 0, 0), "NaT"),
+            (4, (2023, 13, 1, 0, 0, 0), "NaT"),
+            (4, (2023, 1, 0, 0, 0, 0), "NaT"),
+            (4, (2023, 1, 255, 0, 0, 0), "NaT"),
+            (4, (2023, 12, 31, 24, 0, 0), "NaT"),
+            (4, (2023, 12, 31, 0, 60, 0), "NaT"),
+            (4, (2023, 12, 31, 0, 0, 60), "NaT"),
+            (4, (65535, 1, 1, 0, 0, 0), "NaT"),
+            (4, (0, 1, 1, 0, 0, 0), "NaT"),
+            (4, (1678, 1, 1, 0, 0, 0), "1678-01-01T00:00:00"),
+            (3, (69, 1, 1, 0, 0), "1969-01-01T00:00:00"),
+            (3, (68, 12, 31, 12, 30), "2068-12-31T12:30:00"),
+            (3, (99, 12, 31, 12, 30), "1999-12-31T12:30:00"),
+            (3, (100, 2, 29, 0, 0), "2000-02-29T00:00:00"),
+            (3, (0, 2, 30, 0, 0), "NaT"),
+        ]:
+            stream = octets(edition, *time)
+            self.assertEqual(str(bufr.messages(stream)["time"][0]), wanted, (edition, time))
+            [value] = bufr.frame(stream, [], ["time"])["time"]
+            self.assertEqual(str(value), str(pandas.Timestamp(wanted)))
+
+    def test_arithmetic_with_header_values(self):
+        messages, frame = bufr.messages(SYNOP), bufr.frame(SYNOP, [], ["hour", "offset"])
+        for hour, offset in ((messages["hour"], messages["offset"]), (frame["hour"], frame["offset"])):
+            self.assertEqual((int((60 * hour)[0]), int((offset - 1)[0])), (1080, -1))
+
+    def test_kinds_of_columns(self):
+        frame = bufr.frame(SYNOP, ["001001", "001015", "002001", "008010", "020003", "012101", "012101:9"])
+        kinds = [str(kind) for kind in frame.dtypes]
+        self.assertEqual(kinds, ["float64", "object", "Int64", "Int64", "Int64", "float64", "float64"])
+        self.assertTrue(frame["012101:9"].isna().all())
+        units = {word: frame.attrs[word]["unit"] for word in frame.columns}
+        self.assertEqual((units["002001"], units["001015"], units["012101:9"]), ("CODE TABLE", "CCITT IA5", "K"))
+        self.assertIs(bufr.frame(EXAMPLES[0], ["008010"])["008010"][0], pandas.NA)
+        # a number with decimal places is not rounded
+        table = self.folder / "B.csv"
+        rows = "002001,A,CODE TABLE,1,0,8\n002002,B,Common CODE TABLE C-1,0,0,8\n"
+        table.write_text(f"fxy,name,unit,scale,reference,width\n{rows}")
+        octets = lib.message(b"\x0f\x0f", lib.words("002001 002002"))
+        frame = bufr.frame([octets, octets], ["002001", "002002"], tables=(table, TABLES[1]))
+        self.assertEqual(frame.iloc[0].tolist(), [1.5, 15])
+        self.assertEqual([str(kind) for kind in frame.dtypes], ["float64", "Int64"])
+        self.assertEqual(frame.attrs["002002"], {"name": "B", "unit": "Common CODE TABLE C-1"})
+
+    def test_columns_that_are_not(self):
+        for words, told in [
+            (("012101",), "expected a list such as .'012101'., found the string '012101'"),
+            ((["012101"], "time"), "expected a list such as .'time'., found the string 'time'"),
+            (([12101],), "expected a descriptor such as 012101, found '12101'"),
+            ((["AIR TEMPERATURE"],), "found 'AIR TEMPERATURE', which occurs in the names of 012001, 012101"),
+            ((["012101"], ["place"]), "the header has no key 'place'; the keys are edition, .*, file, time$"),
+        ]:
+            for call in (bufr.frame, bufr.rows, bufr.levels, lambda *words: bufr.frame(*words, levels=True)):
+                with self.assertRaisesRegex(ValueError, told):
+                    call(SYNOP, *words)
+        for call in (bufr.items, bufr.levels):
+            with self.assertRaises(ValueError):
+                call(SYNOP, ["012101:2"])
+        with self.assertRaisesRegex(ValueError, "'001002'"):
+            bufr.levels(SYNOP, ["012101"], keep="001002")
+        with self.assertRaisesRegex(TypeError, "keep= needs levels=True"):
+            bufr.frame(SYNOP, ["012101"], keep=["001002"])
+
+    def test_a_frame_of_levels(self):
+        words = ["007004", "012101"], ["time", "offset"]
+        frame = bufr.frame(TOP / "examples/sounding.bufr", *words, levels=True, keep=["001002"])
+        self.assertEqual([*frame.columns], ["time", "offset", "001002", "007004", "012101"])
+        rows = list(bufr.levels(TOP / "examples/sounding.bufr", *words, ["001002"]))
+        self.assertEqual([tuple(row) for row in frame.itertuples(index=False)], rows)
+        self.assertEqual(len(rows), 28)
+
+    def test_the_structures_are_those_of_the_library(self):
+        for ours, theirs in ((bufr_calls.MESSAGE, bufr_library.Message), (bufr_calls.ITEM, bufr_library.Item)):
+            fields = [ours.fields[name] for name in ours.names]
+            wanted = numpy.dtype(theirs)
+            self.assertEqual(fields, [wanted.fields[name] for name in wanted.names])
+        for name in ("Input", "Texts", "Rows", "Counts"):
+            ours, theirs = (getattr(module, name) for module in (bufr_calls, bufr_library))
+            places = [[getattr(it, field).offset for field, _ in it._fields_] for it in (ours, theirs)]
+            self.assertEqual((places[0], ctypes.sizeof(ours)), (places[1], ctypes.sizeof(theirs)))
+        kinds = [bufr.MISSING, bufr.NUMBER, bufr.TEXT, bufr.REFERENCE, bufr.WIDE]
+        self.assertEqual(kinds, [*bufr_library.Kind])
+
+
+# The scales, reference values and widths of numbers.
+NUMBERS = [(scale, 0, 63) for scale in (0, 1, 2, 7, 22, 23, 127, -1, -5, -22, -23, -127)]
+NUMBERS += [(scale, reference, 63) for scale in (0, 3, 127, -3, -127) for reference in ((1 << 63) - 1, -(1 << 63))]
+NUMBERS += [(2, -40000, 17), (22, 0, 54), (-22, 0, 54)]
+
+
+class Faults(WithFolder):
+    def setUp(self):
+        super().setUp()
+        # a stray, a message that is refused and one that is not, twice
+        refused = lib.message(b"\x14", b"\x3f\xff")
+        self.stream.write_bytes((b"BUFR\0\0\1" + refused + SYNOP.read_bytes()) * 2)
+        self.wanted = [(0, 2, "short length"), (7, 20, "unknown element 063255")]
+        length = self.stream.stat().st_size // 2
+        self.wanted += [(offset + length, number, text) for offset, number, text in self.wanted]
+
+    def test_a_list(self):
+        faults = []
+        frame, told = told_by(lambda: bufr.frame(self.stream, ["012101"], faults=faults))
+        self.assertEqual((len(frame), told, faults), (6, [], self.wanted))
+        self.assertIsInstance(faults[0], bufr.Fault)
+
+    def test_warn(self):
+        rows, frame = (lambda source: list(bufr.rows(source, ["012101"]))), (lambda source: bufr.frame(source, []))
+        for call in (bufr.messages, bufr.items, rows, frame):
+            with self.assertWarns(bufr.DumpWarning) as warned:
+                call(self.stream)
+            self.assertEqual(str(warned.warning), f"{self.stream}: 4 faults, the first: offset 0: 2 short length")
+            self.assertEqual(warned.filename, __file__)
+        _, told = told_by(lambda: bufr.messages([self.stream, SYNOP, b"BUFR" + SYNOP.read_bytes(), self.stream]))
+        self.assertEqual([text.partition(": ")[2][:8] for text in told], ["4 faults", "1 fault:", "4 faults"])
+
+    def test_raise(self):
+        with self.assertRaises(bufr.BufrError) as error:
+            bufr.frame(self.stream, ["012101"], faults="raise")
+        self.assertEqual(str(error.exception), f"{self.stream}: offset 0: 2 short length")
+        self.assertEqual(len(bufr.frame(SYNOP, ["012101"], faults="raise")), 3)
+
+    def test_ignore(self):
+        rows, told = told_by(lambda: bufr.messages(self.stream, faults="ignore"))
+        self.assertEqual(told, [])
+        self.assertEqual(rows["fault"].tolist(), [2, 20, 0] * 2)
+        self.assertEqual(rows["length"][:2].tolist(), [4, 48])
+        for faults in ("warned", "", None):
+            with self.assertRaises((ValueError, AttributeError)):
+                bufr.messages(self.stream, faults=faults)
+
+    def test_notes_on_tables(self):
+        later = lib.asking(SYNOP.read_bytes(), 45)
+        _, told = told_by(lambda: bufr.frame([later * 2, later], ["012101"]))
+        places = [text.partition(": table")[0] for text in told]
+        self.assertEqual(places, ["bytes: 2 messages, the first at offset 0", "bytes: 1 message, at offset 0"])
+        self.assertIn("table version 45 is later than that of the table set wmo-39; get newer tables", told[0])
+
+    def test_invalid_tables(self):
+        bad = self.folder / "bad table"
+        for text, fault in (("", "40 header"), ("fxy,name,unit,scale,reference,width\nx\n", "45 csv")):
+            bad.write_text(text)
+            with self.assertRaises(bufr.BufrError) as error:
+                bufr.frame(SYNOP, ["012101"], tables=(TABLES[0], bad) if not text else (bad, TABLES[1]))
+            said = str(error.exception)
+            self.assertTrue(said.startswith(f"cannot use {bad}: {fault}; to see where the fault is, run: bufr dump -B "), said)
+            words = said.partition("run: bufr ")[2]
+            done = subprocess.run(f"'{lib.program()}' {words}", shell=True, stderr=subprocess.PIPE)
+            self.assertRegex(done.stderr.decode(), f"^table [BD]: {fault}$")
+        for tables, error in (((TABLES[0], "none"), FileNotFoundError), ((TABLES[0],), TypeError)):
+            with self.assertRaises(error):
+                bufr.frame(SYNOP, ["012101"], tables=tables)
+        with unittest.mock.patch.dict(os.environ, BUFR_TABLES="/none"):
+            with self.assertRaisesRegex(bufr.BufrError, "BUFR_TABLES is /none"):
+                bufr.messages(SYNOP)
+
+    def test_no_library(self):
+        for name, told in (("/none", "BUFR_LIBRARY is '/none', which is not a file"), (str(SYNOP), "invalid ELF header")):
+            with unittest.mock.patch.dict(os.environ, BUFR_LIBRARY=name), self.assertRaisesRegex((ImportError, OSError), told):
+                bufr_calls.loaded()
+        with unittest.mock.patch("ctypes.CDLL") as library, self.assertRaisesRegex(ImportError, "have different versions"):
+            library.return_value.bufr_version.return_value = 2000
+            bufr_calls.loaded()
+        with unittest.mock.patch("bufr_calls.LIBRARY") as library, self.assertRaises(MemoryError):
+            library.bufr_items.return_value = bufr_calls.OUT_OF_MEMORY
+            bufr.messages(SYNOP)
+
+
+# Several processes. A worker that is killed creates a file, so that only one is.
+
+
+def read(piece: bufr.Piece, mark: str = ""):
+    if mark and piece.begin:
+        with contextlib.suppress(FileExistsError):
+            os.close(os.open(mark, os.O_CREAT | os.O_EXCL))
+            os.kill(os.getpid(), signal.SIGKILL)
+    return bufr.frame(piece, ["001015", "012101", "002001"], ["file", "offset", "time"], faults="ignore")
+
+
+class Processes(WithFolder):
+    def setUp(self):
+        super().setUp()
+        # without strays that declare a great length, as those in bulletins.bufr do
+        octets = b"BUFR\0\0\1".join([*(path.read_bytes() for path in EXAMPLES if path.stem != "bulletins"), b""])
+        self.stream.write_bytes(octets * 20)
+        self.files = [str(self.stream), str(SYNOP), str(self.stream)]
+        self.pieces = bufr.pieces(self.files, 5000)
+        self.mark = str(self.folder / "mark")
+        with warnings.catch_warnings():
+            warnings.simplefilter("ignore")
+            self.wanted = bufr.frame(self.files, ["001015", "012101", "002001"], ["file", "offset", "time"])
+        self.assertGreater(len(self.pieces), 15)
+        ends = [piece.end for piece in self.pieces]
+        wanted = [end for end in ends if end not in (595, len(octets) * 20)]
+        self.assertEqual([piece.begin for piece in self.pieces if piece.begin], wanted)
+
+    def alike(self, frame) -> None:
+        pandas.testing.assert_frame_equal(frame.reset_index(drop=True), self.wanted)
+
+    def test_futures(self):
+        with concurrent.futures.ProcessPoolExecutor(3) as pool:
+            self.alike(pandas.concat(pool.map(read, self.pieces)))
+        # a pool whose worker is killed says so, and another pool reads the pieces again
+        with self.assertRaises(BrokenProcessPool), concurrent.futures.ProcessPoolExecutor(3) as pool:
+            list(pool.map(functools.partial(read, mark=self.mark), self.pieces))
+        self.assertTrue(os.path.exists(self.mark))
+        with concurrent.futures.ProcessPoolExecutor(3) as pool:
+            self.alike(pandas.concat(pool.map(functools.partial(read, mark=self.mark), self.pieces)))
+
+    def test_dask(self):
+        try:
+            import dask.dataframe
+            import distributed
+        except ImportError:
+            self.skipTest("Dask is not installed (Debian: apt-get install python3-dask python3-distributed)")
+        local = {"n_workers": 2, "threads_per_worker": 1, "dashboard_address": ":0", "silence_logs": 50}
+        environment = unittest.mock.patch.dict(os.environ, PYTHONPATH=str(SCRIPTS))
+        with environment, distributed.Client(local_directory=str(self.folder), **local):
+            whole = dask.dataframe.from_map(read, self.pieces, mark=self.mark, meta=self.wanted[:0])
+            self.alike(whole.compute())
+            self.assertTrue(os.path.exists(self.mark), "no worker was killed")
+            # as the guide has it
+            frame = dask.dataframe.from_map(bufr.frame, self.pieces, columns=["001015", "012101"], faults="ignore")
+            self.assertAlmostEqual(frame["012101"].mean().compute(), self.wanted["012101"].mean())
+
+    def test_threads(self):
+        def read(path):
+            rows = bufr.rows(path, ["012101", "001015"], HEADER, faults="ignore")
+            return [*rows, *bufr.levels(path, ["007004"], faults="ignore")]
+
+        paths = [*EXAMPLES, self.stream] * 4
+        wanted = {path: read(path) for path in set(paths)}
+        with concurrent.futures.ThreadPoolExecutor(8) as pool:
+            for path, rows in zip(paths, pool.map(read, paths)):
+                self.assertEqual(rows, wanted[path])
+
+    def test_memory_is_bounded_by_the_part(self):
+        code = "import sys; sys.path.insert(0, sys.argv[1]); import bufr, pandas; source = sys.argv[2]\n"
+        code += "{}\nprint(open('/proc/self/status').read())"
+        once = SYNOP.read_bytes() * 1700
+        for call, size in [
+            ("bufr.frame(source, ['001001', '001002', '012101'])", 20),
+            ("for row in bufr.rows(source, ['001015', '012101']): pass", 20),
+            ("for row in bufr.levels(source, ['020012']): pass", 3),
+            ("bufr.pieces(source)", 20),
+        ]:
+            used = []
+            for count in (size, 3 * size):
+                self.stream.write_bytes(once * count)
+                words = [sys.executable, "-c", code.format(call), SCRIPTS, self.stream]
+                done = subprocess.run(words, stdout=subprocess.PIPE, text=True, check=True)
+                used.append(int(re.search(r"^VmHWM:\s+(\d+) kB$", done.stdout, re.M)[1]) // 1000)
+            print(f"arrays: {call}: {used[0]} MB, and {used[1]} MB for three times the messages")
+            self.assertLess(used[1] - used[0], 20, call)
+
+
+class Wheel(WithFolder):
+    def test_a_wheel_is_enough(self):
+        """In an environment that has NumPy, an installed wheel needs neither a library nor tables from elsewhere."""
+        code = "import sys, build_wheel; print(build_wheel.build_wheel(sys.argv[1], {'library': sys.argv[2]}))"
+        words = [sys.executable, "-c", code, self.folder, os.environ["BUFR_LIBRARY"]]
+        wheel = subprocess.run(words, cwd=TOP, stdout=subprocess.PIPE, text=True, check=True).stdout.strip()
+        place = self.folder / "environment"
+        if subprocess.run([sys.executable, "-m", "venv", "--system-site-packages", place], stdout=subprocess.PIPE).returncode:
+            self.skipTest("venv is not there (Debian: apt-get install python3-venv)")
+        subprocess.run([place / "bin/pip", "install", "-q", "--no-index", self.folder / wheel], check=True)
+        code = "import bufr; print(bufr.__file__, bufr.frame('synop.bufr', ['012101'], levels=False)['012101'].tolist())"
+        environment = {name: value for name, value in os.environ.items() if name not in ("BUFR", "BUFR_LIBRARY", "PYTHONPATH")}
+        words = [place / "bin/python", "-c", code]
+        done = subprocess.run(words, cwd=TOP / "examples", env=environment, stdout=subprocess.PIPE, text=True)
+        self.assertRegex(done.stdout, f"^{place}/.*/bufr.py .259.35, 282.55, 270.55.$")
+
+
+class Docs(unittest.TestCase):
+    def test_examples_in_docstrings(self):
+        here = os.getcwd()
+        os.chdir(TOP / "examples")
+        self.addCleanup(os.chdir, here)
+        names = {"bufr": bufr, "pandas": pandas}
+        for module in (bufr, bufr_parts):
+            failed, count = doctest.testmod(module, extraglobs=names)
+            self.assertEqual(failed, 0, module.__name__)
+            self.assertGreater(count, 0)
+        for name in ("frame", "items", "levels", "messages", "pieces", "rows"):
+            self.assertIn(">>> ", getattr(bufr, name).__doc__, name)
+        for name in bufr.__all__:
+            public = getattr(bufr, name)
+            if callable(public) and name != "Cell":
+                self.assertTrue(public.__doc__, name)
+
+
+if __name__ == "__main__":
+    os.environ["BUFR"] = random_trial.PROGRAM = lib.program()
+    unittest.main(argv=[sys.argv[0], *sys.argv[2:]], failfast=True)
