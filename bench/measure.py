@@ -31,7 +31,7 @@ STREAMS = {
     "small": "500,000 messages of 48 bytes",
     "small_3": "500,000 edition 3 messages of 46 bytes",
     "middle": "messages of 10 KB",
-    "bulletins": "bulletins with one message of 10 KB each",
+    "bulletins": "bulletins that each contain one message of 10 KB",
     "large": "messages of 1 MB",
     "noise": "a stream without messages",
     "hostile": "six million strays that each declare a length of 1 MB",
