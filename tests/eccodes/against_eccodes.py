@@ -56,7 +56,7 @@ ignores 2 02 if 2 07 follows | 1 | 80 | 202129 207001 012101 | 1:20
 does not apply 2 07 to a redefined reference value | 1 | 80 | 203010 012101 203255 207001 012101 | 5:10 1:20
 drops redefined reference values when 2 03 redefines others | 1 | 80 | 203010 012101 203255 203010 001001 203255 012101 | 5:10 3:10 1:16
 uses the first reference value if 2 03 redefines an element twice | 1 | 80 | 203010 101002 012101 203255 012101 | 5:10 6:10 1:16
-does not read six bits after a redefined reference value in compressed data | 2 | C0 | 203010 012101 203255 012101 | 5:10 0:6 1:16 0:6
+does not read the six bits after a redefined reference value in compressed data | 2 | C0 | 203010 012101 203255 012101 | 5:10 0:6 1:16 0:6
 ignores the scale of an element after 2 06 | 1 | 80 | 012101 206016 012101 | 1:16 2:16
 reads 1 in a one-bit field as a number | 1 | 80 | 012101 201113 012101 | 3:16 1:1
 reads all ones as missing in class 31 | 1 | 80 | 012101 031012 | 3:16 65535:16
