@@ -28,16 +28,16 @@ ROUNDS = 15
 SHORT = 0.01
 
 STREAMS = {
-    "small": "500,000 messages of 48 bytes",
-    "small_3": "500,000 edition 3 messages of 46 bytes",
-    "middle": "messages of 10 KB",
+    "small": "500,000 messages of 48 bytes each",
+    "small_3": "500,000 edition 3 messages of 46 bytes each",
+    "middle": "messages of 10 KB each",
     "bulletins": "bulletins that each contain one message of 10 KB",
-    "large": "messages of 1 MB",
+    "large": "messages of 1 MB each",
     "noise": "a stream without messages",
     "hostile": "six million strays that each declare a length of 1 MB",
     "dump_reports": "100,000 short reports",
     "dump_reports_3": "100,000 short reports in edition 3",
-    "dump_packed_reports": "1,000 compressed messages of 200 short reports",
+    "dump_packed_reports": "1,000 compressed messages of 200 short reports each",
     "dump_plain": "10 messages of 1,000 subsets with 500 elements each",
     "dump_packed": "10 compressed messages of 1,000 subsets with 500 elements each",
     "dump_half_missing": "reports with half of the items missing",
