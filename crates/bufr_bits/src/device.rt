@@ -60,8 +60,8 @@ pub trait Source {
 ///
 /// Its contract speaks of values that no code holds: the octets taken so far, where they are
 /// known, and whether a flush handed all of them on. It counts the calls that failed, the flushes
-/// and those that failed, the writes that took all of their octets, and those that took none. The
-/// counts stop at the greatest `u64`.
+/// made and failed, and the writes that took none of their octets; a sink may also count the writes
+/// that took all of them. The counts stop at the greatest `u64`.
 pub trait Sink {
     /// The octets taken so far, where they are known.
     ghost taken: { Self → Option (List ℕ) };
@@ -72,8 +72,9 @@ pub trait Sink {
     /// How many writes took none of the octets that they were given.
     ghost empty_writes: { Self → ℕ };
 
-    /// How many writes took all of the octets that they were given.
-    ghost whole_writes: { Self → ℕ };
+    /// How many writes took all of the octets that they were given. A sink that does not count them
+    /// answers 0.
+    ghost whole_writes: { Self → ℕ } = { λ _. 0 };
 
     /// How many flushes were made, and how many of them failed.
     ghost flushes: { Self → Flushes };
@@ -93,7 +94,7 @@ pub trait Sink {
         ensures empty { empty_writes self.new
             ≡ empty_writes_after (empty_writes self.old) buf.now result }
         ensures whole { whole_writes self.new
-            ≡ whole_writes_after (whole_writes self.old) buf.now result }
+            ≤ whole_writes_after (whole_writes self.old) buf.now result }
         ensures flushed { flushes self.new ≡ flushes self.old }
         ensures handed { all_flushed self.new ≡ all_flushed_after_write (all_flushed self.old)
             result };

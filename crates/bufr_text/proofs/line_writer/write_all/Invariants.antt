@@ -8,7 +8,8 @@ invariant-loop-rest g l = record {
   so_far : MovesPrefix (g.W.Sink.taken l.fn.w) (g.W.Sink.taken l.w) l.octets l.rest;
   failures : g.W.Sink.failures l.w ≡ g.W.Sink.failures l.fn.w;
   empty : g.W.Sink.empty_writes l.w ≡ g.W.Sink.empty_writes l.fn.w;
-  failed_flushes : g.W.Sink.failed_flushes l.w ≡ g.W.Sink.failed_flushes l.fn.w;
+  whole : g.W.Sink.whole_writes l.w ≤ g.W.Sink.whole_writes l.fn.w;
+  flushes : g.W.Sink.flushes l.w ≡ g.W.Sink.flushes l.fn.w;
 }
 
 abbrev pub decreases-loop-rest : goal.decreases-loop-rest
