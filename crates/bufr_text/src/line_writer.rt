@@ -1,6 +1,6 @@
 //! A writer of lines: octets put into a block of memory, and handed on to a sink.
 ghost use Rattle.std.specs.Prelude.{◌≡◌, ◌≤◌, ◌++◌, [], Ok, length, take, decimal, replicate, ◌<◌, Some, drop, codes, true};
-ghost use Rattle.bufr_bits.specs.Prelude.{decimal_text_of};
+ghost use Rattle.bufr_bits.specs.Prelude.{counted, decimal_text_of};
 ghost use Rattle.bufr_tables.specs.Prelude.{row_of_entry, row_comment, row_line_start};
 ghost use Rattle.bufr_text.specs.Prelude.{Pushes, Writes, CountsWrites, zero_padded, Puts, escaped, hex_digit, hex_text, is_unescaped, quoted};
 
