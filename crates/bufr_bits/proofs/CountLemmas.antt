@@ -56,3 +56,17 @@ whole_writes_after-part {E} count octets r n is part = rw is (at (nat_eq n (leng
     at : (whole : Bool) → nat_eq n (length octets) ≡ whole → (if nat_eq n (length octets) then counted count 1 else count) ≡ count
     at true e = absurd (grind (arith, nat_tests, common_steps))
     at false e = rw e refl
+
+more-then : (a b c n m most : ℕ) → b ≤ max a (min (a + n) most) → c ≤ max b (min (b + m) most) → c ≤ max a (min (a + (n + m)) most)
+more-then a b c n m most first second = omega arith
+
+-- a count of at most so many more, and then of others
+pub counted-then : (a b c n m : ℕ) → b ≤ counted a n → c ≤ counted b m → c ≤ counted a (n + m)
+counted-then a b c n m first second = more-then a b c n m (2 ^ 64 - 1) first second
+
+up : (a b n m most : ℕ) → n ≤ m → b ≤ max a (min (a + n) most) → b ≤ max a (min (a + m) most)
+up a b n m most more is = omega arith
+
+-- a count of at most so many more is one of at most even more
+pub counted-up : (a b n m : ℕ) → n ≤ m → b ≤ counted a n → b ≤ counted a m
+counted-up a b n m more is = up a b n m (2 ^ 64 - 1) more is
