@@ -301,7 +301,7 @@ def _read_message(lines: _Lines) -> Message:
     message = Message(header, [], [], bytes(local_use[b"local1"]), section2)
     while line.startswith(b"descriptors "):
         if not _DESCRIPTORS.fullmatch(line):
-            raise lines.refused("one to eight descriptors of six digits")
+            raise lines.refused("one to eight six-digit descriptors")
         message.descriptors += line.decode().split()[1:]
         line = lines.inside("'subset' or 'end'")
     while len(message.subsets) < subsets:
