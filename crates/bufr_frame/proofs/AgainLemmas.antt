@@ -7,13 +7,17 @@ use Rattle.std.proofs.lemmas.Bool.{true≢false, cases_Bool}
 use Rattle.std.proofs.lemmas.List.{take-append-drop, get_or-take, get_or-drop}
 use Rattle.bufr_frame.specs.declared.fault.SectionFault.{SectionFault}
 use Rattle.bufr_frame.specs.declared.fault.SectionFault.TheVariants.{SectionShort, SectionPast}
-use Rattle.bufr_frame.specs.Prelude.{u24_at, u16_at, words, three_octets, two_octets, octets_of_words, is_edition, min_section_1, head_size, head_of, head_by_edition, flags_of, octet_at, head_in, octets_3, octets_4, values_of, greatest_values, greatest, head_by, Sections, sections_of, section_end, parts, edition_of, has_section2, is_long_edition_3, parts_if_end_matches, IsPlain, section2_begins, section3_begins, section4_begins, parts_in, message_size, message_octets, section0_octets, section1_octets, section2_octets, section2_size, section3_octets, section4_octets, head_octets, data_flags, even_size, with_even_length, max_extra_octets, max_octets, IsFitting, is_writable, Head}
+use Rattle.bufr_frame.specs.Prelude.{u24_at, u16_at, words, three_octets, two_octets, octets_of_words, is_edition, min_section_1, head_size, head_of, head_by, value_at, flags_of, octet_at, octets_3, octets_4, values_of, greatest_values, greatest, head_by, Sections, sections_of, section_end, parts, edition_of, has_section2, is_long_edition_3, parts_if_end_matches, IsPlain, section2_begins, section3_begins, section4_begins, parts_in, message_size, message_octets, section0_octets, section1_octets, section2_octets, section2_size, section3_octets, section4_octets, head_octets, data_flags, even_size, with_even_length, max_extra_octets, max_octets, IsFitting, is_writable, Head}
 use Rattle.bufr_bits.specs.Prelude.{◌>>=◌}
 use Rattle.bufr_frame.proofs.LayoutLemmas.{length-octets_of_words, even-3, length-words}
 use Rattle.std.proofs.lemmas.List.Elements.{All-take, All-drop}
 use Rattle.std.proofs.lemmas.List.Folds.{drop_split}
 use Rattle.bufr_frame.proofs.ScanLemmas.{drop-twice}
 use Rattle.std.specs.List.{AllByRecursion}
+
+-- the head that section 1 of an edition has
+abbrev head_in : (edition : ℕ) → List ℕ → Head
+head_in edition m = head_by (edition_of m) (λ key in_4 in_3. value_at m (if edition == 3 then in_3 else in_4))
 
 -- the last of three tests that a number passed
 passed-all : (a b c : Bool) (e1 e2 e3 : SectionFault) (n q : ℕ) → (if a then Err e1 else if b then Err e2 else if c then Err e3 else Ok n) ≡ Ok q
@@ -309,11 +313,11 @@ module _ (m : List ℕ) (small : All (λ octet. octet < 256) m) where
 
   head-back : (b : Bool) → is_edition (edition_of m) ≡ true → 8 + min_section_1 (edition_of m) ≤ length m → has_section2 m ≡ b → flags_of m % 128 ≡ 0
       → head_octets (head_of m) b ≡ octets_from (head_size (edition_of m)) 11 m
-  unfolding head_by_edition head_size
+  unfolding head_size
   head-back b known long is reserved =
       let flags = if b then 128 else 0 in
       let F : ℕ → ℕ = λ n. octet_at m (if n == 3 then 8 else 10) in
-      let H : ℕ → Head = λ n. record (if n == 3 then head_in 3 m else head_in 4 m) { edition = edition_of m } in
+      let H : ℕ → Head = λ n. head_in n m in
       let P : ℕ → Type 0 = λ n. 8 + min_section_1 n ≤ length m → nat_le 128 (F n) ≡ b → F n % 128 ≡ 0
       → (if n == 3 then octets_3 (H n) flags else octets_4 (H n) flags) ≡ octets_from (head_size n) 11 m in
       edition-cases (edition_of m) known
@@ -555,16 +559,15 @@ module _ (m : List ℕ) (small : (i : ℕ) → slice_index m i < 256) where
   head-4-fits = (byte 11, (two 12, (two 14, (byte 16, (byte 18, (byte 19, (byte 20, (byte 21, (byte 22, (two 23, (byte 25, (byte 26, (byte 27, (byte 28, (byte 29, tt)))))))))))))))
 
   head-of-fits : is_edition (edition_of m) ≡ true → IsFitting (head_of m)
-  unfolding head_by_edition
   head-of-fits known =
       edition-cases (edition_of m) known
-      (λ e. let h : head_of m ≡ head_in 3 m = ap (λ n. record (if n == 3 then head_in 3 m else head_in 4 m) { edition = edition_of m }) e in
+      (λ e. let h : head_of m ≡ head_in 3 m = ap (λ n. head_in n m) e in
       subst IsFitting (sym h) (record {
         edition = known;
         fits = λ i. subst (λ n. slice_index (values_of (head_in 3 m)) i ≤ slice_index (greatest_values n) i) (sym e)
             (at-most (values_of (head_in 3 m)) (greatest_values 3) head-3-fits i);
       }))
-      (λ e. let h : head_of m ≡ head_in 4 m = ap (λ n. record (if n == 3 then head_in 3 m else head_in 4 m) { edition = edition_of m }) e in
+      (λ e. let h : head_of m ≡ head_in 4 m = ap (λ n. head_in n m) e in
       subst IsFitting (sym h) (record {
         edition = known;
         fits = λ i. subst (λ n. slice_index (values_of (head_in 4 m)) i ≤ slice_index (greatest_values n) i) (sym e)

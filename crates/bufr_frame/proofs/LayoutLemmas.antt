@@ -1,7 +1,7 @@
 -- A message that was written, section by section, read again.
 use Rattle.std.proofs.lemmas.Grind.{common_steps}
 use Rattle.std.proofs.Common.{◌≡◌, ◌==◌, ◌-◌, ℕ, true, false, List, Ok, length, refl, eq-eqb, ◌∙◌, ◌+◌, ◌*◌, ◌/◌, ◌%◌, ◌≤◌, Bool, [], ◌∷◌, ◌++◌, ap, sym, subst, arith, Option, Some, None, get_or, codes, append_assoc, length-append, Err, append-nil, zero, suc, ◌<◌, slice_get, if◌then◌else◌, nat_lt, nat_le, is_some, slice_range, ◌&&◌, ◌||◌, Result, OnOk, option_map}
-use Rattle.bufr_frame.specs.Prelude.{is_edition, min_section_1, head_size, head_by_edition, flags_of, octets_3, octets_4, head_octets, sections_of, section_end, parts, edition_of, has_section2, is_long_edition_3, head_of, Sections, is_padded, u24_at, u16_at, words, three_octets, two_octets, octets_of_words, MessageParts, message_octets, message_size, section0_octets, section1_octets, section2_octets, section2_size, section3_octets, section4_octets, data_flags, sections_from, head_octets, even_size, with_even_length, with_pad_octet, is_writable, size_from, parts_of, Head}
+use Rattle.bufr_frame.specs.Prelude.{is_edition, min_section_1, head_size, flags_of, octets_3, octets_4, head_octets, sections_of, section_end, parts, edition_of, has_section2, is_long_edition_3, head_of, Sections, is_padded, u24_at, u16_at, words, three_octets, two_octets, octets_of_words, MessageParts, message_octets, message_size, section0_octets, section1_octets, section2_octets, section2_size, section3_octets, section4_octets, data_flags, sections_from, head_octets, even_size, with_even_length, with_pad_octet, is_writable, size_from, parts_of, Head}
 use Rattle.std.proofs.lemmas.Bool.Decides.{nat_tests}
 use Rattle.bufr_bits.specs.Prelude.{bits_of, bits_of_octet}
 
@@ -182,7 +182,6 @@ module _ (h : Head) (optional : Bool) (size n : ℕ) (local1 rest : List ℕ) wh
   head-lacking l s a b = ap (λ x. record h { local_subcategory = x; second = s }) a ∙ ap (λ x. record h { second = x }) b
 
   pub head-back : (is_writable h ≡ true) → head_of (of_edition h.edition) ≡ h
-  unfolding head_by_edition
   head-back is =
       let P : ℕ → Type 0 = λ e. head_of (of_edition e) ≡ (record h { edition = e }) in
       by-edition h is

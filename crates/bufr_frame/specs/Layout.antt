@@ -50,16 +50,18 @@ abbrev pub with_even_length : (edition prefix : ℕ) → List ℕ → List ℕ
 with_even_length edition prefix octets = with_pad_octet (is_padded edition (prefix + length octets))
     octets
 
--- how many octets a message has, section by section
+-- how many octets a message of these parts has, section by section
+abbrev pub message_size : (edition : ℕ) → MessageParts → ℕ
+message_size edition p =
+    8 + (min_section_1 edition + length p.local1) + section2_size p.section2
+    + even_size edition (7 + 2 * length p.descriptors) + even_size edition (4 + length p.payload)
+    + 4
+
+-- the same by the lengths of these parts
 abbrev pub size_from : (edition local1 : ℕ) → Option (List ℕ) → (descriptors payload : ℕ) → ℕ
 size_from edition local1 section2 descriptors payload =
     8 + (min_section_1 edition + local1) + section2_size section2
     + even_size edition (7 + 2 * descriptors) + even_size edition (4 + payload) + 4
-
--- how many octets a message of these parts has
-abbrev pub message_size : (edition : ℕ) → MessageParts → ℕ
-message_size edition p =
-    size_from edition (length p.local1) p.section2 (length p.descriptors) (length p.payload)
 
 -- the most octets that a message has, since three octets state its length
 -- rule: greatest-length

@@ -9,7 +9,7 @@ pub use Rattle.bufr_frame.specs.Numbers.{run_report, cause_report, section_repor
 pub use Rattle.bufr_frame.specs.Octets.{u24_at, u16_at, words, three_octets, two_octets, octets_of_words, words_left}
 pub use Rattle.bufr_frame.specs.Sections.{parts, has_section2, is_long_edition_3, Sections, is_padded, parts_if_end_matches, IsPlain, section2_begins, section3_begins, section4_begins}
 unfoldable pub use Rattle.bufr_frame.specs.Sections.{sections_of, section_end}
-unfoldable pub use Rattle.bufr_frame.specs.Section1.{head_by_edition, head_size}
-pub use Rattle.bufr_frame.specs.Section1.{is_edition, edition_of, octet_at, min_section_1, flags_of, head_of, head_in, head_by, greatest, HeadOctets, octets_3, octets_4, values_of, greatest_values}
+unfoldable pub use Rattle.bufr_frame.specs.Section1.{head_size}
+pub use Rattle.bufr_frame.specs.Section1.{is_edition, edition_of, octet_at, min_section_1, flags_of, head_of, head_by, value_at, greatest, HeadOctets, octets_3, octets_4, values_of, greatest_values}
 pub use Rattle.bufr_frame.specs.declared.finder.Candidate.{Candidate}
 pub use Rattle.bufr_frame.specs.declared.section1.Head.{Head}

@@ -72,18 +72,10 @@ greatest (OneOctet n) = 255
 greatest (TwoOctets n) = 65535
 greatest NoOctets = 0
 
--- the head that section 1 of an edition has
-abbrev pub head_in : (edition : ℕ) → List ℕ → Head
-head_in edition m = head_by (edition_of m)
-    (λ key in_4 in_3. value_at m (if edition == 3 then in_3 else in_4))
-
--- the values by edition
-unfoldable pub head_by_edition : List ℕ → Head
-head_by_edition m = if edition_of m == 3 then head_in 3 m else head_in 4 m
-
 -- the edition and the values of section 1
 abbrev pub head_of : List ℕ → Head
-head_of m = record (head_by_edition m) { edition = edition_of m }
+head_of m = head_by (edition_of m)
+    (λ key in_4 in_3. value_at m (if edition_of m == 3 then in_3 else in_4))
 
 -- section 1 of edition 3 after its length
 -- rule: section-1-of-edition-3, year-of-the-century

@@ -1,7 +1,7 @@
 -- Steps of the expansion: trees, cells that are read back, and one part at a time.
 use Rattle.std.proofs.lemmas.Grind.{common_steps}
-use Rattle.std.proofs.Common.{◌≡◌, max, Bool, true, false, ◌||◌, refl, ◌∙◌, ap, arith, ℕ, zero, suc, ◌+◌, ◌-◌, ◌<◌, List, [], ◌∷◌, drop, Option, Some, None, Result, Ok, Err, sym, sub-one, ◌++◌, length, subst, append_assoc, ◌≤◌, set, ◌≢◌, take}
-use Rattle.bufr_tables.specs.Prelude.{Tree, bare, element, operator, fixed, delayed, join, depth, consumes, is_inserted_text, gives_width, size, places, TemplateFault, Tables, Expansion, part, ◌>>=◌, part_of, level, inner_of, ExpandedPart, unless, opened, with_places, body_of, sequence_part, element_part, group_part, operator_part, delayed_part, part_by, Cell, first_tree, cells_of, factor_first, prepend_cell, read_cells, trees_of_cells, AreCellsOf, IsTemplate, own_places, group_of, first_cell, factor_cells, BuilderModel, growth, places_so_far, push_tree, with_open_group, with_closed_group, PushesTree, PushesPart, IsFaultOrMemory, PushesTreeUnlessMemory, GivesPart, GivesGrowth, OpensGroup, f_of, x_of, y_of}
+use Rattle.std.proofs.Common.{◌≡◌, max, Bool, true, false, ◌||◌, refl, ◌∙◌, ap, arith, ℕ, zero, suc, ◌+◌, ◌-◌, ◌<◌, List, [], ◌∷◌, drop, Option, Some, None, Result, Ok, Err, sym, sub-one, ◌++◌, length, subst, append_assoc, ◌≤◌, set, ◌≢◌, take, if◌then◌else◌, ◌==◌}
+use Rattle.bufr_tables.specs.Prelude.{Tree, bare, element, operator, fixed, delayed, join, depth, consumes, is_inserted_text, gives_width, size, places, TemplateFault, Tables, Expansion, part, ◌>>=◌, part_of, level, inner_of, ExpandedPart, unless, opened, with_places, body_of, sequence_part, element_part, group_part, operator_part, delayed_part, Cell, first_tree, cells_of, factor_first, prepend_cell, read_cells, trees_of_cells, AreCellsOf, IsTemplate, own_places, group_of, first_cell, factor_cells, BuilderModel, growth, places_so_far, push_tree, with_open_group, with_closed_group, PushesTree, PushesPart, IsFaultOrMemory, PushesTreeUnlessMemory, GivesPart, GivesGrowth, OpensGroup, f_of, x_of, y_of}
 use Rattle.std.proofs.lemmas.List.{append-nil, length-append}
 use Rattle.std.proofs.lemmas.Bool.Decides.{nat_tests}
 use Rattle.std.proofs.Math.Seq.{set-append_seam}
@@ -222,32 +222,41 @@ gives_same g a b answer new e = subst (λ z. GivesPart g z answer new) e
 pub puts_same : (old : BuilderModel) (a b : Result ExpandedPart TemplateFault) (taken : ℕ) (new : BuilderModel) → a ≡ b → PushesPart old a taken new → PushesPart old b taken new
 puts_same old a b taken new e = subst (λ z. PushesPart old z taken new) e
 
+-- one part, by its F
+abbrev by_f : Tables → Option Expansion → Bool → (places d : ℕ) → List ℕ → (f : ℕ) → Result ExpandedPart TemplateFault
+by_f tables inner given places d after f =
+    if f == 0 then element_part tables given places d
+    else if f == 1 then group_part tables inner places d after
+    else if f == 2 then operator_part places d after
+    else sequence_part tables inner places d
+
 pub part-element : (tables : Tables) (inner : Option Expansion) (given : Bool) (places d : ℕ) (after : List ℕ) (f : ℕ) → f ≡ f_of d → f ≡ 0
     → element_part tables given places d ≡ part_of tables inner given places d after
 unfolding part_of
-part-element tables inner given places d after f e h = ap (λ z. part_by z tables inner given places d after) (sym h ∙ e)
+part-element tables inner given places d after f e h = ap (by_f tables inner given places d after) (sym h ∙ e)
 
 pub part-group : (tables : Tables) (inner : Option Expansion) (given : Bool) (places d : ℕ) (after : List ℕ) (f : ℕ) → f ≡ f_of d → f ≡ 1
     → group_part tables inner places d after ≡ part_of tables inner given places d after
 unfolding part_of
-part-group tables inner given places d after f e h = ap (λ z. part_by z tables inner given places d after) (sym h ∙ e)
+part-group tables inner given places d after f e h = ap (by_f tables inner given places d after) (sym h ∙ e)
 
 pub part-operator : (tables : Tables) (inner : Option Expansion) (given : Bool) (places d : ℕ) (after : List ℕ) (f : ℕ) → f ≡ f_of d → f ≡ 2
     → operator_part places d after ≡ part_of tables inner given places d after
 unfolding part_of
-part-operator tables inner given places d after f e h = ap (λ z. part_by z tables inner given places d after) (sym h ∙ e)
+part-operator tables inner given places d after f e h = ap (by_f tables inner given places d after) (sym h ∙ e)
 
 other_part : (tables : Tables) (inner : Option Expansion) (given : Bool) (places d : ℕ) (after : List ℕ) (f : ℕ) → f ≢ 0 → f ≢ 1 → f ≢ 2
-    → sequence_part tables inner places d ≡ part_by f tables inner given places d after
-other_part tables inner given places d after zero h0 h1 h2 = absurd (h0 refl)
-other_part tables inner given places d after (suc zero) h0 h1 h2 = absurd (h1 refl)
-other_part tables inner given places d after (suc (suc zero)) h0 h1 h2 = absurd (h2 refl)
-other_part tables inner given places d after (suc (suc (suc f))) h0 h1 h2 = refl
+    → sequence_part tables inner places d ≡ by_f tables inner given places d after f
+other_part tables inner given places d after f h0 h1 h2 =
+    let not_0 : (f == 0) ≡ false = grind (arith, nat_tests) in
+    let not_1 : (f == 1) ≡ false = grind (arith, nat_tests) in
+    let not_2 : (f == 2) ≡ false = grind (arith, nat_tests) in
+    rw (not_0, not_1, not_2) refl
 
 pub part-sequence : (tables : Tables) (inner : Option Expansion) (given : Bool) (places d : ℕ) (after : List ℕ) (f : ℕ) → f ≡ f_of d → f ≢ 0 → f ≢ 1 → f ≢ 2
     → sequence_part tables inner places d ≡ part_of tables inner given places d after
 unfolding part_of
-part-sequence tables inner given places d after f e h0 h1 h2 = other_part tables inner given places d after f h0 h1 h2 ∙ ap (λ z. part_by z tables inner given places d after) e
+part-sequence tables inner given places d after f e h0 h1 h2 = other_part tables inner given places d after f h0 h1 h2 ∙ ap (by_f tables inner given places d after) e
 
 -- what is left of a body once it may be opened
 abbrev pub opened_body : Expansion → (places own d : ℕ) → List ℕ → Result Tree TemplateFault

@@ -1,8 +1,15 @@
 -- Steps of a reader of records, its rows and its numbers.
 use Rattle.std.proofs.lemmas.Grind.{common_steps}
-use Rattle.std.proofs.Common.{◌≡◌, ℕ, ◌+◌, ◌^◌, ◌<◌, ◌≤◌, Bool, true, false, List, [], ◌∷◌, ◌++◌, length, Option, Some, None, refl, ap, ◌∙◌, add-one, arith, suc, zero, Bor, inl, inr, sym, drop, get_or, Result, Ok, Err, ◌≢◌, ◌-◌, ◌*◌, min, take, ℤ, pos, option_map, IsSome, if◌then◌else◌, ◌==◌, ◌&&◌, not, option_and_then}
+use Rattle.std.proofs.Common.{◌≡◌, ℕ, neg_ℤ, ◌+◌, ◌^◌, ◌<◌, ◌≤◌, Bool, true, false, List, [], ◌∷◌, ◌++◌, length, Option, Some, None, refl, ap, ◌∙◌, add-one, arith, suc, zero, Bor, inl, inr, sym, drop, get_or, Result, Ok, Err, ◌≢◌, ◌-◌, ◌*◌, min, take, ℤ, pos, option_map, IsSome, if◌then◌else◌, ◌==◌, ◌&&◌, not, option_and_then}
 use Rattle.std.proofs.lemmas.Bool.{cases_Bool}
 use Rattle.std.proofs.lemmas.Option.{same_Some}
+use Rattle.std.proofs.lemmas.Bool.Decides.{nat_tests}
+use Rattle.std.proofs.lemmas.List.Folds.{list_all_at}
+use Rattle.std.proofs.lemmas.Int.Digits.{digits_value_more}
+use Rattle.std.proofs.lemmas.Str.{digit_value_digit}
+use Rattle.std.specs.Char.{digit_value, is_ascii_digit}
+use Rattle.std.specs.List.{list_all}
+use Rattle.std.specs.Str.Parse.{digits_value}
 use Rattle.csv.specs.Machine.{Read, ends_at_end, fields_after, field_after, is_end, next_record, step, is_byte, in_field, start_field, start_record, ends_with, after_end}
 use Rattle.csv.specs.Reading.{NextIs, ReadRecord, ReadsNext, records_from, records_next, pending_of, default_config, is_flexible, reader_state, strip_bom, took_first}
 use Rattle.csv.specs.declared.parser.Config.{Config}
@@ -10,7 +17,7 @@ use Rattle.csv.specs.declared.parser.State.{State}
 use Rattle.csv.specs.declared.parser.Terminator.{Terminator}
 use Rattle.csv.specs.declared.parser.Action.{Action}
 use Rattle.csv.specs.declared.reader.Reader.{Reader}
-use Rattle.bufr_tables.specs.Prelude.{◌>>=◌, Record, GivesNext, IsBetween, count_of, record_given, records_after, text_left, field_of, IsOpened, records_left, field_texts, has_fields, has_header, table_from, table_of, ReturnsUnlessMemory, number_after_digits, if_i64, i64_of, integer_of, natural_of, negated, TableFault, ReadsTableD, Sequence, table_d_of, with_record_d}
+use Rattle.bufr_tables.specs.Prelude.{◌>>=◌, Record, GivesNext, IsBetween, count_of, record_given, records_after, text_left, field_of, IsOpened, records_left, field_texts, has_fields, has_header, table_from, table_of, ReturnsUnlessMemory, only_if, fits_i64, i64_of, integer_of, natural_of, TableFault, ReadsTableD, Sequence, table_d_of, with_record_d}
 use Rattle.bufr_tables.specs.declared.rows.RecordReader.{RecordReader}
 use Rattle.std.specs.Str.{bytes_eq}
 use Rattle.csv.specs.Records.{field_at}
@@ -290,30 +297,41 @@ reads-fault records answer Memory is given = rw is given
 
 -- ---- Digits one after another, and numbers past their bits.
 
--- one more digit
-pub number_after-push : (n : ℕ) (digits : List ℕ) (digit : ℕ) → number_after_digits n (digits ++ digit ∷ []) ≡ 10 * number_after_digits n digits + (digit - 48)
-number_after-push n [] digit = refl
-number_after-push n (d ∷ digits) digit = number_after-push (10 * n + (d - 48)) digits digit
+digit_at : (digits : List ℕ) (i : ℕ) → list_all is_ascii_digit digits ≡ true → i < length digits → is_ascii_digit (get_or digits i 0) ≡ true
+digit_at digits i all inside = by (is_ascii_digit (get_or digits i 0)) refl
+  where
+    by : (b : Bool) → is_ascii_digit (get_or digits i 0) ≡ b → is_ascii_digit (get_or digits i 0) ≡ true
+    by true e = e
+    by false e = cc (all, list_all_at is_ascii_digit digits i 0 inside e)
 
 -- the number so far, held at most m
-pub number_more : (digits : List ℕ) (i number m tens digit more : ℕ) → i < length digits
-    → number ≡ min (number_after_digits 0 (take i digits)) m
+pub number_more : (digits : List ℕ) (i number m tens digit more : ℕ) → i < length digits → list_all is_ascii_digit digits ≡ true
+    → number ≡ min (digits_value 10 (take i digits)) m
     → tens ≡ min (number * 10) m → digit ≡ get_or digits i 0 - 48 → more ≡ min (tens + digit) m
-    → more ≡ min (number_after_digits 0 (take (i + 1) digits)) m
-number_more digits i number m tens digit more inside is by_ten last sum = grind (arith, common_steps, take_more, number_after-push)
+    → more ≡ min (digits_value 10 (take (i + 1) digits)) m
+number_more digits i number m tens digit more inside all is by_ten last sum =
+    let d = get_or digits i 0 in
+    let is_digit = digit_at digits i all inside in
+    let own : digit_value d + 48 ≡ d = digit_value_digit d (grind (arith, nat_tests), grind (arith, nat_tests)) in
+    omega (arith, digits_value_more 10 digits i inside, own, is, by_ten, last, sum)
+
+-- ---- The number, where 64 bits hold it.
+
+abbrev pub negated : ℕ → ℤ
+negated n = neg_ℤ (pos n)
+
+abbrev pub if_i64 : ℤ → Option ℤ
+if_i64 z = only_if (fits_i64 z) z
 
 -- a magnitude past 64 bits fits no more than the greatest of 64 bits
 pub fitting-capped : (n : ℕ) → if_i64 (pos (min n (2 ^ 64 - 1))) ≡ if_i64 (pos n)
-unfolding if_i64
 fitting-capped n = grind arith
 
 past : (k : ℕ) → 2 ^ 63 < k → if_i64 (negated k) ≡ None
-unfolding if_i64
 past zero h = absurd (omega arith)
 past (suc k) h = grind (arith, common_steps)
 
 pub fitting-negated_capped : (n : ℕ) → if_i64 (negated (min n (2 ^ 64 - 1))) ≡ if_i64 (negated n)
-unfolding if_i64
 fitting-negated_capped zero = refl
 fitting-negated_capped (suc n) = grind (arith, common_steps)
 

@@ -1,31 +1,32 @@
 -- What is true of each tree that the expansion gives.
 use Rattle.std.proofs.lemmas.Grind.{common_steps}
-use Rattle.std.proofs.Common.{◌≡◌, ◌≢◌, ℕ, zero, suc, ◌+◌, ◌<◌, ◌≤◌, ◌==◌, Bool, true, false, not, ◌&&◌, ◌||◌, List, [], ◌∷◌, length, take, Option, Some, None, Result, Ok, Err, refl, sym, ◌∙◌, ap, subst, arith, inl, inr, ◌++◌, drop, append_assoc, IfOk, nat_le, nat_lt, ok_or, slice_index}
+use Rattle.std.proofs.lemmas.Bool.Decides.{nat_tests}
+use Rattle.std.proofs.Common.{◌≡◌, ◌≢◌, ℕ, zero, suc, ◌+◌, ◌<◌, ◌≤◌, ◌==◌, Bool, true, false, not, ◌&&◌, ◌||◌, List, [], ◌∷◌, length, take, Option, Some, None, Result, Ok, Err, refl, sym, ◌∙◌, ap, subst, arith, inl, inr, ◌++◌, drop, append_assoc, IfOk, nat_le, nat_lt, ok_or, slice_index, if◌then◌else◌}
 use Rattle.std.proofs.lemmas.Bool.{ne_eqb, eqb-true}
-use Rattle.bufr_tables.specs.Prelude.{TemplateFault, f_of, x_of, y_of, is_legal_operator, gives_width, Tree, bare, element, operator, fixed, delayed, join, size, depth, consumes, Tables, Expansion, ExpandedPart, part, ◌>>=◌, unless, with_places, is_factor, begins_with_element, element_part, operator_part, body_of, fixed_part, delayed_part, group_by, group_part, sequence_part, part_by, part_of, level, inner_of, tree_of, max_open, IsKnownAfter, IsKnown, IsLegal, is_element_first, EveryGroupConsumes, IsSound, leaves, ListsLeaves, says_nothing, says_itself, says_replication, says_sequence, IsAnswer, Cell, cells_of, trees_of_cells, AreCellsOf, IsTemplate, BuilderModel, growth, places_so_far, push_tree, PushesTree, IsFaultOrMemory}
-use Rattle.bufr_tables.proofs.ExpansionLemmas.{depth-join, part-element, cells-tail, length-cells, raised_flattened, kept_raised}
+use Rattle.bufr_tables.specs.Prelude.{TemplateFault, f_of, x_of, y_of, is_legal_operator, gives_width, Tree, bare, element, operator, fixed, delayed, join, size, depth, consumes, Tables, Expansion, ExpandedPart, part, ◌>>=◌, unless, with_places, is_factor, begins_with_element, element_part, operator_part, body_of, fixed_part, delayed_part, group_part, sequence_part, part_of, level, inner_of, tree_of, max_open, IsKnownAfter, IsKnown, IsLegal, is_element_first, EveryGroupConsumes, IsSound, leaves, ListsLeaves, says_nothing, says_itself, says_replication, says_sequence, IsAnswer, Cell, cells_of, trees_of_cells, AreCellsOf, IsTemplate, BuilderModel, growth, places_so_far, push_tree, PushesTree, IsFaultOrMemory}
+use Rattle.bufr_tables.proofs.ExpansionLemmas.{depth-join, part-element, cells-tail, length-cells, raised_flattened, kept_raised, part-group, part-operator, part-sequence}
 use Rattle.std.proofs.lemmas.List.{append-nil, take-append-drop}
 use Rattle.bufr_tables.specs.declared.fault.TemplateFault.TheVariants as fault
 use Rattle.bufr_tables.specs.declared.template.Cell.TheVariants as cell
 
 -- the two steps of one that went well
-pub record Steps {A B : Type 0} (first : Result A TemplateFault) (then : A → Result B TemplateFault) (last : B) : Type 0 where
+pub record Steps {A B : Type 0} (first : Result A TemplateFault) (next : A → Result B TemplateFault) (last : B) : Type 0 where
   pub middle : A
   pub first_is : first ≡ Ok middle
-  pub then_is : then middle ≡ Ok last
+  pub then_is : next middle ≡ Ok last
 
-pub steps : {A B : Type 0} (first : Result A TemplateFault) (then : A → Result B TemplateFault) (last : B) → (first >>= then) ≡ Ok last → Steps first then last
-steps (Ok a) then last h = record { middle = a; first_is = refl; then_is = h }
-steps (Err why) then last h = absurd cc
+pub steps : {A B : Type 0} (first : Result A TemplateFault) (next : A → Result B TemplateFault) (last : B) → (first >>= next) ≡ Ok last → Steps first next last
+steps (Ok a) next last h = record { middle = a; first_is = refl; then_is = h }
+steps (Err why) next last h = absurd cc
 
 -- a step that is a test
-pub record Tested {B : Type 0} (test : Bool) (then : Result B TemplateFault) (last : B) : Type 0 where
+pub record Tested {B : Type 0} (test : Bool) (next : Result B TemplateFault) (last : B) : Type 0 where
   pub met : test ≡ true
-  pub then_is : then ≡ Ok last
+  pub then_is : next ≡ Ok last
 
-pub tested : {B : Type 0} (test : Bool) (why : TemplateFault) (then : Result B TemplateFault) (last : B) → (unless test why >>= λ _. then) ≡ Ok last → Tested test then last
-tested true why then last h = record { met = refl; then_is = h }
-tested false why then last h = absurd cc
+pub tested : {B : Type 0} (test : Bool) (why : TemplateFault) (next : Result B TemplateFault) (last : B) → (unless test why >>= λ _. next) ≡ Ok last → Tested test next last
+tested true why next last h = record { met = refl; then_is = h }
+tested false why next last h = absurd cc
 
 -- what holds of a tree, with room for so many groups round a node
 pub record IsFine (known : ℕ → Bool) (room : ℕ) (given : Bool) (tree : Tree) : Type 0 where
@@ -189,19 +190,21 @@ delayed_joins tables room inner fine given places d (factor ∷ after) first res
       shallow = omega (arith, body.deeper, plain.shallow);
     })
 
-group_by_joins : (y : ℕ) (tables : Tables) (room : ℕ) (inner : Option Expansion) → IsInnerFine tables.known room inner
-    → (given : Bool) (places d : ℕ) (after : List ℕ) (first : ExpandedPart) (rest : Tree) → y ≡ y_of d → group_by y tables inner places d after ≡ Ok first → IsFine tables.known room false rest
+by_y_joins : (y : ℕ) (tables : Tables) (room : ℕ) (inner : Option Expansion) → IsInnerFine tables.known room inner
+    → (given : Bool) (places d : ℕ) (after : List ℕ) (first : ExpandedPart) (rest : Tree)
+    → y ≡ y_of d → (if y == 0 then delayed_part tables inner places d after else fixed_part inner places d after) ≡ Ok first → IsFine tables.known room false rest
     → IsFine tables.known room given (join first.tree rest)
-group_by_joins zero tables room inner fine given places d after first rest e h plain = delayed_joins tables room inner fine given places d after first rest h plain
-group_by_joins (suc count) tables room inner fine given places d after first rest e h plain =
-    fixed_joins tables.known room inner fine given places d after first rest (subst (λ n. 0 < n) e (omega arith)) h plain
+by_y_joins zero tables room inner fine given places d after first rest e h plain = delayed_joins tables room inner fine given places d after first rest h plain
+by_y_joins (suc count) tables room inner fine given places d after first rest e h plain =
+    let some : (suc count == 0) ≡ false = grind (arith, nat_tests) in
+    fixed_joins tables.known room inner fine given places d after first rest (subst (λ n. 0 < n) e (omega arith)) (rw some at h) plain
 
 -- a group, and the rest after it
 group_joins : (tables : Tables) (room : ℕ) (inner : Option Expansion) → IsInnerFine tables.known room inner → (given : Bool) (places d : ℕ) (after : List ℕ) (first : ExpandedPart) (rest : Tree)
     → group_part tables inner places d after ≡ Ok first → IsFine tables.known room false rest → IsFine tables.known room given (join first.tree rest)
 group_joins tables room inner fine given places d after first rest h plain =
-    let shaped = tested (nat_lt 0 (x_of d)) (fault.GroupShape d) (group_by (y_of d) tables inner places d after) first h in
-    group_by_joins (y_of d) tables room inner fine given places d after first rest refl shaped.then_is plain
+    let shaped = tested (nat_lt 0 (x_of d)) (fault.GroupShape d) (if y_of d == 0 then delayed_part tables inner places d after else fixed_part inner places d after) first h in
+    by_y_joins (y_of d) tables room inner fine given places d after first rest refl shaped.then_is plain
 
 -- a sequence, and the rest after it
 sequence_joins : (tables : Tables) (room : ℕ) (inner : Option Expansion) → IsInnerFine tables.known room inner → (given : Bool) (places d : ℕ) (first : ExpandedPart) (rest : Tree)
@@ -223,15 +226,21 @@ sequence_joins tables room (Some expand) fine given places d first rest h plain 
     } in
     subst (λ (p : ExpandedPart). IsFine tables.known room given (join p.tree rest)) e (fine-join tables.known room given two.middle rest own plain)
 
-part_by_joins : (f : ℕ) (tables : Tables) (room : ℕ) (inner : Option Expansion) → IsInnerFine tables.known room inner
-    → (given : Bool) (places d : ℕ) (after : List ℕ) (first : ExpandedPart) (rest : Tree) → f ≡ f_of d → part_by f tables inner given places d after ≡ Ok first
+part_joins : (tables : Tables) (room : ℕ) (inner : Option Expansion) → IsInnerFine tables.known room inner
+    → (given : Bool) (places d : ℕ) (after : List ℕ) (first : ExpandedPart) (rest : Tree) → part_of tables inner given places d after ≡ Ok first
     → (begins_with_element after ≡ true → first.taken ≡ 0 → is_element_first rest ≡ true) → IsFine tables.known room (gives_width d) rest → IsFine tables.known room given (join first.tree rest)
-part_by_joins zero tables room inner fine given places d after first rest e h begins more = element_joins tables room given places d first rest (sym e) h more
-part_by_joins (suc zero) tables room inner fine given places d after first rest e h begins more =
-    group_joins tables room inner fine given places d after first rest h (fine_plainly tables.known room (gives_width d) rest (no_width d 1 e (omega arith)) more)
-part_by_joins (suc (suc zero)) tables room inner fine given places d after first rest e h begins more = operator_joins tables.known room given places d after first rest (sym e) h begins more
-part_by_joins (suc (suc (suc f))) tables room inner fine given places d after first rest e h begins more =
-    sequence_joins tables room inner fine given places d first rest h (fine_plainly tables.known room (gives_width d) rest (no_width d (suc (suc (suc f))) e (omega arith)) more)
+part_joins tables room inner fine given places d after first rest h begins more = by (f_of d) refl
+  where
+    by : (f : ℕ) → f ≡ f_of d → IsFine tables.known room given (join first.tree rest)
+    by zero e = element_joins tables room given places d first rest (sym e) (part-element tables inner given places d after zero e refl ∙ h) more
+    by (suc zero) e =
+        group_joins tables room inner fine given places d after first rest (part-group tables inner given places d after 1 e refl ∙ h)
+        (fine_plainly tables.known room (gives_width d) rest (no_width d 1 e (omega arith)) more)
+    by (suc (suc zero)) e = operator_joins tables.known room given places d after first rest (sym e) (part-operator tables inner given places d after 2 e refl ∙ h) begins more
+    by (suc (suc (suc f))) e =
+        sequence_joins tables room inner fine given places d first rest
+        (part-sequence tables inner given places d after (suc (suc (suc f))) e (λ x. omega arith) (λ x. omega arith) (λ x. omega arith) ∙ h)
+        (fine_plainly tables.known room (gives_width d) rest (no_width d (suc (suc (suc f))) e (omega arith)) more)
 
 -- a list that begins with an element gives a tree that does
 level_begins : (tables : Tables) (inner : Option Expansion) (given : Bool) (places : ℕ) (after : List ℕ) (rest : Tree) → begins_with_element after ≡ true
@@ -243,7 +252,7 @@ level_begins tables inner given places (d ∷ after) rest b h = grind (arith, co
 -- what a list gives is fine
 level_fine : (tables : Tables) (room : ℕ) (inner : Option Expansion) → IsInnerFine tables.known room inner → (given : Bool) (skip places : ℕ) (list : List ℕ) (tree : Tree)
     → level tables inner given skip places list ≡ Ok tree → IsFine tables.known room given tree
-unfolding level part_of
+unfolding level
 level_fine tables room inner fine given skip places [] tree h = subst (IsFine tables.known room given) (tree_is bare tree h) (fine-bare tables.known room given)
 level_fine tables room inner fine given (suc skip) places (d ∷ after) tree h = level_fine tables room inner fine given skip places after tree h
 level_fine tables room inner fine given zero places (d ∷ after) tree h =
@@ -255,7 +264,7 @@ level_fine tables room inner fine given zero places (d ∷ after) tree h =
     λ b none. level_begins tables inner (gives_width d) (places + size one.middle.tree) after two.middle b
     (ap (λ k. level tables inner (gives_width d) k (places + size one.middle.tree) after) (sym none) ∙ two.first_is) in
     subst (IsFine tables.known room given) (tree_is (join one.middle.tree two.middle) tree two.then_is)
-    (part_by_joins (f_of d) tables room inner fine given places d after one.middle two.middle refl one.first_is begins more)
+    (part_joins tables room inner fine given places d after one.middle two.middle one.first_is begins more)
 
 inner_fine : (tables : Tables) (room : ℕ) → IsInnerFine tables.known room (inner_of tables room)
 unfolding inner_of
@@ -362,16 +371,18 @@ delayed_says tables inner says places d (factor ∷ after) first f h =
     (subst (λ l. ListsLeaves tables.members (d ∷ (factor ∷ take (x_of d) after)) (factor ∷ l)) (sym (append-nil (leaves two.middle)))
     (says_replication d (factor ∷ take (x_of d) after) (factor ∷ leaves two.middle) f own)))
 
-group_by_says : (y : ℕ) (tables : Tables) (inner : Option Expansion) → InnerSays tables.members inner → (places d : ℕ) (after : List ℕ) (first : ExpandedPart) → f_of d ≡ 1
-    → group_by y tables inner places d after ≡ Ok first → PartSays tables.members d after first
-group_by_says zero tables inner says places d after first f h = delayed_says tables inner says places d after first f h
-group_by_says (suc count) tables inner says places d after first f h = fixed_says tables.members inner says places d after first f h
+by_y_says : (y : ℕ) (tables : Tables) (inner : Option Expansion) → InnerSays tables.members inner → (places d : ℕ) (after : List ℕ) (first : ExpandedPart) → f_of d ≡ 1
+    → (if y == 0 then delayed_part tables inner places d after else fixed_part inner places d after) ≡ Ok first → PartSays tables.members d after first
+by_y_says zero tables inner says places d after first f h = delayed_says tables inner says places d after first f h
+by_y_says (suc count) tables inner says places d after first f h =
+    let some : (suc count == 0) ≡ false = grind (arith, nat_tests) in
+    fixed_says tables.members inner says places d after first f (rw some at h)
 
 group_says : (tables : Tables) (inner : Option Expansion) → InnerSays tables.members inner → (places d : ℕ) (after : List ℕ) (first : ExpandedPart) → f_of d ≡ 1
     → group_part tables inner places d after ≡ Ok first → PartSays tables.members d after first
 group_says tables inner says places d after first f h =
-    let shaped = tested (nat_lt 0 (x_of d)) (fault.GroupShape d) (group_by (y_of d) tables inner places d after) first h in
-    group_by_says (y_of d) tables inner says places d after first f shaped.then_is
+    let shaped = tested (nat_lt 0 (x_of d)) (fault.GroupShape d) (if y_of d == 0 then delayed_part tables inner places d after else fixed_part inner places d after) first h in
+    by_y_says (y_of d) tables inner says places d after first f shaped.then_is
 
 listed_is : (o : Option (List ℕ)) (d : ℕ) (members : List ℕ) → ok_or o (fault.UnknownSequence d) ≡ Ok members → o ≡ Some members
 listed_is (Some list) d members h = cc
@@ -391,16 +402,21 @@ sequence_says tables (Some expand) says places d after first f h =
     (says_sequence d members_or_none.middle [] (leaves two.middle) [] f (listed_is (tables.members d) d members_or_none.middle members_or_none.first_is)
     (says places members_or_none.middle two.middle two.first_is) says_nothing))
 
-part_by_says : (f : ℕ) (tables : Tables) (inner : Option Expansion) → InnerSays tables.members inner → (given : Bool) (places d : ℕ) (after : List ℕ) (first : ExpandedPart) → f ≡ f_of d
-    → part_by f tables inner given places d after ≡ Ok first → PartSays tables.members d after first
-part_by_says zero tables inner says given places d after first e h = element_says tables given places d after first (sym e) h
-part_by_says (suc zero) tables inner says given places d after first e h = group_says tables inner says places d after first (sym e) h
-part_by_says (suc (suc zero)) tables inner says given places d after first e h = operator_says tables.members places d after first (sym e) h
-part_by_says (suc (suc (suc f))) tables inner says given places d after first e h = sequence_says tables inner says places d after first (subst (λ n. 3 ≤ n) e (omega arith)) h
+part_says : (tables : Tables) (inner : Option Expansion) → InnerSays tables.members inner → (given : Bool) (places d : ℕ) (after : List ℕ) (first : ExpandedPart)
+    → part_of tables inner given places d after ≡ Ok first → PartSays tables.members d after first
+part_says tables inner says given places d after first h = by (f_of d) refl
+  where
+    by : (f : ℕ) → f ≡ f_of d → PartSays tables.members d after first
+    by zero e = element_says tables given places d after first (sym e) (part-element tables inner given places d after zero e refl ∙ h)
+    by (suc zero) e = group_says tables inner says places d after first (sym e) (part-group tables inner given places d after 1 e refl ∙ h)
+    by (suc (suc zero)) e = operator_says tables.members places d after first (sym e) (part-operator tables inner given places d after 2 e refl ∙ h)
+    by (suc (suc (suc f))) e =
+        sequence_says tables inner says places d after first (subst (λ n. 3 ≤ n) e (omega arith))
+        (part-sequence tables inner given places d after (suc (suc (suc f))) e (λ x. omega arith) (λ x. omega arith) (λ x. omega arith) ∙ h)
 
 level_says : (tables : Tables) (inner : Option Expansion) → InnerSays tables.members inner → (given : Bool) (skip places : ℕ) (list : List ℕ) (tree : Tree)
     → level tables inner given skip places list ≡ Ok tree → ListsLeaves tables.members (drop skip list) (leaves tree)
-unfolding level part_of
+unfolding level
 level_says tables inner says given zero places [] tree h = subst (λ t. ListsLeaves tables.members [] (leaves t)) (tree_is bare tree h) says_nothing
 level_says tables inner says given (suc skip) places [] tree h = subst (λ t. ListsLeaves tables.members [] (leaves t)) (tree_is bare tree h) says_nothing
 level_says tables inner says given (suc skip) places (d ∷ after) tree h = level_says tables inner says given skip places after tree h
@@ -408,7 +424,7 @@ level_says tables inner says given zero places (d ∷ after) tree h =
     let k : ExpandedPart → Result Tree TemplateFault = λ first. level tables inner (gives_width d) first.taken (places + size first.tree) after >>= λ rest. Ok (join first.tree rest) in
     let one = steps (part_of tables inner given places d after) k tree h in
     let two = steps (level tables inner (gives_width d) one.middle.taken (places + size one.middle.tree) after) (λ rest. Ok (join one.middle.tree rest)) tree one.then_is in
-    let here = part_by_says (f_of d) tables inner says given places d after one.middle refl one.first_is in
+    let here = part_says tables inner says given places d after one.middle one.first_is in
     let more = level_says tables inner says (gives_width d) one.middle.taken (places + size one.middle.tree) after two.middle two.first_is in
     let both = says-append tables.members (d ∷ take one.middle.taken after) (drop one.middle.taken after) (leaves one.middle.tree) (leaves two.middle) here more in
     subst (λ t. ListsLeaves tables.members (d ∷ after) (leaves t)) (tree_is (join one.middle.tree two.middle) tree two.then_is)

@@ -1,7 +1,7 @@
 -- The tree that a list of descriptors means, or the first fault, and what holds of it.
 -- (WMO-No. 306, Volume I.2, FM 94: section 3, replications, Tables C and D; the faults and limits
 -- are a choice of this project) Cited by public contracts.
-use Rattle.std.specs.Prelude.{ℕ, zero, suc, ◌+◌, ◌==◌, nat_lt, nat_le, not, ◌||◌, Bool, true, false, List, [], ◌∷◌, length, take, Option, Some, None, Result, Ok, Err, ok_or, is_some, ◌≡◌, ◌≤◌, ◌⊎◌, ◌++◌, ◌<◌, ◌≢◌, IfOk, IfErr, slice_index}
+use Rattle.std.specs.Prelude.{ℕ, zero, suc, ◌+◌, ◌==◌, nat_lt, nat_le, not, ◌||◌, Bool, true, false, List, [], ◌∷◌, length, take, Option, Some, None, Result, Ok, Err, ok_or, is_some, ◌≡◌, ◌≤◌, ◌⊎◌, ◌++◌, ◌<◌, ◌≢◌, IfOk, IfErr, slice_index, if◌then◌else◌}
 use Rattle.bufr_tables.specs.Records.{◌>>=◌}
 use Rattle.bufr_tables.specs.declared.fault.TemplateFault.{TemplateFault}
 use Rattle.bufr_tables.specs.Fxy.{f_of, x_of, y_of}
@@ -101,19 +101,13 @@ delayed_part tables inner places d (factor ∷ after) = do
   body ← body_of inner places 3 d after
   Ok (part (delayed factor body bare) (1 + x_of d))
 
--- a group, by its Y
-abbrev pub group_by : ℕ → Tables → Option Expansion → ℕ → ℕ → List ℕ
-    → Result ExpandedPart TemplateFault
-group_by zero tables inner places d after = delayed_part tables inner places d after
-group_by (suc count) tables inner places d after = fixed_part inner places d after
-
--- a replication
+-- a replication: of Y passes, or where Y is 0 of as many as a factor says
 -- rule: fault-23, order-at-a-replication
 abbrev pub group_part : Tables → Option Expansion → ℕ → ℕ → List ℕ
     → Result ExpandedPart TemplateFault
 group_part tables inner places d after = do
   _ ← unless (nat_lt 0 (x_of d)) (fault.GroupShape d)
-  group_by (y_of d) tables inner places d after
+  if y_of d == 0 then delayed_part tables inner places d after else fixed_part inner places d after
 
 -- a sequence: its members are in its place
 -- rule: fault-21, order-at-a-sequence
@@ -126,17 +120,13 @@ sequence_part tables inner places d = do
 
 -- one descriptor, by its F
 -- rule: descriptor-kinds
-abbrev pub part_by : ℕ → Tables → Option Expansion → Bool → ℕ → ℕ → List ℕ
-    → Result ExpandedPart TemplateFault
-part_by zero tables inner width_given places d after = element_part tables width_given places d
-part_by (suc zero) tables inner width_given places d after = group_part tables inner places d after
-part_by (suc (suc zero)) tables inner width_given places d after = operator_part places d after
-part_by _ tables inner width_given places d after = sequence_part tables inner places d
-
 unfoldable pub part_of : Tables → Option Expansion → Bool → ℕ → ℕ → List ℕ
     → Result ExpandedPart TemplateFault
 part_of tables inner width_given places d after =
-    part_by (f_of d) tables inner width_given places d after
+    if f_of d == 0 then element_part tables width_given places d
+    else if f_of d == 1 then group_part tables inner places d after
+    else if f_of d == 2 then operator_part places d after
+    else sequence_part tables inner places d
 
 -- one list, from left to right, but for so many descriptors that a group has taken
 -- rule: first-descriptor-decides

@@ -4,6 +4,8 @@
 use Rattle.std.specs.Prelude.{ℕ, ◌+◌, ◌-◌, ◌*◌, ◌^◌, ◌==◌, ◌&&◌, Bool, nat_lt, if◌then◌else◌, ℤ, pos, negsuc, neg_ℤ, List, [], ◌∷◌, length, drop, slice_index, Option, Some, None, option_and_then, option_map, unwrap_or, ◌≡◌, ◌≢◌, Result, Ok, Err, true, false, ◌<◌, map, IsSome}
 use Rattle.std.specs.Char.{is_ascii_digit}
 use Rattle.std.specs.List.{list_all}
+use Rattle.std.specs.Str.Parse.{digits_value}
+use Rattle.bufr_tables.specs.Fxy.{only_if}
 use Rattle.csv.specs.Reading.{default_config, records, strip_bom, Ready, is_flexible, reader_config, reader_state, reader_trim, records_from, source_of}
 use Rattle.csv.specs.Records.{field_at, fields_of}
 use Rattle.bufr_tables.specs.declared.fault.TableFault.{TableFault}
@@ -18,24 +20,15 @@ use Rattle.csv.specs.declared.reader.Trim.TheVariants as trim
 
 -- ---- Whole numbers: an optional `-` and one or more digits. (a choice of this project)
 
--- the number that digits write, after a number that was written before them
-abbrev pub number_after_digits : ℕ → List ℕ → ℕ
-number_after_digits n [] = n
-number_after_digits n (digit ∷ digits) = number_after_digits (10 * n + (digit - 48)) digits
-
 -- the number that a text writes, where it is one digit or more
 unfoldable pub natural_of : List ℕ → Option ℕ
 natural_of text =
-    if nat_lt 0 (length text) && list_all is_ascii_digit text
-    then Some (number_after_digits 0 text) else None
-
-abbrev pub negated : ℕ → ℤ
-negated n = neg_ℤ (pos n)
+    only_if (nat_lt 0 (length text) && list_all is_ascii_digit text) (digits_value 10 text)
 
 -- the number that a text writes, however long it is
 unfoldable pub integer_of : List ℕ → Option ℤ
 integer_of text =
-    if slice_index text 0 == 45 then option_map negated (natural_of (drop 1 text))
+    if slice_index text 0 == 45 then option_map (λ n. neg_ℤ (pos n)) (natural_of (drop 1 text))
     else option_map pos (natural_of text)
 
 -- 64 bits with a sign hold the number
@@ -43,13 +36,9 @@ abbrev pub fits_i64 : ℤ → Bool
 fits_i64 (pos n) = nat_lt n (2 ^ 63)
 fits_i64 (negsuc n) = nat_lt n (2 ^ 63)
 
--- the number, where 64 bits hold it
-unfoldable pub if_i64 : ℤ → Option ℤ
-if_i64 z = if fits_i64 z then Some z else None
-
 -- the number that a text writes, where 64 bits hold it
 unfoldable pub i64_of : List ℕ → Option ℤ
-i64_of text = option_and_then if_i64 (integer_of text)
+i64_of text = option_and_then (λ z. only_if (fits_i64 z) z) (integer_of text)
 
 -- a record: its fields
 abbrev pub Record : Type 0

@@ -70,11 +70,8 @@ unfoldable pub plain_of : List ℕ → Option (List ℕ)
 plain_of text = only_if (is_name text) text
 
 -- a scale, from -127 to 127
-abbrev pub allows_scale : ℤ → Bool
-allows_scale scale = nat_le (unsigned_abs scale) 127
-
 unfoldable pub scale_of : List ℕ → Option ℤ
-scale_of text = i64_of text >>= λ scale. only_if (allows_scale scale) scale
+scale_of text = i64_of text >>= λ scale. only_if (nat_le (unsigned_abs scale) 127) scale
 
 -- the widths that an element may have, in bits: whole octets for text
 abbrev pub allows_width : Kind → ℕ → Bool
@@ -133,7 +130,7 @@ pub record IsRow (row : Row) : Type 0 where
   pub name : is_name row.name ≡ true
   pub unit : is_name row.unit ≡ true
   pub kind : row.kind ≡ kind_of row.unit
-  pub scale : allows_scale row.scale ≡ true
+  pub scale : nat_le (unsigned_abs row.scale) 127 ≡ true
   pub width : allows_width row.kind row.width ≡ true
   pub factor : is_valid_factor (factor_width row.fxy) row ≡ true
 

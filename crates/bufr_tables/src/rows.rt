@@ -1,6 +1,6 @@
 //! The rows of a table's text: its records, one after another, and the whole numbers in them.
 ghost use Rattle.std.specs.Prelude.{◌≡◌, ◌≢◌, ◌-◌, ◌^◌, ◌<◌, ◌==◌, IfOk, IfErr, false, min, option_map, slice_index};
-ghost use Rattle.bufr_tables.specs.Records.{if_i64, i64_of, natural_of, GivesNext, IsBetween, IsOpened, field_texts, field_of, records_of, has_fields, has_header};
+ghost use Rattle.bufr_tables.specs.Records.{i64_of, natural_of, GivesNext, IsBetween, IsOpened, field_texts, field_of, records_of, has_fields, has_header};
 ghost use Rattle.bufr_tables.specs.declared.fault.TableFault.TheVariants.{Header, Memory};
 ghost use Rattle.csv.specs.Records.{fields_of};
 
@@ -87,7 +87,7 @@ fn has_fields(fields: &ByteRecord, names: &[&[u8]]) -> bool
 }
 
 /// The number that an optional `-` and one or more digits write, where an `i64` holds it.
-#[tactic(auto, unfolding(crate::specs::Records::i64_of, crate::specs::Records::integer_of, crate::specs::Records::if_i64))]
+#[tactic(auto, unfolding(crate::specs::Records::i64_of, crate::specs::Records::integer_of))]
 pub(crate) fn integer(text: &[u8]) -> Option<i64>
     ensures { result ≡ i64_of text.now }
 {

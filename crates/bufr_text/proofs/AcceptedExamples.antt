@@ -7,7 +7,7 @@ use Rattle.bufr_tables.specs.declared.table_b.Kind.TheVariants as kind
 use Rattle.bufr_tables.specs.Prelude.{part_of, level, inner_of, tree_of, Row, element, bare}
 use Rattle.bufr_frame.specs.declared.section1.Head.{Head}
 use Rattle.bufr_frame.specs.declared.fault.SectionFault.TheVariants.{Edition3Long, SectionsEnd}
-use Rattle.bufr_frame.specs.Prelude.{head_by_edition, head_size, max_octets, size_from, three_octets, u24_at, IsPlain, Sections, sections_of, section_end, parts, parts_if_end_matches, edition_of, is_long_edition_3, is_padded}
+use Rattle.bufr_frame.specs.Prelude.{head_size, max_octets, size_from, three_octets, u24_at, IsPlain, Sections, sections_of, section_end, parts, parts_if_end_matches, edition_of, is_long_edition_3, is_padded}
 use Rattle.bufr_walk.specs.declared.spec.Role.TheVariants as role
 use Rattle.bufr_walk.specs.Prelude.{number, missing, next_item, Values, apart, together}
 use Rattle.bufr_text.specs.Prelude.{IsCanonical, IsAccepted}
@@ -68,7 +68,7 @@ block_number = apart ((record {
 
 -- Seven bits are a reading, whatever the eighth is.
 block_accepted : IsAccepted the_table [] (one_block_number 0x14) (its_sections 0x14) (element 257 bare) block_number 7
-unfolding the_table the_head message one_block_number its_sections block_number sections_of section_end head_by_edition head_size tree_of level part_of inner_of next_item bits_of bits_in
+unfolding the_table the_head message one_block_number its_sections block_number sections_of section_end head_size tree_of level part_of inner_of next_item bits_of bits_in
 block_accepted = record {
   octets = search arith;
   few = omega arith;
@@ -103,7 +103,7 @@ block_canonical = record {
 -- With a bit after its data the message is accepted, and is not as an encoder writes it.
 -- rule: bits-left-over
 bit_after_accepted : IsAccepted the_table [] (one_block_number 0x15) (its_sections 0x15) (element 257 bare) block_number 7
-unfolding the_table the_head message one_block_number its_sections block_number sections_of section_end head_by_edition head_size tree_of level part_of inner_of next_item bits_of bits_in
+unfolding the_table the_head message one_block_number its_sections block_number sections_of section_end head_size tree_of level part_of inner_of next_item bits_of bits_in
 bit_after_accepted = record {
   octets = search arith;
   few = omega arith;
@@ -134,7 +134,7 @@ temperatures = together (record {
 } ∷ [])
 
 temperatures_accepted : IsAccepted the_table [] two_temperatures their_sections (element 3173 bare) temperatures 24
-unfolding the_table the_head message two_temperatures their_sections temperatures sections_of section_end head_by_edition head_size tree_of level part_of inner_of next_item bits_of bits_in
+unfolding the_table the_head message two_temperatures their_sections temperatures sections_of section_end head_size tree_of level part_of inner_of next_item bits_of bits_in
 temperatures_accepted = record {
   octets = search arith;
   few = omega arith;
@@ -208,7 +208,7 @@ sections_of_3 last = record {
 
 -- With another octet than zero after the data, and left over in section 3, it is accepted.
 edition_3_accepted : IsAccepted the_table [] (edition_3 1 1) (sections_of_3 1) (element 257 bare) block_number 7
-unfolding the_table edition_3 sections_of_3 block_number sections_of section_end head_by_edition head_size tree_of level part_of inner_of next_item bits_of bits_in
+unfolding the_table edition_3 sections_of_3 block_number sections_of section_end head_size tree_of level part_of inner_of next_item bits_of bits_in
 edition_3_accepted = record {
   octets = search arith;
   few = omega arith;

@@ -1,3 +1,4 @@
+mod ShorterForms
 mod ExampleTables
 mod ReadingExamples
 mod SpecExamples

@@ -3,7 +3,7 @@ use Rattle.std.proofs.lemmas.Grind.{common_steps}
 use Rattle.bufr_walk.proofs.SpecLemmas.{text_good, product_small, inserted_width}
 use Rattle.bufr_tables.proofs.TableBLemmas.{row-limits}
 use Rattle.std.proofs.lemmas.Bool.{eqb-true, leb-true, ltb-true}
-use Rattle.bufr_tables.specs.Prelude.{f_of, fxy_of, is_factor, IsRow, Row, allows_width, entry_of, kind_of, AreRows, element_of, plain_of, row_of, scale_of, width_of, is_legal_operator, has_legal_operand, Tree, bare, element, operator, fixed, delayed, is_inserted_text, x_of, y_of, IsLegal, i64_of, fits_i64, if_i64, integer_of, Record, field_of, only_if}
+use Rattle.bufr_tables.specs.Prelude.{f_of, fxy_of, is_factor, IsRow, Row, allows_width, entry_of, kind_of, AreRows, element_of, plain_of, row_of, scale_of, width_of, is_legal_operator, has_legal_operand, Tree, bare, element, operator, fixed, delayed, is_inserted_text, x_of, y_of, IsLegal, i64_of, fits_i64, integer_of, Record, field_of, only_if}
 use Rattle.bufr_walk.specs.declared.spec.Taken.{Taken}
 use Rattle.bufr_walk.specs.Prelude.{OperatorModel, Redefined, current_reference, is_defining, if_valid_width, scale_change_of, numeric_spec, coded_spec, text_spec, text_width, spec_by_kind, defined_field, new_reference_spec, unsigned_field, begin, local_width_spec, listed_by, element_spec, factor_field, factor_by, factor_spec, with_references, with_operator, after_operator, after_field, with_reference, inserted_spec, Turns, finish, open_end, group, pass_end, factor_turn, element_turn, operator_turn, Rest, passes, unroll, turns_of, take_next, NextTurn, asked, operated, ahead, next_item, counts_of, FieldSpec, IsSpec, HasWidth, Course, IsField, IsWithin, AreWithin}
 use Rattle.std.proofs.Common.{ℕ, suc, ◌+◌, ◌*◌, ◌%◌, ◌&&◌, eqb, Bool, false, Option, Some, None, Result, Ok, Err, refl, ◌∙◌, ap, subst, arith, ℤ, pos, negsuc, ◌+ℤ◌, zero, ◌||◌, not, sym, map, ◌≡◌, ◌≤◌, ◌<◌, ◌/◌, ◌^◌, true, List, [], ◌∷◌, unsigned_abs, ◌==◌, nat_le, nat_lt, if◌then◌else◌}
@@ -435,8 +435,7 @@ within : (z : ℤ) → fits_i64 z ≡ true → unsigned_abs z ≤ 2 ^ 63
 within (pos n) h = omega (arith, ltb-true n (2 ^ 63) h)
 within (negsuc n) h = omega (arith, ltb-true n (2 ^ 63) h)
 
-fits_64_bits : (z r : ℤ) → if_i64 z ≡ Some r → unsigned_abs r ≤ 2 ^ 63
-unfolding if_i64
+fits_64_bits : (z r : ℤ) → only_if (fits_i64 z) z ≡ Some r → unsigned_abs r ≤ 2 ^ 63
 fits_64_bits z r is = grind (arith, common_steps, unsigned_abs, within)
 
 reference_within : (text : List ℕ) (r : ℤ) → i64_of text ≡ Some r → unsigned_abs r ≤ 2 ^ 63

@@ -106,4 +106,6 @@ group-returns-in_err-group_of-clause-gives t c =
     c.args.after.now _ (omega (arith, c.x.ensures.value, c.if-x-eq0.false)) (omega (arith, c.y.ensures, c.if-y-gt0.true)) (c.in_err-group_of.ensures.gives other))
 
 pub group-returns-in_err-group_of-2-clause-gives : goal.group-returns-in_err-group_of-2-clause-gives
-group-returns-in_err-group_of-2-clause-gives t c = gives_same _ _ _ _ _ (group-delayed _ _ _ _ _ _ _ c.x.ensures.value (omega (arith, c.if-x-eq0.false)) c.y.ensures c.if-y-gt0.false) (search rules)
+group-returns-in_err-group_of-2-clause-gives t c =
+    gives_same _ _ _ _ _ (group-delayed (tables_in c.args.self.now) (inner_of (tables_in c.args.self.now) c.args.self.now.room) (places_so_far (builder_model c.args.growing.now)) c.args.fxy _ _
+    c.args.after.now c.x.ensures.value (omega (arith, c.if-x-eq0.false)) c.y.ensures c.if-y-gt0.false) (search rules)
