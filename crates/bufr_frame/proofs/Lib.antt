@@ -1,4 +1,3 @@
-mod ShorterForms
 pub mod FinderLemmas
 pub mod AgainLemmas
 pub mod LayoutLemmas

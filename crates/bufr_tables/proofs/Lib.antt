@@ -1,5 +1,4 @@
 pub mod RecordLemmas
-mod ShorterForms
 pub mod TableBLemmas
 pub mod TableDLemmas
 pub mod CycleLemmas
