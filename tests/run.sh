@@ -6,6 +6,7 @@
 # A test is a file with an ending beside this one, but for lib.sh and lib.py. Its argument is the program.
 # It ends with status 0, or says which file is wrong, and how. What it cannot try here it says, and skips.
 # At last the instructions of each command are counted. The longer trials of hostile/ and eccodes/ are run by hand.
+# A test that takes longer than an hour is stopped, and has failed.
 set -eu
 program=$(realpath -m "${1:-"$(dirname "$0")/../crates/bufr/out/bufr"}")
 cd "$(dirname "$0")/.."
@@ -21,7 +22,14 @@ fi
 for test in tests/*.py tests/*.sh tests/vectors/run.py bench/count_instructions.py; do
     case $test in tests/lib.* | tests/run.sh) continue ;; esac
     count=$((count + 1))
-    "$test" "$program" || failed+=("$test")
+    # Some tests send themselves signals, which a script in the background would ignore.
+    status=0
+    env --default-signal=INT,HUP,QUIT timeout --foreground -k 10 1h "$test" "$program" || status=$?
+    case $status in
+        0) ;;
+        124 | 137) failed+=("$test (stopped after an hour)") ;;
+        *) failed+=("$test (status $status)") ;;
+    esac
 done
 [ ${#failed[@]} -eq 0 ] || echo "failed: ${failed[*]}" >&2
 echo "tests/run.sh: $((count - ${#failed[@]})) of $count tests passed, in $SECONDS s"
