@@ -15,16 +15,17 @@ files into pieces that several processes can read at the same time.
 Each function takes a source: the name of a file, `"-"` for standard input, bytes, an open binary file, a `Piece`, or a list
 of these. A source is read in parts of a few MB, so it can be larger than the available memory. Each message is read with the
 table set that bufr-auto would choose, unless you pass the names of two tables as `tables=(B, D)`. To select messages, pass a
-list of conditions `KEY=VALUE` or `KEY!=VALUE` as `where`, as for bufr-extract. `faults` determines what happens if a message
-is refused, or if the word `BUFR` occurs where no message begins:
+list of conditions `KEY=VALUE` or `KEY!=VALUE` as `where`, as for bufr-extract.
 
-- `"warn"` (default): at the end of each file, a `DumpWarning` counts these faults.
-- `"raise"`: the first fault raises `BufrError`.
-- `"ignore"`: faults are not reported, but `messages` still returns a row for each of them.
-- a list: a `Fault` is appended to the list for each fault.
+A fault is a refused message or a stray (the word `BUFR` where no complete message begins). `faults` determines what happens:
 
-A `DumpWarning` also reports files without messages, and messages whose tables are missing. This module needs NumPy, and
-`frame` needs pandas. The library is the file libbufr.so.0 next to this module, or in the directory `lib` of the installation
+- `"warn"` (default): at the end of each file, a `DumpWarning` counts the faults.
+- `"raise"`: the first fault, or a file without messages, raises `BufrError`.
+- `"ignore"`: faults and files without messages are not reported, but `messages` still returns a row for each fault.
+- a list: a `Fault` with the members `offset`, `number`, `text` and `file` is appended to the list for each fault.
+
+A `DumpWarning` also reports files without messages, messages whose tables are missing, columns for which there are no items
+or no values, and subsets without levels. This module needs NumPy, and `frame` needs pandas. The library is the file libbufr.so.0 next to this module, or in the directory `lib` of the installation
 or clone. To use another file, set the environment variable BUFR_LIBRARY to its path. If there is no library, importing this
 module raises `ImportError`.
 """
@@ -289,16 +290,28 @@ def frame(
     """Returns the rows of `rows` or, with `levels=True`, those of `levels`, as a pandas data frame.
 
     Numbers are the nearest floats, and missing numbers are NaN. Values from code tables and flag tables are `Int64`, strings
-    are `str` or `None`, and the header key `"time"` is `datetime64`. With `exact=True`, numbers are `Decimal`. `frame.attrs`
-    contains the name and unit of each element, from the latest table set.
+    are `str` or `None`, and the header key `"time"` is `datetime64`. `frame.attrs` contains the name and unit of each
+    element, from the latest table set.
 
-        >>> frame = bufr.frame("synop.bufr", ["001015", "012101"], header=["time"])
+        >>> frame = bufr.frame("synop.bufr", ["001015", "001001", "012101"], header=["time"])
         >>> frame.attrs["012101"]
         {'name': 'TEMPERATURE/AIR TEMPERATURE', 'unit': 'K'}
         >>> frame["012101"].mean().round(2)
         270.82
+        >>> frame["001001"].astype("Int64").tolist()
+        [2, 3, 6]
         >>> bufr.frame("sounding.bufr", ["007004", "012101"], levels=True, keep=["001002"]).iloc[0].tolist()
         [836.0, 98520.0, 258.55]
+
+    With `exact=True`, all numbers, including codes, are `Decimal` or `None`, in columns of type `object`. pandas computes
+    with them slowly, and some of its methods, such as `std`, `round` and `plot`, fail. `<` and `>` work with floats, but `==`
+    is true only for the exact value, and adding a float is an error. To get floats, use `astype(float)`.
+
+        >>> air = bufr.frame("synop.bufr", ["012101"], exact=True)["012101"]
+        >>> (air - Decimal("273.15")).tolist()
+        [Decimal('-13.80'), Decimal('9.40'), Decimal('-2.60')]
+        >>> (air < 259.36).tolist(), (air == 259.35).tolist(), (air == Decimal("259.35")).tolist()
+        ([True, False, False], [False, False, False], [True, False, False])
     """
     import pandas
 
@@ -333,7 +346,7 @@ def rows(
 
     A column is a descriptor such as `"012101"`, or `"012101:2"` for the second such item in the subset. `header` can contain
     the header keys of a dump, such as `"year"`; `"file"`, `"offset"`, `"length"` and `"time"` of the message; and
-    `"message"` and `"subset"`, which count from 1. A number is an `int` if its scale allows no decimal places, and otherwise
+    `"message"` and `"subset"`, the numbers of the accepted message in the source and of the subset, from 1. A number is an `int` if its scale allows no decimal places, and otherwise
     the nearest `float`. A value is `None` if it is missing, or if the subset has no such item.
 
         >>> next(bufr.rows("synop.bufr", ["001015", "012101"], ["year", "subset"]))
@@ -371,8 +384,10 @@ class Items(NamedTuple):
     `items` is a structured array with a row for each item: `message_row` (the index of its message in `messages`), `subset`
     (from 1), `fxy` (the descriptor as a number: 12101 for 012101), `kind` (`bufr.NUMBER`, `bufr.TEXT` and so on), and
     `value` (a float, or NaN if the item is missing or a string). If the kind is `NUMBER`, the value is exactly
-    `integer / 10**scale`. `exact` returns the value of any item. `messages` is the result of `bufr.messages`, and `elements`
-    contains the name and the unit of each descriptor that occurs.
+    `integer / 10**scale`. `exact` returns the value of any item, and `frame` all items with names and strings.
+
+    `messages` is the result of `bufr.messages`. It also has rows for refused messages, which have no items. `elements`
+    contains the name and the unit of each descriptor that occurs, like `frame.attrs`.
 
         >>> found = bufr.items("synop.bufr")
         >>> air = found.items[found.items["fxy"] == 12101]
@@ -488,12 +503,18 @@ def messages(
     """Returns a structured array with a row for each message, and for each word `BUFR` where no message begins.
 
     Its columns are `file`, `offset`, `length`, the header keys of a dump, `subsets`, `fault` and `time`. `fault` is 0 if the
-    message is accepted, and otherwise the number of its fault. `time` is the time of the message.
+    message is accepted, and otherwise the number of its fault. `time` is the time of the message. If the header cannot be
+    read, `edition` and all other header fields are 0, which is no edition, and `time` is NaT.
 
         >>> bufr.messages("synop.bufr")[["offset", "length", "centre", "subsets", "fault"]].tolist()
         [(0, 595, 78, 3, 0)]
         >>> pandas.DataFrame(bufr.messages("synop.bufr"))["time"].max()
         Timestamp('2023-03-14 18:00:00')
+        >>> rows = bufr.messages("bulletins.bufr", faults="ignore")
+        >>> rows[["offset", "edition", "centre", "fault"]][rows["fault"] > 0].tolist()
+        [(131, 0, 0, 1), (189, 0, 0, 10), (294, 0, 0, 2)]
+        >>> rows[rows["edition"] > 0]["centre"].tolist()
+        [98, 98, 98, 98]
     """
     return numpy.concatenate([_message_rows(part) for part in Reader(source, (), where, tables, faults)])
 

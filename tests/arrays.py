@@ -863,13 +863,14 @@ class Docs(unittest.TestCase):
         here = os.getcwd()
         os.chdir(TOP / "examples")
         self.addCleanup(os.chdir, here)
-        names = {"bufr": bufr, "pandas": pandas}
+        names = {"bufr": bufr, "pandas": pandas, "Decimal": Decimal}
         for module in (bufr, bufr_parts):
             failed, count = doctest.testmod(module, extraglobs=names)
             self.assertEqual(failed, 0, module.__name__)
             self.assertGreater(count, 0)
-        for name in ("frame", "items", "levels", "messages", "pieces", "rows"):
-            self.assertIn(">>> ", getattr(bufr, name).__doc__, name)
+        calls = [bufr.frame, bufr.items, bufr.levels, bufr.messages, bufr.pieces, bufr.rows, bufr.Items.exact, bufr.Items.frame]
+        for call in calls:
+            self.assertIn(">>> ", call.__doc__, call)
         for name in bufr.__all__:
             public = getattr(bufr, name)
             if callable(public) and name != "Cell":
