@@ -149,11 +149,8 @@ class BufrError(RuntimeError):
         text: Optional[str] = None,
         file: Optional[str] = None,
     ) -> None:
-        super().__init__(reason, offset, number, text, file)
+        super().__init__(reason)
         self.offset, self.number, self.text, self.file = offset, number, text, file
-
-    def __str__(self) -> str:
-        return str(self.args[0])
 
 
 class DumpWarning(UserWarning):

@@ -513,6 +513,7 @@ class Values(WithFolder):
             with unittest.mock.patch.multiple(bufr_parts, _PART=1):
                 found = call([octets] * 2, iter(["001015", "012101"]), iter(["year", "offset"]), where=iter(["category=0"]))
                 self.assertEqual([tuple(row) for row in found], wanted)
+        self.assertEqual(list(bufr.rows([octets] * 2, [], where=iter(["centre=1"]))), [])
         words = iter(["007004"]), iter(["offset"]), iter(["001002"])
         sounding = TOP / "examples/sounding.bufr"
         self.assertEqual([*bufr.levels(sounding, *words)], [*bufr.levels(sounding, ["007004"], ["offset"], ["001002"])])
@@ -681,7 +682,8 @@ class Faults(WithFolder):
                 self.assertEqual(told_by(lambda: len([*call(source, columns, [], keep)]))[1], wanted)
         for size in (1, 1 << 20):
             with unittest.mock.patch.multiple(bufr_parts, _PART_OF_ALL=size):
-                told = told_by(lambda: [*bufr.levels([sounding, b"BUFR", sounding, SYNOP], ["007004"], faults="ignore")])[1]
+                octets = sounding.read_bytes() + b"BUFR\0\0\1" + sounding.read_bytes() + SYNOP.read_bytes()
+                told = told_by(lambda: [*bufr.levels(octets, ["007004"], faults="ignore")])[1]
                 self.assertEqual(told, [three.format(3)])
 
     def test_notes_on_tables(self):
