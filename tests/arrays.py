@@ -813,6 +813,8 @@ class Processes(WithFolder):
         self.assertAlmostEqual(mean, self.wanted["012101"].mean())
 
     def test_threads(self):
+        self.without_warnings()
+
         def read(path):
             rows = bufr.rows(path, ["012101", "001015"], HEADER, faults="ignore")
             return [*rows, *bufr.levels(path, ["007004"], faults="ignore")]
@@ -836,7 +838,7 @@ class Processes(WithFolder):
             used = []
             for count in (size, 3 * size):
                 self.stream.write_bytes(once * count)
-                words = [sys.executable, "-c", code.format(call), SCRIPTS, self.stream]
+                words = [sys.executable, "-W", "ignore", "-c", code.format(call), SCRIPTS, self.stream]
                 done = subprocess.run(words, stdout=subprocess.PIPE, text=True, check=True)
                 used.append(int(re.search(r"^VmHWM:\s+(\d+) kB$", done.stdout, re.M)[1]) // 1000)
             print(f"arrays: {call}: {used[0]} MB, and {used[1]} MB for three times the messages")

@@ -313,7 +313,8 @@ class Tables(unittest.TestCase):
                     except bufr_text.TextError:
                         continue  # such texts are for `encode`
                 self.assertEqual(self.alike(rows), self.alike(wanted))
-                self.assertEqual(self.notes(told), done.stderr.decode().splitlines())
+                # without subsets, awk says that the columns of the header are empty, too
+                self.assertEqual(self.notes(told), done.stderr.decode().splitlines() if rows else [])
                 passed += len(rows)
         self.assertGreater(passed, 100)
 
@@ -581,7 +582,8 @@ class Runs(unittest.TestCase):
         faults = []
         levels = list(bufr_text.levels(self.stream, ["007004"], ["offset"], faults=faults, where=["category=2"]))
         self.assertEqual((len(levels), {offset for offset, _ in levels}, faults), (29, {0}, strays))
-        self.assertEqual(levels, list(bufr_text.levels(bufr_text.dump(self.stream, faults=[]), ["007004"], ["offset"])))
+        with self.assertWarnsRegex(bufr_text.DumpWarning, "^skipped 25 subsets without a level; the first is message 2 subset 1$"):
+            self.assertEqual(levels, list(bufr_text.levels(bufr_text.dump(self.stream, faults=[]), ["007004"], ["offset"])))
         for call in (bufr_text.rows, bufr_text.levels):
             for given in ({"faults": []}, {"where": ["category=0"]}):
                 with self.assertRaisesRegex(TypeError, r"pass them to dump\(\) instead"):
