@@ -25,9 +25,11 @@ A fault is a refused message or a stray (the word `BUFR` where no complete messa
 - a list: a `Fault` with the members `offset`, `number`, `text` and `file` is appended to the list for each fault.
 
 A `DumpWarning` also reports files without messages, messages whose tables are missing, columns for which there are no items
-or no values, and subsets without levels. This module needs NumPy, and `frame` needs pandas. The library is the file libbufr.so.0 next to this module, or in the directory `lib` of the installation
-or clone. To use another file, set the environment variable BUFR_LIBRARY to its path. If there is no library, importing this
-module raises `ImportError`.
+or no values, and subsets without levels.
+
+This module needs NumPy, and `frame` needs pandas. The library is the file libbufr.so.0 next to this module, or in the
+directory `lib` of the installation or clone. To use another file, set the environment variable BUFR_LIBRARY to its path. If
+there is no library, importing this module raises `ImportError`.
 """
 from __future__ import annotations
 
@@ -346,8 +348,9 @@ def rows(
 
     A column is a descriptor such as `"012101"`, or `"012101:2"` for the second such item in the subset. `header` can contain
     the header keys of a dump, such as `"year"`; `"file"`, `"offset"`, `"length"` and `"time"` of the message; and
-    `"message"` and `"subset"`, the numbers of the accepted message in the source and of the subset, from 1. A number is an `int` if its scale allows no decimal places, and otherwise
-    the nearest `float`. A value is `None` if it is missing, or if the subset has no such item.
+    `"message"` and `"subset"`, which count the accepted messages of the source and the subsets of a message from 1. A number
+    is an `int` if its scale allows no decimal places, and otherwise the nearest `float`. A value is `None` if it is missing,
+    or if the subset has no such item.
 
         >>> next(bufr.rows("synop.bufr", ["001015", "012101"], ["year", "subset"]))
         (2023, 1, 'SODANKYLA', 259.35)
