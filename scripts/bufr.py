@@ -507,7 +507,7 @@ def messages(
 
     Its columns are `file`, `offset`, `length`, the header keys of a dump, `subsets`, `fault` and `time`. `fault` is 0 if the
     message is accepted, and otherwise the number of its fault. `time` is the time of the message. If the header cannot be
-    read, `edition` and all other header fields are 0, which is no edition, and `time` is NaT.
+    read, all header fields are 0, including `edition`, and `time` is NaT.
 
         >>> bufr.messages("synop.bufr")[["offset", "length", "centre", "subsets", "fault"]].tolist()
         [(0, 595, 78, 3, 0)]
