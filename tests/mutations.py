@@ -541,6 +541,7 @@ MUTATIONS = [
     ("scripts/bufr_text.py", "offset: Optional[int] = field(default=None, compare=False)", "offset: Optional[int] = None", "tests/python_module.py"),
     ("scripts/bufr_text.py", "item.name is None and item.unit is None", "item.name is None", "tests/python_module.py"),
     ("scripts/bufr_text.py", '{kind}: {first}" if count == 1 else', '{kind}: {first}" if False else', "tests/python_module.py"),
+    ("scripts/bufr_text.py", "    except OSError:\n        return name, {}", "    except ImportError:\n        return name, {}", "tests/python_module.py"),
     ("scripts/bufr_text.py", "elif at not in self.with_value:", "elif False:", "tests/python_module.py"),
     ("scripts/bufr_text.py", "[0 if self.has_rows else self.kept :]", "", "tests/python_module.py"),
     ("scripts/bufr_text.py", "        if not has_levels:\n", "        if False:\n", "tests/python_module.py"),

@@ -392,6 +392,9 @@ class Tables(unittest.TestCase):
                 os.environ["BUFR_TABLES"] = place
                 with self.assertRaisesRegex(ValueError, "found 'AIR TEMPERATURE'$"):
                     bufr_text.rows([], ["AIR TEMPERATURE"])
+            with unittest.mock.patch("os.listdir", side_effect=PermissionError):
+                with self.assertRaisesRegex(ValueError, "found 'AIR TEMPERATURE'$"):
+                    bufr_text.rows([], ["AIR TEMPERATURE"])
             # Rows that are too short count as none, and so does a table with another header.
             table = pathlib.Path(without_tables, "wmo-39/B.csv")
             pathlib.Path(without_tables, "wmo-39/D.csv").touch()
