@@ -9,12 +9,12 @@ usage() {
 usage: $0 [--archive FILE] FOLDER
 
 Builds libbufr.so, libbufr.a and bufr.pc in FOLDER from the proved crate bufr_c, and copies bufr.h to FOLDER. Run rt ci
-first: the crates that bufr_c depends on must already be proved in this clone. This script then proves bufr_c once more,
+first: the crates that bufr_c depends on must already be proved in this clone. This script then proves bufr_c again,
 which takes a few minutes. It needs the toolchain, a C compiler (\$CC; default: cc) and the programs ar, ld and objcopy from
 GNU binutils.
 
 options:
-  --archive FILE  use this libbufr_c.a, and prove nothing
+  --archive FILE  use this libbufr_c.a instead of proving bufr_c
 END
 }
 

@@ -1,9 +1,9 @@
-"""The code of bufr-auto: finds the messages in a stream, or the documents in a dump, and chooses a table set for each.
+"""Implements bufr-auto: finds the messages in a stream, or the documents in a dump, and chooses a table set for each one.
 
     status = bufr_auto.dump(["a.bufr", None], output=pipe)  # None is standard input
 
-This module finds the messages itself, so that it does not have to wait for a listing. It runs `bufr` once for each table
-set that a part of the stream needs. The output for each part is written, in order, before the next read that may block.
+This module finds the messages itself, instead of waiting for a listing. It runs `bufr` once for each table set that a part
+of the stream needs. The output for each part is written, in order, before the next read that may block.
 """
 from __future__ import annotations
 
@@ -119,7 +119,7 @@ class Finder:
     def find(self) -> Optional[Tuple[int, int, bytes]]:
         """Returns where the next message or stray begins and ends, and its fault. Returns None if more bytes are needed.
 
-        A stray is the bytes `BUFR` where no complete message begins. The fault of a complete message is empty.
+        A stray is an occurrence of `BUFR` that is not the start of a complete message. Complete messages have an empty fault.
         """
         at = self.held.find(b"BUFR", self.at, self.end)
         if at < 0:
@@ -143,7 +143,7 @@ class Finder:
 
 
 def is_stray(fault: bytes) -> bool:
-    """Returns whether the text `fault` is the fault of a stray, not the report of a skipped message."""
+    """Returns whether `fault` describes a stray instead of a skipped message."""
     return fault[:1].isdigit()
 
 
@@ -181,9 +181,9 @@ class Masker:
 class Source:
     """The pieces of a file, in order. Each piece is valid until the next one is requested.
 
-    The iterator yields None before a read that may block. If `is_long` is true, the piece that it yielded last is only the
-    beginning of a long piece. In that case, `rest` yields the whole piece, block by block, and sets `lines` to the number
-    of lines in the piece.
+    The iterator yields None before a read that may block. If `is_long` is true, the piece that was just yielded is only
+    the beginning of a long piece. In that case, `rest` yields the whole piece, block by block, and sets `lines` to the
+    number of lines in the piece.
     """
 
     is_long = False
@@ -222,7 +222,7 @@ class Messages(Source):
 class Documents(Source):
     """The documents in a dump, with their line numbers.
 
-    Each piece includes the lines before its document. Any lines after the last document form a piece of their own.
+    Each piece includes the lines before its document. Any lines after the last document form a separate piece.
     """
 
     def __init__(self, feed: Feed, _longest: Optional[int]) -> None:
@@ -282,7 +282,7 @@ class Documents(Source):
 
 
 def begin_of(text: bytearray) -> int:
-    """Returns the index of the first line that is neither empty nor a comment. The text must begin with a line feed."""
+    """Returns the index of the first line that is neither empty nor a comment. `text` must begin with a line feed."""
     at, end = 1, text.find(b"\n", 1)
     while end == at or (at < end <= at + LINE and text.startswith(b"#", at)):
         at, end = end + 1, text.find(b"\n", end + 1)
@@ -290,7 +290,7 @@ def begin_of(text: bytearray) -> int:
 
 
 def may_begin(text: bytearray) -> bool:
-    """Returns whether a text can be the beginning of a dump. BUFR data, for example, cannot."""
+    """Returns whether `text` can be the beginning of a dump. BUFR data, for example, cannot."""
     at = begin_of(text)
     end = text.find(b"\n", at)
     return len(text) - at <= LINE if end < 0 else text[at:end] == b"message"
@@ -323,7 +323,7 @@ class Store:
 
 
 class Reason:
-    """Why a table set may not match a message exactly, which descriptors are affected, and how to get the right set."""
+    """The reason why a table set may not match a message exactly, the affected descriptors, and how to get the right set."""
 
     def __init__(self, text: str, concerns: Callable[[str], bool], advice: Callable[[], str] = str) -> None:
         self.text, self.concerns, self.advice = text, concerns, advice
@@ -401,7 +401,7 @@ class Run:
         self.place = bufr_guard.NOWHERE
 
     def fault(self, place: int, size: int) -> bytes:
-        """Returns the fault line for the next piece, which is empty if the piece has no fault."""
+        """Returns the fault line for the next piece. The line is empty if the piece has no fault."""
         begin, self.passed = self.passed, self.passed + size
         if self.place >= self.passed:
             return b""
@@ -505,9 +505,10 @@ class Encode(Run):
 
 
 class Part:
-    """Consecutive pieces, and a run for each table set. A piece has a place, a size, a run or a fault, and reasons for notes.
+    """A series of pieces, with a run for each table set.
 
-    If there are conditions, pieces are first added to `candidates`, without a run.
+    Each piece has a place, a size, either a run or a fault, and the reasons for any notes. If there are conditions, the
+    pieces are first added to `candidates`, without a run.
     """
 
     def __init__(self) -> None:
@@ -526,7 +527,7 @@ class Part:
 
 
 class Notes:
-    """The reasons why no table set matches exactly, each with the number of affected pieces and the place of the first."""
+    """The reasons why no table set matches exactly. Each has the number of affected pieces and the place of the first one."""
 
     def __init__(self) -> None:
         self.reasons: Dict[str, Reason] = {}
@@ -638,7 +639,7 @@ class Work:
         bufr_guard.say(b"".join(self.last))
 
     def report(self) -> None:
-        """Prints the notes on the messages of a feed that have arrived so far."""
+        """Prints the notes on the messages that have arrived from a feed so far."""
         self.say_notes(" so far")
         bufr_guard.say(self.more_notes())
         bufr_guard.output(2).flush()
@@ -772,7 +773,7 @@ class Work:
         return chosen
 
     def refused(self, candidates: int) -> FrozenSet[int]:
-        """Returns the offsets, in the file of candidates, of the messages that do not meet the conditions."""
+        """Returns the offsets (in the file of candidates) of the messages that do not meet the conditions."""
         assert self.conditions
         (listing, target), nothing = os.pipe(), os.open(os.devnull, os.O_WRONLY)
         process = bufr_guard.start([bufr_guard.program(), "ls"], candidates, target, nothing)

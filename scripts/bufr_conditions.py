@@ -23,7 +23,7 @@ TIME = re.compile(r"\d{4,}(-\d{2,}(-\d{2,}(T\d{2,}(:\d{2,}(:\d{2,})?)?)?)?)?").f
 
 
 class Conditions:
-    """Conditions on a line. `patterns` has a pair for each condition: whether it is negated, and the pattern to search for.
+    """Conditions that a line must meet. `patterns` has a pair for each: whether it is negated, and the pattern to search for.
 
     The patterns work both with grep -E and with `re`. Edition 3 messages contain only a two-digit year: `bufr ls`
     prints 2024 as 0024, so time=2024 does not match. `left_out` counts the messages that are left out for this reason.
@@ -51,7 +51,7 @@ class Conditions:
             raise ValueError(f"the value in '{word}' can never match; use only digits, T, colons, slashes and hyphens")
         values = text.split(",")
         if key == "time" and not all(map(TIME, values)):
-            raise ValueError(f"the value in '{word}' can never match; write times as in time=2023-03-14T18")
+            raise ValueError(f"the value in '{word}' can never match; write the time as in time=2023-03-14T18")
         pattern = f"(^| ){key}=({'|'.join(values)})([ T:/-]|$)"
         if key == "time" and not negated:
             of_century = [f"00{year[2:]}" for year in values if f"00{year[2:4]}" not in {value[:4] for value in values}]

@@ -96,7 +96,7 @@ def run(work: Callable[[List[str]], int], text: Optional[str], ends_by_pipe: boo
 
 
 def take_descriptors() -> None:
-    """Opens any of the descriptors 0 to 2 that are closed, so that no other file gets their numbers.
+    """Opens any of the descriptors 0 to 2 that are closed. Otherwise, another file could get one of these numbers.
 
     Reading from descriptor 0, or writing to 1 or 2, still fails.
     """
@@ -196,7 +196,7 @@ def reason(error: BaseException) -> str:
     if isinstance(error, Failed):
         return str(error)
     if isinstance(error, ModuleNotFoundError):
-        debian = f"on Debian: apt-get install python3-{error.name}, then run /usr/bin/python3 {sys.argv[0]} .."
+        debian = f"on Debian: apt-get install python3-{error.name}, then run /usr/bin/python3 {sys.argv[0]} ..."
         return f"the Python package {error.name} is not installed for {sys.executable} ({debian})"
     if isinstance(error, OSError) and error.strerror:
         is_named = isinstance(error.filename, (str, bytes))
@@ -219,7 +219,7 @@ def name() -> str:
 
 
 def shown(text: str) -> str:
-    r"""Returns a string in which each unprintable byte is replaced with \xHH."""
+    r"""Returns `text` with each unprintable byte replaced with \xHH."""
     if text.isprintable():
         return text
     hidden = (sign if sign.isprintable() else "".join(f"\\x{octet:02X}" for octet in os.fsencode(sign)) for sign in text)
@@ -250,14 +250,14 @@ OUTPUTS: Dict[int, Output] = {}
 
 
 def output(descriptor: int = 1) -> Output:
-    """Returns the `Output` that buffers writes to a descriptor, by default standard output. `run` flushes it at the end."""
+    """Returns the `Output` for a descriptor (by default, standard output). `run` flushes it at the end."""
     if descriptor not in OUTPUTS:
         OUTPUTS[descriptor] = Output(descriptor)
     return OUTPUTS[descriptor]
 
 
 def written() -> List[Any]:
-    """Returns the files that may contain buffered output, standard error last."""
+    """Returns the files that may contain buffered output, with standard error last."""
     ours = [file for descriptor, file in OUTPUTS.items() if descriptor != 2]
     return [*ours, *filter(None, (sys.stdout, output(2), sys.stderr))]
 
@@ -284,7 +284,7 @@ def say(lines: bytes) -> None:
 
 
 def bare(file: Optional[str], begin: bytes, piece: str = "message") -> bytes:
-    """Returns a note saying that a file contains no message or document (`piece`), and what it looks like instead."""
+    """Returns a note that a file contains no messages or documents (`piece`), with a guess at the type of file."""
     head = begin.lstrip()
     if head[:1] == b"<":
         head = head.lower()
@@ -296,10 +296,10 @@ def bare(file: Optional[str], begin: bytes, piece: str = "message") -> bytes:
 
 
 class Progress:
-    """A progress line on standard error, if that is a terminal. It is updated at most once a second.
+    """Displays a progress line if standard error is a terminal, and updates the line at most once a second.
 
-    The next output replaces the line. If the script writes text to standard output (`has_texts`), and that is also a
-    terminal, there is no progress line, because the text already shows the progress.
+    The next output replaces the line. The line is not displayed if the script writes text to standard output (`has_texts`)
+    and standard output is also a terminal, because the text already shows the progress.
     """
 
     is_shown: bool = False
@@ -381,7 +381,8 @@ def lines_from(
 ) -> Iterator[bytes]:
     """Yields blocks of whole lines from a pipe and, at the end, the incomplete last line, if any.
 
-    While waiting, displays the progress, `place()`. Calls `report()` after each second without a block, and once a minute.
+    While waiting, displays the progress, `place()`. Calls `report()` if no block arrives for a second, and otherwise once a
+    minute.
     """
     rest, block, due = b"", b" ", time.monotonic() + INTERVAL
     while block:
@@ -433,16 +434,16 @@ def leave(number: int, _frame: Optional[FrameType]) -> None:
 
 
 def opened(file: Optional[str]) -> int:
-    """Returns a descriptor that can be read at any offset: that of a regular file, or that of a copy of any other file.
+    """Opens a file for reading at any offset, and returns its descriptor. None stands for standard input.
 
-    If `file` is None, reads standard input.
+    If the file is not a regular file, returns the descriptor of a temporary copy instead.
     """
     descriptor = to_read(file)
     return descriptor if is_regular(descriptor) else copied(descriptor, named(file))
 
 
 def to_read(file: Optional[str]) -> int:
-    """Opens a file for reading, and returns its descriptor. If `file` is None, returns that of standard input."""
+    """Opens a file for reading, and returns its descriptor. None stands for standard input."""
     try:
         return 0 if file is None else os.open(file, os.O_RDONLY)
     except OSError as error:
@@ -492,7 +493,7 @@ def no_room() -> Failed:
 
 
 def copied(source: int, name: str) -> int:
-    """Copies the data from a descriptor to a temporary file. Returns the file's descriptor, positioned at its start."""
+    """Copies the data from a descriptor to a temporary file. Returns the descriptor of that file, positioned at the start."""
     descriptor, octets, progress, size = temporary(), b" ", Progress(has_texts=False), 0
     while octets:
         try:
@@ -508,7 +509,7 @@ def copied(source: int, name: str) -> int:
 
 
 def read_at(descriptor: int, offset: int, length: int) -> bytes:
-    """Returns bytes of a message that was found in a file. Raises `Failed` if the file has since been truncated."""
+    """Reads bytes of a message that was found earlier. Raises `Failed` if the file has since been truncated."""
     pieces, end = [], offset + length
     while offset < end:
         try:
@@ -546,7 +547,7 @@ class Faults:
         self.next = next(self.lines, (NOWHERE, b""))
 
     def tell_before(self, offset: float) -> None:
-        """Prints the remaining fault lines that report offsets less than `offset`."""
+        """Prints the remaining fault lines for offsets below `offset`."""
         while self.next[0] < offset:
             say(self.next[1])
             self.next = next(self.lines, (NOWHERE, b""))

@@ -58,7 +58,7 @@ class Asked:
             else:
                 name, value = parts(word)
                 if name in flags:
-                    raise misused(f"{name} takes no value")
+                    raise misused(f"{name} does not take a value")
                 if name not in values:
                     raise misused(f"unknown option {name if word.startswith('--') else word}")
                 value = next(rest, None) if value is None else value
@@ -87,7 +87,7 @@ class Asked:
     def files(self, skipped: int = 0) -> list[Optional[str]]:
         """Returns the operands after the first `skipped` ones as file names.
 
-        None stands for standard input, which is given as `-` or by leaving out these operands.
+        None stands for standard input, which is read if the operand is `-` or if there are no file names.
         """
         return [None if file == "-" else file for file in self.operands[skipped:]] or [None]
 
@@ -111,7 +111,7 @@ def is_condition(word: str) -> bool:
 
 
 def parts(word: str) -> tuple[str, Optional[str]]:
-    """Splits `--name=VALUE` or `-cVALUE` into the option and its value, or None if the word contains no value."""
+    """Splits `--name=VALUE` or `-cVALUE` into the option and its value. The value is None if the word does not contain one."""
     if word.startswith("--"):
         name, equals, value = word.partition("=")
         return name, value if equals else None

@@ -70,8 +70,8 @@ class TableSet:
     def used(self, descriptors: Tuple[str, ...]) -> Iterator[str]:
         """Yields the elements and sequences that a descriptor list uses, directly or through sequences.
 
-        An element after 2 06 Y is left out, because it needs no row. The tables are read only if the list contains a
-        sequence, and only after the list's own descriptors have been yielded.
+        An element after 2 06 Y is left out, because it does not need a row in Table B. The tables are read only if the list
+        contains a sequence, and only after the descriptors in the list itself have been yielded.
         """
         found = set()
         sequences = [""]
@@ -122,11 +122,11 @@ class TableSets:
                 missing = next((table for table in ("B.csv", "D.csv") if not os.path.exists(tables.file(table))), "")
                 if missing:
                     advice = "add this file, or remove the directory"
-                    self.notes.append(f"ignored {tables.folder}, which has no {missing}; {advice}")
+                    self.notes.append(f"ignored {tables.folder}, because it does not contain {missing}; {advice}")
                 else:
                     self.sets.setdefault(key, {})[tables.version] = tables
         if None not in self.sets:
-            raise bufr_guard.Failed("; ".join([f"{self.folder} contains no table sets, such as wmo-39", *self.notes]))
+            raise bufr_guard.Failed("; ".join([f"{self.folder} does not contain a table set such as wmo-39", *self.notes]))
 
     def latest(self) -> TableSet:
         """Returns the latest set without local rows."""
@@ -136,7 +136,7 @@ class TableSets:
         """Returns the set for a centre, a version and a local version.
 
         This is WMO's set for the version; if there is none, it is the set for the next later version, or else the latest.
-        A set with the centre's local rows takes precedence if its version lies between `version` and that of WMO's set.
+        A set with the centre's local rows takes precedence if its version is between `version` and the version of WMO's set.
         """
         of_wmo = self.sets[None]
         nearest = min((number for number in of_wmo if number >= version), default=max(of_wmo))
@@ -166,7 +166,7 @@ def folder_of_sets() -> str:
 
 
 def words_of(message: Bytes) -> bytes:
-    """Returns the descriptors in section 3 of a message (two bytes each), but no more than a template can have."""
+    """Returns the descriptors in section 3 of a message (two bytes each), up to the maximum number in a template."""
     begin = message(0, 26)
     at, flags = 8, begin[17 if begin[7:8] == b"\4" else 15 :][:1]
     for _ in range(2 if flags >= b"\x80" else 1):
@@ -193,7 +193,7 @@ NEWER = "get newer tables from WMO (wmo-im/BUFR4 on GitHub), and convert them wi
 
 
 def is_local(fxy: str) -> bool:
-    """Returns whether a descriptor is local, that is, whether each centre defines it for itself."""
+    """Returns whether a descriptor is local, which means that each centre can define it differently."""
     return int(fxy[1:3]) >= 48 or int(fxy[3:]) >= 192
 
 
@@ -220,7 +220,7 @@ def advice(tables: TableSet, centre: int, version: int, local: int) -> str:
 
 
 def lookup(centre: int) -> str:
-    """Returns a remark, in parentheses, on how to find the name of the centre with this number."""
+    """Returns a hint, in parentheses, on how to look up the name of the centre with this number."""
     return f"(to find the centre's name, look up {centre} in WMO's Common Code Table C-11)"
 
 

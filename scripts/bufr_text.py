@@ -85,18 +85,18 @@ _CAUSES = [
         (rb"[^\"#]*\t.*", "a tab instead of a space"),
         (rb" .*", "a space at the beginning"),
         (rb"message", "'message'; the previous document has no 'end' line"),
-        (rb"(?:R )?\d{1,5} .*", "a descriptor of fewer than six digits"),
+        (rb"(?:R )?\d{1,5} .*", "a descriptor with fewer than six digits"),
         (rb"[^\"#]*\S  +[^ #].*", "two spaces instead of one"),
         (rb"[^\"#]*[^\"# ]#.*|[^\"]*\".*\"#.*", "no space before #"),
         (rb"[^\"#]* \+.*", "a plus sign before a number"),
         (rb"[^\"#]* -?[\d.]+[Ee].*", "an exponent in a number"),
         (rb"[^\"#]* -?\d*,.*", "a decimal comma"),
         (rb"[^\"#]* -?(?:[Nn][Aa][Nn]|[Ii]nf)\b.*", "a value that is not a number; write MISSING for a missing value"),
-        (rb"[^\"#]* (?!MISSING)(?i:missing)\b.*", "MISSING that is not in capitals"),
+        (rb"[^\"#]* (?!MISSING)(?i:missing)\b.*", "the word MISSING, but not in capitals"),
         (rb"[^\"#]* -?(?:\d+\.|\.\d+)(?: .*)?", "a decimal point without a digit on each side"),
         (rb"\d{6} ?", "no value; write MISSING for a missing value"),
         (rb".* ", "a space at the end"),
-        (rb"[a-z][^#]*#.*", "a comment; only items may have one"),
+        (rb"[a-z][^#]*#.*", "a comment, which is allowed only after an item"),
         (rb"\d{6} \"[^\"]*\\x(?![0-9A-F]{2}).*", "\\x without two upper-case hexadecimal digits"),
         (rb"\d{6} \"[^\"]*[^ -~].*", "a byte in a string that must be escaped as \\xHH"),
         (rb"\d{6} \".*", "an unescaped \" or \\ in a string, or no closing \""),
@@ -273,7 +273,7 @@ class Message:
 
 
 class _Lines:
-    """The lines of a dump, without empty lines and comments. `number` is the number of the current line, `line`."""
+    """The lines of a dump, without empty lines and comments. `line` is the current line, and `number` is its number."""
 
     def __init__(self, stream: Iterable[bytes]) -> None:
         self.rest = iter(stream)
@@ -300,7 +300,7 @@ class _Lines:
         return line
 
     def refused(self, expected: str) -> TextError:
-        """Returns the error for the current line, which names what was expected and, if known, the likely cause."""
+        """Returns the error for the current line. It states what was expected and, if known, the likely cause."""
         if self.line is None:
             return TextError(self.number, expected, "the end of the input")
         cause = next((cause for pattern, cause in _CAUSES if pattern.fullmatch(self.line)), "")
@@ -349,7 +349,7 @@ def _read_message(lines: _Lines) -> Message:
     message = Message(header, [], [], bytes(local_use[b"local1"]), section2)
     while line.startswith(b"descriptors "):
         if not _DESCRIPTORS.fullmatch(line):
-            raise lines.refused("one to eight descriptors of six digits")
+            raise lines.refused("one to eight six-digit descriptors")
         message.descriptors += line.decode().split()[1:]
         line = lines.inside("'subset' or 'end'")
     while len(message.subsets) < subsets:
@@ -385,8 +385,8 @@ def _read_item(lines: _Lines, line: bytes) -> Item:
 def write(messages: Iterable[Message], stream: IO[bytes]) -> None:
     """Writes messages as a dump. `read` followed by `write` reproduces the output of `bufr dump` exactly.
 
-    `write` numbers the subsets itself, so you can add or remove some. Raises `TypeError` for a value that is not a `Decimal`,
-    bytes or `None` (a `float` is not an exact decimal), and `ValueError` for a `Decimal` that is not a number.
+    `write` numbers the subsets itself, so you can add or remove subsets. Raises `TypeError` for a value that is not a
+    `Decimal`, bytes or `None` (a `float` is not an exact decimal), and `ValueError` for a `Decimal` that is not a number.
     """
     for message in messages:
         stream.write(b"".join(line + b"\n" for line in _lines_of(message)))
@@ -461,7 +461,7 @@ def rows(
     descriptor in the subset. `header` can contain keys from `HEADER`, `"optional"`, `"subsets"`, `"offset"`, `"length"`,
     and `"message"` and `"subset"` for the numbers of the message and the subset (counted from 1).
 
-    A number is an `int` if its scale allows no decimal places, and otherwise the nearest `float`. A string contains the
+    A number is an `int` if its scale does not allow decimal places, and otherwise the nearest `float`. A string contains the
     same escapes as in a dump, but no trailing spaces. A value is `None` if it is missing or if the subset does not contain
     the item. Raises `ValueError` for a word that is not a column. If the word occurs in the names of elements in Table B,
     the error lists their descriptors. A `DumpWarning` at the end names each column that has no items or no values.
@@ -481,7 +481,7 @@ def levels(
 ) -> Iterator[Tuple[Cell, ...]]:
     """Yields a tuple for each level of a sounding: header values, then the values for `keep`, then column values.
 
-    A level is one repetition (pass) of a delayed replication. It has a tuple only if it contains the descriptor of the
+    A level is one repetition (pass) of a delayed replication. It yields a tuple only if it contains the descriptor of the
     first column and, if there are other columns, at least one of their descriptors. Each column selects the first item
     with that descriptor in the level, and each descriptor in `keep` selects the first one in the whole subset. In all
     other respects, `levels` works like `rows`.
@@ -638,7 +638,7 @@ def _cell(item: Optional[Item]) -> Cell:
 
 
 def text_cell(octets: bytes) -> str:
-    """Returns the cell for a string: with the escapes of a dump, and without trailing spaces."""
+    """Returns the cell for a string, with the same escapes as in a dump and without trailing spaces."""
     return _UNPRINTED.sub(_escaped, octets.rstrip(b" ")).decode()
 
 
@@ -748,7 +748,7 @@ def passes(words: Sequence[_Word], counts: Sequence[int], factors: Container[_Wo
     `words` contains the descriptor of each item, without new reference values. `counts` contains the value of each factor,
     at the index of the factor. Raises `Ambiguous` if the passes are ambiguous.
 
-    `left` passes of the replication have not begun. Each pass begins with the descriptor `opener`. The current pass begins
+    `left` passes of the replication have yet to begin. Each pass begins with the descriptor `opener`. The current pass begins
     at `begin`, which is -1 outside a pass, and has `inner` factors so far. The previous one had `pass_items` items and
     `pass_inner` factors.
     """
@@ -812,7 +812,7 @@ def dump(
     places: Optional[Iterable[Listed]] = None,
     where: Sequence[str] = (),
 ) -> Iterator[Message]:
-    """Yields the messages in a file. Runs `bufr dump` with these two tables, or `bufr-auto` if you pass no tables.
+    """Yields the messages in a file. Runs `bufr dump` with these two tables, or `bufr-auto` if you do not pass tables.
 
     `where` is a list of conditions `KEY=VALUE` or `KEY!=VALUE`, as for bufr-extract: `["category=0", "centre!=98"]`. Only
     messages that meet every condition are dumped. Instead of `where`, you can pass results of `listing` as `places`.
@@ -854,7 +854,7 @@ def _dumped(words: List[str], told: _Told, places: Optional[Iterable[Listed]]) -
                         continue
                     message = next(messages, None)
                     if message is None:
-                        raise RunError(2, f"{words[0]} wrote nothing for the message at offset {place.offset}")
+                        raise RunError(2, f"{words[0]} did not dump the message at offset {place.offset}")
                     message.offset, message.length = place.offset, place.length
                     yield message
         told.end(stream)
@@ -939,7 +939,7 @@ def _octets(stream: IO[bytes], place: Listed) -> bytes:
 
 
 def looks(begin: bytes) -> str:
-    """Returns what a file without messages looks like, such as `: it is empty`, or an empty string if this is unknown."""
+    """Returns a guess at what a file without messages contains, such as `: it is empty`, or an empty string."""
     import bufr_guard
 
     return bufr_guard.bare(None, begin[:256]).decode(errors="replace").rstrip().partition("contains no message")[2]
@@ -973,7 +973,7 @@ def encode(
     table_d: Optional[_Path] = None,
     form: Optional[str] = None,
 ) -> bytes:
-    """Encodes messages in BUFR. Runs `bufr encode` with these two tables, or `bufr-auto --encode` if you pass no tables.
+    """Encodes messages in BUFR. Runs `bufr encode` with these two tables, or `bufr-auto --encode` if you do not pass tables.
 
     `form` is "plain" or "compressed". Without `form`, each message is encoded in the form that its header specifies.
     Raises `RunError` with the fault line if a message is refused.
@@ -1012,7 +1012,10 @@ def _run(words: List[str], source: IO[bytes], target: IO[bytes]) -> subprocess.C
 
 
 def _failure(status: int, words: List[str], errors: Iterable[bytes]) -> RunError:
-    """Returns the error for a failed program: what it printed, or else its status, with a remark if the disk is full."""
+    """Returns the error for a failed program. It contains what the program printed, or else its exit status.
+
+    If the disk is full, the error says so.
+    """
     told = b"".join(line for line in errors if not _FAULT.match(line)).decode(errors="replace").strip()
     told = told or f"{words[0]} " + (f"was killed (signal {-status})" if status < 0 else f"exited with status {status}")
     folder = tempfile.gettempdir()  # all output is in temporary files

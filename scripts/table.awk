@@ -36,7 +36,7 @@
 # Notes on standard error name the columns for which there are no items, and give the number of skipped subsets. The exit
 # status is 1 if a subset was skipped because its levels were ambiguous. It is 2 if a column is neither a descriptor nor a
 # header key, if the dump ends inside a message, or if the listing and the fault lines do not match the dump. The script
-# runs in any awk.
+# works with any awk.
 #
 # bufr-csv sets three more variables. Each note begins with `name`. With placed=1, a comment before each message gives the
 # message's offset, length and file, which can then be used as columns. With feed=0, rows are not flushed after each
@@ -286,9 +286,9 @@ BEGIN {
         name = "table.awk"
     by_item = columns == ""
     if (levels && by_item)
-        fail("levels=1 needs columns=, for example columns=007004,012101")
+        fail("levels=1 requires columns=, for example columns=007004,012101")
     if (keep != "" && !levels && !by_item)
-        fail("keep= can be used only if levels=1 is set or columns= is not")
+        fail("keep= can be used only with levels=1 or without columns=")
     keys = " offset length edition master centre subcentre update category subcategory localsubcategory masterversion" \
         " localversion year month day hour minute second observed compressed optional subsets "
     if (placed)
@@ -299,7 +299,7 @@ BEGIN {
         level_count = split_columns(columns, level, "")
     is_joined = !placed && ("offset" in is_key || "length" in is_key)
     if (is_joined && (listing == "" || faults == ""))
-        fail("the columns 'offset' and 'length' need listing=FILE (output of bufr ls) and faults=FILE (standard error of bufr dump)")
+        fail("the columns 'offset' and 'length' require listing=FILE (output of bufr ls) and faults=FILE (standard error of bufr dump)")
     fault = -1
     for (column = 1; column <= kept_count; column++) {
         word = kept[column]

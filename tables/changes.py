@@ -4,8 +4,8 @@
     tables/changes.py OLD NEW
 
 OLD and NEW are directories that contain B.csv and D.csv. An element counts as changed only if the change affects how data
-are read: if its scale, reference or width differs, or if its unit makes it a different kind of value (number, code or
-string). Changed names are not listed, because they affect only the comments in a dump.
+are read: if its scale, reference or width differs, or if its new unit makes it a different kind of value (number, code
+or string). Changed names are not listed, because they affect only the comments in a dump.
 """
 import os
 import sys

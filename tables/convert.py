@@ -1,7 +1,7 @@
 #!/usr/bin/env python3
 """Makes a table set for `bufr` from published tables.
 
-    tables/convert.py OUT SOURCE..
+    tables/convert.py OUT SOURCE...
 
 Each SOURCE is a directory. convert.py recognizes the format by the files that the directory contains:
 
@@ -21,8 +21,8 @@ convert.py leaves out elements and sequences that `bufr` would refuse, and print
 one member of a sequence is invalid, the whole sequence is left out. If an earlier SOURCE also defines a descriptor that was
 left out, the rows from that SOURCE are used instead.
 
-The exit status is 0 if no row was left out, and 1 if any was. It is 2 if convert.py wrote nothing, for example because a
-SOURCE contained no tables, a file had an unknown layout, or the output could not be written.
+The exit status is 0 if no rows were left out, and 1 if any were. It is 2 if convert.py did not write the new tables, for
+example because a SOURCE contained no tables, a file had an unknown layout, or the output could not be written.
 """
 import os
 import sys
@@ -77,7 +77,7 @@ def of_csv(folder: pathlib.Path, pattern: str, columns: list):
             try:
                 for row in filter(None, rows):
                     if len(row) != len(header):
-                        raise Failed(f"{path}, line {rows.line_num}: {len(row)} fields, but the header has {len(header)}")
+                        raise Failed(f"{path}, line {rows.line_num}: found {len(row)} fields, but the header has {len(header)}")
                     yield [one_line(row[place]) for place in places]
             except csv.Error as error:
                 raise Failed(f"{path}, line {rows.line_num}: {error}") from None
@@ -100,7 +100,7 @@ def lines_of(path: pathlib.Path):
 
 
 def of_element_table(path: pathlib.Path):
-    """Yields the rows of ecCodes' element.table. Its lines are code|abbreviation|type|name|unit|scale|reference|width|.."""
+    """Yields the rows of ecCodes' element.table. Its lines are code|abbreviation|type|name|unit|scale|reference|width|..."""
     for number, line in lines_of(path):
         if not line.startswith("#"):
             fields = [one_line(field) for field in line.split("|")]
@@ -110,12 +110,12 @@ def of_element_table(path: pathlib.Path):
 
 
 def of_sequence_def(path: pathlib.Path):
-    """Yields the sequences in ecCodes' sequence.def, where each has the form "fxy" = [ member, .. ]"""
+    """Yields the sequences in ecCodes' sequence.def, where each has the form "fxy" = [ member, ... ]"""
     text = re.sub("#.*", "", path.read_text(**AS_IT_IS))
     one = r'"([^"]*)"\s*=\s*\[([^\]]*)\]'
     rest = re.sub(one, "", text).split()
     if rest:
-        raise Failed(f"{path}: expected \"FXY\" = [ MEMBER, .. ], found {shown(rest)}")
+        raise Failed(f"{path}: expected \"FXY\" = [ MEMBER, ... ], found {shown(rest)}")
     for fxy, members in re.findall(one, text):
         yield [one_line(fxy), *(one_line(member) for member in members.split(",") if member.strip())]
 
@@ -210,7 +210,7 @@ def no_text(what: str, text: str) -> str:
 
 
 def no_numbers(is_text: bool, scale: str, reference: str, width: str) -> str:
-    """Returns why `bufr` refuses these numbers of an element, or an empty string if `bufr` accepts them."""
+    """Returns why `bufr` refuses the numbers in a row of Table B, or an empty string if `bufr` accepts them."""
     if not width:
         return "no width"
     if not is_whole(scale, -127, 127):
@@ -254,7 +254,7 @@ def taken(folder: pathlib.Path, entries, refused) -> tuple:
         found.setdefault(entry[0], []).append(entry)
     for fxy, alike in list(found.items()):
         for entry in alike:
-            differs = "the source has different rows for this descriptor" if alike.count(entry) < len(alike) else ""
+            differs = "the source contains conflicting rows for this descriptor" if alike.count(entry) < len(alike) else ""
             reason = refused(entry) or differs
             if reason:
                 told = f"{bufr_guard.shown(str(folder))}: left out {shown(entry)}: {reason}\n"

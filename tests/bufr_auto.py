@@ -159,7 +159,7 @@ class Trial:
         (tables / "wmo-17/D.csv").unlink()
         done = self.auto(stream=stream, BUFR_TABLES=str(tables))
         notes = b"".join(
-            b"bufr-auto: ignored %s/%s, which has no %s.csv; add this file, or remove the directory\n" % (shown.encode(), *missing)
+            b"bufr-auto: ignored %s/%s, because it does not contain %s.csv; add this file, or remove the directory\n" % (shown.encode(), *missing)
             for missing in ((b"wmo-17", b"D"), (b"wmo-21", b"B"), (b"wmo-25", b"B"), (b"wmo-36", b"B"), (b"wmo-40", b"B"))
         )
         whole = (done.stdout.count(b"message\n"), done.stderr == faults + notes, done.returncode)
@@ -171,7 +171,7 @@ class Trial:
         self.holds("a set of version 6", b"012073" in done.stdout and b"version 6" not in done.stderr, done)
         (self.place / "none/wmo-40").mkdir(parents=True)
         done = self.auto(stream=stream, BUFR_TABLES=str(self.place / "none"))
-        self.holds("no complete set", done.returncode == 2 and b"wmo-40, which has no B.csv" in done.stderr, done)
+        self.holds("no complete set", done.returncode == 2 and b"wmo-40, because it does not contain B.csv" in done.stderr, done)
         with open("/dev/full", "w") as full:
             done = subprocess.run(AUTO, input=before, stdout=full, stderr=subprocess.PIPE, env=self.environment)
         told = done.stderr.endswith(b"bufr-auto: write failed: No space left on device\n")
@@ -328,7 +328,7 @@ class Trial:
         sets = self.place / "incomplete"
         (sets / "wmo-40").mkdir(parents=True)
         (sets / "wmo-39").symlink_to(TABLES / "wmo-39")
-        note = b"bufr-auto: ignored %s/wmo-40, which has no B.csv; add this file, or remove the directory\n" % bytes(sets)
+        note = b"bufr-auto: ignored %s/wmo-40, because it does not contain B.csv; add this file, or remove the directory\n" % bytes(sets)
         self.environment["BUFR_TABLES"] = str(sets)
         synop, text = ((TOP / f"examples/synop.{kind}").read_bytes() for kind in ("bufr", "txt"))
         self.feed("an incomplete set", [], [(synop, text, note), (synop, text, b"")], (b"", b""), 0)
@@ -564,7 +564,7 @@ class Trial:
         """Help, the version, and what is mistaken: options, folders of sets, files, the program."""
         for word in ("--help", "-h"):
             done = self.auto(word)
-            self.holds("help", done.returncode == 0 and b"\n    bufr-auto [--max-length BYTES] [FILE..]\n" in done.stdout, done)
+            self.holds("help", done.returncode == 0 and b"\n    bufr-auto [--max-length BYTES] [FILE...]\n" in done.stdout, done)
             self.holds("help", b"BUFR_TABLES" in done.stdout and done.stderr == b"", done)
         of_program = subprocess.run([self.program, "--version"], capture_output=True).stdout
         version = b"bufr-auto, with " + of_program.strip() + b", unknown build\n"
@@ -575,7 +575,7 @@ class Trial:
             (["--other"], "unknown option --other"),
             ([file, "--other=1"], "unknown option --other"),
             (["-xyz", file], "unknown option -xyz"),
-            (["--encode=1"], "--encode takes no value"),
+            (["--encode=1"], "--encode does not take a value"),
             ([file, "--max-length"], "--max-length needs a value"),
             (["--max-length", "11"], "--max-length '11': expected a whole number of at least 12"),
             (["--max-length=\u0663\u0663"], "--max-length '\u0663\u0663': expected a whole number of at least 12"),
@@ -615,7 +615,7 @@ class Trial:
         for told, words, environment in (
             ("BUFR_TABLES is /nosuch, which is not a directory", [file], {"BUFR_TABLES": "/nosuch"}),
             (f"BUFR_TABLES is {file}, which is not a directory", [file], {"BUFR_TABLES": file}),
-            (f"{empty} contains no table sets, such as wmo-39", [file], {"BUFR_TABLES": str(empty)}),
+            (f"{empty} does not contain a table set such as wmo-39", [file], {"BUFR_TABLES": str(empty)}),
             ("cannot open nosuch: No such file or directory", ["nosuch"], {}),
             ("cannot open '': No such file or directory", [""], {}),
             ("cannot run /nosuch: No such file or directory; install bufr, or set BUFR to its path", [file], {"BUFR": "/nosuch"}),

@@ -126,12 +126,12 @@ def in_packages(holds) -> None:
 def versions_and_editions(script, holds) -> None:
     """Whose set serves a version that is later than all, and where the list of descriptors begins in each edition."""
     holds("of a later version", script("bufr-lacks", made(41, 0, 98, "013164", b"\1")), (0, "", ""))
-    wanted = "1 message of centre 98/0, tables 0/41/0, lacks 001255\n"
+    wanted = "1 message from centre 98/0, tables 0/41/0, lacks 001255\n"
     newer = "bufr-lacks: there is no table set wmo-41; get newer tables from WMO (wmo-im/BUFR4 on GitHub), and convert them with tables/convert.py\n"
     holds("a row of a later version", script("bufr-lacks", made(41, 0, 98, "001191", b"\1")), (1, wanted.replace("255", "191"), newer))
     question = "ask centre 98 which table version its messages use " + LOOKUP.format(98)
     asking = "bufr-lacks: the table set wmo-13 lacks some rows; " + question
-    wanted = "1 message of centre 98/0, tables 0/13/0, lacks 013164\n"
+    wanted = "1 message from centre 98/0, tables 0/13/0, lacks 013164\n"
     holds("a row of another version", script("bufr-lacks", made(13, 0, 98, "013164", b"\1")), (1, wanted, asking))
     rows = ["063255", "063001", "063254", "063002", "063253", "063003"]
     _, output, _ = script("bufr-lacks", made(13, 0, 98, " ".join(rows), b""))
@@ -160,7 +160,7 @@ def limits(script, holds) -> None:
     holds("one note for a set", (output.count("\n"), errors.count("\n")), (2, 1))
     # The last descriptor of a long list, after another message.
     long = lib.asking(lib.message(b"", lib.words("001001") * 40_000 + lib.words("063255")), 13)
-    holds("a long list", script("bufr-lacks", made(13, 0, 98, "001001", b"\1") + long)[1], "1 message of centre 98/0, tables 0/13/0, lacks 063255\n")
+    holds("a long list", script("bufr-lacks", made(13, 0, 98, "001001", b"\1") + long)[1], "1 message from centre 98/0, tables 0/13/0, lacks 063255\n")
     many = " ".join(f"0{x}{y:03}" for x in range(48, 64) for y in range(256))
     status, output, errors = script("bufr-lacks", b"".join(made(13, 1, centre, many, b"") for centre in range(1, 15)))
     rows = sum(len(line.partition("lacks")[2].split()) for line in output.splitlines())
@@ -208,12 +208,12 @@ def main() -> None:
         # The same rows are asked for by another centre, by another local version, and behind another version.
         others = [made(13, 102, 7, "301250", b""), made(13, 1, 98, "301250", b""), made(16, 102, 98, "301250", b"")]
         other_lines = (
-            "1 message of centre 7/0, tables 0/13/102, lacks 301250\n"
-            "1 message of centre 98/0, tables 0/13/1, lacks 301250\n"
-            "1 message of centre 98/0, tables 0/16/102, lacks 301250\n"
+            "1 message from centre 7/0, tables 0/13/102, lacks 301250\n"
+            "1 message from centre 98/0, tables 0/13/1, lacks 301250\n"
+            "1 message from centre 98/0, tables 0/16/102, lacks 301250\n"
         )
         stream = message + made(13, 102, 98, "001212 206008 001250", b"") + b"BUFR" + b"".join(others)
-        lines = "2 messages of centre 98/0, tables 0/13/102, lack 001212 301250\n"
+        lines = "2 messages from centre 98/0, tables 0/13/102, lack 001212 301250\n"
         cut = f"offset {stream.index(b'BUFRBUFR')}: 1 cut\n"
         tables = place / "tables"
         debian = "" if WREPORT.exists() else "install wreport-common (Debian), then "
@@ -280,7 +280,7 @@ def main() -> None:
         (place / "odd \x1b").symlink_to("tables")
         environment["BUFR_TABLES"], shown = str(place / "odd \x1b"), f"{place}/odd \\x1B"
         (tables / "wmo-40").mkdir()
-        told = f"bufr-lacks: ignored {shown}/wmo-40, which has no B.csv; add this file, or remove the directory\n"
+        told = f"bufr-lacks: ignored {shown}/wmo-40, because it does not contain B.csv; add this file, or remove the directory\n"
         holds("an incomplete set", script("bufr-lacks", synop), (0, "", told))
         shutil.copytree(TOP / "tables/wmo-39", tables / "wmo-40", dirs_exist_ok=True)
         (tables / "wmo-40/D.csv").write_text("no table\n")

@@ -155,9 +155,9 @@ def tries_offsets(awk: list, stream: Stream) -> None:
     want((str(stream.sounding), "2023") in rows and status == 0, f"{awk}: levels have offsets {rows}: {errors}")
     for columns in ({"columns": "length"}, {"levels": "1", "keep": "offset", "columns": "007004"}):
         for given, told in [
-            ({}, "columns 'offset' and 'length' need"),
-            ({"listing": stream.listing}, "columns 'offset' and 'length' need"),
-            ({"faults": stream.faults}, "columns 'offset' and 'length' need"),
+            ({}, "columns 'offset' and 'length' require"),
+            ({"listing": stream.listing}, "columns 'offset' and 'length' require"),
+            ({"faults": stream.faults}, "columns 'offset' and 'length' require"),
             ({"listing": stream.listing, "faults": stream.empty}, "the listing has more messages than the dump"),
             ({"listing": stream.empty, "faults": stream.faults}, "the dump has more messages than the listing"),
             ({"listing": stream.faults, "faults": stream.faults}, "is not the output of bufr ls"),

@@ -403,14 +403,14 @@ def refusals(_folder: pathlib.Path) -> None:
         (["-c", "time"], b"use 'year,month,day,hour,minute'"),
         (["-c", "001001,tables"], b"use 'master,masterversion,localversion'"),
         (["-c", "year", "--where=", "category=0"], b"'' is not a condition"),
-        (["--levels"], b"--levels needs -c"),
+        (["--levels"], b"--levels requires -c"),
         (["--levels", "-c", "year"], b"pass it to --keep"),
         (["--levels", "-c", "007004,year"], b"pass it to --keep"),
         (["--levels", "-c", "012101:2"], b"pass it to --keep"),
         (["--keep", "012101"], b"without -c, only header keys, file, offset"),
         (["--keep", "012101:2"], b"without -c, only header keys, file, offset"),
         (["--keep", "year", "-c", "012101"], b"--keep can be used only with --levels"),
-        (["--names"], b"--names needs -c"),
+        (["--names"], b"--names requires -c"),
         (["--json", "-c", "012101,012101"], b"column '012101' is given twice"),
         (["--json", "--levels", "-c", "012101", "--keep", "012101"], b"column '012101' is given twice"),
         (["--where", "category"], b"category"),
@@ -490,7 +490,7 @@ def failures(folder: pathlib.Path) -> None:
         holds(f"AWK={word!r}", (done.returncode, done.stdout.count(b"\n")) == (0, 4), done)
     (folder / "no-tables/wmo-39").mkdir(parents=True)
     done = run("-c", "AIR TEMPERATURE", SYNOP, environment={"BUFR_TABLES": str(folder / "no-tables")})
-    told = f"contains no table sets, such as wmo-39; ignored {folder}/no-tables/wmo-39, which has no B.csv".encode()
+    told = f"does not contain a table set such as wmo-39; ignored {folder}/no-tables/wmo-39, because it does not contain B.csv".encode()
     holds("there is no table", done.returncode == 2 and told in done.stderr, done)
     done = run("-c", "AIR TEMPERATURE", SYNOP, environment={"BUFR_TABLES": "/nosuch"})
     holds("there are no tables", done.returncode == 2 and b"/nosuch" in done.stderr, done)

@@ -65,7 +65,7 @@ REFUSED = [
     (["time=2024-01-2"], "the value in 'time=2024-01-2' can never match"),
     (["time=2024-01-02T03:4"], "the value in 'time=2024-01-02T03:4' can never match"),
     (["time=2024-01-02T03:04:5"], "the value in 'time=2024-01-02T03:04:5' can never match"),
-    (["time=18"], "the value in 'time=18' can never match; write times as in time=2023-03-14T18"),
+    (["time=18"], "the value in 'time=18' can never match; write the time as in time=2023-03-14T18"),
     (["time!=2024,2024-01-02T3"], "the value in 'time!=2024,2024-01-02T3' can never match"),
     (["category", SYNOP], "the key 'category' has no value; write category=VALUE"),
     ([SYNOP, "time"], "the key 'time' has no value; write time=VALUE"),
@@ -77,7 +77,7 @@ REFUSED = [
     (["--max-length", "11"], "--max-length '11': expected a whole number of at least 12"),
     (["--max-length", "1" * 19], f"--max-length '{'1' * 19}': expected a whole number of at least 12"),
     (["--all"], "unknown option --all"),
-    (["one", "two"], "expected at most one file; to read several, use 'cat one two | bufr-extract ..'"),
+    (["one", "two"], "expected at most one file; to read several, use 'cat one two | bufr-extract ...'"),
     (["nosuch"], "cannot open nosuch"),
     (["/"], "cannot read the input: Is a directory"),
 ]

@@ -547,7 +547,7 @@ def guard() -> None:
         (work.format("0") + "; print('more')", 0, ""),
         ("sys.excepthook = bufr_guard.hook; raise KeyboardInterrupt", -signal.SIGINT, ""),
         ("sys.excepthook = bufr_guard.hook; raise MemoryError", 2, "out of memory"),
-        ("sys.excepthook = bufr_guard.hook; import nosuch", 2, f"the Python package nosuch is not installed for {sys.executable} (on Debian: apt-get install python3-nosuch, then run /usr/bin/python3 -c ..)"),
+        ("sys.excepthook = bufr_guard.hook; import nosuch", 2, f"the Python package nosuch is not installed for {sys.executable} (on Debian: apt-get install python3-nosuch, then run /usr/bin/python3 -c ...)"),
     ):
         words, environment = [sys.executable, "-c", "import bufr_guard, sys; " + code], {**os.environ, "TMPDIR": "/nosuch"}
         environment = os.environ if code.startswith((few, small)) else environment

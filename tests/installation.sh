@@ -88,7 +88,7 @@ for word in -h --help; do "$top/install.sh" $word | grep -q '^usage: ' || fail "
 ! "$top/install.sh" --uninstall "$work/nothing" 2> "$work/errors" && grep -q MANIFEST "$work/errors" ||
     fail "install.sh uninstalls what is not installed: $(< "$work/errors")"
 ! "$top/install.sh" --program "$bufr" --unproved /dev/null/prefix > "$work/output" 2>&1 &&
-    grep -q 'if /dev/null/prefix is full, make room there; if ' "$work/output" || fail "below a file: $(< "$work/output")"
+    grep -q 'if /dev/null/prefix is full, free some space there; if ' "$work/output" || fail "below a file: $(< "$work/output")"
 ! "$top/install.sh" --program '' --unproved "$work/none" 2> "$work/errors" && grep -qF "the program '' does not exist" "$work/errors" ||
     fail "install.sh accepts an empty FILE: $(< "$work/errors")"
 

@@ -263,7 +263,7 @@ MUTATIONS = [
     ("scripts/table.awk", "items += /^[0-3]/", "items++", "tests/csv_by_awk.py"),
     ("scripts/table.awk", "(left || opened < 2 || pass_inner || items != pass_items)", "1", "tests/csv_by_awk.py"),
     ("scripts/table.awk", "open = left = row_count = 0", "open = left = 0", "tests/csv_by_awk.py"),
-    ("scripts/table.awk", 'fail("keep= can be used only if levels=1 is set or columns= is not")', "0", "tests/csv_by_awk.py"),
+    ("scripts/table.awk", 'fail("keep= can be used only with levels=1 or without columns=")', "0", "tests/csv_by_awk.py"),
     ("scripts/table.awk", 'if (feed != "0")', "if (0)", "tests/csv_command.py"),
     ("scripts/table.awk", 'header["offset"] = words[3]', 'header["offset"] = words[5]', "tests/csv_command.py"),
     ("scripts/bufr-csv", "if self.is_whole:\n                return\n", "return\n", "tests/csv_command.py"),

@@ -133,7 +133,7 @@ one to ot\\x1Bher
   sequences removed: 1: 301002
   sequences added: 0
 """
-TWICE = "source: left out %s: the source has different rows for this descriptor\n"
+TWICE = "source: left out %s: the source contains conflicting rows for this descriptor\n"
 SOURCES = [
     ("B.csv", f"{HEADERS['B']}\n{ELEMENT}\n{ELEMENT}", 0, "", ELEMENT),
     ("B.csv", "", 2, "source/B.csv has no column 'fxy'\n", None),
@@ -185,12 +185,12 @@ SOURCES = [
     ),
     ("element.table", "#\n012101|a|long|NAME|K|2|0\n", 2, "source/element.table, line 2: expected at least eight fields, found 7\n", None),
     ("element.table", "012101|a|long|NO # \udcb0|K|2|0|16\n", 0, "", "012101,NO # \udcb0,K,2,0,16\n"),
-    ("sequence.def", '"307060" = 001001\n', 2, 'source/sequence.def: expected "FXY" = [ MEMBER, .. ], found "307060" = 001001\n', None),
+    ("sequence.def", '"307060" = 001001\n', 2, 'source/sequence.def: expected "FXY" = [ MEMBER, ... ], found "307060" = 001001\n', None),
     (
         "B.csv",
         f"{HEADERS['B']}\n012101,A, B,K,2,0,16\n",
         2,
-        "source/B.csv, line 2: 7 fields, but the header has 6\n",
+        "source/B.csv, line 2: found 7 fields, but the header has 6\n",
         None,
     ),
     ("D.csv", "fxy\n307060\n", 2, "source/D.csv has no column 'member'\n", None),

@@ -554,13 +554,14 @@ pub field_within : (xs : List ℕ) (at width n : ℕ) → IsWindow n (at / 8) xs
     → n / 2 ^ (64 - at % 8 - width) % (1 * 2 ^ width % 18446744073709551616) ≡ number_of (bits_at xs at width)
 field_within xs at width n h fits few = field_in xs at (at / 8) (at % 8) width n h (omega arith) fits few
 
--- the room after octets for which their capacity grew by as many as these, or as requested
-pub room_most : (len capacity capacity' count bits room written : ℕ) → capacity' ≤ max capacity (len + max (bits / 8 + 16) len) → room_after len capacity count ≡ room → written ≡ 8 * len + count
-    → room_after len capacity' count ≤ max room (max (bits + 128) written)
+-- the room after octets that grew by their old capacity at most, or as requested
+pub room_most : (len capacity capacity' count bits room written : ℕ) → capacity' ≤ len + max (bits / 8 + 16) capacity → room_after len capacity count ≡ room → written ≡ 8 * len + count
+    → room_after len capacity' count ≤ max (bits + 128) (written + room)
 room_most len capacity capacity' count bits room written most old size = omega arith
 
--- the room after octets whose capacity doubled
-pub room_grows : (len capacity capacity' count room written : ℕ) → (capacity' ≡ capacity) ⊎ (2 * len ≤ capacity') → count < 64 → room_after len capacity count ≡ room → written ≡ 8 * len + count
-    → (room_after len capacity' count ≡ room) ⊎ (min written (2 ^ 63 - written) ≤ room_after len capacity' count + 128)
-room_grows len capacity capacity' count room written (inl same) few old size = inl (rw same old)
-room_grows len capacity capacity' count room written (inr doubles) few old size = inr (omega arith)
+-- the room after octets that grew by their old capacity at least
+pub room_grows : (len capacity capacity' count room written : ℕ) → (capacity' ≡ capacity) ⊎ (len + capacity ≤ capacity') → count < 64 → 8 * len + count ≤ 8 * capacity
+    → room_after len capacity count ≡ room → written ≡ 8 * len + count
+    → (room_after len capacity' count ≡ room) ⊎ (min (written + room) (2 ^ 63 - written) ≤ room_after len capacity' count + 64)
+room_grows len capacity capacity' count room written (inl same) few fits old size = inl (rw same old)
+room_grows len capacity capacity' count room written (inr doubles) few fits old size = inr (omega arith)

@@ -1,6 +1,6 @@
 -- What a device has counted: calls, octets asked for, failures, each up to the greatest u64.
 -- Cited by public contracts.
-use Rattle.std.specs.Prelude.{true, ℕ, zero, suc, ◌+◌, ◌-◌, ◌^◌, min, max, Bool, false, List, [], ◌∷◌, Result, Ok, Err}
+use Rattle.std.specs.Prelude.{true, ℕ, zero, suc, ◌+◌, ◌-◌, ◌^◌, min, max, Bool, false, List, [], ◌∷◌, Result, Ok, Err, if◌then◌else◌, length, nat_eq}
 use Rattle.bufr_bits.specs.declared.device.Device.{Device}
 
 -- the device that has made no call yet
@@ -12,6 +12,8 @@ fresh_device inner =
       reads = 0;
       asked = 0;
       empty_writes = 0;
+      whole_writes = 0;
+      flushes = 0;
       failed_flushes = 0;
       all_flushed = true;
     }
@@ -33,6 +35,22 @@ empty_writes_after count octets (Err e) = count
 empty_writes_after count octets (Ok (suc taken)) = count
 empty_writes_after count [] (Ok zero) = count
 empty_writes_after count (octet ∷ more) (Ok zero) = counted count 1
+
+-- the count of whole writes after a write of these octets: those that took all of them
+abbrev pub whole_writes_after : {E : Type 0} → ℕ → List ℕ → Result ℕ E → ℕ
+whole_writes_after count octets (Err e) = count
+whole_writes_after count octets (Ok taken) =
+    if nat_eq taken (length octets) then counted count 1 else count
+
+-- How many flushes were made, and how many of them failed.
+pub record Flushes : Type 0 where
+  pub made : ℕ
+  pub failed : ℕ
+
+-- the counts of flushes after one more
+abbrev pub flushes_after : {A E : Type 0} → Flushes → Result A E → Flushes
+flushes_after flushes result =
+    record { made = counted flushes.made 1; failed = failures_after flushes.failed result }
 
 -- all octets that were taken were handed on, after a write: not if it took some
 abbrev pub all_flushed_after_write : {E : Type 0} → Bool → Result ℕ E → Bool

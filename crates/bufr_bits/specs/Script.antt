@@ -1,5 +1,6 @@
 -- Only contracts need this file. What the test devices do. (a choice of this project)
 use Rattle.std.specs.Prelude.{ℕ, zero, suc, ◌-◌, min, List, Option, None, Some, option_map, Result, Ok, Err, vec_len}
+use Rattle.bufr_bits.specs.Device.{Flushes}
 use Rattle.bufr_bits.specs.declared.device.Failed.{Failed}
 use Rattle.bufr_bits.specs.declared.script.ScriptOut.{ScriptOut}
 use Rattle.bufr_bits.specs.declared.script.End.{End}
@@ -23,6 +24,10 @@ failure_after place n = option_map (λ before. before - n) place
 -- the octets that a writer took
 abbrev pub taken_of : ScriptOut → List ℕ
 taken_of s = s.taken.items
+
+-- how many flushes of a writer were made, and how many of them failed
+abbrev pub flushes_of : ScriptOut → Flushes
+flushes_of s = record { made = s.flushes; failed = s.failed_flushes }
 
 -- how many octets a writer still takes
 abbrev pub left_of : ScriptOut → ℕ

@@ -58,7 +58,7 @@ impl BitWriter {
     }
 
     /// Makes room for so many more bits. There must be at most 2^63 bits with these. If the writer
-    /// has to grow, it doubles at least.
+    /// has to grow, it makes room for at least as many more as its old capacity.
     ///
     /// # Errors
     ///
@@ -68,16 +68,21 @@ impl BitWriter {
         requires { length self.old.bits + bits ≤ 2 ^ 63 }
         ensures bits { self.new.bits ≡ self.old.bits }
         ensures room { OnOk result (bits ≤ self.new.room) }
-        // At most, there is room for 128 bits more than requested, or for as many as were written.
-        ensures most { self.new.room ≤ max self.old.room (max (bits + 128) (length self.old.bits)) }
-        // If the room grows, it becomes about as many bits as were written, up to 2^63 in all.
-        ensures grows { (self.new.room ≡ self.old.room) ⊎ (min (length self.old.bits)
-            (2 ^ 63 - length self.old.bits) ≤ self.new.room + 128) }
+        // At most, there is room for 128 bits more than requested, or for the old capacity, which
+        // is the bits that were written and those for which there was room.
+        ensures most { self.new.room ≤ max (bits + 128) (length self.old.bits + self.old.room) }
+        // If the room grows, it becomes about the old capacity, up to 2^63 bits in all.
+        ensures grows { (self.new.room ≡ self.old.room)
+            ⊎ (min (length self.old.bits + self.old.room) (2 ^ 63 - length self.old.bits)
+            ≤ self.new.room + 64) }
     {
         if bits <= u64::from(self.free) {
             return Ok(());
         }
-        reserve_octets(&mut self.octets, (bits / 8) as usize + 16)?;
+        let count = (bits / 8) as usize + 16;
+        if count > self.octets.capacity() - self.octets.len() {
+            grow(&mut self.octets, count)?;
+        }
         self.free = 63 - self.count;
         Ok(())
     }
@@ -202,25 +207,7 @@ impl BitWriter {
     }
 }
 
-/// Makes room for so many more octets. If `out` has to grow, it doubles at least.
-#[inline(always)]
-fn reserve_octets(out: &mut Vec<u8>, count: usize) -> Result<(), AllocError>
-    ensures items { out.new.items ≡ out.old.items }
-    ensures len { vec_len out.new ≡ vec_len out.old }
-    ensures ok { OnOk result (vec_len out.old + count ≤ vec_capacity out.new) }
-    ensures capacity { vec_capacity out.old ≤ vec_capacity out.new }
-    ensures most { vec_capacity out.new
-        ≤ max (vec_capacity out.old) (vec_len out.old + max count (vec_len out.old)) }
-    ensures grows { (vec_capacity out.new ≡ vec_capacity out.old)
-        ⊎ (2 * vec_len out.old ≤ vec_capacity out.new) }
-{
-    if count <= out.capacity() - out.len() {
-        return Ok(());
-    }
-    grow(out, count)
-}
-
-/// [`reserve_octets`] where room is missing.
+/// Makes room for so many more octets, or for as many as the old capacity, whichever is more.
 #[cold]
 #[inline(never)]
 fn grow(out: &mut Vec<u8>, count: usize) -> Result<(), AllocError>
@@ -228,12 +215,11 @@ fn grow(out: &mut Vec<u8>, count: usize) -> Result<(), AllocError>
     ensures len { vec_len out.new ≡ vec_len out.old }
     ensures ok { OnOk result (vec_len out.old + count ≤ vec_capacity out.new) }
     ensures capacity { vec_capacity out.old ≤ vec_capacity out.new }
-    ensures most { vec_capacity out.new
-        ≤ max (vec_capacity out.old) (vec_len out.old + max count (vec_len out.old)) }
+    ensures most { vec_capacity out.new ≤ vec_len out.old + max count (vec_capacity out.old) }
     ensures grows { (vec_capacity out.new ≡ vec_capacity out.old)
-        ⊎ (2 * vec_len out.old ≤ vec_capacity out.new) }
+        ⊎ (vec_len out.old + vec_capacity out.old ≤ vec_capacity out.new) }
 {
-    out.reserve_exact(count.max(out.len()))
+    out.reserve_exact(count.max(out.capacity()))
 }
 
 /// Appends octets for which there is room.

@@ -2,7 +2,7 @@
 ghost use Rattle.std.specs.Prelude.{◌≡◌, ◌≤◌, ◌<◌, ℕ, Bool, true, false, List, Option, length, min, IfOk, IsOk, nat_eq};
 ghost use Rattle.std.specs.Io.Buffered.{reader_remaining, reader_buffer};
 ghost use Rattle.std.specs.Io.KnownBytes.{ReadConsumes, WriteAppends, Keeps};
-ghost use Rattle.bufr_bits.specs.Device.{counted, failures_after, empty_writes_after, all_flushed_after_write, all_flushed_after_flush, fresh_device};
+ghost use Rattle.bufr_bits.specs.Device.{Flushes, counted, failures_after, empty_writes_after, whole_writes_after, flushes_after, all_flushed_after_write, all_flushed_after_flush, fresh_device};
 
 use std::io::{BufRead, BufReader, Read, Write};
 use thiserror::Error;
@@ -60,8 +60,8 @@ pub trait Source {
 ///
 /// Its contract speaks of values that no code holds: the octets taken so far, where they are
 /// known, and whether a flush handed all of them on. It counts the calls that failed, the flushes
-/// among them, and the writes that took none of their octets. The counts stop at the greatest
-/// `u64`.
+/// made and failed, and the writes that took none of their octets; a sink may also count the writes
+/// that took all of them. The counts stop at the greatest `u64`.
 pub trait Sink {
     /// The octets taken so far, where they are known.
     ghost taken: { Self → Option (List ℕ) };
@@ -72,8 +72,12 @@ pub trait Sink {
     /// How many writes took none of the octets that they were given.
     ghost empty_writes: { Self → ℕ };
 
-    /// How many flushes failed.
-    ghost failed_flushes: { Self → ℕ };
+    /// How many writes took all of the octets that they were given. A sink that does not count them
+    /// answers 0.
+    ghost whole_writes: { Self → ℕ } = { λ _. 0 };
+
+    /// How many flushes were made, and how many of them failed.
+    ghost flushes: { Self → Flushes };
 
     /// Whether all octets that were taken were handed on.
     ghost all_flushed: { Self → Bool };
@@ -89,7 +93,9 @@ pub trait Sink {
         ensures failed { failures self.new ≡ failures_after (failures self.old) result }
         ensures empty { empty_writes self.new
             ≡ empty_writes_after (empty_writes self.old) buf.now result }
-        ensures flushed { failed_flushes self.new ≡ failed_flushes self.old }
+        ensures whole { whole_writes self.new
+            ≤ whole_writes_after (whole_writes self.old) buf.now result }
+        ensures flushed { flushes self.new ≡ flushes self.old }
         ensures handed { all_flushed self.new ≡ all_flushed_after_write (all_flushed self.old)
             result };
 
@@ -102,8 +108,8 @@ pub trait Sink {
         ensures octets { Keeps (taken self.old) (taken self.new) }
         ensures failed { failures self.new ≡ failures_after (failures self.old) result }
         ensures empty { empty_writes self.new ≡ empty_writes self.old }
-        ensures flushed { failed_flushes self.new ≡ failures_after (failed_flushes self.old)
-            result }
+        ensures whole { whole_writes self.new ≡ whole_writes self.old }
+        ensures flushed { flushes self.new ≡ flushes_after (flushes self.old) result }
         ensures handed { all_flushed self.new ≡ all_flushed_after_flush (all_flushed self.old)
             result };
 }
@@ -123,6 +129,8 @@ pub struct Device<T> {
     reads: u64,
     asked: u64,
     empty_writes: u64,
+    whole_writes: u64,
+    flushes: u64,
     failed_flushes: u64,
     all_flushed: bool,
 }
@@ -138,6 +146,8 @@ impl<T> Device<T> {
             reads: 0,
             asked: 0,
             empty_writes: 0,
+            whole_writes: 0,
+            flushes: 0,
             failed_flushes: 0,
             all_flushed: true,
         }
@@ -234,20 +244,21 @@ impl<T: Write> Sink for Device<T> {
 
     ghost empty_writes = { λ d. d.empty_writes };
 
-    ghost failed_flushes = { λ d. d.failed_flushes };
+    ghost whole_writes = { λ d. d.whole_writes };
+
+    ghost flushes = { λ d. record { made = d.flushes; failed = d.failed_flushes } };
 
     ghost all_flushed = { λ d. d.all_flushed };
 
     fn write(&mut self, buf: &[u8]) -> Result<usize, Failed> {
         match self.inner.write(buf) {
-            Ok(0) => {
-                if !buf.is_empty() {
+            Ok(n) => {
+                if n == buf.len() {
+                    self.whole_writes = self.whole_writes.saturating_add(1);
+                } else if n == 0 {
                     self.empty_writes = self.empty_writes.saturating_add(1);
                 }
-                Ok(0)
-            }
-            Ok(n) => {
-                self.all_flushed = false;
+                self.all_flushed = self.all_flushed && n == 0;
                 Ok(n)
             }
             Err(_) => {
@@ -258,6 +269,7 @@ impl<T: Write> Sink for Device<T> {
     }
 
     fn flush(&mut self) -> Result<(), Failed> {
+        self.flushes = self.flushes.saturating_add(1);
         match self.inner.flush() {
             Ok(()) => {
                 self.all_flushed = true;

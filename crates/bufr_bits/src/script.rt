@@ -1,7 +1,7 @@
 //! A reader and a writer in memory for tests, which go in small steps and fail at a given place.
 ghost use Rattle.std.specs.Prelude.{◌≤◌, ◌<◌, vec_len, vec_capacity, ◌≡◌, Some, length, IfOk, IsOk, [], true, false, ◌-◌};
 ghost use Rattle.std.specs.Io.KnownBytes.{ReadConsumes, WriteAppends, Keeps};
-ghost use Rattle.bufr_bits.specs.Device.{counted, failures_after, empty_writes_after, all_flushed_after_write, all_flushed_after_flush};
+ghost use Rattle.bufr_bits.specs.Device.{counted, failures_after, empty_writes_after, flushes_after, whole_writes_after, all_flushed_after_write, all_flushed_after_flush};
 
 use crate::bit_writer::put;
 use crate::{Failed, Sink, Source};
@@ -108,6 +108,8 @@ pub struct ScriptOut {
     end: End,
     failures: u64,
     empty_writes: u64,
+    whole_writes: u64,
+    flushes: u64,
     failed_flushes: u64,
     all_flushed: bool,
     ghost has_step: { 0 < step },
@@ -133,6 +135,8 @@ impl ScriptOut {
         ensures end { IfOk result (λ s. s.end ≡ end) }
         ensures failures { IfOk result (λ s. s.failures ≡ 0) }
         ensures empty_writes { IfOk result (λ s. s.empty_writes ≡ 0) }
+        ensures whole_writes { IfOk result (λ s. s.whole_writes ≡ 0) }
+        ensures flushes { IfOk result (λ s. s.flushes ≡ 0) }
         ensures failed_flushes { IfOk result (λ s. s.failed_flushes ≡ 0) }
         ensures all_flushed { IfOk result (λ s. s.all_flushed ≡ true) }
     {
@@ -144,6 +148,8 @@ impl ScriptOut {
             end,
             failures: 0,
             empty_writes: 0,
+            whole_writes: 0,
+            flushes: 0,
             failed_flushes: 0,
             all_flushed: true,
         })
@@ -158,7 +164,7 @@ impl ScriptOut {
 }
 
 impl Sink for ScriptOut {
-    ghost use Rattle.bufr_bits.specs.Script.{left_of, write_answer, flush_answer, octets_moved};
+    ghost use Rattle.bufr_bits.specs.Script.{flushes_of, left_of, write_answer, flush_answer, octets_moved};
 
     ghost taken = { λ s. Some s.taken.items };
 
@@ -166,7 +172,9 @@ impl Sink for ScriptOut {
 
     ghost empty_writes = { λ s. s.empty_writes };
 
-    ghost failed_flushes = { λ s. s.failed_flushes };
+    ghost whole_writes = { λ s. s.whole_writes };
+
+    ghost flushes = { λ s. flushes_of s };
 
     ghost all_flushed = { λ s. s.all_flushed };
 
@@ -177,7 +185,9 @@ impl Sink for ScriptOut {
         ensures failed { self.new.failures ≡ failures_after self.old.failures result }
         ensures empty { self.new.empty_writes
             ≡ empty_writes_after self.old.empty_writes buf.now result }
-        ensures flushed { self.new.failed_flushes ≡ self.old.failed_flushes }
+        ensures whole { self.new.whole_writes
+            ≡ whole_writes_after self.old.whole_writes buf.now result }
+        ensures flushed { flushes_of self.new ≡ flushes_of self.old }
         ensures handed { self.new.all_flushed
             ≡ all_flushed_after_write self.old.all_flushed result }
         // The script is kept to: the answer, the room left, the step and the end.
@@ -193,7 +203,9 @@ impl Sink for ScriptOut {
             return Err(Failed);
         }
         let n = self.step.min(buf.len()).min(left);
-        if n == 0 && !buf.is_empty() {
+        if n == buf.len() {
+            self.whole_writes = self.whole_writes.saturating_add(1);
+        } else if n == 0 {
             self.empty_writes = self.empty_writes.saturating_add(1);
         }
         self.all_flushed = self.all_flushed && n == 0;
@@ -205,7 +217,8 @@ impl Sink for ScriptOut {
         ensures octets { Keeps (Some self.old.taken.items) (Some self.new.taken.items) }
         ensures failed { self.new.failures ≡ failures_after self.old.failures result }
         ensures empty { self.new.empty_writes ≡ self.old.empty_writes }
-        ensures flushed { self.new.failed_flushes ≡ failures_after self.old.failed_flushes result }
+        ensures whole { self.new.whole_writes ≡ self.old.whole_writes }
+        ensures flushed { flushes_of self.new ≡ flushes_after (flushes_of self.old) result }
         ensures handed { self.new.all_flushed ≡ all_flushed_after_flush self.old.all_flushed
             result }
         ensures answer { result ≡ flush_answer self.old.end }
@@ -213,6 +226,7 @@ impl Sink for ScriptOut {
         ensures step { self.new.step ≡ self.old.step }
         ensures end { self.new.end ≡ self.old.end }
     {
+        self.flushes = self.flushes.saturating_add(1);
         if self.end == End::Flush {
             self.failures = self.failures.saturating_add(1);
             self.failed_flushes = self.failed_flushes.saturating_add(1);

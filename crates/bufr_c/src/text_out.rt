@@ -16,6 +16,7 @@ const LINE: usize = 64;
 pub(crate) struct TextOut {
     pub(crate) octets: Vec<u8>,
     failures: u64,
+    flushes: u64,
     all_flushed: bool,
 }
 
@@ -26,6 +27,7 @@ impl TextOut {
         TextOut {
             octets: Vec::new(alloc),
             failures: 0,
+            flushes: 0,
             all_flushed: true,
         }
     }
@@ -45,7 +47,7 @@ impl Sink for TextOut {
 
     ghost empty_writes = { λ _. 0 };
 
-    ghost failed_flushes = { λ _. 0 };
+    ghost flushes = { λ t. record { made = t.flushes; failed = 0 } };
 
     ghost all_flushed = { λ t. t.all_flushed };
 
@@ -59,6 +61,7 @@ impl Sink for TextOut {
     }
 
     fn flush(&mut self) -> Result<(), Failed> {
+        self.flushes = self.flushes.saturating_add(1);
         self.all_flushed = true;
         Ok(())
     }

@@ -1,16 +1,17 @@
 -- What a run leaves, by its steps, and what comes of a job.
 use Rattle.bufr_frame.specs.Prelude.{max_reads, read_failures_after, AddsReads}
-use Rattle.std.proofs.Common.{◌≡◌, ◌≢◌, ◌∙◌, ◌<◌, ◌^◌, ℕ, ◌+◌, ◌-◌, Bool, true, false, List, [], ◌∷◌, ◌++◌, length, length-append, refl, sym, ap, subst, arith, append_assoc, Option, None, Ok, Err, append-nil, Some, inl, inr, Result, flat_map, map, count_by, IfSome}
+use Rattle.std.proofs.Common.{◌≡◌, ◌≢◌, ◌∙◌, ◌<◌, ◌≤◌, ◌^◌, ℕ, ◌+◌, ◌-◌, Bool, true, false, List, [], ◌∷◌, ◌++◌, length, length-append, refl, sym, ap, subst, arith, append_assoc, Option, None, Ok, Err, append-nil, Some, inl, inr, Result, flat_map, map, count_by, IfSome}
 use Rattle.std.specs.Io.KnownBytes.{Consumes, IsAtEnd, Keeps}
 use Rattle.std.proofs.KnownBytes.{Appends-nil, Appends-trans, Appends-kept, Consumes-trans}
 use Rattle.std.proofs.lemmas.Bool.{false≢true}
 use Rattle.std.proofs.lemmas.Grind.{common_steps, flat_map-append}
 use Rattle.bufr_bits.specs.Prelude.{counted}
+use Rattle.bufr_bits.proofs.CountLemmas.{counted-least, counted-then, counted-up}
 use Rattle.bufr_frame.proofs.FinderLemmas.{adds-then}
 use Rattle.bufr_frame.specs.declared.fault.RunFault.{RunFault}
 use Rattle.bufr_frame.specs.declared.fault.RunFault.TheVariants.{Read, Write, InputTooLong, Memory}
 use Rattle.bufr_text.specs.Prelude.{GrowsByPrefix, Stays, Fails, Writes}
-use Rattle.bufr_cli.specs.Prelude.{BlamesWriter, CountsCalls, CountsRead, EndsRun, FlushesRest, TakesStep, HandsOn, HandsOnBoth, HandsOnWritten, IsFlushedIf, IsHandedOn, LeavesOther, unflushed_after, Writer, Input, IsClosed, IsCut, IsDone, InputName, IsNotOpened, IsOpen, Opens, IsSame, InPart, Known, LeavesDevices, NoFlushFails, OnErrors, OnOutput, Piece, Progress, ReadsAndWrites, ReadsAtMost, ReadsFewer, ReadsOctets, RunOutcome, RunPieces, RunReads, RunsOver, RunsOverInput, StopsPiece, Tallies, Tally, Verdict, WantsMemory, Writers, WritesHelp, WritesLine, WritesPieces, WritesPrefixes, WrittenInPart, counted_accepted, counted_refused, errors_of, is_accepted, is_refused, output_of, run_line, tally_after}
+use Rattle.bufr_cli.specs.Prelude.{BlamesWriter, CountsCalls, CountsRead, EndsRun, FlushesRest, TakesStep, HandsOn, HandsOnBoth, HandsOnWritten, IsFlushedIf, IsHandedOn, LeavesOther, unflushed_after, Writer, Input, IsClosed, IsCut, IsDone, InputName, IsNotOpened, IsOpen, Opens, IsSame, InPart, Known, LeavesDevices, FlushesAtMost, FlushesByRead, NoFlushFails, OnErrors, OnOutput, Piece, Progress, ReadsAndWrites, ReadsAtMost, ReadsFewer, ReadsOctets, RunOutcome, RunPieces, RunReads, RunsOver, RunsOverInput, StopsPiece, Tallies, Tally, Verdict, WantsMemory, Writers, WritesHelp, WritesLine, WritesPieces, WritesPrefixes, WrittenInPart, counted_accepted, counted_refused, errors_of, is_accepted, is_refused, output_of, run_line, tally_after}
 use Rattle.bufr_cli.specs.declared.outcome.Outcome.{Outcome}
 use Rattle.bufr_cli.specs.declared.run_pieces.RunStep.{RunStep}
 use Rattle.bufr_cli.specs.declared.run_pieces.Unflushed.{Unflushed}
@@ -116,6 +117,35 @@ reads-at-most reads reads' n r counts long =
     let e : n - 0 ≡ n = omega arith in
     (n, counts.most, counts.made ∙ ap (counted reads) e, long)
 
+-- ---- How often the writers were flushed.
+
+-- not at all
+pub flushes-none : (w : Writers) (n : ℕ) → FlushesAtMost n w w
+flushes-none w n = (counted-least w.output.flushes.made n, counted-least w.errors.flushes.made n)
+
+-- at most so often, and then at most so often again
+pub flushes-then : (n m : ℕ) (before mid after : Writers) → FlushesAtMost n before mid → FlushesAtMost m mid after → FlushesAtMost (n + m) before after
+flushes-then n m before mid after first second = (
+  counted-then before.output.flushes.made mid.output.flushes.made after.output.flushes.made n m first.0 second.0,
+  counted-then before.errors.flushes.made mid.errors.flushes.made after.errors.flushes.made n m first.1 second.1,
+)
+
+-- at most so often, and so at most even more often
+pub flushes-up : (n m : ℕ) (before after : Writers) → n ≤ m → FlushesAtMost n before after → FlushesAtMost m before after
+flushes-up n m before after more is = (
+  counted-up before.output.flushes.made after.output.flushes.made n m more is.0,
+  counted-up before.errors.flushes.made after.errors.flushes.made n m more is.1,
+)
+
+-- writing does not flush
+pub flushes-kept : (n : ℕ) (before mid after : Writers) → after.output.flushes ≡ mid.output.flushes → after.errors.flushes ≡ mid.errors.flushes → FlushesAtMost n before mid
+    → FlushesAtMost n before after
+flushes-kept n before mid after output errors is = (rw output is.0, rw errors is.1)
+
+-- as often as there were reads, and once more
+flushes-by : (reads reads' n : ℕ) (before after : Writers) → AddsReads reads reads' 0 n → FlushesAtMost (n + 1) before after → FlushesByRead reads reads' before after
+flushes-by reads reads' n before after counts is = let e : n - 0 ≡ n = omega arith in (n, counts.made ∙ ap (counted reads) e, is)
+
 -- ---- What a run has done so far.
 
 -- where a run is that has read these octets and written these pieces
@@ -194,9 +224,10 @@ module _ (reaches : Progress → Type 0) (from to : Input) (before mid : Writers
   -- one more piece was written
   pub piece-written : (pieces : RunPieces) (on : Progress → Type 0) (after : Writers) (tally' : Tally) (unflushed' : Unflushed) (verdict : Verdict) (r : Result RunStep RunFault)
       → ((so : Progress) → reaches so → TakesStep pieces on so mid after r) → r ≡ Ok (step.Piece verdict)
-      → BlamesWriter mid after r → NoFlushFails mid after → tally' ≡ tally_after tally verdict → unflushed' ≡ unflushed_after unflushed verdict
+      → BlamesWriter mid after r → after.output.flushes ≡ mid.output.flushes → after.errors.flushes ≡ mid.errors.flushes → tally' ≡ tally_after tally verdict
+      → unflushed' ≡ unflushed_after unflushed verdict
       → RunSoFar on from to before after tally' unflushed'
-  piece-written pieces on after tally' unflushed' verdict r gives is counts flushes after-it noted =
+  piece-written pieces on after tally' unflushed' verdict r gives is counts output errors after-it noted =
       let one = rw is at gives (progress from to ran.octets ran.pieces) ran.reached in
       let stays = rw is at counts in
       let p = one.0 ∷ [] in
@@ -208,7 +239,7 @@ module _ (reaches : Progress → Type 0) (from to : Input) (before mid : Writers
         tallies = Tallies-then tally tally' verdict ran.pieces p ran.tallies after-it one.2.1 one.2.2;
         few = omega (arith, length-append ran.pieces p, one.3);
         failures = ran.failures;
-        flushes = (flushes.0 ∙ ran.flushes.0, flushes.1 ∙ ran.flushes.1);
+        flushes = (ap (λ f. f.failed) output ∙ ran.flushes.0, ap (λ f. f.failed) errors ∙ ran.flushes.1);
         handed = rw noted (piece-handed unflushed verdict before mid after one.2.3 ran.handed);
         same = (same-then _ _ _ _ _ _ ran.same.0 stays.0, same-then _ _ _ _ _ _ ran.same.1 stays.1);
       }
@@ -276,22 +307,27 @@ known-whole (Some s) (Some t) octets ended P read at_end whole = subst P (sym re
 
 module _ (reaches : Progress → Type 0) (from to : Input) (before mid : Writers) (tally : Tally) (unflushed : Unflushed) (ran : RunSoFar reaches from to before mid tally unflushed) (pieces : RunPieces)
     (n : ℕ)
-    (counts : AddsReads from.reads to.reads 0 n) where
+    (counts : AddsReads from.reads to.reads 0 n)
+    (rare : FlushesAtMost n before mid) where
   abbrev pub so : Progress
   so = progress from to ran.octets ran.pieces
 
   -- a piece was cut
   pub leaves-cut : (on : Progress → Type 0) (after : Writers) (takes : Bool) (r : Result RunStep RunFault) (f : RunFault) (result : Result Tally RunFault)
-      → ((so : Progress) → reaches so → TakesStep pieces on so mid after r) → StopsPiece takes r → BlamesWriter mid after r → NoFlushFails mid after → r ≡ Err f → result ≡ Err f
+      → ((so : Progress) → reaches so → TakesStep pieces on so mid after r) → StopsPiece takes r → BlamesWriter mid after r
+      → after.output.flushes ≡ mid.output.flushes → after.errors.flushes ≡ mid.errors.flushes → r ≡ Err f → result ≡ Err f
       → LeavesDevices pieces from to before after result
-  leaves-cut on after takes r f result gives stops blames flushes is same =
+  leaves-cut on after takes r f result gives stops blames output errors is same =
       rw same (by f (rw is at stops) (rw is at blames))
     where
       cut : IsCut pieces so mid after
       cut = rw is at gives so ran.reached
 
       none : NoFlushFails before after
-      none = (flushes.0 ∙ ran.flushes.0, flushes.1 ∙ ran.flushes.1)
+      none = (ap (λ f. f.failed) output ∙ ran.flushes.0, ap (λ f. f.failed) errors ∙ ran.flushes.1)
+
+      rarely : FlushesByRead from.reads to.reads before after
+      rarely = flushes-by from.reads to.reads n before after counts (flushes-up n (n + 1) before after (omega arith) (flushes-kept n before mid after output errors rare))
 
       all : ReadsAndWrites pieces from to before after
       all = record {
@@ -313,6 +349,7 @@ module _ (reaches : Progress → Type 0) (from to : Input) (before mid : Writers
         flushed = tt;
         failures = ran.failures;
         reads = reads-at-most from.reads to.reads n (Err Write) counts (λ long. cc);
+        flushes = rarely;
         writers = blames-then RunStep Tally before mid after Write ran.same blames';
       }
       by Memory stops' blames' = record {
@@ -323,6 +360,7 @@ module _ (reaches : Progress → Type 0) (from to : Input) (before mid : Writers
         flushed = tt;
         failures = ran.failures;
         reads = reads-at-most from.reads to.reads n (Err Memory) counts (λ long. cc);
+        flushes = rarely;
         writers = blames-then RunStep Tally before mid after Memory ran.same blames';
       }
 
@@ -346,6 +384,7 @@ module _ (reaches : Progress → Type 0) (from to : Input) (before mid : Writers
         flushed = tt;
         failures = ran.failures;
         reads = reads-at-most from.reads to.reads n (Err Write) counts (λ long. cc);
+        flushes = flushes-by from.reads to.reads n before after counts (flushes-then n 1 before mid after rare hands.once);
         writers = blames-then (Unit {0}) Tally before mid after Write ran.same (rw (is ∙ ap Err write) at hands.counts);
       })
 
@@ -374,6 +413,11 @@ module _ (reaches : Progress → Type 0) (from to : Input) (before mid : Writers
 
       all-counts : AddsReads from.reads to'.reads 0 n'
       all-counts = adds-then from.reads to.reads to'.reads 0 n n' counts more
+
+      rarely : FlushesByRead from.reads to'.reads before after
+      rarely =
+          let order : n + 1 ≤ n' + 1 = omega (arith, more.order) in
+          flushes-by from.reads to'.reads n' before after all-counts (flushes-up (n + 1) (n' + 1) before after order (flushes-then n 1 before mid after rare hands.once))
 
       all : ReadsAndWrites pieces from to' before after
       all = record {
@@ -407,6 +451,7 @@ module _ (reaches : Progress → Type 0) (from to : Input) (before mid : Writers
         flushed = on-hand is';
         failures = failures' ∙ ap (λ k. read_failures_after {X = Unit {0}} k (Err Read)) ran.failures;
         reads = reads-at-most from.reads to'.reads n' (Err Read) all-counts (λ long. cc);
+        flushes = rarely;
         writers = writers;
       }
       by Write is' made' failures' = absurd made'
@@ -418,6 +463,7 @@ module _ (reaches : Progress → Type 0) (from to : Input) (before mid : Writers
         flushed = tt;
         failures = failures' ∙ ap (λ k. read_failures_after {X = Unit {0}} k (Err InputTooLong)) ran.failures;
         reads = reads-at-most from.reads to'.reads n' (Err InputTooLong) all-counts (λ long. made');
+        flushes = rarely;
         writers = writers;
       }
       by Memory is' made' failures' = record {
@@ -428,6 +474,7 @@ module _ (reaches : Progress → Type 0) (from to : Input) (before mid : Writers
         flushed = tt;
         failures = failures' ∙ ap (λ k. read_failures_after {X = Unit {0}} k (Err Memory)) ran.failures;
         reads = reads-at-most from.reads to'.reads n' (Err Memory) all-counts (λ long. cc);
+        flushes = rarely;
         writers = writers;
       }
 
@@ -454,6 +501,7 @@ module _ (reaches : Progress → Type 0) (from to : Input) (before mid : Writers
           flushed = tt;
           failures = ran.failures;
           reads = reads-at-most from.reads to.reads n (Err Write) counts (λ long. cc);
+          flushes = flushes-by from.reads to.reads n before after counts (flushes-then n 1 before mid after rare hands.once);
           writers = blames-then (Unit {0}) Tally before mid after Write ran.same (rw (is ∙ ap Err write) at hands.counts);
         })
 
@@ -473,6 +521,7 @@ module _ (reaches : Progress → Type 0) (from to : Input) (before mid : Writers
           flushed = rw well at hands.handed;
           failures = ran.failures;
           reads = reads-at-most from.reads to.reads n (Ok tally) counts (λ long. cc);
+          flushes = flushes-by from.reads to.reads n before after counts (flushes-then n 1 before mid after rare hands.once);
           writers = (same-then _ _ _ _ _ _ ran.same.0 stays.0, same-then _ _ _ _ _ _ ran.same.1 stays.1);
         }
 

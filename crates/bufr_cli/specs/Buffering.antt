@@ -2,6 +2,7 @@
 -- (a choice of this project)
 use Rattle.std.specs.Prelude.{◌≡◌, ◌≤◌, Bool, ℕ, List, length, max, Option, Result, Ok, Err, nat_eq, vec_len, vec_capacity, ◌&&◌}
 use Rattle.std.specs.Io.KnownBytes.{append_known}
+use Rattle.bufr_bits.specs.Prelude.{Flushes, counted}
 use Rattle.bufr_bits.specs.declared.device.Failed.{Failed}
 use Rattle.bufr_bits.specs.declared.device.Sink as sink
 use Rattle.bufr_text.specs.Prelude.{Fails, Stays}
@@ -14,6 +15,17 @@ taken_by taken b = append_known (taken b.sink) b.held.items
 -- whether all of them were handed on: none is held, and the sink handed on all
 abbrev pub flushed_by : {S : Type 0} → (S → Bool) → Buffered S → Bool
 flushed_by flushed b = nat_eq (length b.held.items) 0 && flushed b.sink
+
+-- how many flushes of it were made, and how many of them failed
+abbrev pub flushes_of : {S : Type 0} → Buffered S → Flushes
+flushes_of b = record { made = b.flushes; failed = b.failed_flushes }
+
+-- its sink took all that it was given at most this many times, and was flushed at most this often
+abbrev pub CallsAtMost : {S : Type 0} → sink.Ghosts S → (writes flushes : ℕ) → (before after : S)
+    → Type 0
+CallsAtMost ghosts writes flushes before after =
+    (ghosts.whole_writes after ≤ counted (ghosts.whole_writes before) writes)
+    × ((ghosts.flushes after).made ≤ counted (ghosts.flushes before).made flushes)
 
 -- a success means that no call of the sink failed, and a failure that one did
 abbrev pub CountsCall : {S X : Type 0} → sink.Ghosts S → (before after : S) → Result X Failed

@@ -1,7 +1,7 @@
 -- How a run of the program ended, what is flushed after it, its last line, and its exit status. (a
 -- choice of this project)
 -- Cited by public contracts.
-use Rattle.std.specs.Prelude.{◌≡◌, ◌⊎◌, ◌<◌, ◌-◌, ◌^◌, ℕ, true, List, Result, Ok, Err, if◌then◌else◌, ◌==◌, [], ◌∷◌, ◌++◌, codes, decimal}
+use Rattle.std.specs.Prelude.{◌≡◌, ◌⊎◌, ◌<◌, ◌≤◌, ◌-◌, ◌^◌, ℕ, true, List, Result, Ok, Err, if◌then◌else◌, ◌==◌, [], ◌∷◌, ◌++◌, codes, decimal}
 use Rattle.std.specs.Io.KnownBytes.{Appends, Keeps}
 use Rattle.bufr_bits.specs.Prelude.{counted}
 use Rattle.bufr_frame.specs.Prelude.{run_report}
@@ -24,10 +24,11 @@ FlushesRest before after (Err Read) = after ≡ before
 FlushesRest before after (Err Write) = after ≡ before
 FlushesRest before after (Err fault) =
     Keeps before.taken after.taken × (after.empty_writes ≡ before.empty_writes)
-    × (((after.failures ≡ before.failures) × (after.failed_flushes ≡ before.failed_flushes)
+    × (after.flushes.made ≤ counted before.flushes.made 1)
+    × (((after.failures ≡ before.failures) × (after.flushes.failed ≡ before.flushes.failed)
     × (after.all_flushed ≡ true))
     ⊎ ((after.failures ≡ counted before.failures 1)
-    × (after.failed_flushes ≡ counted before.failed_flushes 1)
+    × (after.flushes.failed ≡ counted before.flushes.failed 1)
     × (after.all_flushed ≡ before.all_flushed)))
 
 -- a writer gains a prefix of a line, and all of it where no call of it failed or took nothing

@@ -1,12 +1,12 @@
 -- What a run leaves: its reads, its writes, its counts, and the devices that a fault is of.
 -- (A choice of this project)
 -- Cited by public contracts.
-use Rattle.std.specs.Prelude.{ℕ, Bool, true, OnOk, IfErr, IfOk, ◌≢◌, List, Option, ◌≡◌, ◌⊎◌, Result, Ok, Err, ◌<◌, ◌≤◌, false, ◌++◌, None, flat_map, count_by, option_to_list, map, [], IfSome, Vec, length}
+use Rattle.std.specs.Prelude.{ℕ, ◌+◌, Bool, true, OnOk, IfErr, IfOk, ◌≢◌, List, Option, ◌≡◌, ◌⊎◌, Result, Ok, Err, ◌<◌, ◌≤◌, false, ◌++◌, None, flat_map, count_by, option_to_list, map, [], IfSome, Vec, length}
 use Rattle.bufr_frame.specs.declared.fault.RunFault.{RunFault}
 use Rattle.bufr_frame.specs.declared.fault.RunFault.TheVariants.{Read, Write, InputTooLong, Memory}
 use Rattle.bufr_text.specs.Prelude.{CountsWrites, GrowsByPrefix, documents_of, open_documents_of}
 use Rattle.std.specs.Io.KnownBytes.{Consumes, Appends, IsAtEnd, Keeps}
-use Rattle.bufr_bits.specs.Prelude.{counted}
+use Rattle.bufr_bits.specs.Prelude.{Flushes, counted}
 use Rattle.bufr_frame.specs.Prelude.{max_reads, StreamEvent, scan, open_scan, read_failures_after}
 use Rattle.bufr_cli.specs.Pieces.{Piece, output_of, errors_of, is_accepted, is_refused, encode_pieces}
 use Rattle.bufr_cli.specs.declared.outcome.Tally.{Tally}
@@ -28,13 +28,13 @@ pub record Input : Type 0 where
   pub reads : ℕ
   pub failures : ℕ
 
--- A writer: the octets it took, where known; its failed calls, empty writes and failed flushes; and
--- whether all that it took was handed on.
+-- A writer: the octets it took, where known; its failed calls, empty writes and flushes; and whether
+-- all that it took was handed on.
 pub record Writer : Type 0 where
   pub taken : Option (List ℕ)
   pub failures : ℕ
   pub empty_writes : ℕ
-  pub failed_flushes : ℕ
+  pub flushes : Flushes
   pub all_flushed : Bool
 
 -- The two writers of a run.
@@ -54,7 +54,7 @@ writer_of ghosts w =
       taken = ghosts.taken w;
       failures = ghosts.failures w;
       empty_writes = ghosts.empty_writes w;
-      failed_flushes = ghosts.failed_flushes w;
+      flushes = ghosts.flushes w;
       all_flushed = ghosts.all_flushed w;
     }
 
@@ -71,14 +71,14 @@ holding output errors =
         taken = output;
         failures = 0;
         empty_writes = 0;
-        failed_flushes = 0;
+        flushes = record { made = 0; failed = 0 };
         all_flushed = true;
       };
       errors = record {
         taken = errors;
         failures = 0;
         empty_writes = 0;
-        failed_flushes = 0;
+        flushes = record { made = 0; failed = 0 };
         all_flushed = true;
       };
     }
@@ -88,10 +88,10 @@ abbrev pub CountsCalls : {X : Type 0} → (before after : Writer) → Result X R
 CountsCalls before after result =
     CountsWrites before.failures after.failures before.empty_writes after.empty_writes result
 
--- a write fault comes only from a call that the writer counts, and no flush failed
+-- a write fault comes only from a call that the writer counts, and it was not flushed
 abbrev pub OnlyWrites : {X : Type 0} → (before after : Writer) → Result X RunFault → Type 0
 OnlyWrites before after result =
-    CountsCalls before after result × (after.failed_flushes ≡ before.failed_flushes)
+    CountsCalls before after result × (after.flushes ≡ before.flushes)
 
 -- no call of a writer failed, and no write took nothing
 abbrev pub IsSame : (before after : Writer) → Type 0
@@ -189,6 +189,12 @@ HandsOn before after (Err Read) =
     IsHandedOn before.output after.output × IsHandedOn before.errors after.errors
 HandsOn before after (Err fault) = Unit {0}
 
+-- each writer was flushed at most this often
+abbrev pub FlushesAtMost : (n : ℕ) → (before after : Writers) → Type 0
+FlushesAtMost n before after =
+    (after.output.flushes.made ≤ counted before.output.flushes.made n)
+    × (after.errors.flushes.made ≤ counted before.errors.flushes.made n)
+
 -- Both writers keep what they took, and all of it was handed on, the output first; or a flush
 -- failed.
 pub record HandsOnBoth {X : Type 0} (before after : Writers) (result : Result X RunFault) : Type 0
@@ -197,10 +203,11 @@ pub record HandsOnBoth {X : Type 0} (before after : Writers) (result : Result X 
     pub errors : Keeps before.errors.taken after.errors.taken
     pub handed : OnOk result
         ((after.output.all_flushed ≡ true) × (after.errors.all_flushed ≡ true))
-    pub none : OnOk result ((after.output.failed_flushes ≡ before.output.failed_flushes)
-        × (after.errors.failed_flushes ≡ before.errors.failed_flushes))
-    pub order : after.errors.failed_flushes ≢ before.errors.failed_flushes
+    pub none : OnOk result ((after.output.flushes.failed ≡ before.output.flushes.failed)
+        × (after.errors.flushes.failed ≡ before.errors.flushes.failed))
+    pub order : after.errors.flushes.failed ≢ before.errors.flushes.failed
         → after.output.all_flushed ≡ true
+    pub once : FlushesAtMost 1 before after
     pub fault : IfErr result (λ fault. fault ≡ Write)
     pub counts : BlamesWriter before after result
 
@@ -215,7 +222,8 @@ pub record FlushesIf (written : Bool) (before after : Writer)
     (result : Result (Unit {0}) RunFault) : Type 0 where
   pub keeps : Keeps before.taken after.taken
   pub flushed : OnOk result (IsFlushedIf written before after)
-  pub none : OnOk result (after.failed_flushes ≡ before.failed_flushes)
+  pub none : OnOk result (after.flushes.failed ≡ before.flushes.failed)
+  pub once : after.flushes.made ≤ counted before.flushes.made 1
   pub fault : IfErr result (λ fault. fault ≡ Write)
   pub counts : CountsCalls before after result
 
@@ -228,10 +236,11 @@ pub record HandsOnWritten (waits : Bool) (unflushed unflushed' : Unflushed)
   pub handed : OnOk result ((IsFlushedIf unflushed.output before.output after.output
       × IsFlushedIf unflushed.errors before.errors after.errors)
       ⊎ ((waits ≡ false) × (unflushed' ≡ unflushed) × (after ≡ before)))
-  pub none : OnOk result ((after.output.failed_flushes ≡ before.output.failed_flushes)
-      × (after.errors.failed_flushes ≡ before.errors.failed_flushes))
-  pub order : after.errors.failed_flushes ≢ before.errors.failed_flushes
+  pub none : OnOk result ((after.output.flushes.failed ≡ before.output.flushes.failed)
+      × (after.errors.flushes.failed ≡ before.errors.flushes.failed))
+  pub order : after.errors.flushes.failed ≢ before.errors.flushes.failed
       → IsFlushedIf unflushed.output before.output after.output
+  pub once : FlushesAtMost 1 before after
   pub fault : IfErr result (λ fault. fault ≡ Write)
   pub counts : BlamesWriter before after result
 
@@ -250,6 +259,11 @@ abbrev pub ReadsAtMost : {X : Type 0} → (reads reads' : ℕ) → Result X RunF
 ReadsAtMost reads reads' result =
     (n : ℕ) × (n ≤ max_reads) × (reads' ≡ counted reads n)
     × (result ≡ Err InputTooLong → n ≡ max_reads)
+
+-- each writer was flushed at most once before each read, and once at the end
+abbrev pub FlushesByRead : (reads reads' : ℕ) → (before after : Writers) → Type 0
+FlushesByRead reads reads' before after =
+    (n : ℕ) × (reads' ≡ counted reads n) × FlushesAtMost (n + 1) before after
 
 -- the pieces of a whole input were written and counted
 abbrev pub WritesWhole : RunPieces → (before after : Writers) → Tally → (octets : List ℕ) → Type 0
@@ -272,8 +286,8 @@ IsUnrefused pieces given = pieces.stops ≡ true → count_by is_refused given �
 -- no flush of a writer failed
 abbrev pub NoFlushFails : (before after : Writers) → Type 0
 NoFlushFails before after =
-    (after.output.failed_flushes ≡ before.output.failed_flushes)
-    × (after.errors.failed_flushes ≡ before.errors.failed_flushes)
+    (after.output.flushes.failed ≡ before.output.flushes.failed)
+    × (after.errors.flushes.failed ≡ before.errors.flushes.failed)
 
 -- How a run ended that read and wrote so much. At its end the pieces of the whole input were
 -- written and counted, whatever may follow what was read. Nothing follows the end, and after a
@@ -305,11 +319,12 @@ pub record LeavesDevices (pieces : RunPieces) (from to : Input) (before after : 
   pub ends : RunEnds ran result
   -- where the whole input is known, its pieces were written and counted
   pub whole : IfOk result (λ tally. IfSome from.left (WritesWhole pieces before after tally))
-  pub order : after.errors.failed_flushes ≢ before.errors.failed_flushes
+  pub order : after.errors.flushes.failed ≢ before.errors.flushes.failed
       → IsHandedOn before.output after.output
   pub flushed : HandsOn before after result
   pub failures : to.failures ≡ read_failures_after from.failures result
   pub reads : ReadsAtMost from.reads to.reads result
+  pub flushes : FlushesByRead from.reads to.reads before after
   pub writers : BlamesWriter before after result
 
 -- the octets that were read, to the end; or a fault, never one of a write

@@ -1,9 +1,9 @@
 //! A buffered writer that tries nothing again.
 ghost use Rattle.std.specs.Prelude.{◌≡◌, ◌≤◌, ◌<◌, ◌+◌, ◌-◌, min, ℕ, List, [], length, drop, false, Ok, IfOk, IsErr, OnOk, vec_len, vec_capacity};
 ghost use Rattle.std.specs.Io.KnownBytes.{Keeps, WriteAppends};
-ghost use Rattle.bufr_bits.specs.Device.{all_flushed_after_flush, all_flushed_after_write, empty_writes_after, failures_after};
+ghost use Rattle.bufr_bits.specs.Device.{all_flushed_after_flush, all_flushed_after_write, counted, empty_writes_after, failures_after, flushes_after, whole_writes_after};
 ghost use Rattle.bufr_text.specs.Prelude.{Fails, MovesPrefix, Stays};
-ghost use Rattle.bufr_cli.specs.Prelude.{CountsCall, StaysBounded, flushed_by, taken_by};
+ghost use Rattle.bufr_cli.specs.Prelude.{CallsAtMost, CountsCall, StaysBounded, flushed_by, flushes_of, taken_by};
 
 use bufr_bits::{Failed, Sink};
 use std::alloc::{AllocError, Global};
@@ -26,6 +26,7 @@ pub struct Buffered<S: Sink> {
     held: Vec<u8>,
     capacity: usize,
     failures: u64,
+    flushes: u64,
     failed_flushes: u64,
 }
 
@@ -43,13 +44,14 @@ impl<S: Sink> Buffered<S> {
         ensures room { IfOk result (λ b. vec_capacity b.held ≡ capacity) }
         ensures capacity { IfOk result (λ b. b.capacity ≡ capacity) }
         ensures failures { IfOk result (λ b. b.failures ≡ 0) }
-        ensures failed_flushes { IfOk result (λ b. b.failed_flushes ≡ 0) }
+        ensures flushes { IfOk result (λ b. flushes_of b ≡ record { made = 0; failed = 0 }) }
     {
         Ok(Buffered {
             sink,
             held: Vec::with_capacity(alloc, capacity)?,
             capacity,
             failures: 0,
+            flushes: 0,
             failed_flushes: 0,
         })
     }
@@ -64,6 +66,9 @@ fn write_out<S: Sink>(octets: &[u8], sink: &mut S) -> usize
         (S.empty_writes sink.old) (S.empty_writes sink.new) }
     ensures cut { 0 < result → Fails (S.failures sink.old) (S.failures sink.new)
         (S.empty_writes sink.old) (S.empty_writes sink.new) }
+    // Each write is given all that is left, so at most one takes all that it is given.
+    ensures few { S.whole_writes sink.new ≤ counted (S.whole_writes sink.old) 1 }
+    ensures flushes { S.flushes sink.new ≡ S.flushes sink.old }
     ensures unflushed { result < length octets.now → S.all_flushed sink.new ≡ false }
     ensures same { result ≡ length octets.now
         → S.all_flushed sink.new ≡ S.all_flushed sink.old }
@@ -100,7 +105,8 @@ impl<S: Sink> Buffered<S> {
         ensures bounded { StaysBounded self.old self.new }
         ensures counts { CountsCall S.Sink self.old.sink self.new.sink result }
         ensures failures { self.new.failures ≡ self.old.failures }
-        ensures failed_flushes { self.new.failed_flushes ≡ self.old.failed_flushes }
+        ensures flushes { flushes_of self.new ≡ flushes_of self.old }
+        ensures calls { CallsAtMost S.Sink 1 0 self.old.sink self.new.sink }
     {
         let left = write_out(self.held.as_slice(), &mut self.sink);
         remove_front(&mut self.held, left);
@@ -121,7 +127,8 @@ impl<S: Sink> Buffered<S> {
         ensures bounded { StaysBounded self.old self.new }
         ensures counts { CountsCall S.Sink self.old.sink self.new.sink result }
         ensures failures { self.new.failures ≡ self.old.failures }
-        ensures failed_flushes { self.new.failed_flushes ≡ self.old.failed_flushes }
+        ensures flushes { flushes_of self.new ≡ flushes_of self.old }
+        ensures calls { CallsAtMost S.Sink 2 0 self.old.sink self.new.sink }
     {
         self.hand_on()?;
         if buf.len() <= self.capacity && self.held.extend_from_slice(buf).is_ok() {
@@ -142,7 +149,8 @@ impl<S: Sink> Buffered<S> {
         ensures bounded { StaysBounded self.old self.new }
         ensures counts { CountsCall S.Sink self.old.sink self.new.sink result }
         ensures failures { self.new.failures ≡ self.old.failures }
-        ensures failed_flushes { self.new.failed_flushes ≡ self.old.failed_flushes }
+        ensures flushes { flushes_of self.new ≡ flushes_of self.old }
+        ensures calls { CallsAtMost S.Sink 1 1 self.old.sink self.new.sink }
     {
         self.hand_on()?;
         self.sink.flush()
@@ -156,7 +164,7 @@ impl<S: Sink> Buffered<S> {
             result buf.now }
         ensures failed { self.new.failures ≡ failures_after self.old.failures result }
         ensures some { IfOk result (λ n. 0 < length buf.now → 0 < n) }
-        ensures flushes { self.new.failed_flushes ≡ self.old.failed_flushes }
+        ensures flushes { flushes_of self.new ≡ flushes_of self.old }
         ensures flushed { flushed_by S.all_flushed self.new
             ≡ all_flushed_after_write (flushed_by S.all_flushed self.old) result }
         ensures bounded { StaysBounded self.old self.new }
@@ -164,6 +172,7 @@ impl<S: Sink> Buffered<S> {
             → CountsCall S.Sink self.old.sink self.new.sink result }
         ensures again { 0 < self.old.failures → IsErr result × (self.new.sink ≡ self.old.sink)
             × (self.new.held ≡ self.old.held) }
+        ensures calls { CallsAtMost S.Sink 2 0 self.old.sink self.new.sink }
     {
         if self.failures == 0
             && let Ok(n) = self.write_through(buf)
@@ -182,7 +191,7 @@ impl<S: Sink> Sink for Buffered<S> {
 
     ghost empty_writes = { λ _. 0 };
 
-    ghost failed_flushes = { λ b. b.failed_flushes };
+    ghost flushes = { λ b. flushes_of b };
 
     ghost all_flushed = { λ b. flushed_by S.all_flushed b };
 
@@ -192,12 +201,16 @@ impl<S: Sink> Sink for Buffered<S> {
         ensures octets { WriteAppends (taken_by S.taken self.old) (taken_by S.taken self.new)
             result buf.now }
         ensures failed { self.new.failures ≡ failures_after self.old.failures result }
-        // Octets that fit are held. A write of some octets takes some, or fails.
+        // Octets that fit are held, and the sink is not called. A write of some octets takes some,
+        // or fails.
         ensures takes { self.old.failures ≡ 0
             → vec_len self.old.held + length buf.now
-            ≤ min self.old.capacity (vec_capacity self.old.held) → result ≡ Ok (length buf.now) }
+            ≤ min self.old.capacity (vec_capacity self.old.held)
+            → (result ≡ Ok (length buf.now)) × (self.new.sink ≡ self.old.sink) }
+        // Other octets make at most one write of those that are held, and one of their own.
+        ensures calls { CallsAtMost S.Sink 2 0 self.old.sink self.new.sink }
         ensures empty { 0 ≡ empty_writes_after 0 buf.now result }
-        ensures flushed { self.new.failed_flushes ≡ self.old.failed_flushes }
+        ensures flushed { flushes_of self.new ≡ flushes_of self.old }
         ensures handed { flushed_by S.all_flushed self.new
             ≡ all_flushed_after_write (flushed_by S.all_flushed self.old) result }
         ensures bounded { StaysBounded self.old self.new }
@@ -221,11 +234,12 @@ impl<S: Sink> Sink for Buffered<S> {
         ensures octets { Keeps (taken_by S.taken self.old) (taken_by S.taken self.new) }
         ensures failed { self.new.failures ≡ failures_after self.old.failures result }
         ensures empty { ◌≡◌ {A = ℕ} 0 0 }
-        ensures flushed { self.new.failed_flushes
-            ≡ failures_after self.old.failed_flushes result }
+        ensures flushed { flushes_of self.new ≡ flushes_after (flushes_of self.old) result }
         ensures handed { flushed_by S.all_flushed self.new
             ≡ all_flushed_after_flush (flushed_by S.all_flushed self.old) result }
         ensures bounded { StaysBounded self.old self.new }
+        // The sink gets what is held in one write, and one flush.
+        ensures calls { CallsAtMost S.Sink 1 1 self.old.sink self.new.sink }
         // Until the first failure, a call fails if and only if a call of the sink does. After it,
         // nothing is tried.
         ensures counts { self.old.failures ≡ 0
@@ -233,6 +247,7 @@ impl<S: Sink> Sink for Buffered<S> {
         ensures again { 0 < self.old.failures → IsErr result × (self.new.sink ≡ self.old.sink)
             × (self.new.held ≡ self.old.held) }
     {
+        self.flushes = self.flushes.saturating_add(1);
         if self.failures == 0 && self.flush_through().is_ok() {
             return Ok(());
         }

@@ -44,8 +44,8 @@ pub trait MessageWriter {
         ensures memory { takes_memory self.new ≡ takes_memory self.old }
         ensures counts { BlamesWriter (writers_of W.Sink w.old E.Sink e.old)
             (writers_of W.Sink w.new E.Sink e.new) result }
-        ensures output_flushes { W.failed_flushes w.new ≡ W.failed_flushes w.old }
-        ensures errors_flushes { E.failed_flushes e.new ≡ E.failed_flushes e.old };
+        ensures output_flushes { W.flushes w.new ≡ W.flushes w.old }
+        ensures errors_flushes { E.flushes e.new ≡ E.flushes e.old };
 }
 
 /// The messages of a stream, and what writes them.

@@ -1,6 +1,7 @@
 //! A run over an input: what comes next is written, piece by piece.
-ghost use Rattle.std.specs.Prelude.{◌≡◌, ◌≢◌, ℕ, Bool, true, false, Ok, Err, OnOk, IfErr};
+ghost use Rattle.std.specs.Prelude.{◌≡◌, ◌≢◌, ◌≤◌, ℕ, Bool, true, false, Ok, Err, OnOk, IfErr};
 ghost use Rattle.std.specs.Io.KnownBytes.{Keeps};
+ghost use Rattle.bufr_bits.specs.Prelude.{counted};
 ghost use Rattle.bufr_frame.specs.Prelude.{AddsReads, read_failures_after};
 ghost use Rattle.bufr_cli.specs.Prelude.{BlamesWriter, CountsCalls, CountsRead, FlushesIf, HandsOnBoth, HandsOnWritten, LeavesDevices, Progress, ReadsOctets, RunPieces, RunReads, StopsPiece, TakesStep, input_of, no_progress, unflushed_after, writer_of, writers_of};
 
@@ -53,8 +54,8 @@ pub trait PieceWriter {
         ensures memory { takes_memory self.new ≡ takes_memory self.old }
         ensures counts { BlamesWriter (writers_of W.Sink w.old E.Sink e.old)
             (writers_of W.Sink w.new E.Sink e.new) result }
-        ensures output_flushes { W.failed_flushes w.new ≡ W.failed_flushes w.old }
-        ensures errors_flushes { E.failed_flushes e.new ≡ E.failed_flushes e.old };
+        ensures output_flushes { W.flushes w.new ≡ W.flushes w.old }
+        ensures errors_flushes { E.flushes e.new ≡ E.flushes e.old };
 
     /// Reads once, where a read is needed. The input must be the same at each call.
     ///
@@ -77,7 +78,8 @@ pub trait PieceWriter {
 /// Hands on what was written.
 pub(crate) fn flush<W: Sink>(w: &mut W) -> Result<(), RunFault>
     ensures keeps { Keeps (W.taken w.old) (W.taken w.new) }
-    ensures failed_flushes { OnOk result (W.failed_flushes w.new ≡ W.failed_flushes w.old) }
+    ensures made { (W.flushes w.new).made ≤ counted (W.flushes w.old).made 1 }
+    ensures failed { OnOk result ((W.flushes w.new).failed ≡ (W.flushes w.old).failed) }
     ensures all_flushed { OnOk result (W.all_flushed w.new ≡ true) }
     ensures err { IfErr result (λ fault. fault ≡ RunFault.Write) }
     ensures counts { CountsCalls (writer_of W.Sink w.old) (writer_of W.Sink w.new) result }

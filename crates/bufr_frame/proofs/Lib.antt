@@ -1,3 +1,4 @@
+mod ShorterForms
 pub mod FinderLemmas
 pub mod AgainLemmas
 pub mod LayoutLemmas

@@ -1,4 +1,5 @@
 pub mod RecordLemmas
+mod ShorterForms
 pub mod TableBLemmas
 pub mod TableDLemmas
 pub mod CycleLemmas

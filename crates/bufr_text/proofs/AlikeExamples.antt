@@ -36,7 +36,7 @@ none_gathered r text p is some = absurd (omega (arith, some))
 
 -- a writer of lines that holds a text
 abbrev holding : List ℕ → LineModel
-holding text = record { taken = Some []; failures = 0; empty_writes = 0; failed_flushes = 0; held = text; status = Ok tt; sink = 0 }
+holding text = record { taken = Some []; failures = 0; empty_writes = 0; flushes = record { made = 0; failed = 0 }; held = text; status = Ok tt; sink = 0 }
 
 -- fails where an item that differs is pushed
 pushes_one : PushesAlike two_items 0 1 (holding []) (holding (codes "001001 MISSING\n"))

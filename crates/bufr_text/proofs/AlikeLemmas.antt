@@ -72,7 +72,7 @@ holding a text = record {
   taken = a.taken;
   failures = a.failures;
   empty_writes = a.empty_writes;
-  failed_flushes = a.failed_flushes;
+  flushes = a.flushes;
   held = a.held ++ text;
   status = a.status;
   sink = a.sink;
@@ -96,7 +96,7 @@ pushed-after : {a b : LineModel} (s t : List ℕ) → a.status ≡ Ok tt → Pus
 pushed-after {a = a} {b = b} s t ok pushes =
     let from = moves-of a b (s ++ t) a.status ok pushes.from in
     let on : MovesOn (holding a s) t b = record { moves = subst (λ l. Moves a.taken b.taken l b.held b.status) (sym (append_assoc a.held s t)) from.moves; counts = from.counts } in
-    record { from = pushes-of (holding a s) b t a.status ok on; failed_flushes = pushes.failed_flushes; sink = pushes.sink }
+    record { from = pushes-of (holding a s) b t a.status ok on; flushes = pushes.flushes; sink = pushes.sink }
 
 -- whether a write has failed, as a showing answers it
 abbrev answered : Result Unit RunFault → Result Unit (ShowFault RunFault)

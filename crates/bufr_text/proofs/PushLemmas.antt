@@ -94,11 +94,11 @@ infixl 20 ◌⨾◌
 pub ◌⨾◌ : {a b c : LineModel} {s t : List ℕ} → Pushes a s b → Pushes b t c → Pushes a (s ++ t) c
 ◌⨾◌ {a = a} {b = b} {c = c} {s = s} {t = t} first second = record {
   from = goes a b c s t a.status b.status refl first.from second.from;
-  failed_flushes = second.failed_flushes ∙ first.failed_flushes;
+  flushes = second.flushes ∙ first.flushes;
   sink = second.sink ∙ first.sink;
 }
 
-pub holds_pushes : {a b : LineModel} {text : List ℕ} → b.status ≡ a.status → b.taken ≡ a.taken → b.failures ≡ a.failures → b.empty_writes ≡ a.empty_writes → b.failed_flushes ≡ a.failed_flushes
+pub holds_pushes : {a b : LineModel} {text : List ℕ} → b.status ≡ a.status → b.taken ≡ a.taken → b.failures ≡ a.failures → b.empty_writes ≡ a.empty_writes → b.flushes ≡ a.flushes
     → b.sink ≡ a.sink
     → b.held ≡ a.held ++ text → Pushes a text b
 holds_pushes h1 h2 h3 h4 h5 h6 h7 = grind (arith, nat_tests, common_steps)
@@ -232,18 +232,18 @@ moved (Ok x) old new octets held held' e f writes = rw (e, f) (record { prefix =
 moved (Err why) old new octets held held' e f writes = rw e writes
 
 written_through : {b c : LineModel} {octets : List ℕ} → b.status ≡ Ok tt → b.held ≡ [] → c.held ≡ [] → Writes b.taken c.taken octets c.status
-    → CountsWrites b.failures c.failures b.empty_writes c.empty_writes c.status → c.failed_flushes ≡ b.failed_flushes → c.sink ≡ b.sink → Pushes b octets c
-written_through {b = b} {c = c} {octets = octets} ok none none' writes counts failed_flushes sink = record {
+    → CountsWrites b.failures c.failures b.empty_writes c.empty_writes c.status → c.flushes ≡ b.flushes → c.sink ≡ b.sink → Pushes b octets c
+written_through {b = b} {c = c} {octets = octets} ok none none' writes counts flushes sink = record {
   from = rw ok (record { moves = moved c.status b.taken c.taken octets b.held c.held none none' writes; counts = counts });
-  failed_flushes = failed_flushes;
+  flushes = flushes;
   sink = sink;
 }
 
 pub pushed_through : {a b mid c : LineModel} {octets : List ℕ} → Pushes a [] mid → b ≡ mid → mid.held ≡ [] → b.status ≡ Ok tt → Writes b.taken c.taken octets c.status
-    → CountsWrites b.failures c.failures b.empty_writes c.empty_writes c.status → c.held ≡ [] → c.failed_flushes ≡ b.failed_flushes → c.sink ≡ b.sink → Pushes a octets c
-pushed_through {b = b} {c = c} {octets = octets} first is none ok writes counts none' failed_flushes sink =
+    → CountsWrites b.failures c.failures b.empty_writes c.empty_writes c.status → c.held ≡ [] → c.flushes ≡ b.flushes → c.sink ≡ b.sink → Pushes a octets c
+pushed_through {b = b} {c = c} {octets = octets} first is none ok writes counts none' flushes sink =
     let B : LineModel → Type 0 = λ b. Pushes b octets c in
-    first ⨾ subst B is (written_through ok (ap (λ x. x.held) is ∙ none) none' writes counts failed_flushes sink)
+    first ⨾ subst B is (written_through ok (ap (λ x. x.held) is ∙ none) none' writes counts flushes sink)
 
 pub fails_pushes : {a b : LineModel} {s : List ℕ} (t : List ℕ) (f : RunFault) → Pushes a s b → b.status ≡ Err f → Pushes a (s ++ t) b
 fails_pushes t f h1 h2 = grind (arith, nat_tests, common_steps)
@@ -338,7 +338,7 @@ prefix-moved a b text (Err f) moves = moves.1
 pub record LeavesSink {X : Type 0} (a : LineModel) (text : List ℕ) (r : Result X RunFault) (c : LineModel) : Type 0 where
   pub writes : WritesPrefix a.taken c.taken text r
   pub counts : CountsFaults a.failures c.failures a.empty_writes c.empty_writes r
-  pub failed_flushes : c.failed_flushes ≡ a.failed_flushes
+  pub flushes : c.flushes ≡ a.flushes
   pub sink : c.sink ≡ a.sink
 
 counts-fault : (f f' e e' : ℕ) (status : Result Unit RunFault) (fault : RunFault) → IsFirstFault status fault → ((g : RunFault) → status ≡ Err g → g ≡ Write) → CountsWrites f f' e e' status
@@ -365,7 +365,7 @@ module _ {a b c : LineModel} {head : List ℕ} (rest : List ℕ) (ok : a.status 
           gains = grown.gains;
         };
         counts = counts-fault a.failures c.failures a.empty_writes c.empty_writes c.status fault is (only-write a c (a.held ++ (head ++ more.prefix)) c.held c.status from.moves) from.counts;
-        failed_flushes = whole.failed_flushes;
+        flushes = whole.flushes;
         sink = whole.sink;
       }
 
@@ -376,7 +376,7 @@ module _ {a b c : LineModel} {head : List ℕ} (rest : List ℕ) (ok : a.status 
       record {
         writes = all_written {r = Ok tt} tt whole nothing_pushed ok none empty refl refl is;
         counts = rw (sym is) at from.counts;
-        failed_flushes = whole.failed_flushes;
+        flushes = whole.flushes;
         sink = whole.sink;
       }
   leaves-end (Err fault) more empty is = leaves-prefix fault (whole-prefix rest more) (rw (sym is) refl)

@@ -3,7 +3,7 @@
 -- Cited by public contracts.
 use Rattle.std.specs.Prelude.{◌≡◌, ◌≤◌, ◌⊎◌, ℕ, List, [], ◌∷◌, ◌++◌, Option, Result, Ok, Err, IfSome, length, take}
 use Rattle.std.specs.Io.KnownBytes.{Appends}
-use Rattle.bufr_bits.specs.Prelude.{counted}
+use Rattle.bufr_bits.specs.Prelude.{Flushes, counted}
 use Rattle.bufr_frame.specs.declared.fault.RunFault.{RunFault}
 use Rattle.bufr_frame.specs.declared.fault.RunFault.TheVariants.{Write, Read, InputTooLong}
 use Rattle.bufr_walk.specs.Prelude.{Timed, Call, subset_call, item_call, ticked}
@@ -50,7 +50,7 @@ pub record LineModel : Type 0 where
   pub taken : Option (List ℕ)
   pub failures : ℕ
   pub empty_writes : ℕ
-  pub failed_flushes : ℕ
+  pub flushes : Flushes
   pub held : List ℕ
   pub status : Result Unit RunFault
   pub sink : ℕ
@@ -91,7 +91,7 @@ PushesFrom (Err fault) before text after = StaysFailed fault before after
 -- a text was pushed
 pub record Pushes (before : LineModel) (text : List ℕ) (after : LineModel) : Type 0 where
   pub from : PushesFrom before.status before text after
-  pub failed_flushes : after.failed_flushes ≡ before.failed_flushes
+  pub flushes : after.flushes ≡ before.flushes
   pub sink : after.sink ≡ before.sink
 
 -- ---- What a dump leaves on its writer, and the steps that are made for it.

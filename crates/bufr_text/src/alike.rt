@@ -147,7 +147,10 @@ impl AlikeLines {
         ensures few { length self.new.stretches.items ≤ 1025 }
     {
         let len = items.len();
-        let mut sink = NoSink { empty_writes: 0 };
+        let mut sink = NoSink {
+            empty_writes: 0,
+            flushes: 0,
+        };
         let mut lines = LineWriter::new(block, &mut sink);
         let mut at = 0;
         'stretches: while at < len {

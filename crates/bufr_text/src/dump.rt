@@ -290,7 +290,7 @@ pub fn write_dump<W: Sink>(
     ensures steps { MakesSteps (calls_of reading.now) (turns_shown reading.now) result steps.new }
     ensures counts { CountsFaults (W.failures w.old) (W.failures w.new) (W.empty_writes w.old)
         (W.empty_writes w.new) result }
-    ensures failed_flushes { W.failed_flushes w.new ≡ W.failed_flushes w.old }
+    ensures flushes { W.flushes w.new ≡ W.flushes w.old }
     ensures bounded { steps.new ≤ places reading.now.template * reading.now.bits }
 {
     let mut memory = DumpMemory::new(alloc, reading.table());
@@ -322,7 +322,7 @@ pub fn write_dump_by<W: Sink>(
     ensures steps { MakesSteps (calls_of reading.now) (turns_shown reading.now) result steps.new }
     ensures counts { CountsFaults (W.failures w.old) (W.failures w.new) (W.empty_writes w.old)
         (W.empty_writes w.new) result }
-    ensures failed_flushes { W.failed_flushes w.new ≡ W.failed_flushes w.old }
+    ensures flushes { W.flushes w.new ≡ W.flushes w.old }
     ensures bounded { steps.new ≤ places reading.now.template * reading.now.bits }
 {
     *steps = Steps::new();

@@ -1,6 +1,6 @@
 //! A writer of lines: octets put into a block of memory, and handed on to a sink.
 ghost use Rattle.std.specs.Prelude.{◌≡◌, ◌≤◌, ◌++◌, [], Ok, length, take, decimal, replicate, ◌<◌, Some, drop, codes, true};
-ghost use Rattle.bufr_bits.specs.Prelude.{decimal_text_of};
+ghost use Rattle.bufr_bits.specs.Prelude.{counted, decimal_text_of};
 ghost use Rattle.bufr_tables.specs.Prelude.{row_of_entry, row_comment, row_line_start};
 ghost use Rattle.bufr_text.specs.Prelude.{Pushes, Writes, CountsWrites, zero_padded, Puts, escaped, hex_digit, hex_text, is_unescaped, quoted};
 
@@ -36,7 +36,7 @@ impl<'b, 'w, W: Sink> Model for LineWriter<'b, 'w, W> {
       taken = W.taken a.w.now;
       failures = W.failures a.w.now;
       empty_writes = W.empty_writes a.w.now;
-      failed_flushes = W.failed_flushes a.w.now;
+      flushes = W.flushes a.w.now;
       held = take a.len a.octets.now;
       status = a.status;
       sink = a.w.ghost_name;
@@ -56,7 +56,9 @@ pub fn write_all<W: Sink>(octets: &[u8], w: &mut W) -> Result<(), RunFault>
     ensures writes { Writes (W.taken w.old) (W.taken w.new) octets.now result }
     ensures counts { CountsWrites (W.failures w.old) (W.failures w.new) (W.empty_writes w.old)
         (W.empty_writes w.new) result }
-    ensures failed_flushes { W.failed_flushes w.new ≡ W.failed_flushes w.old }
+    // Each write is given all that is left, so at most one write takes all that it is given.
+    ensures whole { W.whole_writes w.new ≤ counted (W.whole_writes w.old) 1 }
+    ensures flushes { W.flushes w.new ≡ W.flushes w.old }
 {
     let mut rest = octets;
     while !rest.is_empty() {
@@ -75,7 +77,7 @@ fn write_prefix<W: Sink>(octets: &mut [u8], at: usize, w: &mut W) -> Result<(), 
     ensures writes { Writes (W.taken w.old) (W.taken w.new) (take at octets.old) result }
     ensures counts { CountsWrites (W.failures w.old) (W.failures w.new) (W.empty_writes w.old)
         (W.empty_writes w.new) result }
-    ensures failed_flushes { W.failed_flushes w.new ≡ W.failed_flushes w.old }
+    ensures flushes { W.flushes w.new ≡ W.flushes w.old }
 {
     write_all(&octets[..at], w)
 }
@@ -111,7 +113,7 @@ impl<'b, 'w, W: Sink> LineWriter<'b, 'w, W> {
         ensures taken { result.taken ≡ W.taken w.old }
         ensures failures { result.failures ≡ W.failures w.old }
         ensures empty { result.empty_writes ≡ W.empty_writes w.old }
-        ensures failed_flushes { result.failed_flushes ≡ W.failed_flushes w.old }
+        ensures flushes { result.flushes ≡ W.flushes w.old }
         ensures status { result.status ≡ Ok tt }
         ensures sink { result.sink ≡ w.entry.ghost_name }
     {
@@ -380,7 +382,7 @@ impl<'b, 'w, W: Sink> LineWriter<'b, 'w, W> {
         ensures taken { W.taken result.now ≡ self.entry.taken }
         ensures failures { W.failures result.now ≡ self.entry.failures }
         ensures empty { W.empty_writes result.now ≡ self.entry.empty_writes }
-        ensures failed_flushes { W.failed_flushes result.now ≡ self.entry.failed_flushes }
+        ensures flushes { W.flushes result.now ≡ self.entry.flushes }
         ensures sink { result.ghost_name ≡ self.entry.sink }
     {
         self.w
@@ -391,6 +393,7 @@ impl<'b, 'w, W: Sink> LineWriter<'b, 'w, W> {
 #[derive(Drop)]
 pub(crate) struct NoSink {
     pub(crate) empty_writes: u64,
+    pub(crate) flushes: u64,
 }
 
 impl Sink for NoSink {
@@ -400,7 +403,7 @@ impl Sink for NoSink {
 
     ghost empty_writes = { λ s. s.empty_writes };
 
-    ghost failed_flushes = { λ _. 0 };
+    ghost flushes = { λ s. record { made = s.flushes; failed = 0 } };
 
     ghost all_flushed = { λ _. true };
 
@@ -412,6 +415,7 @@ impl Sink for NoSink {
     }
 
     fn flush(&mut self) -> Result<(), Failed> {
+        self.flushes = self.flushes.saturating_add(1);
         Ok(())
     }
 }

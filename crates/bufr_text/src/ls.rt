@@ -86,7 +86,7 @@ pub fn write_ls<W: Sink>(offset: u64, message: &Message<'_>, w: &mut W) -> Resul
     ensures writes { Writes (W.taken w.old) (W.taken w.new) (ls_line offset message.now) result }
     ensures counts { CountsWrites (W.failures w.old) (W.failures w.new) (W.empty_writes w.old)
         (W.empty_writes w.new) result }
-    ensures failed_flushes { W.failed_flushes w.new ≡ W.failed_flushes w.old }
+    ensures flushes { W.flushes w.new ≡ W.flushes w.old }
 {
     let mut block = [0; LINE];
     let mut line = LineWriter::new(&mut block, w);

@@ -19,7 +19,7 @@ returns-in-Ok g c =
       writes = all-written-of c.args.message.now c.args.reading.now c.status-outcome.result left.0 before.taken (search (rules, left.0.sink));
       steps = left.1;
       counts = all-counted-of c.status-outcome.result left.0 before.failures (search (rules, left.0.sink)) before.empty (search (rules, left.0.sink));
-      failed_flushes = (search (rules, left.0.sink)) ∙ left.0.failed_flushes ∙ before.failed_flushes;
+      flushes = (search (rules, left.0.sink)) ∙ left.0.flushes ∙ before.flushes;
       bounded = search rules;
     }
 
@@ -33,7 +33,7 @@ returns-in-Err-Visitor g c =
       writes = all-written-of c.args.message.now c.args.reading.now (Err c.in-Err-Visitor.fault) left.0 before.taken (search (rules, left.0.sink));
       steps = left.1;
       counts = all-counted-of (Err c.in-Err-Visitor.fault) left.0 before.failures (search (rules, left.0.sink)) before.empty (search (rules, left.0.sink));
-      failed_flushes = (search (rules, left.0.sink)) ∙ left.0.failed_flushes ∙ before.failed_flushes;
+      flushes = (search (rules, left.0.sink)) ∙ left.0.flushes ∙ before.flushes;
       bounded = search rules;
     }
 
@@ -47,7 +47,7 @@ returns-in_ok-first-in-Err-Memory g c =
       writes = all-written-of c.args.message.now c.args.reading.now (Err run.Memory) left.0 before.taken (search (rules, left.0.sink));
       steps = left.1;
       counts = all-counted-of (Err run.Memory) left.0 before.failures (search (rules, left.0.sink)) before.empty (search (rules, left.0.sink));
-      failed_flushes = (search (rules, left.0.sink)) ∙ left.0.failed_flushes ∙ before.failed_flushes;
+      flushes = (search (rules, left.0.sink)) ∙ left.0.flushes ∙ before.flushes;
       bounded = search rules;
     }
 
@@ -63,6 +63,6 @@ returns-in_err-first-in-Err-Memory g c =
       writes = all-written-of c.args.message.now c.args.reading.now c.from_residual-in_err-first-in-Err-Memory.result left.0 before.taken (search (rules, left.0.sink));
       steps = left.1;
       counts = all-counted-of c.from_residual-in_err-first-in-Err-Memory.result left.0 before.failures (search (rules, left.0.sink)) before.empty (search (rules, left.0.sink));
-      failed_flushes = (search (rules, left.0.sink)) ∙ left.0.failed_flushes ∙ before.failed_flushes;
+      flushes = (search (rules, left.0.sink)) ∙ left.0.flushes ∙ before.flushes;
       bounded = search rules;
     }
