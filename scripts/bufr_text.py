@@ -168,7 +168,7 @@ def warn(text: str) -> None:
 class Fault(NamedTuple):
     """A fault that `bufr` reported: the byte offset of the message or stray, the fault number and the description.
 
-    `file` is the name of the file. A stray has a number below 10, and a refused message has a greater one.
+    `file` is the name of the file. The number is below 10 for a stray, and 10 or more for a refused message.
     """
 
     offset: int

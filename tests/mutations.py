@@ -543,7 +543,7 @@ MUTATIONS = [
     ("scripts/bufr_text.py", '{kind}: {first}" if count == 1 else', '{kind}: {first}" if False else', "tests/python_module.py"),
     ("scripts/bufr_text.py", "    except OSError:\n        return name, {}", "    except ImportError:\n        return name, {}", "tests/python_module.py"),
     ("scripts/bufr_text.py", "elif at not in self.with_value:", "elif False:", "tests/python_module.py"),
-    ("scripts/bufr_text.py", "[0 if self.has_rows else self.kept :]", "", "tests/python_module.py"),
+    ("scripts/bufr_text.py", "[0 if self.has_rows else self.kept :]", "", "tests/arrays.py Faults.test_subsets_without_levels_are_warned_of"),
     ("scripts/bufr_text.py", "        if not has_levels:\n", "        if False:\n", "tests/python_module.py"),
     ("scripts/bufr_text.py", "begin >= 0 and (left or inner < pass_inner)", "left or inner < pass_inner", "tests/python_module.py"),
     ("scripts/bufr_text.py", "(fxy, name.upper()) for", "(fxy, name) for", "tests/python_module.py"),
