@@ -15,22 +15,24 @@ files into pieces that several processes can read at the same time.
 Each function takes a source: the name of a file, `"-"` for standard input, bytes, an open binary file, a `Piece`, or a list
 of these. A source is read in parts of a few MB, so it can be larger than the available memory. Each message is read with the
 table set that bufr-auto would choose, unless you pass the names of two tables as `tables=(B, D)`. To select messages, pass a
-list of conditions `KEY=VALUE` or `KEY!=VALUE` as `where`, as for bufr-extract. `faults` determines what happens if a message
-is refused, or if the word `BUFR` occurs where no message begins:
+list of conditions `KEY=VALUE` or `KEY!=VALUE` as `where`, as for bufr-extract.
 
-- `"warn"` (default): at the end of each file, a `DumpWarning` counts these faults.
-- `"raise"`: the first fault raises `BufrError`.
-- `"ignore"`: faults are not reported, but `messages` still returns a row for each of them.
-- a list: a `Fault` is appended to the list for each fault.
+A fault is a refused message or a stray (the word `BUFR` where no complete message begins). `faults` determines what happens:
 
-A `DumpWarning` also reports files without messages, and messages whose tables are missing. This module needs NumPy, and
-`frame` needs pandas. The library is the file libbufr.so.0 next to this module, or in the directory `lib` of the installation
-or clone. To use another file, set the environment variable BUFR_LIBRARY to its path. If there is no library, importing this
-module raises `ImportError`.
+- `"warn"` (default): at the end of each file, a `DumpWarning` counts the faults.
+- `"raise"`: the first fault, or a file without messages, raises `BufrError`.
+- `"ignore"`: faults and files without messages are not reported, but `messages` still returns a row for each fault.
+- a list: a `Fault` with the members `offset`, `number`, `text` and `file` is appended to the list for each fault.
+
+A `DumpWarning` also reports files without messages, messages whose tables are missing, columns for which there are no items
+or no values, and subsets without levels.
+
+This module needs NumPy, and `frame` needs pandas. The library is the file libbufr.so.0 next to this module, or in the
+directory `lib` of the installation or clone. To use another file, set the environment variable BUFR_LIBRARY to its path. If
+there is no library, importing this module raises `ImportError`.
 """
 from __future__ import annotations
 
-import os
 import re
 from decimal import Decimal
 from typing import Any, Dict, Iterable, Iterator, List, NamedTuple, Optional, Sequence, Tuple
@@ -38,10 +40,9 @@ from typing import Any, Dict, Iterable, Iterator, List, NamedTuple, Optional, Se
 import numpy
 
 import bufr_calls
-import bufr_sets
 import bufr_text
-from bufr_calls import MISSING, NUMBER, REFERENCE, TEXT, WIDE, Array
-from bufr_parts import Faults, Part, Piece, Reader, Source, TwoTables, guarded, pieces
+from bufr_calls import MISSING, NUMBER, REFERENCE, TEXT, WIDE, Array, Path
+from bufr_parts import Faults, Part, Piece, Reader, Source, TwoTables, pieces
 from bufr_text import BufrError, Cell, DumpWarning, Fault, Value
 
 __all__ = (
@@ -49,6 +50,8 @@ __all__ = (
     "frame items levels messages pieces rows"
 ).split()
 
+# The header keys that a dump does not have.
+_KEYS_OF_FILES = "file", "time"
 _FACTORS = frozenset(map(bufr_calls.word, bufr_text.FACTORS))
 # The units of elements whose values are numbers in a table.
 _is_table = re.compile("(common )?(code|flag) table", re.IGNORECASE).match
@@ -158,12 +161,6 @@ class _Table(NamedTuple):
         return messages[key].astype("i8")[self.message]
 
 
-def _check(columns: Sequence[str], header: Sequence[str], keep: Sequence[str] = (), has_counts: bool = False) -> None:
-    bufr_text.check(columns, has_counts)
-    bufr_text.check(keep, has_counts)
-    bufr_text.check_header(header, ["file", "time"])
-
-
 def _subsets(part: Part) -> Tuple[Array, Array, Array]:
     """Returns the message and the number of each subset in a part, and the index of the subset of each item."""
     count = numpy.where(part.messages["fault"] == 0, part.messages["subsets"], 0).astype("i8")
@@ -191,16 +188,25 @@ def _table_of_subsets(part: Part, columns: Sequence[str]) -> _Table:
     return _Table(part, message, subset, found)
 
 
-def _tables_of_levels(parts: Iterable[Part], columns: Sequence[str], keep: Sequence[str]) -> Iterator[_Table]:
-    """Yields tables with a row for each level, and then warns about subsets whose levels are ambiguous."""
-    skipped = bufr_text.Skipped()
-    for part in parts:
-        yield _table_of_levels(part, [*map(bufr_calls.word, columns)], [*map(bufr_calls.word, keep)], skipped)
-    skipped.warn()
+def _tables(reader: Reader, columns: Sequence[str], keep: Sequence[str] = (), has_levels: bool = False) -> Iterator[_Table]:
+    """Yields a table for each part, and then warns about gaps, unless only a piece of a file was read."""
+    gaps = bufr_text.Gaps(columns, keep, reader.table_b)
+    for part in reader:
+        table = _table_of_levels(part, columns, keep, gaps) if has_levels else _table_of_subsets(part, columns)
+        gaps.has_rows = gaps.has_rows or len(table.message) > 0
+        for at, indices in enumerate(table.columns):
+            kinds = part.items["kind"][indices[indices >= 0]]
+            gaps.with_item.update([at] * (len(kinds) > 0))
+            gaps.with_value.update([at] * bool((kinds != MISSING).any()))
+        yield table
+    if reader.is_whole:
+        gaps.warn()
 
 
-def _table_of_levels(part: Part, columns: List[int], keep: List[int], skipped: bufr_text.Skipped) -> _Table:
+def _table_of_levels(part: Part, columns: Sequence[str], keep: Sequence[str], gaps: bufr_text.Gaps) -> _Table:
+    """Returns a table with a row for each level."""
     message, subset, row = _subsets(part)
+    asked, asked_kept = ([*map(bufr_calls.word, words)] for words in (columns, keep))
     places = numpy.flatnonzero(part.items["kind"] != REFERENCE)
     items = part.items[places]
     words, counts = items["fxy"].tolist(), [0] * len(items)
@@ -208,23 +214,25 @@ def _table_of_levels(part: Part, columns: List[int], keep: List[int], skipped: b
     for index, cell in zip(factors.tolist(), _cells(part, items[factors])):
         counts[index] = int(cell or 0)
     ends = numpy.searchsorted(row[places], numpy.arange(len(message) + 1)).tolist()
+    numbers = part.accepted + numpy.cumsum(part.messages["fault"] == 0)[message]
     rows: List[int] = []
     found: List[List[int]] = []
     for at, (begin, end) in enumerate(zip(ends, ends[1:])):
-        own = words[begin:end]
+        own, before = words[begin:end], len(rows)
         try:
             passes = bufr_text.passes(own, counts[begin:end], _FACTORS)
         except bufr_text.Ambiguous as twice:
-            number = part.accepted + int(numpy.count_nonzero(part.messages["fault"][: message[at] + 1] == 0))
-            skipped.add(number, int(subset[at]), bufr_calls.fxy(twice.args[0]))
+            gaps.skip(bufr_text.AMBIGUOUS, int(numbers[at]), int(subset[at]), bufr_calls.fxy(twice.args[0]))
             continue
-        kept = [begin + own.index(word) if word in own else -1 for word in keep]
+        kept = [begin + own.index(word) if word in own else -1 for word in asked_kept]
         for first, last in passes:
             level = own[first:last]
-            values = [begin + first + level.index(word) if word in level else -1 for word in columns]
+            values = [begin + first + level.index(word) if word in level else -1 for word in asked]
             if values[0] >= 0 and (len(values) == 1 or max(values[1:]) >= 0):
                 rows.append(at)
                 found.append(kept + values)
+        if len(rows) == before:
+            gaps.skip(bufr_text.BARE, int(numbers[at]), int(subset[at]))
     indices = numpy.array(found, "i8").reshape(len(found), len(keep) + len(columns))
     indices = numpy.where(indices < 0, -1, numpy.append(places, -1)[indices])
     chosen = numpy.array(rows, "i8")
@@ -263,52 +271,60 @@ def _column(part: Part, indices: Array, unit: str, is_exact: bool) -> Any:
     return floats
 
 
-def _elements(columns: Iterable[str], tables: TwoTables) -> Dict[str, Dict[str, str]]:
+def _elements(columns: Iterable[str], table_b: Optional[Path]) -> Dict[str, Dict[str, str]]:
     """Returns the name and the unit of each column, from the latest table set or from the given Table B."""
-    if tables is None:
-        names = guarded(lambda: bufr_sets.TableSets().latest().names())
-    else:
-        names = {fxy: (name, unit) for fxy, name, unit in bufr_sets.rows_of(os.fspath(tables[0]), "fxy", "name", "unit")}
-    return {word: dict(zip(("name", "unit"), names.get(word[:6], ("", "")))) for word in columns}
+    known = bufr_text.names(table_b)[1]
+    return {word: dict(zip(("name", "unit"), known.get(word[:6], ("", "")))) for word in columns}
 
 
 def frame(
     source: Source,
-    columns: Sequence[str],
-    header: Sequence[str] = (),
+    columns: Iterable[str],
+    header: Iterable[str] = (),
     *,
     levels: bool = False,
-    keep: Sequence[str] = (),
+    keep: Iterable[str] = (),
     exact: bool = False,
-    where: Sequence[str] = (),
+    where: Iterable[str] = (),
     tables: TwoTables = None,
     faults: Faults = "warn",
 ) -> Any:
     """Returns the rows of `rows` or, with `levels=True`, those of `levels`, as a pandas data frame.
 
     Numbers are the nearest floats, and missing numbers are NaN. Values from code tables and flag tables are `Int64`, strings
-    are `str` or `None`, and the header key `"time"` is `datetime64`. With `exact=True`, numbers are `Decimal`. `frame.attrs`
-    contains the name and unit of each element, from the latest table set.
+    are `str` or `None`, and the header key `"time"` is `datetime64`. `frame.attrs` contains the name and unit of each
+    element, from the latest table set.
 
-        >>> frame = bufr.frame("synop.bufr", ["001015", "012101"], header=["time"])
+        >>> frame = bufr.frame("synop.bufr", ["001015", "001001", "012101"], header=["time"])
         >>> frame.attrs["012101"]
         {'name': 'TEMPERATURE/AIR TEMPERATURE', 'unit': 'K'}
         >>> frame["012101"].mean().round(2)
         270.82
+        >>> frame["001001"].astype("Int64").tolist()
+        [2, 3, 6]
         >>> bufr.frame("sounding.bufr", ["007004", "012101"], levels=True, keep=["001002"]).iloc[0].tolist()
         [836.0, 98520.0, 258.55]
+
+    With `exact=True`, all numbers, including codes, are `Decimal` or `None`, in columns of type `object`. pandas computes
+    with them slowly, and some of its methods, such as `std`, `round` and `plot`, fail. `<` and `>` work with floats, but `==`
+    is true only for the exact value, and adding a float is an error. To get floats, use `astype(float)`.
+
+        >>> air = bufr.frame("synop.bufr", ["012101"], exact=True)["012101"]
+        >>> (air - Decimal("273.15")).tolist()
+        [Decimal('-13.80'), Decimal('9.40'), Decimal('-2.60')]
+        >>> (air < 259.36).tolist(), (air == 259.35).tolist(), (air == Decimal("259.35")).tolist()
+        ([True, False, False], [False, False, False], [True, False, False])
     """
     import pandas
 
-    _check(columns, header, keep, has_counts=not levels)
+    columns, header, keep = bufr_text.checked(columns, header, keep, not levels, _KEYS_OF_FILES)
     if keep and not levels:
         raise TypeError("keep= needs levels=True")
-    asked = [*keep, *columns]
-    elements = _elements(asked, tables)
     reader = Reader(source, None if levels else columns, where, tables, faults)
-    found = _tables_of_levels(reader, columns, keep) if levels else (_table_of_subsets(part, columns) for part in reader)
+    asked = [*keep, *columns]
+    elements = _elements(asked, reader.table_b)
     frames = []
-    for table in found:
+    for table in _tables(reader, columns, keep, levels):
         values = [table.header(key) for key in header]
         for word, indices in zip(asked, table.columns):
             values.append(_column(table.part, indices, elements[word]["unit"], exact))
@@ -321,10 +337,10 @@ def frame(
 
 def rows(
     source: Source,
-    columns: Sequence[str],
-    header: Sequence[str] = (),
+    columns: Iterable[str],
+    header: Iterable[str] = (),
     *,
-    where: Sequence[str] = (),
+    where: Iterable[str] = (),
     tables: TwoTables = None,
     faults: Faults = "warn",
 ) -> Iterator[Tuple[Cell, ...]]:
@@ -332,24 +348,24 @@ def rows(
 
     A column is a descriptor such as `"012101"`, or `"012101:2"` for the second such item in the subset. `header` can contain
     the header keys of a dump, such as `"year"`; `"file"`, `"offset"`, `"length"` and `"time"` of the message; and
-    `"message"` and `"subset"`, which count from 1. A number is an `int` if its scale allows no decimal places, and otherwise
-    the nearest `float`. A value is `None` if it is missing, or if the subset has no such item.
+    `"message"` and `"subset"`, which count the accepted messages of the source and the subsets of a message from 1. A number
+    is an `int` if its scale allows no decimal places, and otherwise the nearest `float`. A value is `None` if it is missing,
+    or if the subset has no such item.
 
         >>> next(bufr.rows("synop.bufr", ["001015", "012101"], ["year", "subset"]))
         (2023, 1, 'SODANKYLA', 259.35)
     """
-    _check(columns, header, has_counts=True)
-    reader = Reader(source, columns, where, tables, faults)
-    return _tuples((_table_of_subsets(part, columns) for part in reader), header)
+    columns, header, _ = bufr_text.checked(columns, header, (), True, _KEYS_OF_FILES)
+    return _tuples(_tables(Reader(source, columns, where, tables, faults), columns), header)
 
 
 def levels(
     source: Source,
-    columns: Sequence[str],
-    header: Sequence[str] = (),
-    keep: Sequence[str] = (),
+    columns: Iterable[str],
+    header: Iterable[str] = (),
+    keep: Iterable[str] = (),
     *,
-    where: Sequence[str] = (),
+    where: Iterable[str] = (),
     tables: TwoTables = None,
     faults: Faults = "warn",
 ) -> Iterator[Tuple[Cell, ...]]:
@@ -361,23 +377,33 @@ def levels(
         >>> next(bufr.levels("sounding.bufr", ["007004", "012101"], keep=["001002"]))
         (836, 98520, 258.55)
     """
-    _check(columns, header, keep)
-    reader = Reader(source, None, where, tables, faults)
-    return _tuples(_tables_of_levels(reader, columns, keep), header)
+    columns, header, keep = bufr_text.checked(columns, header, keep, False, _KEYS_OF_FILES)
+    return _tuples(_tables(Reader(source, None, where, tables, faults), columns, keep, has_levels=True), header)
 
 
 class Items(NamedTuple):
     """The items of a source, and its messages.
 
-    `items` is a structured array with a row for each item: `message` (the index of its message), `subset` (from 1), `fxy`
-    (the descriptor as a number: 12101 for 012101), `kind` (`bufr.NUMBER`, `bufr.TEXT` and so on), and `value` (a float, or
-    NaN if the item is missing or a string). If the kind is `NUMBER`, the value is exactly `integer / 10**scale`. `exact`
-    returns the value of any item. `messages` is the result of `bufr.messages`.
+    `items` is a structured array with a row for each item: `message_row` (the index of its message in `messages`), `subset`
+    (from 1), `fxy` (the descriptor as a number: 12101 for 012101), `kind` (`bufr.NUMBER`, `bufr.TEXT` and so on), and
+    `value` (a float, or NaN if the item is missing or a string). If the kind is `NUMBER`, the value is exactly
+    `integer / 10**scale`. `exact` returns the value of any item, and `frame` all items with names and strings.
+
+    `messages` is the result of `bufr.messages`. It also has rows for refused messages, which have no items. `elements`
+    contains the name and the unit of each descriptor that occurs, like `frame.attrs`.
+
+        >>> found = bufr.items("synop.bufr")
+        >>> air = found.items[found.items["fxy"] == 12101]
+        >>> air["value"].tolist(), found.messages["time"][air["message_row"]][0].item().isoformat()
+        ([259.35, 282.55, 270.55], '2023-03-14T18:00:00')
+        >>> found.elements["012101"]["unit"]
+        'K'
     """
 
     items: Array
     messages: Array
     texts: bytes
+    elements: Dict[str, Dict[str, str]]
 
     def exact(self, index: int) -> Value:
         """Returns the value of an item: a `Decimal`, a string as bytes, or `None` if it is missing.
@@ -392,18 +418,44 @@ class Items(NamedTuple):
             return self.texts[value : value + length]
         return _decimal(_wide(self.texts, value) if kind == WIDE else value, scale)
 
+    def frame(self) -> Any:
+        """Returns a pandas data frame with a row for each item, which has the descriptor as a string, and also text.
+
+        A new reference value that is defined in the data has the name REFERENCE.
+
+        >>> bufr.items("synop.bufr", ["001015", "012101"]).frame().query("subset == 2")[["fxy", "value", "text", "unit"]]
+              fxy   value      text       unit
+        2  001015     NaN  HEATHROW  CCITT IA5
+        3  012101  282.55      None          K
+        """
+        import pandas
+
+        words, codes = numpy.unique(self.items["fxy"], return_inverse=True)
+        fxy = numpy.array([f"{word:06}" for word in words.tolist()], object)
+        rows = self.messages[self.items["message_row"]]
+        columns = {key: rows[key] for key in ("file", "offset", "time")}
+        columns.update(subset=self.items["subset"].astype("i8"), fxy=fxy[codes])
+        for key in ("name", "unit"):
+            columns[key] = numpy.array([self.elements[word][key] for word in fxy], object)[codes]
+            columns[key][self.items["kind"] == REFERENCE] = "REFERENCE" if key == "name" else ""
+        texts = numpy.full(len(self.items), None, object)
+        some = numpy.flatnonzero(self.items["kind"] == TEXT)
+        for index, (begin, length) in zip(some.tolist(), self.items[some][["integer", "length"]].tolist()):
+            texts[index] = bufr_text.text_cell(self.texts[begin : begin + length])
+        return pandas.DataFrame({**columns, "value": self.items["value"], "text": texts})
+
 
 _ITEM = numpy.dtype(
-    [("message", "u4"), ("subset", "u2"), ("fxy", "u4"), ("kind", "u1"), ("value", "f8")]
+    [("message_row", "u4"), ("subset", "u2"), ("fxy", "u4"), ("kind", "u1"), ("value", "f8")]
     + [("integer", "i8"), ("scale", "i2"), ("length", "u4")]
 )
 
 
 def items(
     source: Source,
-    columns: Optional[Sequence[str]] = None,
+    columns: Optional[Iterable[str]] = None,
     *,
-    where: Sequence[str] = (),
+    where: Iterable[str] = (),
     tables: TwoTables = None,
     faults: Faults = "warn",
 ) -> Items:
@@ -415,14 +467,17 @@ def items(
         >>> found.items["subset"].tolist()
         [1, 2, 3]
     """
-    _check(columns or (), ())
+    if columns is not None:
+        columns, _, _ = bufr_text.checked(columns, ())
+    reader = Reader(source, columns, where, tables, faults)
+    gaps = bufr_text.Gaps(columns or (), table_b=reader.table_b)
     found, rows, texts, count = [], [], bytearray(), 0
-    for part in Reader(source, columns, where, tables, faults):
+    for part in reader:
         some = numpy.empty(len(part.items), _ITEM)
         for name in ("subset", "kind", "scale", "length"):
             some[name] = part.items[name]
         fxy = part.items["fxy"].astype("u4")
-        some["message"] = part.items["message"] + count
+        some["message_row"] = part.items["message"] + count
         some["fxy"] = (fxy >> 14) * 100000 + (fxy >> 8 & 63) * 1000 + (fxy & 255)
         some["value"] = _floats(part, part.items)
         some["integer"] = part.items["value"] + numpy.where(bufr_calls.is_place(part.items), len(texts), 0)
@@ -430,7 +485,14 @@ def items(
         rows.append(_message_rows(part))
         texts += part.texts
         count += len(part.messages)
-    return Items(numpy.concatenate(found), numpy.concatenate(rows), bytes(texts))
+    all_items, all_rows = numpy.concatenate(found), numpy.concatenate(rows)
+    words = [f"{word:06}" for word in numpy.unique(all_items["fxy"]).tolist()]
+    gaps.has_rows = bool((all_rows["subsets"][all_rows["fault"] == 0] > 0).any())
+    gaps.with_item.update(at for at, word in enumerate(gaps.columns) if word in words)
+    gaps.with_value.update(gaps.with_item)
+    if reader.is_whole:
+        gaps.warn("no message has an item {}")
+    return Items(all_items, all_rows, bytes(texts), _elements(words, reader.table_b))
 
 
 _KEYS = [name for name in bufr_calls.MESSAGE.names or () if name not in ("first", "items", "reserved")]
@@ -439,17 +501,23 @@ _MESSAGE = numpy.dtype([("file", "O"), *((name, "i8") for name in _KEYS), ("time
 
 
 def messages(
-    source: Source, *, where: Sequence[str] = (), tables: TwoTables = None, faults: Faults = "warn"
+    source: Source, *, where: Iterable[str] = (), tables: TwoTables = None, faults: Faults = "warn"
 ) -> Array:
     """Returns a structured array with a row for each message, and for each word `BUFR` where no message begins.
 
     Its columns are `file`, `offset`, `length`, the header keys of a dump, `subsets`, `fault` and `time`. `fault` is 0 if the
-    message is accepted, and otherwise the number of its fault. `time` is the time of the message.
+    message is accepted, and otherwise the number of its fault. `time` is the time of the message. If the header cannot be
+    read, all header fields are 0, including `edition`, and `time` is NaT.
 
         >>> bufr.messages("synop.bufr")[["offset", "length", "centre", "subsets", "fault"]].tolist()
         [(0, 595, 78, 3, 0)]
         >>> pandas.DataFrame(bufr.messages("synop.bufr"))["time"].max()
         Timestamp('2023-03-14 18:00:00')
+        >>> rows = bufr.messages("bulletins.bufr", faults="ignore")
+        >>> rows[["offset", "edition", "centre", "fault"]][rows["fault"] > 0].tolist()
+        [(131, 0, 0, 1), (189, 0, 0, 10), (294, 0, 0, 2)]
+        >>> rows[rows["edition"] > 0]["centre"].tolist()
+        [98, 98, 98, 98]
     """
     return numpy.concatenate([_message_rows(part) for part in Reader(source, (), where, tables, faults)])
 

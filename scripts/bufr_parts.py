@@ -23,7 +23,7 @@ import bufr_conditions
 import bufr_guard
 import bufr_sets
 from bufr_calls import Array, Path, Tables
-from bufr_text import BufrError, Fault, looks, warn
+from bufr_text import STRAY, BufrError, Fault, FaultCounts, looks, warn
 
 _One = Union[Path, "Piece", bytes, bytearray, memoryview, IO[bytes]]
 Source = Union[_One, Iterable[_One]]
@@ -86,10 +86,9 @@ class _Stream:
         self.start = self.start or octets[:256]
         return octets
 
-    def warn_of_no_message(self) -> None:
-        """Warns that a file contains no message, and says what it looks like."""
-        if self.is_whole:
-            warn(f"{self.name}: the file contains no message{looks(self.start)}")
+    def no_message(self) -> str:
+        """Returns the text of a warning that the file contains no message, which says what it looks like."""
+        return f"{self.name}: the file contains no message{looks(self.start)}"
 
 
 def _opened(source: Source) -> Iterator[_Stream]:
@@ -109,6 +108,8 @@ def _opened(source: Source) -> Iterator[_Stream]:
         raise TypeError("the source is a text file; open it with mode 'rb'")
     elif hasattr(source, "read"):
         yield _Stream(str(getattr(source, "name", "stream")), cast(IO[bytes], source))
+    elif not hasattr(source, "__iter__"):
+        raise TypeError(f"expected a file name, bytes, an open binary file, a Piece or a list of these, found {source}")
     else:
         for one in source:
             yield from _opened(one)
@@ -175,8 +176,8 @@ def pieces(files: Union[Path, Iterable[Path]], size: int = 1 << 26) -> List[Piec
             for end, _ in _divided(stream, size, are_pieces=True):
                 found.append(Piece(stream.name, begin, end))
                 begin = end
-            if not stream.has_message:
-                stream.warn_of_no_message()
+            if not stream.has_message and stream.is_whole:
+                warn(stream.no_message())
     return found
 
 
@@ -187,7 +188,7 @@ class Reader:
         self,
         source: Source,
         columns: Optional[Sequence[str]],
-        where: Sequence[str] = (),
+        where: Iterable[str] = (),
         tables: TwoTables = None,
         faults: Faults = "warn",
     ) -> None:
@@ -195,9 +196,11 @@ class Reader:
             raise ValueError(f"faults must be 'warn', 'raise', 'ignore' or a list, not {faults!r}")
         if isinstance(where, str):
             raise ValueError(f"where must be a list of conditions, such as ['{where}'], not a string")
-        self.source, self.where, self.faults = source, where, faults
+        self.source, self.where, self.faults = source, list(where), faults
+        self.is_whole = True
         self.wanted, self.size = bufr_calls.words(columns), _PART_OF_ALL if columns is None else _PART
         self.tables = None if tables is None else Tables(*tables)
+        self.table_b = None if tables is None else tables[0]
         self.chooser = None if tables else guarded(lambda: bufr_auto.Chooser(bufr_auto.Dump))
         self.sets: Dict[bufr_sets.TableSet, Tables] = {}
         self.accepted = 0
@@ -210,18 +213,21 @@ class Reader:
         try:
             for stream in _opened(self.source):
                 self.begin_file(stream.name)
+                self.is_whole = self.is_whole and stream.is_whole
                 for end, found in _divided(stream, self.size):
                     yield self.part(found)
                     progress.at(done + end - stream.begin)
                 done += end - stream.begin
-                if self.is_bare:
-                    stream.warn_of_no_message()
+                if self.is_bare and stream.is_whole and self.faults != "ignore":
+                    if self.faults == "raise":
+                        raise BufrError(stream.no_message(), file=stream.name)
+                    warn(stream.no_message())
                 self.end_file()
         finally:
             progress.clear()
 
     def begin_file(self, name: str) -> None:
-        self.name, self.is_bare, self.count, self.first = name, True, 0, ""
+        self.name, self.is_bare, self.counts = name, True, FaultCounts()
         self.conditions = bufr_conditions.Conditions(self.where)
         if self.chooser is not None:
             self.chooser.notes = bufr_auto.Notes()
@@ -229,10 +235,7 @@ class Reader:
 
     def end_file(self) -> None:
         """Warns of the faults in a file, of table sets that may not match, and of messages that were left out."""
-        told = []
-        if self.faults == "warn" and self.count:
-            faults = "1 fault" if self.count == 1 else f"{self.count} faults, the first"
-            told.append(f"{faults}: {self.first}")
+        told = self.counts.told() if self.faults == "warn" else []
         if self.chooser is not None:
             lines = self.chooser.notes.lines("message", "")
             told += [line.decode(errors="replace").partition(": ")[2].rstrip("\n") for line in lines]
@@ -299,19 +302,20 @@ class Reader:
     def report(self, found: List[_Found], numbers: Array, groups: Dict[Tables, List[int]]) -> None:
         """Reports refused messages and strays. Looks up the text of a fault only if it is needed."""
         refused = numpy.flatnonzero(numbers).tolist()
-        self.count += len(refused)
-        if self.faults == "ignore" or self.faults == "warn" and self.first or not refused:
+        if self.faults == "ignore" or not refused:
             return
         texts = {index: found[index].fault.decode() for index in refused}
-        for tables, indices in groups.items():
-            some = [index for index in indices if numbers[index]]
-            texts.update(zip(some, tables.faults([found[index].octets for index in some])))
-        faults = [Fault(found[index].offset, int(numbers[index]), texts[index].partition(" ")[2]) for index in refused]
-        self.first = self.first or str(faults[0])
-        if self.faults == "raise":
-            raise BufrError(f"{self.name}: {faults[0]}")
-        if not isinstance(self.faults, str):
-            for fault in faults:
+        if self.faults != "warn" or not self.counts.first:
+            for tables, indices in groups.items():
+                some = [index for index in indices if numbers[index]]
+                texts.update(zip(some, tables.faults([found[index].octets for index in some])))
+        for index in refused:
+            fault = Fault(found[index].offset, int(numbers[index]), texts[index].partition(" ")[2], self.name)
+            self.counts.add(fault)
+            if self.faults == "raise":
+                what = "refused a message" if fault.number >= 10 else f"found a stray ({STRAY})"
+                raise BufrError(f"{self.name}: {what} at {fault}; to skip faults, pass faults='warn'", *fault)
+            if not isinstance(self.faults, str):
                 self.faults.append(fault)
 
 

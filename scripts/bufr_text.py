@@ -30,12 +30,13 @@ import tempfile
 import warnings
 from dataclasses import dataclass, field, replace
 from decimal import Decimal
-from typing import IO, Any, Container, Dict, Iterable, Iterator, List, NamedTuple, Optional, Sequence, Tuple
+from typing import IO, Any, Container, Dict, Iterable, Iterator, List, NamedTuple, Optional, Sequence, Set, Tuple
 from typing import TypeVar, Union
 
 TYPE_CHECKING = False
 if TYPE_CHECKING:
     from bufr_conditions import Conditions
+    from bufr_sets import TableSet
 
 __all__ = (
     "HEADER Cell DumpWarning Fault Item Listed Message RunError TextError Value "
@@ -134,11 +135,26 @@ class RunError(RuntimeError):
 
 
 class BufrError(RuntimeError):
-    """Reports a refused message, a stray or an invalid table. Only the module `bufr` raises it."""
+    """Reports a refused message, a stray, a file without messages, or an invalid table. Only the module `bufr` raises it.
+
+    `file`, `offset`, `number` and `text` are those of the `Fault`. If there is no fault, they are `None`, except that `file`
+    is also the name of a file without messages.
+    """
+
+    def __init__(
+        self,
+        reason: str,
+        offset: Optional[int] = None,
+        number: Optional[int] = None,
+        text: Optional[str] = None,
+        file: Optional[str] = None,
+    ) -> None:
+        super().__init__(reason)
+        self.offset, self.number, self.text, self.file = offset, number, text, file
 
 
 class DumpWarning(UserWarning):
-    """Warns that a file has no messages, that messages were refused or left out, or that levels are ambiguous."""
+    """Warns that a file has no messages, that messages were refused or left out, or that a table has gaps."""
 
 
 def warn(text: str) -> None:
@@ -150,14 +166,46 @@ def warn(text: str) -> None:
 
 
 class Fault(NamedTuple):
-    """A fault that `bufr` reported: the byte offset of the message or stray, the fault number and the description."""
+    """A fault that `bufr` reported: the byte offset of the message or stray, the fault number and the description.
+
+    `file` is the name of the file. The number is below 10 for a stray, and 10 or more for a refused message.
+    """
 
     offset: int
     number: int
     text: str
+    file: str = ""
 
     def __str__(self) -> str:
         return f"offset {self.offset}: {self.number} {self.text}"
+
+
+STRAY = "the word BUFR where no complete message begins"
+
+
+class FaultCounts:
+    """The number of refused messages and of strays in a file, and the first fault."""
+
+    def __init__(self) -> None:
+        self.refused = self.strays = 0
+        self.first: Optional[Fault] = None
+
+    def add(self, fault: Fault) -> None:
+        self.refused += fault.number >= 10
+        self.strays += fault.number < 10
+        self.first = self.first or fault
+
+    def told(self) -> List[str]:
+        """Returns a list with the text of a warning, or an empty list if there are no faults."""
+        kinds = []
+        if self.refused:
+            kinds.append("refused 1 message" if self.refused == 1 else f"refused {self.refused} messages")
+        if self.strays:
+            strays = "1 stray" if self.strays == 1 else f"{self.strays} strays"
+            kinds.append(f"skipped {strays} ({STRAY})")
+        where = " " if self.refused + self.strays == 1 else "; the first fault is "
+        advice = "to get each fault, pass a list as faults; 'Faults and remedies' in the guide explains them"
+        return [f"{' and '.join(kinds)}{where}at {self.first}; {advice}"] * bool(kinds)
 
 
 class Listed(NamedTuple):
@@ -416,18 +464,11 @@ def rows(
     A number is an `int` if its scale does not allow decimal places, and otherwise the nearest `float`. A string contains the
     same escapes as in a dump, but no trailing spaces. A value is `None` if it is missing or if the subset does not contain
     the item. Raises `ValueError` for a word that is not a column. If the word occurs in the names of elements in Table B,
-    the error lists their descriptors.
+    the error lists their descriptors. A `DumpWarning` at the end names each column that has no items or no values.
     """
-    check(columns, has_counts=True)
-    check_header(header)
+    columns, header, _ = checked(columns, header, has_counts=True)
     found = _by_library("rows", messages, faults, where, columns, header)
-    if found is not None:
-        return found
-    asked = [(word[:6], int(word[7:] or 1)) for word in columns]
-    return (
-        (*before, *(_cell(find(subset, fxy, count)) for fxy, count in asked))
-        for before, subset in _subsets(_messages(messages, faults, where), header)
-    )
+    return _rows(_subsets(_messages(messages, faults, where), header), columns) if found is None else found
 
 
 def levels(
@@ -445,12 +486,10 @@ def levels(
     with that descriptor in the level, and each descriptor in `keep` selects the first one in the whole subset. In all
     other respects, `levels` works like `rows`.
 
-    A subset is skipped if its levels are ambiguous because the descriptor that begins a level occurs again in it. A
-    `DumpWarning` at the end says how many subsets were skipped.
+    A subset is skipped if it has no levels, or if they are ambiguous because the descriptor that begins a level occurs
+    again in it. A `DumpWarning` at the end says how many subsets were skipped for each of these reasons.
     """
-    check(columns, has_counts=False)
-    check(keep, has_counts=False)
-    check_header(header)
+    columns, header, keep = checked(columns, header, keep)
     found = _by_library("levels", messages, faults, where, columns, header, keep)
     if found is not None:
         return found
@@ -487,45 +526,86 @@ def _reported(told: _Told, found: Iterator[Tuple[Cell, ...]]) -> Iterator[Tuple[
     told.warn()
 
 
-def check(columns: Sequence[str], has_counts: bool) -> None:
-    """Raises `ValueError` if a column is not a descriptor, which may have a count."""
-    form = _COLUMN if has_counts else re.compile(_FXY.decode())
-    _check_list(columns)
-    for word in columns:
-        if not form.fullmatch(str(word)):
-            raise ValueError(f"expected a descriptor such as 012101, found '{word}'{_named(str(word))}")
+def checked(
+    columns: Iterable[str], header: Iterable[str], keep: Iterable[str] = (), has_counts: bool = False, more: Sequence[str] = ()
+) -> List[List[str]]:
+    """Returns the arguments as lists. Raises `ValueError` if a word is not a column or a header key.
 
-
-def check_header(header: Sequence[str], more: Sequence[str] = ()) -> None:
-    """Raises `ValueError` if a header key does not exist. `more` contains additional keys."""
+    A column can have a count if `has_counts`. `more` contains additional header keys.
+    """
     keys = (*HEADER, "optional", "subsets", "offset", "length", "message", "subset", *more)
-    _check_list(header)
+    for words in (columns, header, keep):
+        if isinstance(words, str):
+            raise ValueError(f"expected a list such as ['{words}'], found the string '{words}'")
+        if not isinstance(words, Iterable):
+            raise TypeError(f"expected a list such as ['012101'], found {words}")
+    columns, header, keep = list(columns), list(header), list(keep)
+    form = _COLUMN if has_counts else re.compile(_FXY.decode())
+    for word in (*columns, *keep):
+        if not isinstance(word, str) or not form.fullmatch(word):
+            raise ValueError(f"expected a descriptor such as 012101, found {word!r}{_meant(str(word), keys)}")
+        # The characters that 2 05 Y inserts are the only items whose descriptor is not that of an element.
+        if word[0] in "123" and word[:3] != "205":
+            raise ValueError(f"'{word}' is not an element{_instead(word)}")
     for word in header:
         if word not in keys:
             raise ValueError(f"the header has no key '{word}'; the keys are {', '.join(keys)}")
+    return [columns, header, keep]
 
 
-def _check_list(words: Sequence[str]) -> None:
-    if isinstance(words, str):
-        raise ValueError(f"expected a list such as ['{words}'], found the string '{words}'")
+def _meant(word: str, keys: Sequence[str]) -> str:
+    """Returns the part of an error message that says what to write instead of an invalid column.
 
-
-def _named(word: str) -> str:
-    """Returns the part of an error message that lists the elements whose names contain the word, exact matches first.
-
-    The names come from the latest table set. If no name contains the word, the part is empty.
+    If the word occurs in names of elements, the part lists their descriptors, exact matches first.
     """
+    if re.fullmatch(r"\d{4,5}", word):
+        return f"; write '0{word:0>5}'"
+    if word in keys:
+        return f", which is a header key; pass header=['{word}']"
+    asked = word.upper()
+    names_of = [(fxy, name.upper()) for fxy, (name, _) in names()[1].items() if asked in name.upper()]
+    found = sorted((asked not in name.split("/"), fxy) for fxy, name in names_of)
+    return f", which occurs in the names of {', '.join(fxy for _, fxy in found)}" if word and found else ""
+
+
+def _instead(word: str) -> str:
+    """Returns the part of an error message that says what a descriptor is, and lists the elements of a sequence."""
+    if word[0] != "3":
+        return f" but {'a replication' if word[0] == '1' else 'an operator'}, which has no value"
+    tables = _latest()
+    members = tables.used((word[:6],)) if tables else iter(())
+    found = [fxy for fxy in members if fxy[0] == "0"]
+    elements = ", ".join(found[:10] + ["and others"] * (len(found) > 10))
+    return f" but a sequence; pass descriptors of its elements{elements and ': '}{elements}"
+
+
+def _latest() -> Optional[TableSet]:
+    """Returns the latest table set, or `None` if there is none."""
     import bufr_guard
     import bufr_sets
 
     try:
-        names = bufr_sets.TableSets().latest().names()
+        return bufr_sets.TableSets().latest()
     except (bufr_guard.Failed, OSError):
-        return ""
-    asked = word.upper()
-    names_of = [(fxy, name.upper()) for fxy, (name, _) in names.items() if asked in name.upper()]
-    found = sorted((asked not in name.split("/"), fxy) for fxy, name in names_of)
-    return f", which occurs in the names of {', '.join(fxy for _, fxy in found)}" if word and found else ""
+        return None
+
+
+def names(table_b: Optional[_Path] = None) -> Tuple[str, Dict[str, Tuple[str, str]]]:
+    """Returns the name of a Table B, and a dictionary with the name and the unit of each element.
+
+    Without `table_b`, these come from the latest table set. The dictionary is empty if the table cannot be read.
+    """
+    import bufr_sets
+
+    if table_b is None:
+        tables = _latest()
+        name, file = (f"the table set {tables.name}", tables.file("B.csv")) if tables else ("", "")
+    else:
+        name = file = os.fspath(table_b)
+    try:
+        return name, {fxy: (name, unit) for fxy, name, unit in bufr_sets.rows_of(file, "fxy", "name", "unit")}
+    except OSError:
+        return name, {}
 
 
 def _messages(
@@ -562,22 +642,39 @@ def text_cell(octets: bytes) -> str:
     return _UNPRINTED.sub(_escaped, octets.rstrip(b" ")).decode()
 
 
+def _rows(
+    subsets: Iterable[Tuple[List[Cell], List[Item]]], columns: Sequence[str]
+) -> Iterator[Tuple[Cell, ...]]:
+    asked = [(word[:6], int(word[7:] or 1)) for word in columns]
+    gaps = Gaps(columns)
+    for before, subset in subsets:
+        found = [find(subset, fxy, count) for fxy, count in asked]
+        gaps.add(found)
+        yield (*before, *map(_cell, found))
+    gaps.warn()
+
+
 def _levels(
     subsets: Iterable[Tuple[List[Cell], List[Item]]], columns: Sequence[str], keep: Sequence[str]
 ) -> Iterator[Tuple[Cell, ...]]:
-    skipped = Skipped()
+    gaps = Gaps(columns, keep)
     for (*header, message, count), subset in subsets:
         try:
             found_passes = _passes(subset)
         except Ambiguous as twice:
-            skipped.add(message, count, twice)
+            gaps.skip(AMBIGUOUS, message, count, twice)
             continue
-        kept = [_cell(find(subset, fxy)) for fxy in keep]
+        kept = [find(subset, fxy) for fxy in keep]
+        has_levels = False
         for one in found_passes:
             found = [find(one, fxy) for fxy in columns]
             if found[0] and (len(found) == 1 or any(found[1:])):
-                yield (*header, *kept, *map(_cell, found))
-    skipped.warn()
+                has_levels = True
+                gaps.add([*kept, *found])
+                yield (*header, *map(_cell, [*kept, *found]))
+        if not has_levels:
+            gaps.skip(BARE, message, count)
+    gaps.warn()
 
 
 def _passes(subset: List[Item]) -> List[List[Item]]:
@@ -587,21 +684,54 @@ def _passes(subset: List[Item]) -> List[List[Item]]:
     return [items[begin:end] for begin, end in passes([item.fxy for item in items], counts, FACTORS)]
 
 
-class Skipped:
-    """The subsets that were skipped because their levels are ambiguous: how many there are, and which one is the first."""
+# Why subsets have no levels.
+AMBIGUOUS, BARE = "with ambiguous levels", "without a level"
 
-    def __init__(self) -> None:
-        self.count, self.first = 0, ""
 
-    def add(self, message: Cell, subset: Cell, fxy: object) -> None:
-        self.count += 1
-        self.first = self.first or f"message {message} subset {subset} ({fxy} begins a level and occurs in it again)"
+class Gaps:
+    """What a table lacks: columns without items or values, and subsets without levels.
 
-    def warn(self) -> None:
-        if self.count:
-            what = "with ambiguous levels"
-            skipped = f"a subset {what}:" if self.count == 1 else f"{self.count} subsets {what}; the first is"
-            warn(f"skipped {skipped} {self.first}")
+    A table of levels has the columns `keep` before `columns`. `table_b` is the Table B that was passed, if any.
+    """
+
+    def __init__(self, columns: Sequence[str], keep: Sequence[str] = (), table_b: Optional[_Path] = None) -> None:
+        self.columns, self.kept, self.table_b = [*keep, *columns], len(keep), table_b
+        self.has_rows = False
+        # The indices of the columns with an item, and of those with a value.
+        self.with_item: Set[int] = set()
+        self.with_value: Set[int] = set()
+        # The number of skipped subsets of each kind, and the first of them.
+        self.skipped: Dict[str, Tuple[int, str]] = {}
+
+    def add(self, items: Sequence[Optional[Item]]) -> None:
+        """Adds a row."""
+        self.has_rows = True
+        for at, item in enumerate(items):
+            if item is not None:
+                self.with_item.add(at)
+                if item.value is not None:
+                    self.with_value.add(at)
+
+    def skip(self, kind: str, message: Cell, subset: Cell, fxy: object = None) -> None:
+        why = "" if fxy is None else f" ({fxy} begins a level and occurs in it again)"
+        count, first = self.skipped.get(kind, (0, f"message {message} subset {subset}{why}"))
+        self.skipped[kind] = count + 1, first
+
+    def warn(self, text: str = "column {} is empty, because no row has an item for it") -> None:
+        """Issues a warning for each gap. `text` says that there is no item for a column."""
+        # Without rows, nothing is known about columns that apply to the whole subset.
+        asked = list(enumerate(self.columns))[0 if self.has_rows else self.kept :]
+        is_empty = self.has_rows or bool(self.skipped)
+        name, defined = names(self.table_b) if is_empty and len(self.with_item) < len(asked) else ("", {})
+        for at, word in asked if is_empty else []:
+            if at not in self.with_item:
+                is_unknown = defined and word[0] == "0" and word[:6] not in defined
+                warn(text.format(word) + f"; {name} does not define {word[:6]}" * bool(is_unknown))
+            elif at not in self.with_value:
+                warn(f"column {word} is empty, because all its values are missing")
+        for kind in filter(self.skipped.get, (BARE, AMBIGUOUS)):
+            count, first = self.skipped[kind]
+            warn(f"skipped a subset {kind}: {first}" if count == 1 else f"skipped {count} subsets {kind}; the first is {first}")
 
 
 class Ambiguous(ValueError):
@@ -734,16 +864,15 @@ class _Told:
     """Reports the faults and strays in a file, in order, and then the notes."""
 
     def __init__(self, file: _Path, faults: Optional[List[Fault]]) -> None:
-        self.file, self.faults, self.count, self.is_bare = file, faults, 0, False
-        self.first: Optional[Fault] = None
+        self.file, self.name, self.faults, self.is_bare = file, os.fsdecode(file), faults, False
+        self.counts = FaultCounts()
         self.strays: Iterator[Fault] = iter(())
         self.stray: Optional[Fault] = None
         self.notes: Dict[bytes, List[int]] = {}
         self.conditions: Optional[Conditions] = None
 
     def append(self, fault: Fault) -> None:
-        self.count += 1
-        self.first = self.first or fault
+        self.counts.add(fault)
         if self.faults is not None:
             self.faults.append(fault)
         elif sys.stderr is not None:
@@ -764,7 +893,7 @@ class _Told:
             fault, note = _FAULT.fullmatch(line), _NOTE.fullmatch(line)
             if fault:
                 offset = offsets[int(fault[1])]
-                refused[offset] = Fault(offset, int(fault[2]), fault[3].decode())
+                refused[offset] = Fault(offset, int(fault[2]), fault[3].decode(), self.name)
             else:
                 count, begin, reason = note.groups() if note else (b"1", b"0", line)
                 if reason not in self.notes and len(self.notes) >= 1000:
@@ -779,16 +908,15 @@ class _Told:
 
     def warn(self, told: Sequence[str] = ()) -> None:
         told = [*told]
-        if self.faults is None and self.count:
-            faults = "1 fault" if self.count == 1 else f"{self.count} faults, the first"
-            told.append(f"{faults}: {self.first}")
+        if self.faults is None:
+            told += self.counts.told()
         for reason, (count, first) in self.notes.items():
             messages = "1 message," if count == 1 else f"{count} messages, the first"
             told.append(f"{messages} at offset {first}: {reason.decode(errors='replace')}")
         if self.conditions and self.conditions.note():
             told.append(self.conditions.note())
         for text in told:
-            warn(f"{os.fsdecode(self.file)}: {text}")
+            warn(f"{self.name}: {text}")
 
 
 def _opened(file: _Path) -> IO[bytes]:
@@ -826,7 +954,8 @@ def _listed(stream: IO[bytes], errors: IO[bytes], told: _Told) -> Iterator[Liste
         errors.seek(0)
         if status not in (0, 1) or status == 1 and not has_told:
             raise _failure(status, words, errors)
-        told.strays = (Fault(int(one[1]), int(one[2]), one[3].decode()) for one in map(_FAULT.match, errors) if one)
+        strays = filter(None, map(_FAULT.match, errors))
+        told.strays = (Fault(int(one[1]), int(one[2]), one[3].decode(), told.name) for one in strays)
         told.stray = next(told.strays, None)
         told.is_bare = lines.seek(0, os.SEEK_END) == 0
         lines.seek(0)

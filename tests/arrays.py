@@ -15,6 +15,7 @@ import functools
 import io
 import os
 import pathlib
+import pickle
 import random
 import re
 import shutil
@@ -98,10 +99,10 @@ def differences(path: pathlib.Path, tables: tuple, rng: random.Random) -> list:
         wanted, skipped = told_by(lambda: list(getattr(bufr_text, name)(messages, *words)))
         same(f"{name} {words}", shown(found), shown(wanted))
         same(f"{name}: faults", faults, wanted_faults)
-        same(f"{name}: notes", sorted(notes), sorted(wanted_notes + skipped))
-    rows = list(bufr_text.rows(messages, columns))
+        same(f"{name}: notes", sorted(map(short, notes)), sorted(map(short, wanted_notes + skipped)))
     with warnings.catch_warnings():
         warnings.simplefilter("ignore")
+        rows = list(bufr_text.rows(messages, columns))
         frame, exact = (bufr.frame(path, columns, exact=is_exact, **asked) for is_exact in (False, True))
         items, listed = bufr.items(path, **asked), list(bufr_text.listing(path, []))
         pieces = bufr.pieces(path, rng.choice((1, rng.randint(1, path.stat().st_size + 1))))
@@ -121,6 +122,11 @@ def differences(path: pathlib.Path, tables: tuple, rng: random.Random) -> list:
     return wrongs
 
 
+def short(note: str) -> str:
+    """A note without the name of the tables that do not define a column, which depends on the tables that were given."""
+    return re.sub("; .* does not define .*", "", note)
+
+
 def number_of(cell):
     """A cell as a float where it is a number, and None where it is missing."""
     return cell if isinstance(cell, str) else None if cell is None or pandas.isna(cell) else float(cell)
@@ -133,7 +139,7 @@ def cell_of(cell):
 def item_lines(found: bufr.Items, messages: list) -> tuple:
     """The items as lines: the place of the message, the subset, the descriptor, the exact value and the float."""
     given = []
-    for index, (row, offset) in enumerate(zip(found.items, found.messages["offset"][found.items["message"]].tolist())):
+    for index, (row, offset) in enumerate(zip(found.items, found.messages["offset"][found.items["message_row"]].tolist())):
         value, fxy = found.exact(index), f"{row['fxy']:06}"
         is_reference = row["kind"] == bufr.REFERENCE
         given.append((offset, int(row["subset"]), fxy, is_reference, bufr_text._value_text(value), str(row["value"])))
@@ -149,7 +155,7 @@ def item_lines(found: bufr.Items, messages: list) -> tuple:
 
 def item_values(found: bufr.Items) -> list:
     """The exact values of items, and the places of their messages."""
-    return [(found.messages["offset"][row["message"]], found.exact(index)) for index, row in enumerate(found.items)]
+    return [(found.messages["offset"][row["message_row"]], found.exact(index)) for index, row in enumerate(found.items)]
 
 
 def message_lines(rows, listed: list, faults: list) -> tuple:
@@ -300,15 +306,17 @@ class Sources(WithFolder):
         for source in (io.StringIO("BUFR"), open(SYNOP)):
             with source, self.assertRaisesRegex(TypeError, "is a text file; open it with mode 'rb'"):
                 bufr.frame(source, ["012101"])
-        others = [("none", FileNotFoundError), (self.folder, IsADirectoryError), (None, TypeError), ([5], TypeError)]
-        for source, error in others:
-            with self.assertRaises(error):
+        told = "^expected a file name, bytes, an open binary file, a Piece or a list of these, found "
+        others = [(None, TypeError, f"{told}None$"), ([5], TypeError, f"{told}5$")]
+        for source, error, told in [("none", FileNotFoundError, ""), (self.folder, IsADirectoryError, ""), *others]:
+            with self.assertRaisesRegex(error, told):
                 bufr.frame(source, ["012101"])
 
     def test_no_sources_and_no_columns(self):
         for faults in ("error", None, (), False):
             with self.assertRaisesRegex(ValueError, "faults must be 'warn', 'raise', 'ignore' or a list, not "):
                 bufr.frame([], ["012101"], faults=faults)
+        self.without_warnings()
         frame = bufr.frame([], ["001015", "012101", "002001"], ["time", "file", "year"])
         kinds = "datetime64[ns] object int64 object float64 Int64".split()
         self.assertEqual([str(kind) for kind in frame.dtypes], kinds)
@@ -329,11 +337,26 @@ class Sources(WithFolder):
                     call(self.stream)
                 self.assertEqual(str(warned.warning), f"{self.stream}: the file contains no message{told}")
                 self.assertEqual(warned.filename, __file__)
+            for faults, kinds in (("raise", [bufr.BufrError]), ("ignore", []), ([], [bufr.DumpWarning])):
+                with warnings.catch_warnings(record=True) as warned:
+                    warnings.simplefilter("always")
+                    try:
+                        list(bufr.rows(self.stream, ["012101"], faults=faults))
+                    except bufr.BufrError as error:
+                        self.assertEqual((error.file, kinds), (str(self.stream), [bufr.BufrError]))
+                        self.assertTrue(error.number or str(error) == f"{self.stream}: the file contains no message{told}")
+                    else:
+                        self.assertEqual([one.category for one in warned], kinds)
+        with self.assertRaisesRegex(bufr.BufrError, "^bytes: the file contains no message: it is empty$") as error:
+            bufr.frame([SYNOP, b""], ["012101"], faults="raise")
+        self.assertEqual((error.exception.file, error.exception.offset, error.exception.number), ("bytes", None, None))
         # but not of a piece of a file
         self.stream.write_bytes(SYNOP.read_bytes() + b"BUFR\0\0\1" * 9)
         *_, last = bufr.pieces(self.stream, 1)
         rows, told = told_by(lambda: bufr.messages(last, faults=[]))
         self.assertEqual((last.begin, set(rows["fault"]), told), (595, {1, 2}, []))
+        [whole] = bufr.pieces(SYNOP)
+        self.assertEqual(len(bufr.messages(bufr.Piece(str(SYNOP), 595, 595), faults="raise")), 0)
 
     def test_progress(self):
         self.stream.write_bytes(SYNOP.read_bytes() * 9)
@@ -432,6 +455,7 @@ class Values(WithFolder):
             self.assertEqual((int((60 * hour)[0]), int((offset - 1)[0])), (1080, -1))
 
     def test_kinds_of_columns(self):
+        self.without_warnings()
         frame = bufr.frame(SYNOP, ["001001", "001015", "002001", "008010", "020003", "012101", "012101:9"])
         kinds = [str(kind) for kind in frame.dtypes]
         self.assertEqual(kinds, ["float64", "object", "Int64", "Int64", "Int64", "float64", "float64"])
@@ -453,7 +477,16 @@ class Values(WithFolder):
         for words, told in [
             (("012101",), "expected a list such as .'012101'., found the string '012101'"),
             ((["012101"], "time"), "expected a list such as .'time'., found the string 'time'"),
-            (([12101],), "expected a descriptor such as 012101, found '12101'"),
+            (([12101],), "expected a descriptor such as 012101, found 12101; write '012101'$"),
+            ((["012101", "1015"],), "found '1015'; write '001015'$"),
+            ((["012101", 101],), "found 101$"),
+            ((["time"],), "found 'time', which is a header key; pass header=.'time'.$"),
+            ((["subset"],), "found 'subset', which is a header key; pass header=.'subset'.$"),
+            ((["301001"],), "'301001' is not an element but a sequence; pass descriptors of its elements: 001001, 001002$"),
+            ((["307080"],), "'307080' is .*: 008002, 007030, (0[0-9]*, ){8}and others$"),
+            ((["363255"],), "'363255' is not an element but a sequence; pass descriptors of its elements$"),
+            ((["012101", "201132"],), "'201132' is not an element but an operator, which has no value$"),
+            ((["101000"],), "'101000' is not an element but a replication, which has no value$"),
             ((["AIR TEMPERATURE"],), "found 'AIR TEMPERATURE', which occurs in the names of 012001, 012101"),
             ((["012101"], ["place"]), "the header has no key 'place'; the keys are edition, .*, file, time$"),
         ]:
@@ -465,8 +498,57 @@ class Values(WithFolder):
                 call(SYNOP, ["012101:2"])
         with self.assertRaisesRegex(ValueError, "'001002'"):
             bufr.levels(SYNOP, ["012101"], keep="001002")
+        with self.assertRaisesRegex(ValueError, "found 'time', which is a header key; pass header=.'time'.$"):
+            bufr.frame(SYNOP, ["012101"], keep=["time"], levels=True)
+        for words in ((None,), (["012101"], None), (["012101"], 5)):
+            with self.assertRaisesRegex(TypeError, f"expected a list such as .'012101'., found {words[-1]}$"):
+                bufr.frame(SYNOP, *words)
         with self.assertRaisesRegex(TypeError, "keep= needs levels=True"):
             bufr.frame(SYNOP, ["012101"], keep=["001002"])
+
+    def test_columns_from_iterators(self):
+        octets = SYNOP.read_bytes()
+        wanted = list(bufr.rows([octets] * 2, ["001015", "012101"], ["year", "offset"], where=["category=0"]))
+        for call in (bufr.rows, lambda *words, **named: bufr.frame(*words, **named).itertuples(index=False)):
+            with unittest.mock.patch.multiple(bufr_parts, _PART=1):
+                found = call([octets] * 2, iter(["001015", "012101"]), iter(["year", "offset"]), where=iter(["category=0"]))
+                self.assertEqual([tuple(row) for row in found], wanted)
+        self.assertEqual(list(bufr.rows([octets] * 2, [], where=iter(["centre=1"]))), [])
+        words = iter(["007004"]), iter(["offset"]), iter(["001002"])
+        sounding = TOP / "examples/sounding.bufr"
+        self.assertEqual([*bufr.levels(sounding, *words)], [*bufr.levels(sounding, ["007004"], ["offset"], ["001002"])])
+        self.assertEqual(bufr.items(octets, iter(["012101"])).items.tolist(), bufr.items(octets, ["012101"]).items.tolist())
+        words = iter(["001015", "012101"]), iter(["year"])
+        self.assertEqual(next(bufr_text.rows(SYNOP, *words)), (2023, "SODANKYLA", 259.35))
+
+    def test_inserted_characters_are_a_column(self):
+        octets = lib.message(b"ab\x14", lib.words("205002 001001"))
+        self.assertEqual(list(bufr.rows(octets, ["205002", "001001"])), [("ab", 10)])
+
+    def test_items_as_a_frame(self):
+        found = bufr.items([SYNOP, SYNOP], ["001015", "012101"])
+        frame = found.frame()
+        self.assertEqual([*frame.columns], "file offset time subset fxy name unit value text".split())
+        rows = frame.fillna("none").to_numpy().tolist()
+        self.assertEqual(rows[9][3:], [2, "012101", "TEMPERATURE/AIR TEMPERATURE", "K", 282.55, "none"])
+        self.assertEqual(rows[8][3:], [2, "001015", "STATION OR SITE NAME", "CCITT IA5", "none", "HEATHROW"])
+        self.assertEqual((frame["file"][8], str(frame["time"][8])), (str(SYNOP), "2023-03-14 18:00:00"))
+        self.assertEqual(found.elements["012101"], {"name": "TEMPERATURE/AIR TEMPERATURE", "unit": "K"})
+        self.assertEqual(len(bufr.items([]).frame()), 0)
+        # a new reference value, and tables of one's own
+        octets = (VECTORS / "messages/redefined_reference.bufr").read_bytes()
+        names = bufr.items(octets, tables=OF_VECTORS).frame()[["fxy", "name", "unit", "value"]].to_numpy().tolist()
+        self.assertEqual(names[0], ["012101", "REFERENCE", "", -400])
+        self.assertEqual(names[1][1:3], [*bufr.frame(octets, ["012101"], tables=OF_VECTORS).attrs["012101"].values()])
+
+    def test_rows_of_messages_without_a_header(self):
+        octets = SYNOP.read_bytes()
+        refused = lib.message(b"\x14", b"\x3f\xff") + octets[:7] + b"\2" + octets[8:]  # an element and an edition
+        rows = bufr.messages(octets + b"BUFR" + refused, faults="ignore")
+        self.assertEqual(rows["fault"].tolist(), [0, 1, 20, 10])
+        self.assertEqual(rows["edition"].tolist(), [4, 0, 4, 0])
+        self.assertEqual(rows["centre"].tolist(), [78, 0, 98, 0])
+        self.assertEqual(numpy.isnat(rows["time"]).tolist(), [False, True, False, True])
 
     def test_a_frame_of_levels(self):
         words = ["007004", "012101"], ["time", "offset"]
@@ -501,30 +583,47 @@ class Faults(WithFolder):
         # a stray, a message that is refused and one that is not, twice
         refused = lib.message(b"\x14", b"\x3f\xff")
         self.stream.write_bytes((b"BUFR\0\0\1" + refused + SYNOP.read_bytes()) * 2)
-        self.wanted = [(0, 2, "short length"), (7, 20, "unknown element 063255")]
+        file = str(self.stream)
+        self.wanted = [(0, 2, "short length", file), (7, 20, "unknown element 063255", file)]
         length = self.stream.stat().st_size // 2
-        self.wanted += [(offset + length, number, text) for offset, number, text in self.wanted]
+        self.wanted += [(offset + length, *fault) for offset, *fault in self.wanted]
 
     def test_a_list(self):
         faults = []
         frame, told = told_by(lambda: bufr.frame(self.stream, ["012101"], faults=faults))
         self.assertEqual((len(frame), told, faults), (6, [], self.wanted))
         self.assertIsInstance(faults[0], bufr.Fault)
+        self.assertEqual((faults[1].file, str(faults[1])), (str(self.stream), "offset 7: 20 unknown element 063255"))
+        two = []
+        bufr.messages([self.stream, b"BUFR" + SYNOP.read_bytes()], faults=two)
+        self.assertEqual([fault.file for fault in two], [str(self.stream)] * 4 + ["bytes"])
 
     def test_warn(self):
         rows, frame = (lambda source: list(bufr.rows(source, ["012101"]))), (lambda source: bufr.frame(source, []))
         for call in (bufr.messages, bufr.items, rows, frame):
             with self.assertWarns(bufr.DumpWarning) as warned:
                 call(self.stream)
-            self.assertEqual(str(warned.warning), f"{self.stream}: 4 faults, the first: offset 0: 2 short length")
+            stray, first = "(the word BUFR where no complete message begins)", "the first fault is at offset 0: 2 short length"
+            wanted = f"refused 2 messages and skipped 2 strays {stray}; {first}; to get each fault, pass a list as faults; "
+            self.assertTrue(str(warned.warning).startswith(f"{self.stream}: {wanted}"), warned.warning)
             self.assertEqual(warned.filename, __file__)
-        _, told = told_by(lambda: bufr.messages([self.stream, SYNOP, b"BUFR" + SYNOP.read_bytes(), self.stream]))
-        self.assertEqual([text.partition(": ")[2][:8] for text in told], ["4 faults", "1 fault:", "4 faults"])
+        refused = lib.message(b"\x14", b"\x3f\xff")
+        _, told = told_by(lambda: bufr.messages([self.stream, SYNOP, b"BUFR" + SYNOP.read_bytes(), refused, refused * 2]))
+        wanted = [wanted.partition("; ")[0], f"skipped 1 stray {stray} at offset 0: 1 cut"]
+        wanted += ["refused 1 message at offset 0: 20 unknown element 063255", "refused 2 messages"]
+        self.assertEqual([text.partition(": ")[2].partition("; ")[0] for text in told], wanted)
 
     def test_raise(self):
         with self.assertRaises(bufr.BufrError) as error:
             bufr.frame(self.stream, ["012101"], faults="raise")
-        self.assertEqual(str(error.exception), f"{self.stream}: offset 0: 2 short length")
+        stray = "found a stray (the word BUFR where no complete message begins)"
+        advice = "to skip faults, pass faults='warn'"
+        self.assertEqual(str(error.exception), f"{self.stream}: {stray} at offset 0: 2 short length; {advice}")
+        with self.assertRaises(bufr.BufrError) as error:
+            bufr.frame(self.stream.read_bytes()[7:], ["012101"], faults="raise")
+        self.assertEqual(str(error.exception), f"bytes: refused a message at offset 0: 20 unknown element 063255; {advice}")
+        for one in (error.exception, pickle.loads(pickle.dumps(error.exception))):
+            self.assertEqual((one.file, one.offset, one.number, one.text), ("bytes", 0, 20, "unknown element 063255"))
         self.assertEqual(len(bufr.frame(SYNOP, ["012101"], faults="raise")), 3)
 
     def test_ignore(self):
@@ -535,6 +634,60 @@ class Faults(WithFolder):
         for faults in ("warned", "", None):
             with self.assertRaises((ValueError, AttributeError)):
                 bufr.messages(self.stream, faults=faults)
+
+    def test_gaps_are_warned_of(self):
+        empty = "column {} is empty, because no row has an item for it"
+        words = ["012104", "012101", "020012:9", "063255"]
+        unknown = f"{empty.format('063255')}; the table set wmo-39 does not define 063255"
+        wanted = [empty.format("012104"), empty.format("020012:9"), unknown]
+        for call in (bufr.rows, bufr.frame, bufr_text.rows):
+            self.assertEqual(told_by(lambda: len([*call(SYNOP, words, faults=[])]))[1], wanted, call)
+        _, told = told_by(lambda: bufr.frame(SYNOP, ["012104", "063255"], tables=TABLES))
+        self.assertEqual(told, [empty.format("012104"), f"{empty.format('063255')}; {TABLES[0]} does not define 063255"])
+        _, told = told_by(lambda: bufr.items(SYNOP, ["012104", "012101", "063255"]))
+        unknown = "063255; the table set wmo-39 does not define 063255"
+        self.assertEqual(told, [f"no message has an item {word}" for word in ("012104", unknown)])
+        # a column counts as empty only if it is empty in every file and every part
+        aircraft = TOP / "examples/aircraft.bufr"
+        for size in (1, 1 << 20):
+            with unittest.mock.patch.multiple(bufr_parts, _PART=size, _PART_OF_ALL=size):
+                for source in ([SYNOP, aircraft], [aircraft, SYNOP]):
+                    self.assertEqual(told_by(lambda: bufr.frame(source, ["001015", "001006"]))[1], [])
+                    self.assertEqual(told_by(lambda: bufr.items(source, ["001015", "001006"]))[1], [])
+        # nothing is known of the columns without messages, and other pieces may have what one lacks
+        pieces = bufr.pieces(SYNOP)
+        for source in ([], pieces, [*pieces, SYNOP]):
+            self.assertEqual(told_by(lambda: [bufr.frame(source, ["012104"]), bufr.items(source, ["012104"])])[1], [])
+        for call in (bufr.frame, bufr.items):
+            self.assertEqual(told_by(lambda: call(SYNOP, ["012104"], where=["centre=1"]))[1], [])
+
+    def test_columns_without_values_are_warned_of(self):
+        for call in (bufr.rows, bufr.frame, bufr_text.rows):
+            self.stream.write_bytes(lib.message(b"\xfe\x14", lib.words("001001 001001")))
+            _, told = told_by(lambda: len([*call(self.stream, ["001001", "001001:2"])]))
+            self.assertEqual(told, ["column 001001 is empty, because all its values are missing"])
+            self.stream.write_bytes(lib.message(b"\xfe\x14", lib.words("001001 001001")) + lib.message(b"\x14"))
+            self.assertEqual(told_by(lambda: len([*call(self.stream, ["001001"])]))[1], [])
+
+    def test_subsets_without_levels_are_warned_of(self):
+        sounding = TOP / "examples/sounding.bufr"
+        empty = "column {} is empty, because no row has an item for it"
+        one = "skipped a subset without a level: message 1 subset 1"
+        three = "skipped 3 subsets without a level; the first is message {} subset 1"
+        for call in (bufr.levels, bufr_text.levels, lambda *words: bufr.frame(*words[:2], keep=words[3], levels=True)):
+            for source, columns, keep, wanted in [
+                # without a row, nothing is known of what applies to the whole subset
+                (SYNOP, ["012104"], ["012103"], [empty.format("012104"), three.format(1)]),
+                (sounding, ["012104"], ["001002"], [empty.format("012104"), one]),
+                (sounding, ["007004"], ["012104"], [empty.format("012104")]),
+                (sounding, ["007004", "012101", "012104"], ["001002"], [empty.format("012104")]),
+            ]:
+                self.assertEqual(told_by(lambda: len([*call(source, columns, [], keep)]))[1], wanted)
+        for size in (1, 1 << 20):
+            with unittest.mock.patch.multiple(bufr_parts, _PART_OF_ALL=size):
+                octets = sounding.read_bytes() + b"BUFR\0\0\1" + sounding.read_bytes() + SYNOP.read_bytes()
+                told = told_by(lambda: [*bufr.levels(octets, ["007004"], faults="ignore")])[1]
+                self.assertEqual(told, [three.format(3)])
 
     def test_notes_on_tables(self):
         later = lib.asking(SYNOP.read_bytes(), 45)
@@ -584,6 +737,28 @@ def read(piece: bufr.Piece, mark: str = ""):
     return bufr.frame(piece, ["001015", "012101", "002001"], ["file", "offset", "time"], faults="ignore")
 
 
+# The time after which a test with Dask fails. A loaded machine may need minutes to start workers and connect to them.
+DASK_SECONDS = 600
+
+
+def read_by_dask(folder: str) -> None:
+    """Reads pieces with two workers, of which one is killed, and writes what they return into a folder."""
+    import dask.dataframe
+    import distributed
+
+    pieces, mark, meta = pickle.loads(pathlib.Path(folder, "given").read_bytes())
+    sys.path.insert(0, str(SCRIPTS))  # workers get this path, and tests/ has another bufr_auto
+    times = ("distributed.comm.timeouts.connect", "distributed.comm.timeouts.tcp", "distributed.scheduler.worker-ttl")
+    local = {"n_workers": 2, "threads_per_worker": 1, "dashboard_address": ":0", "silence_logs": 50}
+    with dask.config.set(dict.fromkeys(times, f"{DASK_SECONDS}s")), distributed.Client(local_directory=folder, **local):
+        whole = dask.dataframe.from_map(read, pieces, mark=mark, meta=meta).compute()
+        # as the guide has it
+        frame = dask.dataframe.from_map(bufr.frame, pieces, columns=["001015", "012101"], faults="ignore")
+        found = pickle.dumps((whole, frame["012101"].mean().compute()))
+        pathlib.Path(folder, "writing").write_bytes(found)
+        os.replace(pathlib.Path(folder, "writing"), pathlib.Path(folder, "found"))
+
+
 class Processes(WithFolder):
     def setUp(self):
         super().setUp()
@@ -616,21 +791,33 @@ class Processes(WithFolder):
 
     def test_dask(self):
         try:
-            import dask.dataframe
-            import distributed
+            import dask.dataframe  # noqa: F401
+            import distributed  # noqa: F401
         except ImportError:
             self.skipTest("Dask is not installed (Debian: apt-get install python3-dask python3-distributed)")
-        local = {"n_workers": 2, "threads_per_worker": 1, "dashboard_address": ":0", "silence_logs": 50}
-        environment = unittest.mock.patch.dict(os.environ, PYTHONPATH=str(SCRIPTS))
-        with environment, distributed.Client(local_directory=str(self.folder), **local):
-            whole = dask.dataframe.from_map(read, self.pieces, mark=self.mark, meta=self.wanted[:0])
-            self.alike(whole.compute())
-            self.assertTrue(os.path.exists(self.mark), "no worker was killed")
-            # as the guide has it
-            frame = dask.dataframe.from_map(bufr.frame, self.pieces, columns=["001015", "012101"], faults="ignore")
-            self.assertAlmostEqual(frame["012101"].mean().compute(), self.wanted["012101"].mean())
+        # in another process, because Dask prints tracebacks of workers that end, even if all is well
+        (self.folder / "given").write_bytes(pickle.dumps((self.pieces, self.mark, self.wanted[:0])))
+        words = [sys.executable, "-c", "import sys, arrays; arrays.read_by_dask(sys.argv[1])", self.folder]
+        environment = {**os.environ, "PYTHONPATH": f"{SCRIPTS}:{TOP}/tests"}
+        log, ended = self.folder / "log", "exited with status {}"
+        with open(log, "wb") as told:
+            run = subprocess.Popen(words, env=environment, stdout=told, stderr=told, start_new_session=True)
+        try:
+            ended = ended.format(run.wait(DASK_SECONDS))
+        except subprocess.TimeoutExpired:
+            ended = f"did not end within {DASK_SECONDS} seconds"
+            os.killpg(run.pid, signal.SIGKILL)
+            run.wait()
+        if not (self.folder / "found").exists():
+            self.fail(f"the process with Dask {ended} and wrote no result; it printed:\n{log.read_text(errors='replace')}")
+        whole, mean = pickle.loads((self.folder / "found").read_bytes())
+        self.alike(whole)
+        self.assertTrue(os.path.exists(self.mark), "no worker was killed")
+        self.assertAlmostEqual(mean, self.wanted["012101"].mean())
 
     def test_threads(self):
+        self.without_warnings()
+
         def read(path):
             rows = bufr.rows(path, ["012101", "001015"], HEADER, faults="ignore")
             return [*rows, *bufr.levels(path, ["007004"], faults="ignore")]
@@ -654,7 +841,7 @@ class Processes(WithFolder):
             used = []
             for count in (size, 3 * size):
                 self.stream.write_bytes(once * count)
-                words = [sys.executable, "-c", code.format(call), SCRIPTS, self.stream]
+                words = [sys.executable, "-W", "ignore", "-c", code.format(call), SCRIPTS, self.stream]
                 done = subprocess.run(words, stdout=subprocess.PIPE, text=True, check=True)
                 used.append(int(re.search(r"^VmHWM:\s+(\d+) kB$", done.stdout, re.M)[1]) // 1000)
             print(f"arrays: {call}: {used[0]} MB, and {used[1]} MB for three times the messages")
@@ -683,13 +870,14 @@ class Docs(unittest.TestCase):
         here = os.getcwd()
         os.chdir(TOP / "examples")
         self.addCleanup(os.chdir, here)
-        names = {"bufr": bufr, "pandas": pandas}
+        names = {"bufr": bufr, "pandas": pandas, "Decimal": Decimal}
         for module in (bufr, bufr_parts):
             failed, count = doctest.testmod(module, extraglobs=names)
             self.assertEqual(failed, 0, module.__name__)
             self.assertGreater(count, 0)
-        for name in ("frame", "items", "levels", "messages", "pieces", "rows"):
-            self.assertIn(">>> ", getattr(bufr, name).__doc__, name)
+        calls = [bufr.frame, bufr.items, bufr.levels, bufr.messages, bufr.pieces, bufr.rows, bufr.Items.exact, bufr.Items.frame]
+        for call in calls:
+            self.assertIn(">>> ", call.__doc__, call)
         for name in bufr.__all__:
             public = getattr(bufr, name)
             if callable(public) and name != "Cell":

@@ -304,14 +304,23 @@ class Tables(unittest.TestCase):
         for path in TEXTS:
             with self.subTest(path.name):
                 words = ["awk", "-v", "columns=" + ",".join([*header, *columns]), "-f", TOP / "scripts/table.awk", path]
-                _, *wanted = csv.reader(run(*words).stdout.decode().splitlines())
-                try:
-                    rows = list(bufr_text.rows(bufr_text.read(lines_of(path)), columns, ["message", "subset", *header]))
-                except bufr_text.TextError:
-                    continue  # such texts are for `encode`
+                done = run(*words)
+                _, *wanted = csv.reader(done.stdout.decode().splitlines())
+                with warnings.catch_warnings(record=True) as told:
+                    warnings.simplefilter("always")
+                    try:
+                        rows = list(bufr_text.rows(bufr_text.read(lines_of(path)), columns, ["message", "subset", *header]))
+                    except bufr_text.TextError:
+                        continue  # such texts are for `encode`
                 self.assertEqual(self.alike(rows), self.alike(wanted))
+                # without subsets, awk says that the columns of the header are empty, too
+                self.assertEqual(self.notes(told), done.stderr.decode().splitlines() if rows else [])
                 passed += len(rows)
         self.assertGreater(passed, 100)
+
+    def notes(self, told: list) -> list:
+        """Warnings as table.awk prints them, without those that it lacks."""
+        return [f"table.awk: {one.message}" for one in told if "all its values are missing" not in str(one.message)]
 
     def alike(self, rows) -> list:
         """The cells of a table, with all spellings of a number as one."""
@@ -336,9 +345,13 @@ class Tables(unittest.TestCase):
         ]:
             lines = f"031001 1\n012101 {text}\n".encode()
             messages = [*bufr_text.read(io.BytesIO(with_line(24, lines)))]
-            for [cell] in (*bufr_text.rows(messages, ["012101"]), *bufr_text.levels(messages, ["012101"])):
-                self.assertEqual((cell, type(cell)), (wanted, type(wanted)), text)
-        self.assertEqual(len(list(bufr_text.levels(messages, ["012101"]))), 1)
+            with warnings.catch_warnings(record=True) as told:
+                warnings.simplefilter("always")
+                for call in (bufr_text.rows, bufr_text.levels):
+                    [[cell]] = call(messages, ["012101"])
+                    self.assertEqual((cell, type(cell)), (wanted, type(wanted)), text)
+            said = ["column 012101 is empty, because all its values are missing"] * (wanted is None)
+            self.assertEqual([str(one.message) for one in told], said * 2)
 
     def test_rows(self):
         rows = bufr_text.rows(TOP / "examples/synop.bufr", ["001015", "001002", "012101", "010009"], ["offset", "year"])
@@ -360,11 +373,13 @@ class Tables(unittest.TestCase):
     def test_a_column_by_name_is_answered_with_numbers(self):
         said = "expected a descriptor such as 012101, found 'AIR TEMPERATURE', which occurs in the names of "
         for call in (bufr_text.rows, bufr_text.levels):
+            with self.assertRaisesRegex(ValueError, "^expected a descriptor such as 012101, found '1015'; write '001015'$"):
+                call([], ["1015"])
             for word in ("AIR TEMPERATURE", "air temperature"):
                 with self.assertRaises(ValueError) as error:
                     call(TOP / "examples/synop.bufr", ["001015", word])
                 self.assertEqual(str(error.exception), said.replace("AIR TEMPERATURE", word) + "012001, 012101, 012004, 012104, 040069")
-        for word in ("airTemperature", "1015", "", "012101:0"):
+        for word in ("airTemperature", "", "012101:0"):
             with self.assertRaises(ValueError) as error:
                 bufr_text.rows([], [word])
             self.assertEqual(str(error.exception), f"expected a descriptor such as 012101, found '{word}'")
@@ -375,6 +390,9 @@ class Tables(unittest.TestCase):
             pathlib.Path(without_tables, "wmo-39").mkdir()
             for place in ("/nosuch", without_tables):
                 os.environ["BUFR_TABLES"] = place
+                with self.assertRaisesRegex(ValueError, "found 'AIR TEMPERATURE'$"):
+                    bufr_text.rows([], ["AIR TEMPERATURE"])
+            with unittest.mock.patch("os.listdir", side_effect=PermissionError):
                 with self.assertRaisesRegex(ValueError, "found 'AIR TEMPERATURE'$"):
                     bufr_text.rows([], ["AIR TEMPERATURE"])
             # Rows that are too short count as none, and so does a table with another header.
@@ -413,8 +431,7 @@ class Tables(unittest.TestCase):
                 rows = list(bufr_text.levels(messages, *names))
             self.assertEqual(self.alike(rows), self.alike(wanted))
             count += len(rows)
-            lines = [line for line in done.stderr.decode().splitlines() if "ambiguous levels" in line]
-            self.assertEqual([f"table.awk: {one.message}" for one in told], lines)
+            self.assertEqual(self.notes(told), done.stderr.decode().splitlines())
             self.assertEqual({one.filename for one in told}, {__file__})
             unclear += done.returncode
         self.assertGreater(count, 100)
@@ -473,7 +490,7 @@ class Runs(unittest.TestCase):
         messages = list(bufr_text.dump(self.stream, *OLD_TABLES, faults))
         self.assertEqual(written(messages), done.stdout)
         self.assertEqual([f"{fault}\n" for fault in faults], done.stderr.decode().splitlines(True))
-        self.assertIn((701, 21, "unknown sequence 315008"), faults)
+        self.assertIn((701, 21, "unknown sequence 315008", str(self.stream)), faults)
         # each message alone
         listed = re.findall(rb"^offset=(\d+) length=(\d+) ", run(lib.program(), "ls", self.stream).stdout, re.M)
         listed = [(int(offset), int(length)) for offset, length in listed]
@@ -568,7 +585,8 @@ class Runs(unittest.TestCase):
         faults = []
         levels = list(bufr_text.levels(self.stream, ["007004"], ["offset"], faults=faults, where=["category=2"]))
         self.assertEqual((len(levels), {offset for offset, _ in levels}, faults), (29, {0}, strays))
-        self.assertEqual(levels, list(bufr_text.levels(bufr_text.dump(self.stream, faults=[]), ["007004"], ["offset"])))
+        with self.assertWarnsRegex(bufr_text.DumpWarning, "^skipped 25 subsets without a level; the first is message 2 subset 1$"):
+            self.assertEqual(levels, list(bufr_text.levels(bufr_text.dump(self.stream, faults=[]), ["007004"], ["offset"])))
         for call in (bufr_text.rows, bufr_text.levels):
             for given in ({"faults": []}, {"where": ["category=0"]}):
                 with self.assertRaisesRegex(TypeError, r"pass them to dump\(\) instead"):
@@ -616,11 +634,14 @@ class Runs(unittest.TestCase):
             with self.assertWarns(bufr_text.DumpWarning) as warned, contextlib.redirect_stderr(told):
                 messages = list(bufr_text.dump(self.stream, *tables))
             lines = told.getvalue().splitlines()
-            text = f"{self.stream}: {len(lines)} faults, the first: {lines[0]}"
-            self.assertEqual(str(warned.warning), text)
+            refused = [line for line in lines if re.match(r"offset \d+: \d\d", line)]
+            text = f"{self.stream}: refused {len(refused)} message{'s' * (len(refused) > 1)} and skipped {len(lines) - len(refused)} strays "
+            text += f"(the word BUFR where no complete message begins); the first fault is at {lines[0]}; to get each fault, "
+            self.assertEqual(str(warned.warning)[: len(text)], text)
             self.assertEqual(warned.filename, __file__)
         self.stream.write_bytes((TOP / "examples/synop.bufr").read_bytes() + b"BUFR")
-        with self.assertWarnsRegex(bufr_text.DumpWarning, f"^{self.stream}: 1 fault: offset 595: 1 cut$"):
+        told = r"skipped 1 stray \(the word BUFR where no complete message begins\) at offset 595: 1 cut; to get each fault, "
+        with self.assertWarnsRegex(bufr_text.DumpWarning, f"^{self.stream}: {told}"):
             with contextlib.redirect_stderr(io.StringIO()):
                 list(bufr_text.dump(self.stream, *TABLES))
         with warnings.catch_warnings():
@@ -680,8 +701,8 @@ class Runs(unittest.TestCase):
         with warnings.catch_warnings(record=True) as told, contextlib.redirect_stderr(io.StringIO()):
             warnings.simplefilter("always")
             list(bufr_text.dump(self.stream))
-        wanted = ["the file contains no message: it looks like HTML", "20 faults, the first: offset 6: 1 cut"]
-        self.assertEqual([str(one.message) for one in told], [f"{self.stream}: {text}" for text in wanted])
+        wanted = ["the file contains no message: it looks like HTML", "skipped 20 strays (the word BUFR where no complete message begins)"]
+        self.assertEqual([str(one.message).partition("; ")[0] for one in told], [f"{self.stream}: {text}" for text in wanted])
 
     def test_failures_are_told(self):
         for call in (bufr_text.dump, bufr_text.listing):

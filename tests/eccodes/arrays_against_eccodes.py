@@ -32,7 +32,7 @@ def subsets_of(found: bufr.Items) -> list:
     subsets: list = [[[] for _ in range(row["subsets"])] for row in found.messages]
     for index, row in enumerate(found.items):
         item = bufr_text.Item(f"{row['fxy']:06}", found.exact(index), reference=row["kind"] == bufr.REFERENCE)
-        subsets[row["message"]][row["subset"] - 1].append(bufr_text._line_of(item).decode("latin-1"))
+        subsets[row["message_row"]][row["subset"] - 1].append(bufr_text._line_of(item).decode("latin-1"))
     return subsets
 
 
