@@ -17,8 +17,8 @@ abbrev pub flushed_by : {S : Type 0} → (S → Bool) → Buffered S → Bool
 flushed_by flushed b = nat_eq (length b.held.items) 0 && flushed b.sink
 
 -- how many flushes of it were made, and how many of them failed
-abbrev pub flushes_of : {S : Type 0} → Buffered S → Flushes
-flushes_of b = record { made = b.flushes; failed = b.failed_flushes }
+abbrev pub flushes_by : {S : Type 0} → Buffered S → Flushes
+flushes_by b = record { made = b.flushes; failed = b.failed_flushes }
 
 -- its sink took all that it was given at most this many times, and was flushed at most this often
 abbrev pub CallsAtMost : {S : Type 0} → sink.Ghosts S → (writes flushes : ℕ) → (before after : S)

@@ -11,4 +11,4 @@ pub use Rattle.bufr_cli.specs.Line.{bufr_app, no_job_text, word_of, HasTables, I
 pub use Rattle.bufr_cli.specs.Program.{InputName, Opens, standard_name, file_name, table_names, input_name, InPart, InWhole, WritesHelp, command_pieces, NoTableB, NoTableD, FailsToRead, IsNotOpened, IsUnread, Runs, RunsOver, RunsOverInput, WantsMemory, known, ByTables, CommandOutcome, Known, NoTables, AnswersFault, Answers, Does, RunsProgram, AreTables, AreUnread, IsClosed, RunOutcome, TableOutcome, ran_outcome}
 pub use Rattle.bufr_cli.specs.declared.outcome.Tally.{Tally}
 pub use Rattle.bufr_cli.specs.declared.outcome.Verdict.{Verdict}
-pub use Rattle.bufr_cli.specs.Buffering.{CallsAtMost, flushes_of, CountsCall, StaysBounded, flushed_by, taken_by}
+pub use Rattle.bufr_cli.specs.Buffering.{CallsAtMost, flushes_by, CountsCall, StaysBounded, flushed_by, taken_by}

@@ -3,7 +3,7 @@ ghost use Rattle.std.specs.Prelude.{◌≡◌, ◌≤◌, ◌<◌, ◌+◌, ◌-
 ghost use Rattle.std.specs.Io.KnownBytes.{Keeps, WriteAppends};
 ghost use Rattle.bufr_bits.specs.Device.{all_flushed_after_flush, all_flushed_after_write, counted, empty_writes_after, failures_after, flushes_after, whole_writes_after};
 ghost use Rattle.bufr_text.specs.Prelude.{Fails, MovesPrefix, Stays};
-ghost use Rattle.bufr_cli.specs.Prelude.{CallsAtMost, CountsCall, StaysBounded, flushed_by, flushes_of, taken_by};
+ghost use Rattle.bufr_cli.specs.Prelude.{CallsAtMost, CountsCall, StaysBounded, flushed_by, flushes_by, taken_by};
 
 use bufr_bits::{Failed, Sink};
 use std::alloc::{AllocError, Global};
@@ -44,7 +44,7 @@ impl<S: Sink> Buffered<S> {
         ensures room { IfOk result (λ b. vec_capacity b.held ≡ capacity) }
         ensures capacity { IfOk result (λ b. b.capacity ≡ capacity) }
         ensures failures { IfOk result (λ b. b.failures ≡ 0) }
-        ensures flushes { IfOk result (λ b. flushes_of b ≡ record { made = 0; failed = 0 }) }
+        ensures flushes { IfOk result (λ b. flushes_by b ≡ record { made = 0; failed = 0 }) }
     {
         Ok(Buffered {
             sink,
@@ -105,7 +105,7 @@ impl<S: Sink> Buffered<S> {
         ensures bounded { StaysBounded self.old self.new }
         ensures counts { CountsCall S.Sink self.old.sink self.new.sink result }
         ensures failures { self.new.failures ≡ self.old.failures }
-        ensures flushes { flushes_of self.new ≡ flushes_of self.old }
+        ensures flushes { flushes_by self.new ≡ flushes_by self.old }
         ensures calls { CallsAtMost S.Sink 1 0 self.old.sink self.new.sink }
     {
         let left = write_out(self.held.as_slice(), &mut self.sink);
@@ -127,7 +127,7 @@ impl<S: Sink> Buffered<S> {
         ensures bounded { StaysBounded self.old self.new }
         ensures counts { CountsCall S.Sink self.old.sink self.new.sink result }
         ensures failures { self.new.failures ≡ self.old.failures }
-        ensures flushes { flushes_of self.new ≡ flushes_of self.old }
+        ensures flushes { flushes_by self.new ≡ flushes_by self.old }
         ensures calls { CallsAtMost S.Sink 2 0 self.old.sink self.new.sink }
     {
         self.hand_on()?;
@@ -149,7 +149,7 @@ impl<S: Sink> Buffered<S> {
         ensures bounded { StaysBounded self.old self.new }
         ensures counts { CountsCall S.Sink self.old.sink self.new.sink result }
         ensures failures { self.new.failures ≡ self.old.failures }
-        ensures flushes { flushes_of self.new ≡ flushes_of self.old }
+        ensures flushes { flushes_by self.new ≡ flushes_by self.old }
         ensures calls { CallsAtMost S.Sink 1 1 self.old.sink self.new.sink }
     {
         self.hand_on()?;
@@ -164,7 +164,7 @@ impl<S: Sink> Buffered<S> {
             result buf.now }
         ensures failed { self.new.failures ≡ failures_after self.old.failures result }
         ensures some { IfOk result (λ n. 0 < length buf.now → 0 < n) }
-        ensures flushes { flushes_of self.new ≡ flushes_of self.old }
+        ensures flushes { flushes_by self.new ≡ flushes_by self.old }
         ensures flushed { flushed_by S.all_flushed self.new
             ≡ all_flushed_after_write (flushed_by S.all_flushed self.old) result }
         ensures bounded { StaysBounded self.old self.new }
@@ -191,7 +191,7 @@ impl<S: Sink> Sink for Buffered<S> {
 
     ghost empty_writes = { λ _. 0 };
 
-    ghost flushes = { λ b. flushes_of b };
+    ghost flushes = { λ b. flushes_by b };
 
     ghost all_flushed = { λ b. flushed_by S.all_flushed b };
 
@@ -210,7 +210,7 @@ impl<S: Sink> Sink for Buffered<S> {
         // Other octets make at most one write of those that are held, and one of their own.
         ensures calls { CallsAtMost S.Sink 2 0 self.old.sink self.new.sink }
         ensures empty { 0 ≡ empty_writes_after 0 buf.now result }
-        ensures flushed { flushes_of self.new ≡ flushes_of self.old }
+        ensures flushed { flushes_by self.new ≡ flushes_by self.old }
         ensures handed { flushed_by S.all_flushed self.new
             ≡ all_flushed_after_write (flushed_by S.all_flushed self.old) result }
         ensures bounded { StaysBounded self.old self.new }
@@ -234,7 +234,7 @@ impl<S: Sink> Sink for Buffered<S> {
         ensures octets { Keeps (taken_by S.taken self.old) (taken_by S.taken self.new) }
         ensures failed { self.new.failures ≡ failures_after self.old.failures result }
         ensures empty { ◌≡◌ {A = ℕ} 0 0 }
-        ensures flushed { flushes_of self.new ≡ flushes_after (flushes_of self.old) result }
+        ensures flushed { flushes_by self.new ≡ flushes_after (flushes_by self.old) result }
         ensures handed { flushed_by S.all_flushed self.new
             ≡ all_flushed_after_flush (flushed_by S.all_flushed self.old) result }
         ensures bounded { StaysBounded self.old self.new }
