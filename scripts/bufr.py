@@ -78,7 +78,7 @@ def _floats(part: Part, items: Array) -> Array:
 
 
 def _integers(part: Part, items: Array) -> List[int]:
-    """Returns the integer of each number: the number is this integer, divided by a power of ten."""
+    """Returns the integer of each item. An item's value is its integer divided by a power of ten."""
     found: List[int] = items["value"].tolist()
     for index in numpy.flatnonzero(items["kind"] == WIDE).tolist():
         found[index] = _wide(part.texts, found[index])
@@ -289,7 +289,7 @@ def frame(
     tables: TwoTables = None,
     faults: Faults = "warn",
 ) -> Any:
-    """Returns the rows of `rows` or, with `levels=True`, those of `levels`, as a pandas data frame.
+    """Returns a pandas data frame with the rows that `rows` yields or, with `levels=True`, the rows that `levels` yields.
 
     Numbers are the nearest floats, and missing numbers are NaN. Values from code tables and flag tables are `Int64`, strings
     are `str` or `None`, and the header key `"time"` is `datetime64`. `frame.attrs` contains the name and unit of each
@@ -491,7 +491,7 @@ def items(
     gaps.with_item.update(at for at, word in enumerate(gaps.columns) if word in words)
     gaps.with_value.update(gaps.with_item)
     if reader.is_whole:
-        gaps.warn("no message has an item {}")
+        gaps.warn("no message contains {}")
     return Items(all_items, all_rows, bytes(texts), _elements(words, reader.table_b))
 
 

@@ -130,7 +130,7 @@ class Tables:
             found.append((items, messages))
             texts += rooms[1][: counts.octets].tobytes()
             count += len(messages)
-            # If a single message needs more room than there is, the next call gets it.
+            # If a single message needs more room, the next call gets arrays that are large enough.
             if counts.items_needed > len(rooms[0]):
                 rooms[0] = numpy.empty(counts.items_needed, ITEM)
             if counts.octets_needed > len(rooms[1]):

@@ -87,7 +87,7 @@ class _Stream:
         return octets
 
     def no_message(self) -> str:
-        """Returns the text of a warning that the file contains no message, which says what it looks like."""
+        """Returns a warning that the file contains no message, with the likely type of the file."""
         return f"{self.name}: the file contains no message{looks(self.start)}"
 
 
@@ -156,7 +156,7 @@ def _divided(stream: _Stream, size: int, are_pieces: bool = False) -> Iterator[T
 
 
 def pieces(files: Union[Path, Iterable[Path]], size: int = 1 << 26) -> List[Piece]:
-    """Divides files into pieces of about `size` bytes, and returns the pieces in order. Together, they cover the whole files.
+    """Divides files into pieces of about `size` bytes. Returns the pieces in order; together, they cover every byte.
 
     A piece begins and ends between messages. If the word `BUFR` occurs where no message begins, a piece may be up to 16 MB
     longer. Pass each piece to a function of this module, for example in another process:
@@ -182,7 +182,7 @@ def pieces(files: Union[Path, Iterable[Path]], size: int = 1 << 26) -> List[Piec
 
 
 class Reader:
-    """Reads the parts of a source, with the items of these columns or, for `None`, all items. Reports faults and notes."""
+    """Reads a source in parts, and reports faults and notes. If `columns` is `None`, all items are read."""
 
     def __init__(
         self,
@@ -234,7 +234,7 @@ class Reader:
             self.chooser.known.clear()  # it contains the counts of the previous notes
 
     def end_file(self) -> None:
-        """Warns of the faults in a file, of table sets that may not match, and of messages that were left out."""
+        """Warns about the faults in a file, of table sets that may not match, and of messages that were left out."""
         told = self.counts.told() if self.faults == "warn" else []
         if self.chooser is not None:
             lines = self.chooser.notes.lines("message", "")
@@ -314,7 +314,7 @@ class Reader:
             self.counts.add(fault)
             if self.faults == "raise":
                 what = "refused a message" if fault.number >= 10 else f"found a stray ({STRAY})"
-                raise BufrError(f"{self.name}: {what} at {fault}; to skip faults, pass faults='warn'", *fault)
+                raise BufrError(f"{self.name}: {what} at {fault}; to continue after a fault, pass faults='warn'", *fault)
             if not isinstance(self.faults, str):
                 self.faults.append(fault)
 

@@ -9,8 +9,8 @@
             print(message.offset, air.value, air.unit)
 
 `rows` and `levels` yield the rows of a table as tuples. `dump` yields messages, `listing` yields the place and the header
-of each message, and `encode` converts messages to BUFR. All of these run `bufr`. `read` and `write` convert between dumps
-and messages without running it.
+of each message, and `encode` converts messages to BUFR. These functions run the program `bufr`, except that `rows` and
+`levels` use the module `bufr` instead if Python can import it. `read` and `write` convert between dumps and messages.
 
 Messages are read one at a time, so memory use depends on the longest message in a file, not on the length of the file:
 48 MB including Python, plus 1 KB for each item in that message, plus twice the length of its dump. The list of faults and
@@ -137,8 +137,8 @@ class RunError(RuntimeError):
 class BufrError(RuntimeError):
     """Reports a refused message, a stray, a file without messages, or an invalid table. Only the module `bufr` raises it.
 
-    `file`, `offset`, `number` and `text` are those of the `Fault`. If there is no fault, they are `None`, except that `file`
-    is also the name of a file without messages.
+    `file`, `offset`, `number` and `text` have the same meaning as in `Fault`. For a file without messages, only `file` is
+    set; for an invalid table, all four are `None`.
     """
 
     def __init__(
@@ -531,7 +531,7 @@ def checked(
 ) -> List[List[str]]:
     """Returns the arguments as lists. Raises `ValueError` if a word is not a column or a header key.
 
-    A column can have a count if `has_counts`. `more` contains additional header keys.
+    If `has_counts` is true, columns can have counts. `more` contains additional header keys.
     """
     keys = (*HEADER, "optional", "subsets", "offset", "length", "message", "subset", *more)
     for words in (columns, header, keep):
@@ -576,7 +576,7 @@ def _instead(word: str) -> str:
     members = tables.used((word[:6],)) if tables else iter(())
     found = [fxy for fxy in members if fxy[0] == "0"]
     elements = ", ".join(found[:10] + ["and others"] * (len(found) > 10))
-    return f" but a sequence; pass descriptors of its elements{elements and ': '}{elements}"
+    return f" but a sequence; pass the descriptors of its elements{elements and ': '}{elements}"
 
 
 def _latest() -> Optional[TableSet]:
@@ -689,7 +689,7 @@ AMBIGUOUS, BARE = "with ambiguous levels", "without a level"
 
 
 class Gaps:
-    """What a table lacks: columns without items or values, and subsets without levels.
+    """Records which columns have no items or no values, and which subsets have no levels.
 
     A table of levels has the columns `keep` before `columns`. `table_b` is the Table B that was passed, if any.
     """

@@ -482,9 +482,9 @@ class Values(WithFolder):
             ((["012101", 101],), "found 101$"),
             ((["time"],), "found 'time', which is a header key; pass header=.'time'.$"),
             ((["subset"],), "found 'subset', which is a header key; pass header=.'subset'.$"),
-            ((["301001"],), "'301001' is not an element but a sequence; pass descriptors of its elements: 001001, 001002$"),
+            ((["301001"],), "'301001' is not an element but a sequence; pass the descriptors of its elements: 001001, 001002$"),
             ((["307080"],), "'307080' is .*: 008002, 007030, (0[0-9]*, ){8}and others$"),
-            ((["363255"],), "'363255' is not an element but a sequence; pass descriptors of its elements$"),
+            ((["363255"],), "'363255' is not an element but a sequence; pass the descriptors of its elements$"),
             ((["012101", "201132"],), "'201132' is not an element but an operator, which has no value$"),
             ((["101000"],), "'101000' is not an element but a replication, which has no value$"),
             ((["AIR TEMPERATURE"],), "found 'AIR TEMPERATURE', which occurs in the names of 012001, 012101"),
@@ -617,7 +617,7 @@ class Faults(WithFolder):
         with self.assertRaises(bufr.BufrError) as error:
             bufr.frame(self.stream, ["012101"], faults="raise")
         stray = "found a stray (the word BUFR where no complete message begins)"
-        advice = "to skip faults, pass faults='warn'"
+        advice = "to continue after a fault, pass faults='warn'"
         self.assertEqual(str(error.exception), f"{self.stream}: {stray} at offset 0: 2 short length; {advice}")
         with self.assertRaises(bufr.BufrError) as error:
             bufr.frame(self.stream.read_bytes()[7:], ["012101"], faults="raise")
@@ -646,7 +646,7 @@ class Faults(WithFolder):
         self.assertEqual(told, [empty.format("012104"), f"{empty.format('063255')}; {TABLES[0]} does not define 063255"])
         _, told = told_by(lambda: bufr.items(SYNOP, ["012104", "012101", "063255"]))
         unknown = "063255; the table set wmo-39 does not define 063255"
-        self.assertEqual(told, [f"no message has an item {word}" for word in ("012104", unknown)])
+        self.assertEqual(told, [f"no message contains {word}" for word in ("012104", unknown)])
         # a column counts as empty only if it is empty in every file and every part
         aircraft = TOP / "examples/aircraft.bufr"
         for size in (1, 1 << 20):
