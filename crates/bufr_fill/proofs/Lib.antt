@@ -17,4 +17,3 @@ pub mod EntryLemmas
 pub mod RowLemmas
 pub mod BackLaws
 pub mod PackedWalks
-mod ShorterDefinitions
