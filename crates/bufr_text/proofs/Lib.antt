@@ -20,3 +20,4 @@ pub mod PushLemmas
 pub mod NumberLemmas
 pub mod ReaderLemmas
 pub mod EncodeLemmas
+mod ShorterDefinitions

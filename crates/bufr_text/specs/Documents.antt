@@ -34,6 +34,27 @@ abbrev pub blank : (line : ℕ) → Document
 blank line =
     record { line = line; header = []; local1 = []; section2 = []; descriptors = []; entries = [] }
 
+-- the edition and section 1, whether the data are observed and compressed, whether there is a
+-- section 2, and the number of subsets
+pub record DocumentHeader : Type 0 where
+  pub head : Head
+  pub observed : Bool
+  pub compressed : Bool
+  pub optional : Bool
+  pub subsets : ℕ
+
+-- the values of the header lines by name; a value that was not read yet is 0
+abbrev pub header_in : Document → DocumentHeader
+header_in d =
+    let value : ℕ → ℕ = slice_index d.header in
+    record {
+      head = head_by (value 0) (λ key in_4 in_3. value key);
+      observed = value 16 == 1;
+      compressed = value 17 == 1;
+      optional = value 18 == 1;
+      subsets = value 19;
+    }
+
 -- the edition, the first value
 abbrev pub edition_in : Document → ℕ
 edition_in d = slice_index d.header 0

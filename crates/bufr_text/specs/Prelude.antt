@@ -7,7 +7,7 @@ pub use Rattle.bufr_text.specs.Reader.{NeedsLine, GivesHeldDocument, has_no_feed
 pub use Rattle.bufr_text.specs.Writing.{MovesPrefix, Writes, GrowsByPrefix, CountsWrites, LineModel, Moves, MovesOn, StaysFailed, PushesFrom, Pushes, Puts, Stays, Fails, CountsFaults, MakesSteps, StepsWithin, WritesPrefix, call_line, PushesCall}
 pub use Rattle.bufr_text.specs.Alike.{item_lines, lines_between, PushesAlike, IsStretch, AreStretches, AreGathered}
 unfoldable pub use Rattle.bufr_text.specs.Line.{leasts, mosts}
-pub use Rattle.bufr_text.specs.Documents.{max_line, most_entries, Document, edition_in, optional_in, subsets_in, Parsing, between, LineStep, may_be_local1, may_be_section2, in_range, heading, beginning, closing, with_entry, read_line, parsing_after, reported_at, reported_at_end, documents_of, blank, Complete, compressed_in, ParseResult, Refused, open_documents_of, head_from_values, IsHeaded, key_value, section2_in, prepend_to_line, Split, onto_split, before_subsets, in_subset, are_in_range, adds}
+pub use Rattle.bufr_text.specs.Documents.{max_line, most_entries, Document, DocumentHeader, header_in, edition_in, optional_in, subsets_in, Parsing, between, LineStep, may_be_local1, may_be_section2, in_range, heading, beginning, closing, with_entry, read_line, parsing_after, reported_at, reported_at_end, documents_of, blank, Complete, compressed_in, ParseResult, Refused, open_documents_of, head_from_values, IsHeaded, key_value, section2_in, prepend_to_line, Split, onto_split, before_subsets, in_subset, are_in_range, adds}
 unfoldable pub use Rattle.bufr_text.specs.Documents.{line_step, parse_lines, lines_of, parse_open_lines, split_of}
 pub use Rattle.bufr_text.specs.Spelling.{NumberedLine, numbered_line, onto_heard, header_says, Element, SubsetHeard, subsets_heard, first_at, entries_heard, IsDocument, AreReported, IsProperlyReported, AreProper, IsProper, AreEnded, header_as, normal_head, normal_line, draft_answer, line_and, normal_items, normal_subsets, normal, IsWhole}
 unfoldable pub use Rattle.bufr_text.specs.Spelling.{numbered_lines}
