@@ -20,4 +20,3 @@ pub mod PushLemmas
 pub mod NumberLemmas
 pub mod ReaderLemmas
 pub mod EncodeLemmas
-mod ShorterDefinitions
