@@ -9,7 +9,7 @@ use Rattle.bufr_frame.specs.declared.fault.RunFault.{RunFault}
 use Rattle.bufr_frame.specs.declared.fault.RunFault.TheVariants.{Read, Write, InputTooLong, Memory}
 use Rattle.bufr_text.specs.declared.fault.TextLineFault.{TextLineFault}
 use Rattle.bufr_text.proofs.ReaderLemmas.{nothing-yet, spelled-few}
-use Rattle.bufr_text.specs.Prelude.{Document, ParseResult, Refused, between, prepend_to_line, lines_of, documents_of, open_documents_of, parse, parse_open, ReaderModel, new_reader, position_of, parse_results, ReadsLines, ReadsDocument, ReturnsNextDocument, GivesHeldDocument, NeedsLine, FillsBuffer, HasNoWholeLine, text_input}
+use Rattle.bufr_text.specs.Prelude.{Document, ParseResult, Refused, between, lines_of, documents_of, open_documents_of, parse, parse_open, ReaderModel, new_reader, position_of, parse_results, ReadsLines, ReadsDocument, ReturnsNextDocument, GivesHeldDocument, NeedsLine, FillsBuffer, HasNoWholeLine, text_input}
 use Rattle.bufr_text.specs.declared.fault.ReadFault.{ReadFault}
 use Rattle.bufr_text.specs.declared.encode.Form.{Form}
 use Rattle.bufr_text.specs.declared.fault.ReadFault.TheVariants.{Line, Run}
@@ -21,6 +21,7 @@ use Rattle.bufr_cli.proofs.RunLemmas.{count-append, map-append, prefixes-nil}
 use Rattle.bufr_text.specs.declared.fault.DocumentFault.{DocumentFault}
 use Rattle.bufr_text.specs.declared.fault.DocumentFault.TheVariants as document
 use Rattle.bufr_text.specs.Prelude.{IsDocumentRefusal}
+use Rattle.std.specs.List.{onto_first}
 
 -- a document is refused, unless memory ran out
 pub is-refused : {A : Type 0} (why : DocumentFault) (defined : Result A DocumentFault) → why ≢ document.Memory → IsDocumentRefusal why defined → defined ≡ Err why
@@ -63,12 +64,12 @@ next-piece (OnOutput text) more = (up_to_refused more, refl)
 next-piece (OnErrors text) more = ([], refl)
 
 -- so many documents are in so many octets
-onto-few : (c : ℕ) (lines : List (List ℕ)) → length (prepend_to_line c lines) ≤ length lines + 1
+onto-few : (c : ℕ) (lines : List (List ℕ)) → length (onto_first c lines) ≤ length lines + 1
 onto-few c [] = omega arith
 onto-few c (line ∷ more) = omega arith
 
 -- a line feed begins a line, and another octet goes to the first one
-line-more : (c : ℕ) (more : List ℕ) (feed : Bool) (lines : List (List ℕ)) → length lines ≤ length more → length (if feed then [] ∷ lines else prepend_to_line c lines) ≤ length (c ∷ more)
+line-more : (c : ℕ) (more : List ℕ) (feed : Bool) (lines : List (List ℕ)) → length lines ≤ length more → length (if feed then [] ∷ lines else onto_first c lines) ≤ length (c ∷ more)
 line-more c more true lines few = omega (arith, few)
 line-more c more false lines few = omega (arith, few, onto-few c lines)
 

@@ -3,7 +3,6 @@ use Rattle.std.proofs.Common.{if◌then◌else◌, ◌==◌, ◌≡◌, ◌∙�
 use Rattle.std.specs.Borrow.{Bor}
 use Rattle.std.specs.Fmt.{digits}
 use Rattle.bufr_frame.specs.declared.fault.RunFault.TheVariants.{Read, Write, InputTooLong, Memory}
-use Rattle.bufr_text.specs.Prelude.{joined}
 use Rattle.bufr_cli.specs.Prelude.{last_line, status_of, Answers, AreUnread, ByTables, CommandOutcome, Does, InPart, InWhole, NoTables, RunsProgram, EndsRun, Input, InputName, IsNotOpened, Known, NoTableB, NoTableD, Opens, RunOutcome, ReadsAtMost, Runs, Tally, BlamesWriter, RunPieces, WantsMemory, Writer, Writers, event_pieces, holding, known, ls_piece}
 use Rattle.bufr_cli.specs.declared.outcome.Outcome.TheVariants.{Ran, Usage, CannotOpen, TableB, TableD, Run}
 use Rattle.bufr_bits.specs.Prelude.{counted}
@@ -15,6 +14,7 @@ use Rattle.clap.specs.Words.{Text}
 use Rattle.std.proofs.lemmas.Bool.{false≢true}
 use Rattle.bufr_frame.specs.Prelude.{max_reads, read_failures_after, head_size, scan_from, sections_of, section_end}
 use Rattle.bufr_frame.specs.declared.fault.RunFault.{RunFault}
+use Rattle.std.specs.List.{concat}
 use Rattle.bufr_tables.specs.declared.fault.TableFault.TheVariants as table
 
 -- ---- The last line and the exit status of each outcome computed on worked examples.
@@ -37,7 +37,7 @@ usage-line : (text : Bor (List ℕ)) → text.now ≡ codes "error: no command\n
 usage-line text is = (is, refl)
 
 closed-line : (name : Bor (List ℕ)) → name.now ≡ codes "a.bufr" → (last_line (CannotOpen name) ≡ codes "bufr: cannot open a.bufr\n") × (status_of (CannotOpen name) ≡ 2)
-closed-line name is = (ap (λ octets. joined (codes "bufr: cannot open " ∷ octets ∷ codes "\n" ∷ [])) is, refl)
+closed-line name is = (ap (λ octets. concat (codes "bufr: cannot open " ∷ octets ∷ codes "\n" ∷ [])) is, refl)
 
 -- a table at fault
 -- rule: status-of-table, fault-73, table-not-read

@@ -2,19 +2,20 @@
 use Rattle.std.proofs.Common.{◌≡◌, ◌∙◌, ℕ, List, [], ◌∷◌, ◌++◌, Option, Ok, Err, codes, ap, refl, sym, subst, append-nil, Result}
 use Rattle.bufr_frame.specs.declared.fault.RunFault.{RunFault}
 use Rattle.bufr_text.specs.declared.fault.TextLineFault.{TextLineFault}
-use Rattle.bufr_text.specs.Prelude.{ParseResult, Complete, Refused, LineModel, Pushes, GrowsByPrefix, Writes, joined, parse_results}
+use Rattle.bufr_text.specs.Prelude.{ParseResult, Complete, Refused, LineModel, Pushes, GrowsByPrefix, Writes, parse_results}
 use Rattle.bufr_text.specs.declared.fault.ReadFault.{ReadFault}
 use Rattle.bufr_text.specs.declared.fault.ReadFault.TheVariants as read
 use Rattle.bufr_text.proofs.PushLemmas.{retold, joined_then}
 use Rattle.bufr_cli.specs.Prelude.{line_of_read_fault, refused_line, prefix_texts}
+use Rattle.std.specs.List.{concat}
 
 -- one text
-pub one_text : {a b : LineModel} {text : List ℕ} → Pushes a text b → Pushes a (joined (text ∷ [])) b
+pub one_text : {a b : LineModel} {text : List ℕ} → Pushes a text b → Pushes a (concat (text ∷ [])) b
 one_text {text = text} pushes = retold pushes (sym (append-nil text))
 
 -- a line by its position, its text and its line feed
-pub line_pushed : {a b c d : LineModel} (word : List ℕ) (position number : ℕ) (text : List (List ℕ)) → Pushes a (joined (prefix_texts word position number)) b → Pushes b (joined text) c → Pushes c (codes "\n") d
-    → Pushes a (joined (prefix_texts word position number ++ (text ++ codes "\n" ∷ []))) d
+pub line_pushed : {a b c d : LineModel} (word : List ℕ) (position number : ℕ) (text : List (List ℕ)) → Pushes a (concat (prefix_texts word position number)) b → Pushes b (concat text) c → Pushes c (codes "\n") d
+    → Pushes a (concat (prefix_texts word position number ++ (text ++ codes "\n" ∷ []))) d
 line_pushed word position number text first second third = joined_then (prefix_texts word position number) (text ++ codes "\n" ∷ []) first (joined_then text (codes "\n" ∷ []) second third)
 
 -- the line of the first result of a text

@@ -7,7 +7,7 @@ use Rattle.bufr_bits.specs.Prelude.{counted}
 use Rattle.bufr_frame.specs.Prelude.{run_report}
 use Rattle.bufr_frame.specs.declared.fault.RunFault.{RunFault}
 use Rattle.bufr_frame.specs.declared.fault.RunFault.TheVariants.{Read, Write, Memory}
-use Rattle.bufr_text.specs.Prelude.{GrowsByPrefix, joined}
+use Rattle.bufr_text.specs.Prelude.{GrowsByPrefix}
 use Rattle.bufr_cli.specs.Running.{IsSame, Input, LeavesDevices, Writer, Writers, RunPieces}
 use Rattle.bufr_cli.specs.declared.outcome.Tally.{Tally}
 use Rattle.bufr_tables.specs.Prelude.{table_report}
@@ -15,6 +15,7 @@ use Rattle.bufr_tables.specs.declared.fault.TableFault.{TableFault}
 use Rattle.bufr_tables.specs.declared.fault.TableFault.TheVariants as table
 use Rattle.bufr_cli.specs.declared.outcome.Outcome.{Outcome}
 use Rattle.bufr_cli.specs.declared.outcome.Outcome.TheVariants.{Ran, Usage, CannotOpen, TableB, TableD, Run}
+use Rattle.std.specs.List.{concat}
 
 -- after want of memory, or of reads, the output is flushed once, which may fail; a read that failed
 -- came after all was handed on
@@ -49,7 +50,7 @@ pub record EndsRun (pieces : RunPieces) (from to : Input) (before after : Writer
 -- a line of a fault without a place: what it is of, its number and its text
 abbrev pub last_fault_line : (name : List ℕ) → (report : ℕ × List (List ℕ)) → List ℕ
 last_fault_line name report =
-    joined (name ∷ decimal report.0 ∷ codes " " ∷ (report.1 ++ codes "\n" ∷ []))
+    concat (name ∷ decimal report.0 ∷ codes " " ∷ (report.1 ++ codes "\n" ∷ []))
 
 -- the line of a fault that ends a run
 abbrev pub run_line : RunFault → List ℕ
@@ -66,7 +67,7 @@ table_line name fault = last_fault_line name (table_report fault)
 abbrev pub last_line : Outcome → List ℕ
 last_line (Ran tally) = []
 last_line (Usage text) = text.now
-last_line (CannotOpen name) = joined (codes "bufr: cannot open " ∷ name.now ∷ codes "\n" ∷ [])
+last_line (CannotOpen name) = concat (codes "bufr: cannot open " ∷ name.now ∷ codes "\n" ∷ [])
 last_line (TableB fault) = table_line (codes "table B: ") fault
 last_line (TableD fault) = table_line (codes "table D: ") fault
 last_line (Run fault) = run_line fault

@@ -6,12 +6,13 @@ use Rattle.std.specs.Option.{option_map_or}
 use Rattle.bufr_frame.specs.Prelude.{section_report}
 use Rattle.bufr_tables.specs.Prelude.{template_report}
 use Rattle.bufr_walk.specs.Prelude.{data_report}
-use Rattle.bufr_text.specs.Prelude.{joined, line_report, document_report, line_of_fault}
+use Rattle.bufr_text.specs.Prelude.{line_report, document_report, line_of_fault}
 use Rattle.bufr_text.specs.declared.fault.DocumentFault.{DocumentFault}
 use Rattle.bufr_cli.specs.declared.fault_line.StreamFault.{StreamFault}
 use Rattle.bufr_cli.specs.declared.fault_line.StreamFault.TheVariants as stream
 use Rattle.bufr_text.specs.declared.fault.TextLineFault.{TextLineFault}
 use Rattle.bufr_text.specs.declared.fault.ReadFault.{ReadFault}
+use Rattle.std.specs.List.{concat}
 use Rattle.bufr_text.specs.declared.fault.ReadFault.TheVariants as read
 
 -- the number of a fault of a stream, and its text in parts; want of memory has no text
@@ -29,12 +30,12 @@ prefix_texts word position number =
 -- rule: stream-fault-line
 abbrev pub fault_line : (offset : ℕ) → (report : ℕ × List (List ℕ)) → List ℕ
 fault_line offset report =
-    joined (prefix_texts (codes "offset ") offset report.0 ++ (report.1 ++ codes "\n" ∷ []))
+    concat (prefix_texts (codes "offset ") offset report.0 ++ (report.1 ++ codes "\n" ∷ []))
 
 -- the line of a fault at a line of the text, from 1: its number and its text
 abbrev pub document_line : (line : ℕ) → (report : ℕ × List (List ℕ)) → List ℕ
 document_line line report =
-    joined (prefix_texts (codes "line ") line report.0 ++ (report.1 ++ codes "\n" ∷ []))
+    concat (prefix_texts (codes "line ") line report.0 ++ (report.1 ++ codes "\n" ∷ []))
 
 -- a line that is refused
 -- rule: fault-lines-of-reading

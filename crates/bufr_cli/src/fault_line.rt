@@ -4,8 +4,9 @@ ghost use Rattle.bufr_frame.specs.Prelude.{cause_report, section_report};
 ghost use Rattle.bufr_tables.specs.Prelude.{fxy_text, template_report};
 ghost use Rattle.bufr_walk.specs.Prelude.{data_report, spot_text};
 ghost use Rattle.bufr_fill.specs.Prelude.{expected_text, item_report};
-ghost use Rattle.bufr_text.specs.Prelude.{line_report, Pushes, Writes, joined};
+ghost use Rattle.bufr_text.specs.Prelude.{line_report, Pushes, Writes};
 ghost use Rattle.bufr_cli.specs.Prelude.{fault_line, stream_report, prefix_texts, document_line, line_of_read_fault, refusal_line, OnlyWrites, writer_of};
+ghost use Rattle.std.specs.List.{concat};
 
 use bufr_bits::Sink;
 use bufr_fill::{Expected, ItemFault, WalkRefusal};
@@ -33,7 +34,7 @@ pub(crate) enum StreamFault<'f> {
 
 #[inline(always)]
 fn push_number<E: Sink>(line: &mut LineWriter<'_, '_, E>, number: u8)
-    ensures { Pushes line.old (joined (codes ": " ∷ decimal number ∷ codes " " ∷ [])) line.new }
+    ensures { Pushes line.old (concat (codes ": " ∷ decimal number ∷ codes " " ∷ [])) line.new }
 {
     line.push_named(b": ", u64::from(number));
     line.push(b" ");
@@ -43,14 +44,14 @@ fn push_number<E: Sink>(line: &mut LineWriter<'_, '_, E>, number: u8)
 #[inline(always)]
 // rule: stream-fault-line
 fn push_prefix<E: Sink>(line: &mut LineWriter<'_, '_, E>, word: &[u8], position: u64, number: u8)
-    ensures { Pushes line.old (joined (prefix_texts word.now position number)) line.new }
+    ensures { Pushes line.old (concat (prefix_texts word.now position number)) line.new }
 {
     line.push_named(word, position);
     push_number(line, number);
 }
 
 fn push_descriptor<E: Sink>(line: &mut LineWriter<'_, '_, E>, text: &[u8], fxy: Fxy)
-    ensures { Pushes line.old (joined (text.now ∷ fxy_text fxy ∷ [])) line.new }
+    ensures { Pushes line.old (concat (text.now ∷ fxy_text fxy ∷ [])) line.new }
 {
     line.push(text);
     line.push(&fxy.text());
@@ -59,7 +60,7 @@ fn push_descriptor<E: Sink>(line: &mut LineWriter<'_, '_, E>, text: &[u8], fxy: 
 #[inline(always)]
 // rule: fault-1, fault-2, fault-3
 fn push_stray<E: Sink>(line: &mut LineWriter<'_, '_, E>, cause: Cause)
-    ensures { Pushes line.old (joined (codes ": " ∷ decimal (cause_report cause).0 ∷ codes " "
+    ensures { Pushes line.old (concat (codes ": " ∷ decimal (cause_report cause).0 ∷ codes " "
         ∷ ((cause_report cause).1 ++ codes "\n" ∷ []))) line.new }
 {
     match cause {
@@ -72,7 +73,7 @@ fn push_stray<E: Sink>(line: &mut LineWriter<'_, '_, E>, cause: Cause)
 #[inline(never)]
 // rule: fault-10, fault-11, fault-12, fault-13, fault-14
 fn push_section_fault<E: Sink>(line: &mut LineWriter<'_, '_, E>, fault: SectionFault)
-    ensures { Pushes line.old (joined (section_report fault).1) line.new }
+    ensures { Pushes line.old (concat (section_report fault).1) line.new }
 {
     match fault {
         SectionFault::Edition(edition) => line.push_named(b"edition ", u64::from(edition)),
@@ -93,7 +94,7 @@ fn push_section_fault<E: Sink>(line: &mut LineWriter<'_, '_, E>, fault: SectionF
 #[inline(never)]
 // rule: fault-20, fault-21, fault-22, fault-23, fault-24, fault-25, fault-26, fault-27, fault-28
 fn push_template_fault<E: Sink>(line: &mut LineWriter<'_, '_, E>, fault: &TemplateFault)
-    ensures { Pushes line.old (joined (template_report fault.now).1) line.new }
+    ensures { Pushes line.old (concat (template_report fault.now).1) line.new }
 {
     match fault {
         TemplateFault::UnknownElement(fxy) => push_descriptor(line, b"unknown element ", *fxy),
@@ -112,7 +113,7 @@ fn push_template_fault<E: Sink>(line: &mut LineWriter<'_, '_, E>, fault: &Templa
 /// Pushes the name of a fault of the data, and where in the data it is.
 // rule: stream-fault-place
 fn push_spot<E: Sink>(line: &mut LineWriter<'_, '_, E>, name: &[u8], spot: Spot)
-    ensures { Pushes line.old (joined (spot_text name.now spot)) line.new }
+    ensures { Pushes line.old (concat (spot_text name.now spot)) line.new }
 {
     line.push(name);
     line.push_named(b" at subset ", u64::from(spot.subset));
@@ -124,7 +125,7 @@ fn push_spot<E: Sink>(line: &mut LineWriter<'_, '_, E>, name: &[u8], spot: Spot)
 #[inline(never)]
 // rule: fault-30, fault-31, fault-32, fault-33, fault-34, fault-35
 fn push_walk_fault<E: Sink>(line: &mut LineWriter<'_, '_, E>, fault: &WalkFault)
-    ensures { Pushes line.old (joined (data_report fault.now).1) line.new }
+    ensures { Pushes line.old (concat (data_report fault.now).1) line.new }
 {
     match fault {
         WalkFault::DataEnd(spot) => push_spot(line, b"data end", *spot),
@@ -208,7 +209,7 @@ fn push_line<E: Sink>(line: &mut LineWriter<'_, '_, E>, position: u64, number: u
 
 // rule: fault-51
 fn push_expected<E: Sink>(line: &mut LineWriter<'_, '_, E>, expected: Expected)
-    ensures { Pushes line.old (joined (codes "expected " ∷ expected_text expected)) line.new }
+    ensures { Pushes line.old (concat (codes "expected " ∷ expected_text expected)) line.new }
 {
     match expected {
         Expected::Item(fxy) => push_descriptor(line, b"expected ", fxy),
@@ -220,14 +221,14 @@ fn push_expected<E: Sink>(line: &mut LineWriter<'_, '_, E>, expected: Expected)
 /// Pushes the descriptor at which the walk over the template is refused, and why.
 // rule: fault-62
 fn push_walk<E: Sink>(line: &mut LineWriter<'_, '_, E>, refusal: &WalkRefusal)
-    ensures { Pushes line.old (joined (item_report (ItemFault.Walk refusal.now)).1) line.new }
+    ensures { Pushes line.old (concat (item_report (ItemFault.Walk refusal.now)).1) line.new }
 {
     line.push_named(b"walk ", u64::from(refusal.number()));
     push_descriptor(line, b" descriptor ", refusal.fxy());
 }
 
 fn push_item_fault<E: Sink>(line: &mut LineWriter<'_, '_, E>, fault: &ItemFault)
-    ensures { Pushes line.old (joined (item_report fault.now).1) line.new }
+    ensures { Pushes line.old (concat (item_report fault.now).1) line.new }
 {
     match fault {
         ItemFault::WrongDescriptor(expected) => push_expected(line, *expected),

@@ -1,8 +1,9 @@
 //! The end of a run: its counts, its last line and its exit status.
 ghost use Rattle.std.specs.Prelude.{◌≡◌, ◌<◌, ◌-◌, ◌^◌, ◌∷◌, [], codes, decimal, ◌+◌};
 ghost use Rattle.std.specs.Io.KnownBytes.{Appends};
-ghost use Rattle.bufr_text.specs.Prelude.{Pushes, GrowsByPrefix, joined};
+ghost use Rattle.bufr_text.specs.Prelude.{Pushes, GrowsByPrefix};
 ghost use Rattle.bufr_cli.specs.Prelude.{last_line, run_line, status_of, table_line, IsSame, writer_of, tally_after};
+ghost use Rattle.std.specs.List.{concat};
 
 use bufr_bits::Sink;
 use bufr_frame::RunFault;
@@ -41,7 +42,7 @@ fn status(outcome: &Outcome<'_>) -> u8
 }
 
 fn push_numbered<E: Sink>(line: &mut LineWriter<'_, '_, E>, name: &[u8], number: u8, text: &[u8])
-    ensures { Pushes line.old (joined (name.now ∷ decimal number ∷ codes " " ∷ text.now ∷ []))
+    ensures { Pushes line.old (concat (name.now ∷ decimal number ∷ codes " " ∷ text.now ∷ []))
         line.new }
 {
     line.push(name);

@@ -7,13 +7,14 @@ use Rattle.std.proofs.lemmas.Bool.{ltb-false}
 use Rattle.std.specs.List.{AllByRecursion}
 use Rattle.bufr_tables.specs.Prelude.{IsLegal, Record, Row, AreRows, Tree}
 use Rattle.bufr_walk.specs.Prelude.{FieldSpec, IsSpec, Content, bits_for, FieldFault, found, content_at, Course, Next, take_next, at_end, astray, refused, next_item, max_values, Item, DataCoding, plain, packed, ReadsPass, items_of_subset, subsets_from, would_be_many}
-use Rattle.bufr_fill.specs.Prelude.{Draft, Subset, ItemFault, DraftFault, at_line, too_many_values, content_of, plainly, plain_filler, RowCell, ItemRow, cells_at, rows, most_items, map_err, content_here, contents_here, packed_to, pack_across, packed_filler, plain_data, packed_data, first_line, ◌>>=◌, WrittenItem, written_item, Filler, fill, with_bits_before, packing, Fits, AllFit, HasOctets, AllHaveOctets, IsSaid, IsReadBack, IsPackedReadBack, AreDrafts, AreSaid}
+use Rattle.bufr_fill.specs.Prelude.{packing_fault, Draft, Subset, ItemFault, DraftFault, at_line, too_many_values, content_of, plain_filler, RowCell, ItemRow, cells_at, rows, most_items, map_err, content_here, contents_here, pack_across, packed_filler, plain_data, packed_data, first_line, ◌>>=◌, WrittenItem, written_item, Filler, fill, with_bits_before, packing, Fits, AllFit, HasOctets, AllHaveOctets, IsSaid, IsReadBack, IsPackedReadBack, AreDrafts, AreSaid}
 use Rattle.bufr_fill.proofs.FillSteps.{filled, bits_with, fill_at, plain_more}
 use Rattle.bufr_walk.proofs.NextField.{table_read, IsGoodCourse, next_field}
 use Rattle.bufr_walk.specs.Prelude.{IsWithin}
 use Rattle.bufr_fill.proofs.GoodReads.{draft_fits, answer_within}
 use Rattle.bufr_fill.proofs.PackedLaws.{fitting_again}
 use Rattle.bufr_fill.proofs.PlainLaws.{plain_again}
+use Rattle.std.specs.Result.{result_map_both}
 
 -- ---- one item after another
 
@@ -74,10 +75,11 @@ module _ {C D E : Type 0} (form : DataCoding C) (filler : Filler D C E) (of_item
 
 -- ---- data that are not compressed
 
-plain_one : (end_line : ℕ) (spec : FieldSpec) (d : Draft) (w : WrittenItem Content) → IsSpec spec → HasOctets d.form → plainly d.line spec (content_of spec d) ≡ Ok w → IsOneBack plain IsSaid spec d w
+plain_one : (end_line : ℕ) (spec : FieldSpec) (d : Draft) (w : WrittenItem Content) → IsSpec spec → HasOctets d.form
+    → result_map_both (λ c. written_item c (bits_for spec.width c)) (at_line d.line) (content_of spec d) ≡ Ok w → IsOneBack plain IsSaid spec d w
 plain_one end_line spec d w good text e = by_content (content_of spec d) refl e
   where
-    by_content : (r : Result Content ItemFault) → content_of spec d ≡ r → plainly d.line spec r ≡ Ok w → IsOneBack plain IsSaid spec d w
+    by_content : (r : Result Content ItemFault) → content_of spec d ≡ r → result_map_both (λ c. written_item c (bits_for spec.width c)) (at_line d.line) r ≡ Ok w → IsOneBack plain IsSaid spec d w
     by_content (Err why) p q = cc
     by_content (Ok c) p q =
         let fits : Fits spec c = draft_fits spec d c text p in
@@ -182,18 +184,20 @@ packed_one n some spec a w good row e = by_many (would_be_many (length a.cells) 
       read = λ more. fitting_again n spec good c cs bits more are.fits (are.count ∙ row.0) q;
     }
 
-    by_packing : (cs : List Content) → (a.index + 1) * n ≤ max_values → AreCellsSaid spec a.cells cs → (r : Result (List Bool) FieldFault) → packing spec cs ≡ r → packed_to cs a.cells r ≡ Ok w
+    by_packing : (cs : List Content) → (a.index + 1) * n ≤ max_values → AreCellsSaid spec a.cells cs → (r : Result (List Bool) FieldFault) → packing spec cs ≡ r
+        → result_map_both (written_item cs) (packing_fault cs a.cells) r ≡ Ok w
         → IsOneBack (packed n) (IsSaidAcross n) spec a w
     by_packing cs few are (Ok bits) q r = subst (IsOneBack (packed n) (IsSaidAcross n) spec a) (same_ok (written_item cs bits) w r) (by_list cs bits few are q)
     by_packing cs few are (Err why) q r = cc
 
-    by_contents : (a.index + 1) * n ≤ max_values → (r : Result (List Content) DraftFault) → contents_here spec a.cells ≡ r → (r >>= λ cs. packed_to cs a.cells (packing spec cs)) ≡ Ok w
+    by_contents : (a.index + 1) * n ≤ max_values → (r : Result (List Content) DraftFault) → contents_here spec a.cells ≡ r
+        → (r >>= λ cs. result_map_both (written_item cs) (packing_fault cs a.cells) (packing spec cs)) ≡ Ok w
         → IsOneBack (packed n) (IsSaidAcross n) spec a w
     by_contents few (Err why) p q = cc
     by_contents few (Ok cs) p q = by_packing cs few (cells_said spec a.cells cs row.1 p) (packing spec cs) refl q
 
     by_many : (b : Bool) → would_be_many (length a.cells) a.index ≡ b → (if b then Err (at_line (first_line a.cells) (too_many_values spec.fxy)) else
-        (contents_here spec a.cells >>= λ cs. packed_to cs a.cells (packing spec cs))) ≡ Ok w → IsOneBack (packed n) (IsSaidAcross n) spec a w
+        (contents_here spec a.cells >>= λ cs. result_map_both (written_item cs) (packing_fault cs a.cells) (packing spec cs))) ≡ Ok w → IsOneBack (packed n) (IsSaidAcross n) spec a w
     by_many true p q = cc
     by_many false p q = by_contents (subst (λ k. (a.index + 1) * k ≤ max_values) row.0 (few_of a.index (length a.cells) p)) (contents_here spec a.cells) refl q
 

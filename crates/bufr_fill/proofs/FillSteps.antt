@@ -2,7 +2,8 @@
 use Rattle.std.proofs.Common.{Result, Ok, Err, Option, Some, None, Bool, List, [], ◌∷◌, ◌++◌, ◌≡◌, refl, sym, ◌∙◌, ap, suc, length}
 use Rattle.bufr_walk.specs.Prelude.{FieldSpec, Course, Next, take_next, at_end, Pass, pass}
 use Rattle.bufr_walk.specs.Pass.{pass_next, pass_field}
-use Rattle.bufr_fill.specs.Prelude.{Taken, WrittenItem, Filler, draft_written, filling, fill_pass, bits_written, bits_or, fill, with_bits_before, Subset, DraftFault, Writing, bits_of_writing, writing_then, pass_writing, plain_filler, plain_writing, plain_data, ◌>>=◌}
+use Rattle.bufr_fill.specs.Prelude.{Taken, WrittenItem, Filler, filling, fill_pass, bits_written, fill, with_bits_before, Subset, DraftFault, Writing, bits_of_writing, writing_then, pass_writing, plain_filler, plain_writing, plain_data, ◌>>=◌}
+use Rattle.std.specs.Option.{option_map_or}
 
 module _ {D C E : Type 0} (filler : Filler D C E) where
   -- one item that was written, and the rest
@@ -17,14 +18,14 @@ module _ {D C E : Type 0} (filler : Filler D C E) where
   -- the same at a field, by what is made of the first draft
   abbrev pub pass_with : Course → D → List D → FieldSpec → Result (WrittenItem C) E → Pass (List D) (WrittenItem C) E
   pass_with course d ds spec r =
-      pass_field (filling filler) (course []).turns spec (d ∷ ds) (draft_written filler spec ds r)
+      pass_field (filling filler) (course []).turns spec (d ∷ ds) (r >>= λ w. Ok (record { content = w; returned = filler.gives spec w.content; state = ds }))
       (λ f. pass (filling filler) (suc (length ds)) (λ answers. course (f.returned ∷ answers)) f.state)
 
   -- what a pass wrote
   abbrev pub bits_of_pass : Pass (List D) (WrittenItem C) E → Result (List Bool) E
-  bits_of_pass p = bits_or (bits_written p.items) p.stop
+  bits_of_pass p = option_map_or (λ why. Err why) p.stop (Ok (bits_written p.items))
 
-  before : (w bits : List Bool) (o : Option E) → bits_or (w ++ bits) o ≡ with_bits_before filler w (bits_or bits o)
+  before : (w bits : List Bool) (o : Option E) → option_map_or (λ why. Err why) o (Ok (w ++ bits)) ≡ with_bits_before filler w (option_map_or (λ why. Err why) o (Ok bits))
   before w bits None = refl
   before w bits (Some why) = refl
 
@@ -52,14 +53,15 @@ module _ {D C E : Type 0} (filler : Filler D C E) where
 
 -- ---- subset after subset
 
-bits_both : (a b : List Bool) (stop : Option DraftFault) → bits_or (a ++ b) stop ≡ (bits_or b stop >>= λ y. Ok (a ++ y))
+bits_both : (a b : List Bool) (stop : Option DraftFault) → option_map_or (λ why. Err why) stop (Ok (a ++ b)) ≡ (option_map_or (λ why. Err why) stop (Ok b) >>= λ y. Ok (a ++ y))
 bits_both a b None = refl
 bits_both a b (Some why) = refl
 
 written_both : (w rest : Writing DraftFault) (stop : Option DraftFault) → w.stop ≡ stop
     → bits_of_writing (writing_then w stop rest) ≡ (bits_of_writing w >>= λ x. bits_of_writing rest >>= λ y. Ok (x ++ y))
-written_both w rest None e = bits_both w.bits rest.bits rest.stop ∙ sym (ap (λ o. bits_or w.bits o >>= λ x. bits_of_writing rest >>= λ y. Ok (x ++ y)) e)
-written_both w rest (Some why) e = ap (bits_or w.bits) e ∙ sym (ap (λ o. bits_or w.bits o >>= λ x. bits_of_writing rest >>= λ y. Ok (x ++ y)) e)
+written_both w rest None e = bits_both w.bits rest.bits rest.stop ∙ sym (ap (λ o. option_map_or (λ why. Err why) o (Ok w.bits) >>= λ x. bits_of_writing rest >>= λ y. Ok (x ++ y)) e)
+written_both w rest (Some why) e = ap (λ (o : Option DraftFault). option_map_or (λ why. Err why) o (Ok w.bits)) e ∙ sym (ap (λ o. option_map_or (λ why. Err why) o (Ok w.bits)
+    >>= λ x. bits_of_writing rest >>= λ y. Ok (x ++ y)) e)
 
 -- the data of subsets are those of the first, and then those of the others
 pub plain_more : (course : Course) (s : Subset) (ss : List Subset)

@@ -1,26 +1,28 @@
 -- Items that were read in one form are written in the other so that they are read again.
 use Rattle.std.proofs.lemmas.Slice.Zip.{AllZip-long}
 use Rattle.std.proofs.Common.{◌≡◌, ℕ, ◌+◌, ◌*◌, ◌≤◌, Bool, false, List, [], ◌∷◌, length, Ok, Err, refl, sym, ◌∙◌, ap, subst, arith, zero, suc, ◌<◌, true, ◌++◌, Result, append_assoc, ◌⊎◌, inl, inr, max, drop, if◌then◌else◌, slice_get, flat_map}
-use Rattle.std.specs.List.{AllByRecursion, AllZip}
+use Rattle.std.specs.List.{list_all, AllByRecursion, AllZip}
 use Rattle.std.proofs.lemmas.Bool.{le-ltb}
 use Rattle.std.proofs.lemmas.List.{length-append}
 use Rattle.bufr_walk.specs.Prelude.{FieldSpec, IsSpec, Content, found, bits_for, answer_by_role, answer_of, FieldFault, plain_field, missing, unequal_factor, packed_field, answer_first, max_values, Item, packed, plain, after, ReadsPass, ReadsSubsets, IsPackedReading, content_at, Course, take_next, at_end, subsets_from, items_of_subset, would_be_many}
-use Rattle.bufr_fill.specs.Prelude.{ItemFault, plainly, Taken, Role, packing, same, are_same, packed_bits, packed_unlike, written_item, fill, with_bits_before, plain_filler, RowCell, ItemRow, map_err, content_here, contents_here, packed_to, pack_across, packed_filler, first_line, unlike_line, ◌>>=◌, plain_data, item_row, cells_at, rows, most_items, packing_fault, packed_data, Fits, AllFit, IsWrittenApart, IsDumped, AreDrafts, AreDumped, IsSaid, AreSaid, IsUnlike, IsTogetherOrNot, Draft, Subset, at_line, too_many_values, content_of}
+use Rattle.bufr_fill.specs.Prelude.{ItemFault, Taken, Role, packing, same, packed_bits, packed_unlike, written_item, fill, with_bits_before, plain_filler, RowCell, ItemRow, map_err, content_here, contents_here, pack_across, packed_filler, first_line, unlike_line, ◌>>=◌, plain_data, item_row, cells_at, rows, most_items, packing_fault, packed_data, Fits, AllFit, IsWrittenApart, IsDumped, AreDrafts, AreDumped, IsSaid, AreSaid, IsUnlike, IsTogetherOrNot, Draft, Subset, at_line, too_many_values, content_of}
 use Rattle.bufr_fill.proofs.FillSteps.{filled, fill_more, fill_end, plain_both}
 use Rattle.bufr_fill.proofs.PlainLaws.{IsSaidRow, item_bits, join, IsRewritten, draft_again, same_draft, AllSpecs, plain_again, EachSpecs, width_least, plain_read, content_length}
 use Rattle.bufr_fill.proofs.PackedLaws.{packed_again, packed_count, fitting_again}
 use Rattle.bufr_bits.proofs.DecimalLemmas.{and_first, and_second}
 use Rattle.bufr_fill.proofs.LeastLemmas.{content_same}
+use Rattle.std.specs.Result.{result_map_both}
 use Rattle.bufr_fill.specs.declared.fault.ItemFault.TheVariants as wrong
 use Rattle.bufr_walk.specs.declared.spec.Role.TheVariants as role
 
 -- the contents of a row are packed
 pub across : (spec : FieldSpec) (cs : List Content) (a : ItemRow) → contents_here spec a.cells ≡ Ok cs → (a.index + 1) * length a.cells ≤ max_values
-    → pack_across spec a ≡ packed_to cs a.cells (packing spec cs)
+    → pack_across spec a ≡ result_map_both (written_item cs) (packing_fault cs a.cells) (packing spec cs)
 across spec cs a contents few =
-    ap (λ b. if b then Err (at_line (first_line a.cells) (too_many_values spec.fxy)) else (contents_here spec a.cells >>= λ xs. packed_to xs a.cells (packing spec xs)))
+    ap (λ b. if b then Err (at_line (first_line a.cells) (too_many_values spec.fxy)) else (contents_here spec a.cells
+    >>= λ xs. result_map_both (written_item xs) (packing_fault xs a.cells) (packing spec xs)))
     (le-ltb max_values ((a.index + 1) * length a.cells) few)
-    ∙ ap (λ r. r >>= λ xs. packed_to xs a.cells (packing spec xs)) contents
+    ∙ ap (λ r. r >>= λ xs. result_map_both (written_item xs) (packing_fault xs a.cells) (packing spec xs)) contents
 
 abbrev pub bits_or_none : Result (List Bool) FieldFault → List Bool
 bits_or_none (Ok bits) = bits
@@ -40,7 +42,7 @@ packed_rewritten n end_line many some i a bits mid good row e = let r = by i.con
 }
   where
     by : (cs : List Content) → packed_field n i.spec bits ≡ Ok (found cs mid)
-        → (packed_to cs a.cells (packing i.spec cs) ≡ Ok (written_item cs (bits_or_none (packing i.spec cs))))
+        → (result_map_both (written_item cs) (packing_fault cs a.cells) (packing i.spec cs) ≡ Ok (written_item cs (bits_or_none (packing i.spec cs))))
         × ((more : List Bool) → packed_field n i.spec (bits_or_none (packing i.spec cs) ++ more) ≡ Ok (found cs more))
         × (length (bits_or_none (packing i.spec cs)) + length mid ≤ length bits)
     by [] q = absurd (omega (arith, some, packed_count n i.spec good [] bits mid q))
@@ -70,7 +72,8 @@ plain_subset end_line course (i ∷ items) (d ∷ ds) h said =
     let others = flat_map item_bits items in
     let rest = plain_subset end_line (after plain course i) items ds h.3 said.1 in
     record {
-      fills = join plain (plain_filler end_line) (λ spec c. refl) course i d ds first others h.0 (ap (plainly d.line i.spec) said.0) rest.fills;
+      fills = join plain (plain_filler end_line) (λ spec c. refl) course i d ds first others h.0
+          (ap (result_map_both (λ c. written_item c (bits_for i.spec.width c)) (at_line d.line)) said.0) rest.fills;
       again = λ more. let r = rest.again more in (
         (
           others ++ more,
@@ -130,15 +133,15 @@ subsets_said course subsets ss f h = absurd h
 -- ---- the items of compressed data
 
 -- contents that are packed return the same to the walk
-same_at : (c : Content) (cs : List Content) (j : ℕ) → are_same c cs ≡ true → j < length cs → content_at j cs ≡ c
+same_at : (c : Content) (cs : List Content) (j : ℕ) → list_all (same c) cs ≡ true → j < length cs → content_at j cs ≡ c
 same_at c [] j e h = absurd (omega (arith, h))
-same_at c (d ∷ cs) zero e h = sym (content_same c d (and_first (same c d) (are_same c cs) e))
-same_at c (d ∷ cs) (suc j) e h = same_at c cs j (and_second (same c d) (are_same c cs) e) (omega (arith, h))
+same_at c (d ∷ cs) zero e h = sym (content_same c d (and_first (same c d) (list_all (same c) cs) e))
+same_at c (d ∷ cs) (suc j) e h = same_at c cs j (and_second (same c d) (list_all (same c) cs) e) (omega (arith, h))
 
 abbrev packed_or : Bool → Role → FieldSpec → Content → List Content → Result (List Bool) FieldFault
 packed_or b r spec c cs = if b then Ok (packed_bits (bits_for spec.width c) 0 []) else packed_unlike r spec (c ∷ cs)
 
-alike : (b : Bool) (r : Role) (spec : FieldSpec) (c : Content) (cs : List Content) (out : List Bool) (j : ℕ) → are_same c cs ≡ b → packed_or b r spec c cs ≡ Ok out → j < length cs
+alike : (b : Bool) (r : Role) (spec : FieldSpec) (c : Content) (cs : List Content) (out : List Bool) (j : ℕ) → list_all (same c) cs ≡ b → packed_or b r spec c cs ≡ Ok out → j < length cs
     → answer_by_role r (content_at j cs) ≡ answer_by_role r c
 alike b role.Element spec c cs out j q e h = refl
 alike b role.Inserted spec c cs out j q e h = refl
@@ -150,7 +153,7 @@ alike false role.Reference spec c cs out j q e h = absurd cc
 pub packed_alike : (spec : FieldSpec) (c : Content) (cs : List Content) (out : List Bool) (j : ℕ) → packing spec (c ∷ cs) ≡ Ok out → j < length (c ∷ cs)
     → answer_of spec (content_at j (c ∷ cs)) ≡ answer_of spec c
 packed_alike spec c cs out zero e h = refl
-packed_alike spec c cs out (suc j) e h = alike (are_same c cs) spec.role spec c cs out j refl e (omega (arith, h))
+packed_alike spec c cs out (suc j) e h = alike (list_all (same c) cs) spec.role spec c cs out j refl e (omega (arith, h))
 
 fit_at : (spec : FieldSpec) (cs : List Content) (j : ℕ) → AllFit spec cs → j < length cs → Fits spec (content_at j cs)
 fit_at spec [] j f h = absurd (omega (arith, h))
@@ -319,7 +322,7 @@ length-said p rs ss d = absurd d
 
 -- the item of all subsets is packed, or its contents cannot be
 across_gives : (spec : FieldSpec) (p : ℕ) (rs : List (List (Item Content))) (ss : List Subset) → AreHeaded spec rs → SaidAt p rs ss → (p + 1) * length rs ≤ max_values
-    → pack_across spec (item_row p ss) ≡ packed_to (firsts rs) (cells_at p ss) (packing spec (firsts rs))
+    → pack_across spec (item_row p ss) ≡ result_map_both (written_item (firsts rs)) (packing_fault (firsts rs) (cells_at p ss)) (packing spec (firsts rs))
 across_gives spec p rs ss h d few = across spec (firsts rs) (item_row p ss) (contents_there spec p rs ss h d) (subst (λ n. (p + 1) * n ≤ max_values) (sym (length-said p rs ss d)) few)
 
 -- ---- the course continues the same for all
@@ -390,10 +393,10 @@ Either n course rests drafts end_line many = IsTogether n course rests drafts en
 
 module _ (end_line : ℕ) (many : Bool) where
   fill_first : (course : Course) (spec : FieldSpec) (a : ItemRow) (more : List ItemRow) (r : Result (List Bool) FieldFault) (cs : List Content) → (course []).next ≡ take_next spec
-      → pack_across spec a ≡ packed_to cs a.cells r
-      → fill (packed_filler end_line many) course (a ∷ more) ≡ filled (packed_filler end_line many) spec (packed_to cs a.cells r)
+      → pack_across spec a ≡ result_map_both (written_item cs) (packing_fault cs a.cells) r
+      → fill (packed_filler end_line many) course (a ∷ more) ≡ filled (packed_filler end_line many) spec (result_map_both (written_item cs) (packing_fault cs a.cells) r)
       (λ t. fill (packed_filler end_line many) (λ answer_of. course (t ∷ answer_of)) more)
-  fill_first course spec a more r cs next gives = fill_more (packed_filler end_line many) course a more spec (packed_to cs a.cells r) next gives
+  fill_first course spec a more r cs next gives = fill_more (packed_filler end_line many) course a more spec (result_map_both (written_item cs) (packing_fault cs a.cells) r) next gives
 
   not_packed : (course : Course) (drafts : List ItemRow) (cs : List Content) (cells : List RowCell) (why : FieldFault)
       → fill (packed_filler end_line many) course drafts ≡ Err (packing_fault cs cells why) → IsNot course drafts end_line many
@@ -403,7 +406,7 @@ module _ (end_line : ℕ) (many : Bool) where
   -- the first row, and those after it
   onto : (n : ℕ) (course : Course) (spec : FieldSpec) (c : Content) (cs : List Content) (rs : List (List (Item Content))) (a : ItemRow) (more : List ItemRow) → IsSpec spec
       → (course []).next ≡ take_next spec → AreHeaded spec rs → firsts rs ≡ c ∷ cs → length rs ≡ n
-      → (r : Result (List Bool) FieldFault) → packing spec (c ∷ cs) ≡ r → pack_across spec a ≡ packed_to (c ∷ cs) a.cells r
+      → (r : Result (List Bool) FieldFault) → packing spec (c ∷ cs) ≡ r → pack_across spec a ≡ result_map_both (written_item (c ∷ cs)) (packing_fault (c ∷ cs) a.cells) r
       → ((out : List Bool) → packing spec (c ∷ cs) ≡ Ok out → Either n (λ answer_so. course (answer_of spec c ∷ answer_so)) (tails rs) more end_line many)
       → Either n course rs (a ∷ more) end_line many
   onto n course spec c cs rs a more good next h f count (Err why) p gives rest =

@@ -9,11 +9,12 @@ use Rattle.bufr_bits.proofs.BitLemmas.{bits_in-zero}
 use Rattle.std.specs.Str.{bytes_eq}
 use Rattle.std.proofs.lemmas.Slice.Eq.{bytes_eq-Decides}
 use Rattle.std.proofs.lemmas.Bool.Decides.{Decides-int_eq}
-use Rattle.bufr_fill.specs.Prelude.{raw_limit, spaced, padded_content, same, are_same, smaller, lowest, first_from, has_increment, least_k, increment_for, packed_bits, packed_over, FitsNumber, FieldContent, AreContentsOf, padded_contents, spread, least_from, AreShort, trimmed, need, most_need, over_of, number_or, least_number}
+use Rattle.bufr_fill.specs.Prelude.{raw_limit, spaced, padded_content, same, lowest, first_from, has_increment, least_k, increment_for, packed_bits, packed_over, FitsNumber, FieldContent, AreContentsOf, padded_contents, spread, least_from, AreShort, trimmed, need, most_need, over_of, number_or, least_number}
 use Rattle.std.specs.List.{list_all, flat_map, AllByRecursion}
 use Rattle.std.proofs.lemmas.List.{length-append, take_all}
 use Rattle.bufr_bits.specs.Prelude.{bits_in}
 use Rattle.bufr_tables.specs.Prelude.{is_character}
+use Rattle.std.specs.Option.{option_map_or}
 use Rattle.bufr_fill.specs.declared.field_value.FieldContent.TheVariants as field_content
 
 -- the first number that passes is at most any that does
@@ -65,9 +66,9 @@ content_self missing = refl
 content_self (reference a) = (Decides-int_eq a a).1 refl
 
 -- contents that are all one content are the same
-pub are_same_copies : (c : Content) (n : ℕ) → are_same c (replicate n c) ≡ true
+pub are_same_copies : (c : Content) (n : ℕ) → list_all (same c) (replicate n c) ≡ true
 are_same_copies c zero = refl
-are_same_copies c (suc n) = ap (λ b. b && are_same c (replicate n c)) (content_self c) ∙ are_same_copies c n
+are_same_copies c (suc n) = ap (λ b. b && list_all (same c) (replicate n c)) (content_self c) ∙ are_same_copies c n
 
 -- no number is below this one
 abbrev pub IsOver : ℕ → Content → Type 0
@@ -95,7 +96,7 @@ pub lowest_over : (cs : List Content) (m : ℕ) → lowest cs ≡ Some m → Are
 lowest_over [] m e = absurd cc
 lowest_over (number n ∷ cs) m e = by_rest n m cs (lowest cs) refl e (λ l q. lowest_over cs l q)
   where
-    by_rest : (n m : ℕ) (cs : List Content) (o : Option ℕ) → lowest cs ≡ o → Some (smaller n o) ≡ Some m → ((l : ℕ) → lowest cs ≡ Some l → AreOver l cs) → (m ≤ n) × AreOver m cs
+    by_rest : (n m : ℕ) (cs : List Content) (o : Option ℕ) → lowest cs ≡ o → Some (option_map_or (min n) o n) ≡ Some m → ((l : ℕ) → lowest cs ≡ Some l → AreOver l cs) → (m ≤ n) × AreOver m cs
     by_rest n m cs None q e h = let s : n ≡ m = cc in (omega arith, none_over cs m q)
     by_rest n m cs (Some l) q e h = let s : min n l ≡ m = cc in (omega arith, over_less m l cs (omega arith) (h l q))
 lowest_over (c ∷ cs) m e = (tt, lowest_over cs m e)
@@ -112,13 +113,13 @@ pub under_lowest : (cs : List Content) (b m : ℕ) → AreOver b cs → lowest c
 under_lowest [] b m h e = absurd cc
 under_lowest (number n ∷ cs) b m h e = by_rest (lowest cs) refl e (λ l q. under_lowest cs b l h.1 q)
   where
-    by_rest : (o : Option ℕ) → lowest cs ≡ o → Some (smaller n o) ≡ Some m → ((l : ℕ) → lowest cs ≡ Some l → b ≤ l) → b ≤ m
+    by_rest : (o : Option ℕ) → lowest cs ≡ o → Some (option_map_or (min n) o n) ≡ Some m → ((l : ℕ) → lowest cs ≡ Some l → b ≤ l) → b ≤ m
     by_rest None q s g = let t : n ≡ m = cc in omega (arith, h.0)
     by_rest (Some l) q s g = let t : min n l ≡ m = cc in omega (arith, h.0, g l q)
 under_lowest (c ∷ cs) b m h e = under_lowest cs b m h.1 e
 
 -- numbers of which none is there are all missing
-pub all_missing : (may : Bool) (w : ℕ) (cs : List Content) → AreNumbers may w cs → lowest cs ≡ None → are_same missing cs ≡ true
+pub all_missing : (may : Bool) (w : ℕ) (cs : List Content) → AreNumbers may w cs → lowest cs ≡ None → list_all (same missing) cs ≡ true
 all_missing may w [] h e = refl
 all_missing may w (number n ∷ cs) h e = absurd cc
 all_missing may w (missing ∷ cs) h e = all_missing may w cs h.1 e
@@ -472,7 +473,7 @@ lowest_same : (o : Option ℕ) (least most : ℕ) → least ≤ 1844674407370955
 lowest_same None least most h g = (omega (arith, g.0), omega (arith, g.1))
 lowest_same (Some n) least most h g = (omega (arith, g.0, h), omega (arith, g.1))
 
-lowest_more : (m : ℕ) (o : Option ℕ) (least most : ℕ) → max (m - 0) most ≤ 18446744073709551615 → IsLowest o least most → IsLowest (Some (smaller m o)) (min m least) (max (m - 0) most)
+lowest_more : (m : ℕ) (o : Option ℕ) (least most : ℕ) → max (m - 0) most ≤ 18446744073709551615 → IsLowest o least most → IsLowest (Some (option_map_or (min m) o m)) (min m least) (max (m - 0) most)
 lowest_more m None least most h g = (omega (arith, g.0, h), omega arith)
 lowest_more m (Some n) least most h g = (omega (arith, g.0), omega (arith, g.1))
 
@@ -511,15 +512,16 @@ spread_over base [] = omega arith
 spread_over base (field_content.Number n ∷ ds) = omega (arith, spread_over base ds)
 spread_over base (d ∷ ds) = omega (arith, spread_over base ds)
 
-smaller_least : (a n : ℕ) (o : Option ℕ) → a ≡ n → smaller a o ≡ a → smaller n o ≡ a
-smaller_least a n o e h = ap (λ m. smaller m o) (sym e) ∙ h
+smaller_least : (a n : ℕ) (o : Option ℕ) → a ≡ n → option_map_or (min a) o a ≡ a → option_map_or (min n) o n ≡ a
+smaller_least a n o e h = ap (λ m. option_map_or (min m) o m) (sym e) ∙ h
 
 -- contents that are all one number
-all_one : (count a : ℕ) (ds : List FieldContent) → are_same (number a) (padded_contents count ds) ≡ true → (smaller a (lowest (padded_contents count ds)) ≡ a) × (max a (spread 0 ds) ≡ a)
+all_one : (count a : ℕ) (ds : List FieldContent) → list_all (same (number a)) (padded_contents count ds) ≡ true → (option_map_or (min a) (lowest (padded_contents count ds)) a ≡ a)
+    × (max a (spread 0 ds) ≡ a)
 all_one count a [] h = (refl, omega arith)
 all_one count a (field_content.Number n ∷ ds) h =
-    let e = eqb-true a n (and_first (a == n) (are_same (number a) (padded_contents count ds)) h) in
-    let rest = all_one count a ds (and_second (a == n) (are_same (number a) (padded_contents count ds)) h) in
+    let e = eqb-true a n (and_first (a == n) (list_all (same (number a)) (padded_contents count ds)) h) in
+    let rest = all_one count a ds (and_second (a == n) (list_all (same (number a)) (padded_contents count ds)) h) in
     let least = smaller_least a n (lowest (padded_contents count ds)) e rest.0 in (
       omega (arith, least),
       omega (arith, e, rest.1),
@@ -527,23 +529,23 @@ all_one count a (field_content.Number n ∷ ds) h =
 all_one count a (d ∷ ds) h = absurd cc
 
 -- contents that are all the same, and no number
-all_none : (count : ℕ) (c : Content) (ds : List FieldContent) → ((n : ℕ) → same c (number n) ≡ false) → are_same c (padded_contents count ds) ≡ true
+all_none : (count : ℕ) (c : Content) (ds : List FieldContent) → ((n : ℕ) → same c (number n) ≡ false) → list_all (same c) (padded_contents count ds) ≡ true
     → (lowest (padded_contents count ds) ≡ None) × (spread 0 ds ≡ 0)
 all_none count c [] differs h = (refl, refl)
-all_none count c (field_content.Number n ∷ ds) differs h = absurd (true_false (same c (number n)) (and_first (same c (number n)) (are_same c (padded_contents count ds)) h) (differs n))
+all_none count c (field_content.Number n ∷ ds) differs h = absurd (true_false (same c (number n)) (and_first (same c (number n)) (list_all (same c) (padded_contents count ds)) h) (differs n))
 all_none count c (field_content.Text t ∷ ds) differs h = let rest =
-    all_none count c ds differs (and_second (same c (padded_content count (field_content.Text t))) (are_same c (padded_contents count ds)) h) in
+    all_none count c ds differs (and_second (same c (padded_content count (field_content.Text t))) (list_all (same c) (padded_contents count ds)) h) in
     (rest.0, omega (arith, rest.1))
 all_none count c (field_content.Missing ∷ ds) differs h = let rest =
-    all_none count c ds differs (and_second (same c missing) (are_same c (padded_contents count ds)) h) in (rest.0, omega (arith, rest.1))
-all_none count c (field_content.Reference v ∷ ds) differs h = let rest = all_none count c ds differs (and_second (same c (reference v)) (are_same c (padded_contents count ds)) h) in
+    all_none count c ds differs (and_second (same c missing) (list_all (same c) (padded_contents count ds)) h) in (rest.0, omega (arith, rest.1))
+all_none count c (field_content.Reference v ∷ ds) differs h = let rest = all_none count c ds differs (and_second (same c (reference v)) (list_all (same c) (padded_contents count ds)) h) in
     (rest.0, omega (arith, rest.1))
 
 no_range : (count : ℕ) (ds : List FieldContent) → (lowest (padded_contents count ds) ≡ None) × (spread 0 ds ≡ 0) → unwrap_or (lowest (padded_contents count ds)) 0 ≡ spread 0 ds
 no_range count ds h = ap (λ o. unwrap_or o 0) h.0 ∙ sym h.1
 
 -- the least and the greatest number of contents that are all the same are one
-pub range_of_same : (count : ℕ) (c : Content) (ds : List FieldContent) → are_same c (padded_contents count ds) ≡ true → unwrap_or (lowest (padded_contents count ds)) 0 ≡ spread 0 ds
+pub range_of_same : (count : ℕ) (c : Content) (ds : List FieldContent) → list_all (same c) (padded_contents count ds) ≡ true → unwrap_or (lowest (padded_contents count ds)) 0 ≡ spread 0 ds
 range_of_same count (number a) [] h = refl
 range_of_same count (number a) (field_content.Number n ∷ ds) h = grind (arith, common_steps, eqb-true, and_first, all_one, and_second, smaller_least)
 range_of_same count (number a) (d ∷ ds) h = absurd cc
@@ -552,5 +554,5 @@ range_of_same count missing ds h = no_range count ds (all_none count missing ds 
 range_of_same count (reference v) ds h = no_range count ds (all_none count (reference v) ds (λ n. refl) h)
 
 -- contents with two numbers are not all the same
-pub not_alike : (count : ℕ) (c : Content) (ds : List FieldContent) → (unwrap_or (lowest (padded_contents count ds)) 0 ≡ spread 0 ds → ⊥) → false ≡ are_same c (padded_contents count ds)
+pub not_alike : (count : ℕ) (c : Content) (ds : List FieldContent) → (unwrap_or (lowest (padded_contents count ds)) 0 ≡ spread 0 ds → ⊥) → false ≡ list_all (same c) (padded_contents count ds)
 not_alike count c ds h = grind (arith, common_steps, range_of_same)

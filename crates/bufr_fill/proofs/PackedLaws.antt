@@ -13,7 +13,7 @@ use Rattle.bufr_tables.specs.declared.table_b.Kind.{Kind}
 use Rattle.bufr_walk.specs.declared.spec.Role.{Role}
 use Rattle.bufr_walk.specs.Prelude.{Coding, numbers, texts, references, coding_by, coding_of, step_of, increased, all_there, contents_across, if_equal, said, is_reference, FieldSpec, IsSpec, HasWidth, Content, number, text, missing, content_in, bits_for, FieldFault, increment, FieldRead, found, increments, packed_field}
 use Rattle.bufr_walk.proofs.PackedLemmas.{item_by, item_parts, neither, varied, copied, copies_equal, next_there, some_same, equal_or}
-use Rattle.bufr_fill.specs.Prelude.{raw_limit, same, are_same, lowest, has_increment, increment_for, least_k, packed_bits, packed_over, packed_unlike, packing, k_of, HasLeastK, first_from, FitsNumber, FitsText, FitsKind, FitsRole, Fits, AllFit, Role, Kind}
+use Rattle.bufr_fill.specs.Prelude.{raw_limit, same, lowest, has_increment, increment_for, least_k, packed_bits, packed_over, packed_unlike, packing, k_of, HasLeastK, first_from, FitsNumber, FitsText, FitsKind, FitsRole, Fits, AllFit, Role, Kind}
 use Rattle.bufr_fill.proofs.FieldLemmas.{coded, coding_is, number_again, same_ok}
 use Rattle.bufr_fill.proofs.LeastLemmas.{first_least, first_passes, first_from_start, content_same, are_same_copies, AreNumbers, AreOver, none_over, lowest_over, lowest_fits, under_lowest, octets_self, top_some, over_at, over_is, over_written}
 use Rattle.bufr_fill.proofs.PackedBack.{pieces_length, pieces_found, numbers_back, increments_long, AreTexts, octets_long, texts_back, AllLong, increments_all, numbers_read, all_over, texts_read, texts_short}
@@ -226,15 +226,15 @@ varied_fit : (spec : FieldSpec) (kd : Kind) (m : Bool) (w k : ℕ) (cs : List Co
 varied_fit spec kind.Character m w k cs h v = all_map cs h v.0
 varied_fit spec kd m w k cs h v = all_map cs h v.0
 
-same_copies : (c : Content) (cs : List Content) → are_same c cs ≡ true → cs ≡ replicate (length cs) c
+same_copies : (c : Content) (cs : List Content) → list_all (same c) cs ≡ true → cs ≡ replicate (length cs) c
 same_copies c [] h = refl
 same_copies c (d ∷ cs) h =
-    ap (λ x. x ∷ cs) (sym (content_same c d (and_first (same c d) (are_same c cs) h))) ∙ ap (λ xs. c ∷ xs) (same_copies c cs (and_second (same c d) (are_same c cs) h))
+    ap (λ x. x ∷ cs) (sym (content_same c d (and_first (same c d) (list_all (same c) cs) h))) ∙ ap (λ xs. c ∷ xs) (same_copies c cs (and_second (same c d) (list_all (same c) cs) h))
 
 -- the parts of a list of copies
-copies_are : (n : ℕ) (x c : Content) (cs : List Content) → replicate n x ≡ c ∷ cs → (x ≡ c) × (are_same c cs ≡ true)
+copies_are : (n : ℕ) (x c : Content) (cs : List Content) → replicate n x ≡ c ∷ cs → (x ≡ c) × (list_all (same c) cs ≡ true)
 copies_are zero x c cs h = absurd cc
-copies_are (suc n) x c cs h = let f = heads x c (replicate n x) cs h in (f.0, ap (λ xs. are_same c xs) (sym f.1 ∙ ap (replicate n) f.0) ∙ are_same_copies c n)
+copies_are (suc n) x c cs h = let f = heads x c (replicate n x) cs h in (f.0, ap (λ xs. list_all (same c) xs) (sym f.1 ∙ ap (replicate n) f.0) ∙ are_same_copies c n)
   where
     heads : (x c : Content) (xs cs : List Content) → x ∷ xs ≡ c ∷ cs → (x ≡ c) × (xs ≡ cs)
     heads x c xs cs h = (cc, cc)
@@ -303,7 +303,7 @@ not_zero k h = grind (arith, nat_tests)
 
 module _ (n : ℕ) (spec : FieldSpec) (good : IsSpec spec) where
   -- contents that are all the same
-  pub uniform : (c : Content) (cs : List Content) (most : ℕ) → Fits spec c → are_same c cs ≡ true → length (c ∷ cs) ≡ n → spec.width + 6 ≤ most → PacksWithin n spec (c ∷ cs) most
+  pub uniform : (c : Content) (cs : List Content) (most : ℕ) → Fits spec c → list_all (same c) cs ≡ true → length (c ∷ cs) ≡ n → spec.width + 6 ≤ most → PacksWithin n spec (c ∷ cs) most
   uniform c cs most fits same_all count room =
       let base = bits_for spec.width c in
       let lb : length base ≡ spec.width = content_length spec good c fits in
@@ -320,7 +320,7 @@ module _ (n : ℕ) (spec : FieldSpec) (good : IsSpec spec) where
       }
 
   -- contents that differ, of an element
-  differing : IsOpen spec → (c : Content) (cs : List Content) (k most : ℕ) → 1 ≤ k → k ≤ 63 → IsVaried spec.kind spec.may_be_missing spec.width k (c ∷ cs) → are_same c cs ≡ false
+  differing : IsOpen spec → (c : Content) (cs : List Content) (k most : ℕ) → 1 ≤ k → k ≤ 63 → IsVaried spec.kind spec.may_be_missing spec.width k (c ∷ cs) → list_all (same c) cs ≡ false
       → length (c ∷ cs) ≡ n → spec.width + 6 + n * step_of (coding_of spec) k ≤ most → PacksWithin n spec (c ∷ cs) most
   differing o c cs k most some small varies unlike count room =
       let w = item_written spec (c ∷ cs) k some small spec.kind good.width o.coding varies in
@@ -349,7 +349,7 @@ module _ (n : ℕ) (spec : FieldSpec) (good : IsSpec spec) where
   first_fits_kind kd k c cs v = v.0.0
 
   -- either all the same, or not
-  of_element : IsOpen spec → (c : Content) (cs : List Content) (k most : ℕ) (b : Bool) → are_same c cs ≡ b → 1 ≤ k → k ≤ 63 → IsVaried spec.kind spec.may_be_missing spec.width k (c ∷ cs)
+  of_element : IsOpen spec → (c : Content) (cs : List Content) (k most : ℕ) (b : Bool) → list_all (same c) cs ≡ b → 1 ≤ k → k ≤ 63 → IsVaried spec.kind spec.may_be_missing spec.width k (c ∷ cs)
       → length (c ∷ cs) ≡ n → spec.width + 6 + n * step_of (coding_of spec) k ≤ most → PacksWithin n spec (c ∷ cs) most
   of_element o c cs k most true e some small varies count room = uniform c cs most (o.fit c (first_fits_kind spec.kind k c cs varies)) e count (omega (arith, room))
   of_element o c cs k most false e some small varies count room = differing o c cs k most some small varies e count room
@@ -367,7 +367,7 @@ module _ (n : ℕ) (spec : FieldSpec) (good : IsSpec spec) where
         (sym (varied d k n base suffix (not_zero k some)) ∙ ap (λ x. contents_across x k n base suffix) (sym coding) ∙ across)
 
     of_open : IsOpen spec → PacksWithin n spec (c ∷ cs) (spec.width + 6 + n * step_of (coding_of spec) k)
-    of_open o = of_element o c cs k (spec.width + 6 + n * step_of (coding_of spec) k) (are_same c cs) refl some small (varies_so o.coding) count_is (omega arith)
+    of_open o = of_element o c cs k (spec.width + 6 + n * step_of (coding_of spec) k) (list_all (same c) cs) refl some small (varies_so o.coding) count_is (omega arith)
 
     -- what was read with k above 0, for each role
     by_role : (r : Role) → spec.role ≡ r → if_equal spec.role (c ∷ cs) ≡ Ok (c ∷ cs) → PacksWithin n spec (c ∷ cs) (spec.width + 6 + n * step_of (coding_of spec) k)
@@ -378,7 +378,8 @@ module _ (n : ℕ) (spec : FieldSpec) (good : IsSpec spec) where
         absurd (omega (arith, none, some))
     by_role role.Factor er q =
         let v = varies_so (coding_is spec.role spec.kind spec (ap is_reference er)) in
-        uniform c cs _ (subst (λ r. FitsRole r spec c) (sym er) (first_fits_kind spec.kind k c cs v)) (same_of (are_same c cs) (ap (λ r. if_equal r (c ∷ cs)) (sym er) ∙ q)) count_is (omega arith)
+        uniform c cs _ (subst (λ r. FitsRole r spec c) (sym er) (first_fits_kind spec.kind k c cs v))
+        (same_of (list_all (same c) cs) (ap (λ r. if_equal r (c ∷ cs)) (sym er) ∙ q)) count_is (omega arith)
       where
         same_of : (b : Bool) → equal_or b (c ∷ cs) ≡ Ok (c ∷ cs) → b ≡ true
         same_of true e = refl
@@ -539,14 +540,14 @@ module _ (n : ℕ) (spec : FieldSpec) (good : IsSpec spec) where
       → AllKind spec.kind spec.may_be_missing spec.width cs
   kinds_of r er f cs h = all_map cs (λ x g. f x (subst (λ r. FitsRole r spec x) er g)) h
 
-  unlike_open : IsOpen spec → (c : Content) (cs : List Content) (out : List Bool) → AllKind spec.kind spec.may_be_missing spec.width (c ∷ cs) → length (c ∷ cs) ≡ n → are_same c cs ≡ false
+  unlike_open : IsOpen spec → (c : Content) (cs : List Content) (out : List Bool) → AllKind spec.kind spec.may_be_missing spec.width (c ∷ cs) → length (c ∷ cs) ≡ n → list_all (same c) cs ≡ false
       → packed_unlike spec.role spec (c ∷ cs) ≡ Ok out → (most : ℕ) × PacksWithin n spec (c ∷ cs) most
   unlike_open o c cs out fits count unlike e =
       let v = kind_varies spec.kind spec (c ∷ cs) out good.width o.coding fits (sym (o.packings (c ∷ cs)) ∙ e) in
       let most = spec.width + 6 + n * step_of (coding_of spec) v.0 in
       (most, differing n spec good o c cs v.0 most v.1 v.2 v.3 unlike count (omega arith))
 
-  unlike_by_role : (r : Role) → spec.role ≡ r → (c : Content) (cs : List Content) (out : List Bool) → AllFit spec (c ∷ cs) → length (c ∷ cs) ≡ n → are_same c cs ≡ false
+  unlike_by_role : (r : Role) → spec.role ≡ r → (c : Content) (cs : List Content) (out : List Bool) → AllFit spec (c ∷ cs) → length (c ∷ cs) ≡ n → list_all (same c) cs ≡ false
       → packed_unlike r spec (c ∷ cs) ≡ Ok out → (most : ℕ) × PacksWithin n spec (c ∷ cs) most
   unlike_by_role role.Element er c cs out fits count unlike e = unlike_open (open_element spec er) c cs out (kinds_of role.Element er (λ x f. f) (c ∷ cs) fits) count unlike
       (ap (λ r. packed_unlike r spec (c ∷ cs)) er ∙ e)
@@ -554,7 +555,7 @@ module _ (n : ℕ) (spec : FieldSpec) (good : IsSpec spec) where
       (ap (λ r. packed_unlike r spec (c ∷ cs)) er ∙ e)
   unlike_by_role r er c cs out fits count unlike e = absurd cc
 
-  by_same : (b : Bool) (c : Content) (cs : List Content) (out : List Bool) → AllFit spec (c ∷ cs) → length (c ∷ cs) ≡ n → are_same c cs ≡ b
+  by_same : (b : Bool) (c : Content) (cs : List Content) (out : List Bool) → AllFit spec (c ∷ cs) → length (c ∷ cs) ≡ n → list_all (same c) cs ≡ b
       → (if b then Ok (packed_bits (bits_for spec.width c) 0 []) else packed_unlike spec.role spec (c ∷ cs)) ≡ Ok out
       → (most : ℕ) × PacksWithin n spec (c ∷ cs) most
   by_same true c cs out fits count q e = (spec.width + 6, uniform n spec good c cs (spec.width + 6) fits.0 q count (omega arith))
@@ -564,7 +565,7 @@ module _ (n : ℕ) (spec : FieldSpec) (good : IsSpec spec) where
   pub fitting_again : (c : Content) (cs : List Content) (out more : List Bool) → AllFit spec (c ∷ cs) → length (c ∷ cs) ≡ n → packing spec (c ∷ cs) ≡ Ok out
       → packed_field n spec (out ++ more) ≡ Ok (found (c ∷ cs) more)
   fitting_again c cs out more fits count e =
-      let p = by_same (are_same c cs) c cs out fits count refl e in
+      let p = by_same (list_all (same c) cs) c cs out fits count refl e in
       let is : out ≡ p.1.out = same_ok out p.1.out (sym e ∙ p.1.is) in
       ap (λ bits. packed_field n spec (bits ++ more)) is ∙ p.1.again more
 

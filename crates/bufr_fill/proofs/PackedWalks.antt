@@ -3,10 +3,12 @@ use Rattle.std.proofs.lemmas.Grind.{common_steps}
 use Rattle.std.proofs.Common.{◌≡◌, ℕ, zero, suc, ◌+◌, ◌-◌, ◌<◌, Bool, true, false, List, [], ◌∷◌, ◌++◌, length, Option, Some, None, Result, Ok, Err, refl, sym, ◌∙◌, ap, arith, ◌≤◌, max, slice_get, if◌then◌else◌}
 use Rattle.std.proofs.lemmas.List.{append-nil}
 use Rattle.bufr_walk.specs.Prelude.{FieldSpec, Content, Course, Next, take_next, at_end, astray, refused, TakenField, Takes, course_after, oks, answers_of, would_be_many}
-use Rattle.bufr_fill.specs.Prelude.{Taken, Draft, Subset, DraftFault, at_line, too_many_values, item_too_many, walk_refused, WrittenItem, written_item, fill, with_bits_before, Filler, item_row, cells_at, rows, most_items, content_here, contents_here, packed_to, pack_across, packed_filler, ◌>>=◌, ItemRow, first_there, line_in, packed_data, packing, PackedOutModel, IsPacked, PackedFills, rows_left, new_packed_out, and_end, all_at_end, first_line_at, IsFaultHere}
+use Rattle.bufr_fill.specs.Prelude.{packing_fault, Taken, Draft, Subset, DraftFault, at_line, too_many_values, item_too_many, walk_refused, WrittenItem, written_item, fill, with_bits_before, Filler, item_row, cells_at, rows, most_items, content_here, contents_here, pack_across, packed_filler, ◌>>=◌, ItemRow, first_there, packed_data, packing, PackedOutModel, IsPacked, PackedFills, rows_left, new_packed_out, and_end, all_at_end, first_line_at, IsFaultHere}
 use Rattle.bufr_fill.proofs.FillSteps.{fill_at, fill_end}
 use Rattle.bufr_fill.proofs.WalkLemmas.{HasFilled, walk_fills, after_answers, unfilled}
 use Rattle.bufr_fill.proofs.EntryLemmas.{length-cells}
+use Rattle.std.specs.Option.{option_map_or}
+use Rattle.std.specs.Result.{result_map_both}
 use Rattle.bufr_walk.specs.declared.spec.TurnRefusal.TheVariants as refusal
 
 written_bits : (a b : WrittenItem (List Content)) → ◌≡◌ {A = Result (WrittenItem (List Content)) DraftFault} (Ok a) (Ok b) → a.bits ≡ b.bits
@@ -91,9 +93,9 @@ ends_before index (s ∷ ss) f e = by (slice_get s.items index) refl e (λ e. en
     by : (o : Option Draft) → slice_get s.items index ≡ o → and_end o (all_at_end (cells_at index ss)) ≡ Err f
         → (all_at_end (cells_at index ss) ≡ Err f → (index < most_items ss) × (f ≡ at_line (first_there (cells_at index ss)) item_too_many))
         → (index < most_items (s ∷ ss)) × (f ≡ at_line (first_there (cells_at index (s ∷ ss))) item_too_many)
-    by None is e g = let r = g e in (omega (arith, r.0), r.1 ∙ ap (λ o. at_line (line_in o (first_there (cells_at index ss))) item_too_many) (sym is))
+    by None is e g = let r = g e in (omega (arith, r.0), r.1 ∙ ap (λ o. at_line (option_map_or (λ (d : Draft). d.line) o (first_there (cells_at index ss))) item_too_many) (sym is))
     by (Some d) is e g = let same : at_line d.line item_too_many ≡ f =
-        cc in (omega (arith, some_there s.items index d is), sym same ∙ ap (λ o. at_line (line_in o (first_there (cells_at index ss))) item_too_many) (sym is))
+        cc in (omega (arith, some_there s.items index d is), sym same ∙ ap (λ o. at_line (option_map_or (λ (d : Draft). d.line) o (first_there (cells_at index ss))) item_too_many) (sym is))
 
 -- ---- the walk
 
@@ -153,7 +155,7 @@ module _ (course : Course) (s : Subset) (more : List Subset) where
       by zero l =
           ap (λ k. fill filler c (rows k index (s ∷ more))) l
           ∙ ap (fill_at filler c []) e
-          ∙ ap (λ o. Err (at_line (line_in o s.end_line) (walk_refused why))) (sym (none_past s.items index (omega (arith, l, h))))
+          ∙ ap (λ o. Err (at_line (option_map_or (λ (d : Draft). d.line) o s.end_line) (walk_refused why))) (sym (none_past s.items index (omega (arith, l, h))))
       by (suc k) l =
           ap (λ k. fill filler c (rows k index (s ∷ more))) l
           ∙ ap (fill_at filler c (item_row index (s ∷ more) ∷ rows k (index + 1) (s ∷ more))) e
@@ -164,8 +166,9 @@ module _ (course : Course) (s : Subset) (more : List Subset) where
   fault_here c index spec f e h p = by (most_items (s ∷ more) - index) refl
     where
       past : (many many' : Bool) (o : Option Draft) → many ≡ many' → o ≡ None
-          → (if many then Err (at_line (line_in o s.end_line) (too_many_values spec.fxy)) else
-          ((content_here spec o s.end_line >>= λ first. contents_here spec (cells_at index more) >>= λ rest. Ok (first ∷ rest)) >>= λ cs. packed_to cs (cells_at index (s ∷ more))
+          → (if many then Err (at_line (option_map_or (λ (d : Draft). d.line) o s.end_line) (too_many_values spec.fxy)) else
+          ((content_here spec o s.end_line >>= λ first. contents_here spec (cells_at index more) >>= λ rest. Ok (first ∷ rest))
+          >>= λ cs. result_map_both (written_item cs) (packing_fault cs (cells_at index (s ∷ more)))
           (packing spec cs))) ≡ Err f
           → (packed_filler s.end_line many').none_left spec ≡ f
       past true true None a b p = cc

@@ -9,12 +9,14 @@ use Rattle.std.proofs.Math.Seq.{drop-cons}
 use Rattle.std.proofs.lemmas.List.{append-nil, take-replicate, length-append, drop_all}
 use Rattle.bufr_bits.specs.Prelude.{bits_of}
 use Rattle.std.specs.Str.{bytes_eq}
-use Rattle.bufr_fill.specs.Prelude.{spaced, Taken, Role, FieldContent, padded_content, IsContentOf, raw_limit, AreContentsOf, padded_contents, need_of, most_need, FitsIncrement, AreShort, least_from, entry_or_end, entry_here, and_end, all_at_end, IsPutWithin, trimmed, same, are_same, first_from, packing, packed_bits, packed_over, packed_unlike, RowCell, content_here, contents_here, first_unlike, unlike_line, cell_line, line_in, first_line, ◌>>=◌, item_row, cells_at, packed_to, pack_across, written_item, Draft, DraftEntry, Holds, Ends, Subset, DraftFault, at_line, item_too_many, too_many_values, IfDraftFault, is_end}
+use Rattle.bufr_fill.specs.Prelude.{packing_fault, spaced, Taken, Role, FieldContent, padded_content, IsContentOf, raw_limit, AreContentsOf, padded_contents, need_of, most_need, FitsIncrement, AreShort, least_from, entry_or_end, entry_here, and_end, all_at_end, IsPutWithin, trimmed, same, first_from, packing, packed_bits, packed_over, packed_unlike, RowCell, content_here, contents_here, first_unlike, unlike_line, cell_line, first_line, ◌>>=◌, item_row, cells_at, pack_across, written_item, Draft, DraftEntry, Holds, Ends, Subset, DraftFault, at_line, item_too_many, too_many_values, IfDraftFault, is_end}
 use Rattle.bufr_fill.specs.declared.fault.ItemFault.TheVariants as wrong
 use Rattle.bufr_walk.specs.Prelude.{is_reference}
 use Rattle.bufr_walk.specs.Prelude.{FieldSpec, Content, reference, answer_of, bits_for, increment, unequal_factor, answer_first, max_values}
 use Rattle.bufr_fill.proofs.EntryLemmas.{entry_line}
 use Rattle.bufr_fill.proofs.LeastLemmas.{octets_self, content_same, content_self}
+use Rattle.std.specs.Option.{option_map_or}
+use Rattle.std.specs.Result.{result_map_both}
 use Rattle.bufr_fill.specs.declared.fault.DraftFault.TheVariants as draft_fault
 use Rattle.bufr_walk.specs.declared.spec.Role.TheVariants as role
 
@@ -126,18 +128,19 @@ few_bits n k most h = let most = mul-le-mul_right n h in omega (arith, most)
 
 -- whether those that are left are the same as one
 pub alike_more : (count : ℕ) (c : Content) (ds : List FieldContent) (i : ℕ) (d : FieldContent) (b : Bool) → i < length ds → d ≡ get_or ds i d
-    → are_same c (padded_contents count ds) ≡ are_same c (padded_contents count (drop i ds)) → same c (padded_content count d) ≡ true
-    → are_same c (padded_contents count ds) ≡ are_same c (padded_contents count (drop (i + 1) ds))
-alike_more count c ds i d b h e inv is = inv ∙ ap (λ xs. are_same c (padded_contents count xs)) (at_next ds i d h e) ∙ ap (λ t. t && are_same c (padded_contents count (drop (i + 1) ds))) is
+    → list_all (same c) (padded_contents count ds) ≡ list_all (same c) (padded_contents count (drop i ds)) → same c (padded_content count d) ≡ true
+    → list_all (same c) (padded_contents count ds) ≡ list_all (same c) (padded_contents count (drop (i + 1) ds))
+alike_more count c ds i d b h e inv is = inv ∙ ap (λ xs. list_all (same c) (padded_contents count xs)) (at_next ds i d h e)
+    ∙ ap (λ t. t && list_all (same c) (padded_contents count (drop (i + 1) ds))) is
 
 pub alike_not : (count : ℕ) (c : Content) (ds : List FieldContent) (i : ℕ) (d : FieldContent) → i < length ds → d ≡ get_or ds i d
-    → are_same c (padded_contents count ds) ≡ are_same c (padded_contents count (drop i ds)) → same c (padded_content count d) ≡ false
-    → are_same c (padded_contents count ds) ≡ false
-alike_not count c ds i d h e inv is = inv ∙ ap (λ xs. are_same c (padded_contents count xs)) (at_next ds i d h e) ∙ ap (λ t. t && are_same c (padded_contents count (drop (i + 1) ds))) is
+    → list_all (same c) (padded_contents count ds) ≡ list_all (same c) (padded_contents count (drop i ds)) → same c (padded_content count d) ≡ false
+    → list_all (same c) (padded_contents count ds) ≡ false
+alike_not count c ds i d h e inv is = inv ∙ ap (λ xs. list_all (same c) (padded_contents count xs)) (at_next ds i d h e) ∙ ap (λ t. t && list_all (same c) (padded_contents count (drop (i + 1) ds))) is
 
-pub alike_done : (count : ℕ) (c : Content) (ds : List FieldContent) (i : ℕ) → length ds ≤ i → are_same c (padded_contents count ds) ≡ are_same c (padded_contents count (drop i ds))
-    → are_same c (padded_contents count ds) ≡ true
-alike_done count c ds i h inv = inv ∙ ap (λ xs. are_same c (padded_contents count xs)) (drop_all i ds h)
+pub alike_done : (count : ℕ) (c : Content) (ds : List FieldContent) (i : ℕ) → length ds ≤ i → list_all (same c) (padded_contents count ds) ≡ list_all (same c) (padded_contents count (drop i ds))
+    → list_all (same c) (padded_contents count ds) ≡ true
+alike_done count c ds i h inv = inv ∙ ap (λ xs. list_all (same c) (padded_contents count xs)) (drop_all i ds h)
 
 -- octets of zeros
 zeros_are : (n : ℕ) → bits_of (replicate n 0) ≡ replicate (8 * n) false
@@ -175,7 +178,7 @@ entry_same : (spec : FieldSpec) (o : Option Draft) (line : ℕ) → entry_here s
 entry_same spec None line = refl
 entry_same spec (Some d) line = refl
 
-pub line_same : (o : Option Draft) (line : ℕ) → entry_line (entry_or_end o line) ≡ line_in o line
+pub line_same : (o : Option Draft) (line : ℕ) → entry_line (entry_or_end o line) ≡ option_map_or (λ (d : Draft). d.line) o line
 line_same None line = refl
 line_same (Some d) line = refl
 
@@ -294,34 +297,36 @@ module _ (spec : FieldSpec) (index : ℕ) (subsets : List Subset) where
       → pack_across spec (item_row index subsets) ≡ Err (at_line (first_line (cells_at index subsets)) (too_many_values spec.fxy))
   many_fault h =
       ap (λ b. if b then Err (at_line (first_line (cells_at index subsets)) (too_many_values spec.fxy)) else
-      (contents_here spec (cells_at index subsets) >>= λ cs. packed_to cs (cells_at index subsets) (packing spec cs)))
+      (contents_here spec (cells_at index subsets) >>= λ cs. result_map_both (written_item cs) (packing_fault cs (cells_at index subsets)) (packing spec cs)))
       (lt-ltb max_values ((index + 1) * length (cells_at index subsets)) h)
 
   module _ (few : (index + 1) * length (cells_at index subsets) ≤ max_values) where
-    across_is : pack_across spec (item_row index subsets) ≡ (contents_here spec (cells_at index subsets) >>= λ cs. packed_to cs (cells_at index subsets) (packing spec cs))
+    across_is : pack_across spec (item_row index subsets) ≡ (contents_here spec (cells_at index subsets)
+        >>= λ cs. result_map_both (written_item cs) (packing_fault cs (cells_at index subsets)) (packing spec cs))
     across_is =
         ap (λ b. if b then Err (at_line (first_line (cells_at index subsets)) (too_many_values spec.fxy)) else
-        (contents_here spec (cells_at index subsets) >>= λ cs. packed_to cs (cells_at index subsets) (packing spec cs)))
+        (contents_here spec (cells_at index subsets) >>= λ cs. result_map_both (written_item cs) (packing_fault cs (cells_at index subsets)) (packing spec cs)))
         (le-ltb max_values ((index + 1) * length (cells_at index subsets)) few)
 
     pub put_fault : (o : DraftFault) → IfDraftFault o (λ f. contents_here spec (cells_at index subsets) ≡ Err f) → IfDraftFault o (λ f. pack_across spec (item_row index subsets) ≡ Err f)
     put_fault draft_fault.Memory h = tt
-    put_fault (draft_fault.Item line fault) h = across_is ∙ ap (λ r. r >>= λ cs. packed_to cs (cells_at index subsets) (packing spec cs)) h
+    put_fault (draft_fault.Item line fault) h = across_is ∙ ap (λ r. r >>= λ cs. result_map_both (written_item cs) (packing_fault cs (cells_at index subsets)) (packing spec cs)) h
 
-    given : (cs : List Content) → contents_here spec (cells_at index subsets) ≡ Ok cs → pack_across spec (item_row index subsets) ≡ packed_to cs (cells_at index subsets) (packing spec cs)
-    given cs h = across_is ∙ ap (λ r. r >>= λ cs. packed_to cs (cells_at index subsets) (packing spec cs)) h
+    given : (cs : List Content) → contents_here spec (cells_at index subsets) ≡ Ok cs → pack_across spec (item_row index subsets)
+        ≡ result_map_both (written_item cs) (packing_fault cs (cells_at index subsets)) (packing spec cs)
+    given cs h = across_is ∙ ap (λ r. r >>= λ cs. result_map_both (written_item cs) (packing_fault cs (cells_at index subsets)) (packing spec cs)) h
 
     pub put_ok : (cs : List Content) (bits : List Bool) → contents_here spec (cells_at index subsets) ≡ Ok cs → packing spec cs ≡ Ok bits
         → pack_across spec (item_row index subsets) ≡ Ok (written_item cs bits)
-    put_ok cs bits h e = given cs h ∙ ap (packed_to cs (cells_at index subsets)) e
+    put_ok cs bits h e = given cs h ∙ ap (result_map_both (written_item cs) (packing_fault cs (cells_at index subsets))) e
 
     pub put_unequal : (cs : List Content) → contents_here spec (cells_at index subsets) ≡ Ok cs → packing spec cs ≡ Err unequal_factor
         → pack_across spec (item_row index subsets) ≡ Err (at_line (unlike_line cs (cells_at index subsets)) wrong.UnequalFactor)
-    put_unequal cs h e = given cs h ∙ ap (packed_to cs (cells_at index subsets)) e
+    put_unequal cs h e = given cs h ∙ ap (result_map_both (written_item cs) (packing_fault cs (cells_at index subsets))) e
 
     pub put_uneven : (cs : List Content) → contents_here spec (cells_at index subsets) ≡ Ok cs → packing spec cs ≡ Err increment
         → pack_across spec (item_row index subsets) ≡ Err (at_line (first_line (cells_at index subsets)) wrong.Increment)
-    put_uneven cs h e = given cs h ∙ ap (packed_to cs (cells_at index subsets)) e
+    put_uneven cs h e = given cs h ∙ ap (result_map_both (written_item cs) (packing_fault cs (cells_at index subsets))) e
 
 -- what the first subset's content returns to the walk
 pub answers_first : (spec : FieldSpec) (count : ℕ) (ds : List FieldContent) (z : FieldContent) (t : Taken) → 0 < length ds → t ≡ answer_of spec (padded_content count (get_or ds 0 z))
@@ -330,12 +335,13 @@ answers_first spec count [] z t h e = absurd (omega (arith, h))
 answers_first spec count (d ∷ ds) z t h e = e
 
 -- contents that are all the same, and those that are not
-pub packed_alike : (spec : FieldSpec) (count : ℕ) (ds : List FieldContent) (z : FieldContent) → 0 < length ds → are_same (padded_content count (get_or ds 0 z)) (padded_contents count ds) ≡ true
+pub packed_alike : (spec : FieldSpec) (count : ℕ) (ds : List FieldContent) (z : FieldContent) → 0 < length ds → list_all (same (padded_content count (get_or ds 0 z))) (padded_contents count ds) ≡ true
     → packing spec (padded_contents count ds) ≡ Ok (packed_bits (bits_for spec.width (padded_content count (get_or ds 0 z))) 0 [])
 packed_alike spec count [] z h e = absurd (omega (arith, h))
 packed_alike spec count (d ∷ ds) z h e = grind (arith, common_steps, content_self)
 
-pub packed_apart : (spec : FieldSpec) (count : ℕ) (ds : List FieldContent) (z : FieldContent) → 0 < length ds → are_same (padded_content count (get_or ds 0 z)) (padded_contents count ds) ≡ false
+pub packed_apart : (spec : FieldSpec) (count : ℕ) (ds : List FieldContent) (z : FieldContent) → 0 < length ds → list_all (same (padded_content count (get_or ds 0 z))) (padded_contents count ds)
+    ≡ false
     → packing spec (padded_contents count ds) ≡ packed_unlike spec.role spec (padded_contents count ds)
 packed_apart spec count [] z h e = absurd (omega (arith, h))
 packed_apart spec count (d ∷ ds) z h e = grind (arith, common_steps, content_self)

@@ -63,13 +63,13 @@ subset items end_line = record { items = items; end_line = end_line }
 -- one more item at the start of the first subset; items that no line ends belong to none
 abbrev pub prepend_to_subset : Draft → List Subset → List Subset
 prepend_to_subset item [] = []
-prepend_to_subset item (s ∷ subsets) = subset (item ∷ s.items) s.end_line ∷ subsets
+prepend_to_subset item (s ∷ subsets) = record s { items = item ∷ s.items } ∷ subsets
 
 -- the subsets of entries
 abbrev pub subsets_of : List DraftEntry → List Subset
 subsets_of [] = []
 subsets_of (Holds item ∷ more) = prepend_to_subset item (subsets_of more)
-subsets_of (Ends line ∷ more) = subset [] line ∷ subsets_of more
+subsets_of (Ends line ∷ more) = record { items = []; end_line = line } ∷ subsets_of more
 
 -- a fault of an item, and its line
 abbrev pub at_line : ℕ → ItemFault → DraftFault

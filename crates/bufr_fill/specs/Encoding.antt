@@ -2,15 +2,17 @@
 -- one item are packed, with the least base and the least k. (WMO-No. 306, Volume I.2, FM 94:
 -- section 4; the order of the faults and the least k are choices of this project)
 -- Cited by public contracts.
-use Rattle.std.specs.Prelude.{Bool, List, [], ◌∷◌, ◌++◌, Result, Ok, Err, ℕ, zero, suc, ◌+◌, ◌-◌, ◌*◌, ◌==◌, ◌&&◌, nat_lt, nat_le, min, not, true, false, if◌then◌else◌, take, replicate, length, Option, Some, None, unwrap_or, ◌≡◌, ◌≤◌, drop, max, slice_get}
+use Rattle.std.specs.Prelude.{Bool, List, [], ◌∷◌, ◌++◌, Result, Ok, Err, ℕ, zero, suc, ◌+◌, ◌-◌, ◌==◌, ◌&&◌, nat_lt, nat_le, min, not, true, false, if◌then◌else◌, take, replicate, length, Option, Some, None, unwrap_or, ◌≡◌, ◌≤◌, drop, max, map, slice_get}
 pub use Rattle.bufr_walk.specs.declared.spec.Taken.{Taken}
-use Rattle.bufr_walk.specs.Prelude.{Coding, numbers, texts, coding_of, step_of, same, FieldSpec, Content, number, text, missing, bits_for, FieldFault, increment, unequal_factor, found, answer_of, packed_field, answer_first, Course, Item, Step, Passing, Pass, pass, max_values, would_be_many}
+use Rattle.bufr_walk.specs.Prelude.{Coding, numbers, texts, coding_of, step_of, same, FieldSpec, Content, number, text, bits_for, FieldFault, increment, unequal_factor, found, answer_of, packed_field, answer_first, Course, Item, Step, Passing, Pass, pass, would_be_many}
 use Rattle.std.specs.List.{list_all, flat_map}
+use Rattle.std.specs.Option.{option_map_or}
+use Rattle.std.specs.Result.{result_map_both}
 use Rattle.std.specs.Str.{bytes_eq}
 use Rattle.bufr_bits.specs.Prelude.{◌>>=◌, bits_of, bits_in, number_of, map_err}
 pub use Rattle.bufr_tables.specs.declared.table_b.Kind.{Kind}
 use Rattle.bufr_walk.specs.declared.spec.Role.TheVariants as role
-use Rattle.bufr_fill.specs.Draft.{TurnRefusal, Draft, Subset, ItemFault, DraftFault, at_line, item_too_many, walk_refused, too_many_values, Role, content_of, wrong_for, raw_limit}
+use Rattle.bufr_fill.specs.Draft.{TurnRefusal, Draft, Subset, DraftFault, at_line, item_too_many, walk_refused, too_many_values, Role, content_of, wrong_for, raw_limit}
 use Rattle.bufr_fill.specs.declared.fault.ItemFault.TheVariants as wrong
 
 -- an item that was written: its content and its bits
@@ -38,20 +40,12 @@ module _ {D C E : Type 0} (filler : Filler D C E) where
   with_bits_before bits (Err why) = Err why
   with_bits_before bits (Ok suffix) = Ok (bits ++ suffix)
 
-  -- a draft that was written, or its fault
-  abbrev pub draft_written : FieldSpec → List D → Result (WrittenItem C) E
-      → Result (Step (List D) (WrittenItem C)) E
-  draft_written spec left (Err why) = Err why
-  draft_written spec left (Ok w) = Ok (record {
-    content = w;
-    returned = filler.gives spec w.content;
-    state = left;
-  })
-
   -- the first draft that is left, written as a field
   abbrev pub write_first : FieldSpec → List D → Result (Step (List D) (WrittenItem C)) E
   write_first spec [] = Err (filler.none_left spec)
-  write_first spec (d ∷ left) = draft_written spec left (filler.fills spec d)
+  write_first spec (d ∷ left) = do
+    w ← filler.fills spec d
+    Ok (record { content = w; returned = filler.gives spec w.content; state = left })
 
   abbrev pub refused_first : TurnRefusal → List D → E
   refused_first why [] = filler.refused_at_end why
@@ -77,8 +71,7 @@ module _ {D C E : Type 0} (filler : Filler D C E) where
 
 -- the bits of items that were written
 abbrev pub bits_written : {C : Type 0} → List (Item (WrittenItem C)) → List Bool
-bits_written [] = []
-bits_written (i ∷ items) = i.content.bits ++ bits_written items
+bits_written {C} items = flat_map (λ (i : Item (WrittenItem C)). i.content.bits) items
 
 -- what is written: the bits up to the first refusal, that refusal, if there is one, and the turns
 pub record Writing (E : Type 0) : Type 0 where
@@ -90,42 +83,25 @@ pub record Writing (E : Type 0) : Type 0 where
 abbrev pub pass_writing : {S C E : Type 0} → Pass S (WrittenItem C) E → Writing E
 pass_writing p = record { bits = bits_written p.items; stop = p.stop; turns = p.turns }
 
--- nothing is to be written
-abbrev pub no_writing : {E : Type 0} → Writing E
-no_writing = record { bits = []; stop = None; turns = 0 }
-
 -- what is written, and what after it, unless it was refused
 abbrev pub writing_then : {E : Type 0} → Writing E → Option E → Writing E → Writing E
 writing_then w (Some why) rest = w
 writing_then w None rest =
     record { bits = w.bits ++ rest.bits; stop = rest.stop; turns = w.turns + rest.turns }
 
-abbrev pub bits_or : {E : Type 0} → List Bool → Option E → Result (List Bool) E
-bits_or bits None = Ok bits
-bits_or bits (Some why) = Err why
-
 -- the bits of what is written, or the refusal
 abbrev pub bits_of_writing : {E : Type 0} → Writing E → Result (List Bool) E
-bits_of_writing w = bits_or w.bits w.stop
+bits_of_writing w = option_map_or (λ why. Err why) w.stop (Ok w.bits)
 
 -- the bits of drafts, or what stops their pass
 abbrev pub fill : {D C E : Type 0} → Filler D C E → Course → List D → Result (List Bool) E
 fill filler course drafts = bits_of_writing (pass_writing (fill_pass filler course drafts))
 
--- whether each is the same as the first
-abbrev pub are_same : Content → List Content → Bool
-are_same c cs = list_all (same c) cs
-
--- the lesser of a number and of another, if there is one
-abbrev pub smaller : ℕ → Option ℕ → ℕ
-smaller n None = n
-smaller n (Some m) = min n m
-
 -- the least number among contents, if there is one
 -- rule: packs-numbers
 abbrev pub lowest : List Content → Option ℕ
 lowest [] = None
-lowest (number n ∷ cs) = Some (smaller n (lowest cs))
+lowest (number n ∷ cs) = Some (option_map_or (min n) (lowest cs) n)
 lowest (_ ∷ cs) = lowest cs
 
 -- whether a content can be read back from its increment: a number minus the base has k bits, and is
@@ -181,7 +157,7 @@ packed_unlike _ spec cs = packed_over spec cs
 abbrev pub packing : FieldSpec → List Content → Result (List Bool) FieldFault
 packing spec [] = Ok []
 packing spec (c ∷ cs) =
-    if are_same c cs then Ok (packed_bits (bits_for spec.width c) 0 [])
+    if list_all (same c) cs then Ok (packed_bits (bits_for spec.width c) 0 [])
     else packed_unlike spec.role spec (c ∷ cs)
 
 -- the k of an item: the number of the six bits after its base
@@ -198,17 +174,12 @@ pub record HasLeastK (n : ℕ) (spec : FieldSpec) (contents : List Content) : Ty
   pub short : (bits suffix : List Bool) → packed_field n spec bits ≡ Ok (found contents suffix)
       → length out + length suffix ≤ length bits
 
--- a content and its bits, in data that are not compressed, or the fault on the line
-abbrev pub plainly : ℕ → FieldSpec → Result Content ItemFault
-    → Result (WrittenItem Content) DraftFault
-plainly line spec (Ok c) = Ok (written_item c (bits_for spec.width c))
-plainly line spec (Err why) = Err (at_line line why)
-
 -- how the items of one subset are written, which ends on a line
 -- rule: fault-51, fault-62
 abbrev pub plain_filler : (end_line : ℕ) → Filler Draft Content DraftFault
 plain_filler end_line = record {
-  fills = λ spec d. plainly d.line spec (content_of spec d);
+  fills = λ spec d. result_map_both (λ c. written_item c (bits_for spec.width c))
+      (at_line d.line) (content_of spec d);
   gives = answer_of;
   none_left = λ spec. at_line end_line (wrong_for spec);
   left_over = λ d. at_line d.line item_too_many;
@@ -219,7 +190,7 @@ plain_filler end_line = record {
 
 -- data that are not compressed: subset after subset, each from the beginning of the template
 abbrev pub plain_writing : Course → List Subset → Writing DraftFault
-plain_writing course [] = no_writing
+plain_writing course [] = record { bits = []; stop = None; turns = 0 }
 plain_writing course (s ∷ subsets) =
     let w = pass_writing (fill_pass (plain_filler s.end_line) course s.items) in
     writing_then w w.stop (plain_writing course subsets)
@@ -239,20 +210,14 @@ pub record ItemRow : Type 0 where
   pub index : ℕ
   pub cells : List RowCell
 
--- the line of an item, or else another
-abbrev pub line_in : Option Draft → ℕ → ℕ
-line_in None end_line = end_line
-line_in (Some d) end_line = d.line
-
 -- the line of a cell
 abbrev pub cell_line : RowCell → ℕ
-cell_line c = line_in c.draft c.end_line
+cell_line c = option_map_or (λ (d : Draft). d.line) c.draft c.end_line
 
 -- the cells of all subsets at one index
 abbrev pub cells_at : ℕ → List Subset → List RowCell
-cells_at index [] = []
-cells_at index (s ∷ subsets) =
-    record { draft = slice_get s.items index; end_line = s.end_line } ∷ cells_at index subsets
+cells_at index subsets =
+    map (λ (s : Subset). record { draft = slice_get s.items index; end_line = s.end_line }) subsets
 
 -- the row of all subsets at one index
 abbrev pub item_row : ℕ → List Subset → ItemRow
@@ -276,7 +241,7 @@ first_line (c ∷ cs) = cell_line c
 -- the line of the first item of a row, 0 where there is none
 abbrev pub first_there : List RowCell → ℕ
 first_there [] = 0
-first_there (c ∷ cs) = line_in c.draft (first_there cs)
+first_there (c ∷ cs) = option_map_or (λ (d : Draft). d.line) c.draft (first_there cs)
 
 -- the content of one cell
 abbrev pub content_here : FieldSpec → Option Draft → (end_line : ℕ) → Result Content DraftFault
@@ -310,19 +275,15 @@ abbrev pub packing_fault : List Content → List RowCell → FieldFault → Draf
 packing_fault cs cells unequal_factor = at_line (unlike_line cs cells) wrong.UnequalFactor
 packing_fault cs cells _ = at_line (first_line cells) wrong.Increment
 
--- contents and their bits, or their fault
-abbrev pub packed_to : List Content → List RowCell → Result (List Bool) FieldFault
-    → Result (WrittenItem (List Content)) DraftFault
-packed_to cs cells (Ok bits) = Ok (written_item cs bits)
-packed_to cs cells (Err why) = Err (packing_fault cs cells why)
-
 -- an item of all subsets: its contents and its bits, or its fault
 -- rule: fault-order-of-subsets
 abbrev pub pack_across : FieldSpec → ItemRow → Result (WrittenItem (List Content)) DraftFault
 pack_across spec a =
     if would_be_many (length a.cells) a.index
     then Err (at_line (first_line a.cells) (too_many_values spec.fxy))
-    else (contents_here spec a.cells >>= λ cs. packed_to cs a.cells (packing spec cs))
+    else do
+      cs ← contents_here spec a.cells
+      result_map_both (written_item cs) (packing_fault cs a.cells) (packing spec cs)
 
 -- how rows are written; `many` is whether one more row has too many values
 -- rule: fault-62
@@ -340,7 +301,7 @@ packed_filler end_line many = record {
 
 -- compressed data: one pass over the rows of all subsets; with no subset there is none
 abbrev pub packed_writing : Course → List Subset → Writing DraftFault
-packed_writing course [] = no_writing
+packed_writing course [] = record { bits = []; stop = None; turns = 0 }
 packed_writing course (s ∷ subsets) =
     let most = most_items (s ∷ subsets) in
     let filler = packed_filler s.end_line (would_be_many (length (s ∷ subsets)) most) in

@@ -4,7 +4,7 @@ use Rattle.std.specs.List.{concat, AllByRecursion}
 use Rattle.std.proofs.lemmas.Bool.Decides.{nat_tests}
 use Rattle.std.proofs.lemmas.List.{length-map}
 use Rattle.bufr_fill.specs.Prelude.{draft, DraftEntry, Holds, Ends}
-use Rattle.bufr_text.specs.Prelude.{leasts, mosts, Document, edition_in, optional_in, subsets_in, Heading, BeforeSubsets, Filling, Continues, Completes, Parsing, between, may_be_section2, in_range, with_entry, line_step, read_line, parse_lines, lines_of, documents_of, blank, Complete, Line, Opens, Header, Local1, Section2, Descriptors, Begins, ItemLine, Closes, header_lines, local1_line, section2_line, descriptors_line, subset_line, subset_lines, item_text, dump_value_of, item_entries, subset_entries, IsOctet, IsDescriptorWord, IsItem, header_of, bit, head_lines, dump_lines, dump_text_of, document_of, lines_before, IsDumpable, runs_of, runs_after}
+use Rattle.bufr_text.specs.Prelude.{header_in, leasts, mosts, Document, Heading, BeforeSubsets, Filling, Continues, Completes, Parsing, between, may_be_section2, in_range, with_entry, line_step, read_line, parse_lines, lines_of, documents_of, blank, Complete, Line, Opens, Header, Local1, Section2, Descriptors, Begins, ItemLine, Closes, header_lines, local1_line, section2_line, descriptors_line, subset_line, subset_lines, item_text, dump_value_of, item_entries, subset_entries, IsOctet, IsDescriptorWord, IsItem, header_of, head_lines, dump_lines, dump_text_of, document_of, lines_before, IsDumpable, runs_of, runs_after}
 use Rattle.bufr_text.specs.declared.document.LineGroup.{LineGroup}
 use Rattle.bufr_text.specs.declared.document.LineGroup.TheVariants as group
 use Rattle.bufr_text.proofs.HeaderLemmas.{any-edition, with_value, with_local1, with_section2, with_descriptors}
@@ -14,6 +14,7 @@ use Rattle.bufr_frame.proofs.AgainLemmas.{by-third}
 use Rattle.std.specs.List.{list_all}
 use Rattle.std.proofs.lemmas.Grind.{common_steps}
 use Rattle.bufr_walk.specs.Prelude.{View}
+use Rattle.std.specs.Int.{from_bool}
 
 -- ---- The lines of a dump text, one after another, spell one document.
 
@@ -51,10 +52,10 @@ first-stays : (xs ys : List ℕ) → 0 < length xs → slice_index (xs ++ ys) 0 
 first-stays [] ys some = absurd (omega (arith, some))
 first-stays (x ∷ xs) ys some = refl
 
-ranged : (edition k value : ℕ) (d : Document) → edition_in d ≡ edition → in_range edition k value ≡ true → in_range (edition_in d) k value ≡ true
+ranged : (edition k value : ℕ) (d : Document) → (header_in d).head.edition ≡ edition → in_range edition k value ≡ true → in_range (header_in d).head.edition k value ≡ true
 ranged edition k value d same range = ap (λ (n : ℕ). in_range n k value) same ∙ range
 
-run-on : (edition k : ℕ) (value : ℕ) (values : List ℕ) (d : Document) (at : ℕ) (more : List (List ℕ)) → 0 < k → k + length values ≡ 19 → k ≡ length d.header → edition_in d ≡ edition
+run-on : (edition k : ℕ) (value : ℕ) (values : List ℕ) (d : Document) (at : ℕ) (more : List (List ℕ)) → 0 < k → k + length values ≡ 19 → k ≡ length d.header → (header_in d).head.edition ≡ edition
     → InRange edition k (value ∷ values)
     → parse_lines at (Heading, d) (header_lines k (value ∷ values) ++ more) ≡ parse_lines (at + 1 + length values) (BeforeSubsets group.Local1, with_header d (d.header ++ value ∷ values)) more
 unfolding header_lines line_step
@@ -107,12 +108,12 @@ unfolding written
 written-again [] next = refl
 written-again (run ∷ runs) next = refl
 
-may-section2 : (part : LineGroup) (d : Document) → (part ≡ group.Descriptors → ⊥) → (optional_in d == 1) ≡ true → may_be_section2 part d ≡ true
+may-section2 : (part : LineGroup) (d : Document) → (part ≡ group.Descriptors → ⊥) → (header_in d).optional ≡ true → may_be_section2 part d ≡ true
 may-section2 group.Local1 d early there = there
 may-section2 group.Section2 d early there = there
 may-section2 group.Descriptors d early there = absurd (early refl)
 
-pub section2-run : (runs : List (List ℕ)) (part : LineGroup) (d : Document) (at : ℕ) (more : List (List ℕ)) → (part ≡ group.Descriptors → ⊥) → (0 < length runs → optional_in d ≡ 1)
+pub section2-run : (runs : List (List ℕ)) (part : LineGroup) (d : Document) (at : ℕ) (more : List (List ℕ)) → (part ≡ group.Descriptors → ⊥) → (0 < length runs → slice_index d.header 18 ≡ 1)
     → AllByRecursion (IsRun IsOctet 32) runs
     → parse_lines at (BeforeSubsets part, d) (map section2_line runs ++ more) ≡ parse_lines (at + length runs) (BeforeSubsets (written part runs group.Section2), with_section2 d (concat runs)) more
 unfolding line_step written
@@ -120,7 +121,7 @@ section2-run [] part d at more early optional all =
     ap (λ (t : List ℕ). parse_lines at (BeforeSubsets part, record d { section2 = t }) more) (sym (append-nil d.section2))
     ∙ ap (λ n. parse_lines n (BeforeSubsets part, with_section2 d []) more) (omega arith)
 section2-run (run ∷ runs) part d at more early optional (here, all) =
-    let there : (optional_in d == 1) ≡ true = grind (arith, nat_tests, optional (omega arith)) in
+    let there : (header_in d).optional ≡ true = grind (arith, nat_tests, optional (omega arith)) in
     goes at (BeforeSubsets part, d) (BeforeSubsets group.Section2, with_section2 d run) _ (Section2 run) (map section2_line runs ++ more) (section2-line run here.all here.some here.few)
     (rw (may-section2 part d early there) refl)
     ∙ section2-run runs group.Section2 (with_section2 d run) (at + 1) more (λ e. cc) (λ some. optional (omega arith)) all
@@ -174,18 +175,18 @@ subset-run items subset d at parsing tail more few all begins =
     ∙ ap (parse_lines (at + 1) (Filling subset, d)) (append_assoc (map item_text items) tail more)
     ∙ items-run items subset d (at + 1) (tail ++ more) all
 
-subsets-run : (subsets : List (List View)) (n : ℕ) (d : Document) (at : ℕ) (more : List (List ℕ)) → n + length subsets ≡ subsets_in d → subsets_in d < 65536
+subsets-run : (subsets : List (List View)) (n : ℕ) (d : Document) (at : ℕ) (more : List (List ℕ)) → n + length subsets ≡ (header_in d).subsets → (header_in d).subsets < 65536
     → AllByRecursion (λ items. AllByRecursion IsItem items) subsets
     → parse_lines at (Filling n, d) (subset_lines (n + 1) subsets ++ codes "end" ∷ more)
     ≡ Complete (with_entries d (Ends at ∷ subset_entries at subsets)) ∷ parse_lines (at + length (subset_lines (n + 1) subsets) + 1) between more
 unfolding line_step subset_entries subset_lines
 subsets-run [] n d at more stated few all =
-    let closed : (n == subsets_in d) ≡ true = grind (arith, nat_tests, stated) in
+    let closed : (n == (header_in d).subsets) ≡ true = grind (arith, nat_tests, stated) in
     gives at (Filling n, d) (with_entry d (Ends at)) _ Closes more end-line (rw closed refl)
     ∙ ap (λ k. Complete (with_entry d (Ends at)) ∷ parse_lines k between more) (omega arith)
 subsets-run (items ∷ subsets) n d at more stated few (here, all) =
     let next : (n + 1 == n + 1) ≡ true = grind (arith, nat_tests) in
-    let allowed : nat_le (n + 1) (subsets_in d) ≡ true = grind (arith, nat_tests, stated) in
+    let allowed : nat_le (n + 1) (header_in d).subsets ≡ true = grind (arith, nat_tests, stated) in
     let d' = with_entry d (Ends at) in
     let own = item_entries (at + 1) items in
     let later = subset_entries (at + 1 + length items) subsets in
@@ -197,18 +198,19 @@ subsets-run (items ∷ subsets) n d at more stated few (here, all) =
     ∙ ap (λ k. Complete (with_entries d (Ends at ∷ subset_entries at (items ∷ subsets))) ∷ parse_lines k between more) (omega (arith, subset-lines-count (n + 1) items subsets))
 
 -- the subsets and the end, where they are after the parts before them
-pub subsets-written : (subsets : List (List View)) (part : LineGroup) (d : Document) (at : ℕ) (more : List (List ℕ)) → d.entries ≡ [] → length subsets ≡ subsets_in d → subsets_in d < 65536
+pub subsets-written : (subsets : List (List View)) (part : LineGroup) (d : Document) (at : ℕ) (more : List (List ℕ)) → d.entries ≡ [] → length subsets ≡ (header_in d).subsets
+    → (header_in d).subsets < 65536
     → AllByRecursion (λ items. AllByRecursion IsItem items) subsets
     → parse_lines at (BeforeSubsets part, d) (subset_lines 1 subsets ++ codes "end" ∷ more)
     ≡ Complete (with_entries d (subset_entries at subsets)) ∷ parse_lines (at + length (subset_lines 1 subsets) + 1) between more
 unfolding line_step subset_entries subset_lines
 subsets-written [] part d at more none stated few all =
-    let closed : (0 == subsets_in d) ≡ true = grind (arith, nat_tests, stated) in
+    let closed : (0 == (header_in d).subsets) ≡ true = grind (arith, nat_tests, stated) in
     gives at (BeforeSubsets part, d) d _ Closes more end-line (rw closed refl)
     ∙ ap (λ (t : List DraftEntry). Complete (record d { entries = t }) ∷ parse_lines (at + 1) between more) (sym (append-nil d.entries))
     ∙ ap (λ k. Complete (with_entries d []) ∷ parse_lines k between more) (omega arith)
 subsets-written (items ∷ subsets) part d at more none stated few (here, all) =
-    let allowed : nat_le 1 (subsets_in d) ≡ true = grind (arith, nat_tests, stated) in
+    let allowed : nat_le 1 (header_in d).subsets ≡ true = grind (arith, nat_tests, stated) in
     let own = item_entries (at + 1) items in
     let later = subset_entries (at + 1 + length items) subsets in
     let tail = subset_lines 2 subsets in
@@ -222,7 +224,7 @@ subsets-written (items ∷ subsets) part d at more none stated few (here, all) =
 up_to : (least most v : ℕ) → least ≤ v → v ≤ most → (nat_le least v && nat_le v most) ≡ true
 up_to least most v h k = grind (arith, nat_tests)
 
-bit-few : (on : Bool) → bit on ≤ 1
+bit-few : (on : Bool) → from_bool on ≤ 1
 bit-few true = omega arith
 bit-few false = omega arith
 
@@ -294,14 +296,14 @@ header-fits s h few =
                                     (held 14).0,
                                     (held 14).1,
                                     (
-                                      (flag (bit s.observed) (bit-few s.observed)).0,
-                                      (flag (bit s.observed) (bit-few s.observed)).1,
+                                      (flag (from_bool s.observed) (bit-few s.observed)).0,
+                                      (flag (from_bool s.observed) (bit-few s.observed)).1,
                                       (
-                                        (flag (bit s.compressed) (bit-few s.compressed)).0,
-                                        (flag (bit s.compressed) (bit-few s.compressed)).1,
+                                        (flag (from_bool s.compressed) (bit-few s.compressed)).0,
+                                        (flag (from_bool s.compressed) (bit-few s.compressed)).1,
                                         (
-                                          (flag (bit (is_some s.section2)) (bit-few (is_some s.section2))).0,
-                                          (flag (bit (is_some s.section2)) (bit-few (is_some s.section2))).1,
+                                          (flag (from_bool (is_some s.section2)) (bit-few (is_some s.section2))).0,
+                                          (flag (from_bool (is_some s.section2)) (bit-few (is_some s.section2))).1,
                                           (up_to 0 65535 s.subsets (omega arith) (omega (arith, few)), few, tt),
                                         ),
                                       ),
@@ -324,7 +326,7 @@ header-fits s h few =
     )
 
 -- section 2 has lines only where it is there
-optional-there : (section2 : Option (List ℕ)) → 0 < length (runs_of 32 (unwrap_or section2 [])) → bit (is_some section2) ≡ 1
+optional-there : (section2 : Option (List ℕ)) → 0 < length (runs_of 32 (unwrap_or section2 [])) → from_bool (is_some section2) ≡ 1
 unfolding runs_after
 optional-there None some = absurd (omega arith)
 optional-there (Some octets) some = refl
@@ -337,8 +339,8 @@ document_with line header local1 section2 descriptors subsets at =
 header-tail : Sections → List ℕ
 header-tail s = let h = s.head in
     h.centre ∷ h.subcentre ∷ h.update ∷ h.category ∷ h.subcategory ∷ h.local_subcategory ∷ h.master_version
-    ∷ h.local_version ∷ h.year ∷ h.month ∷ h.day ∷ h.hour ∷ h.minute ∷ h.second ∷ bit s.observed ∷ bit s.compressed
-    ∷ bit (is_some s.section2) ∷ s.subsets ∷ []
+    ∷ h.local_version ∷ h.year ∷ h.month ∷ h.day ∷ h.hour ∷ h.minute ∷ h.second ∷ from_bool s.observed ∷ from_bool s.compressed
+    ∷ from_bool (is_some s.section2) ∷ s.subsets ∷ []
 
 all-lines-run : (s : Sections) (subsets : List (List View)) (at : ℕ) (more : List (List ℕ)) → IsDumpable s subsets →
     let a = runs_of 32 s.local1 in

@@ -1,8 +1,8 @@
 -- The bits and the turns of a walk that writes.
 use Rattle.std.proofs.Common.{inl, inr, ◌≡◌, ◌+◌, ℕ, suc, Bool, List, [], ◌∷◌, ◌++◌, length, length-append, Option, Some, None, Result, Ok, Err, refl, sym, ◌∙◌, ap, subst, arith, ◌<◌, get_or, true, false, ◌≤◌, zero, ◌-◌, ◌*◌, append_assoc, if◌then◌else◌}
 use Rattle.bufr_walk.specs.declared.spec.Taken.{Taken}
-use Rattle.bufr_walk.specs.Prelude.{FieldSpec, octets_in, Course, Next, take_next, at_end, astray, refused, NextTurn, asked, operated, ahead, counts_of, next_item, Turns, finish, open_end, group, pass_end, factor_turn, element_turn, operator_turn, Rest, passes, unroll, TakenField, Takes, course_after, ticked, answers_of, oks, StopsWalk, Walked, element_spec, factor_spec, inserted_spec, OperatorModel, after_operator, after_field, would_be_many}
-use Rattle.bufr_fill.specs.Prelude.{IfDraftFault, at_line, DraftEntry, Holds, Ends, Subset, subset, prepend_to_subset, subsets_of, WrittenItem, Filler, fill_pass, bits_written, bits_or, fill, with_bits_before, Writing, pass_writing, writing_then, bits_of_writing, plainly, plain_filler, plain_writing, plain_data, packed_writing, cells_at, rows, most_items, packed_filler, packed_data, AreOctets, PlainOutModel, PlainFills, IsFaultNext, after_end, line_at, items_left, end_left, ends_of, PackedOutModel, new_packed_out, PackedFills, IsFaultHere, all_at_end, first_line_at, rows_left}
+use Rattle.bufr_walk.specs.Prelude.{bits_for, FieldSpec, octets_in, Course, Next, take_next, at_end, astray, refused, NextTurn, asked, operated, ahead, counts_of, next_item, Turns, finish, open_end, group, pass_end, factor_turn, element_turn, operator_turn, Rest, passes, unroll, TakenField, Takes, course_after, ticked, answers_of, oks, StopsWalk, Walked, element_spec, factor_spec, inserted_spec, OperatorModel, after_operator, after_field, would_be_many}
+use Rattle.bufr_fill.specs.Prelude.{written_item, IfDraftFault, at_line, DraftEntry, Holds, Ends, Subset, subset, prepend_to_subset, subsets_of, WrittenItem, Filler, fill_pass, bits_written, fill, with_bits_before, Writing, pass_writing, writing_then, bits_of_writing, plain_filler, plain_writing, plain_data, packed_writing, cells_at, rows, most_items, packed_filler, packed_data, AreOctets, PlainOutModel, PlainFills, IsFaultNext, after_end, line_at, items_left, end_left, ends_of, PackedOutModel, new_packed_out, PackedFills, IsFaultHere, all_at_end, first_line_at, rows_left}
 use Rattle.bufr_fill.specs.declared.fault.DraftFault.{DraftFault}
 use Rattle.bufr_fill.proofs.FillSteps.{pass_at, pass_with, pass_more, fill_end}
 use Rattle.bufr_fill.proofs.WalkLemmas.{HasFilled, after_answers, fills, walk_of_items, fault_as_defined}
@@ -23,6 +23,8 @@ use Rattle.bufr_fill.specs.declared.fault.DraftFault.TheVariants as draft_fault
 use Rattle.bufr_text.specs.declared.fault.DocumentFault.TheVariants as document
 use Rattle.bufr_walk.specs.declared.spec.Taken.TheVariants as taken
 use Rattle.std.proofs.lemmas.Grind.{common_steps}
+use Rattle.std.specs.Option.{option_map_or}
+use Rattle.std.specs.Result.{result_map_both}
 
 -- ---- A walk that writes counts as the definition does.
 
@@ -290,7 +292,7 @@ fill_next course left = bits_of_writing (next_writing course left)
 abbrev pub wrote : List Bool → ℕ → Writing DraftFault
 wrote bits turns = record { bits = bits; stop = None; turns = turns }
 
-wrote_all : (bits all : List Bool) (stop : Option DraftFault) (turns : ℕ) → bits_or all stop ≡ Ok bits
+wrote_all : (bits all : List Bool) (stop : Option DraftFault) (turns : ℕ) → option_map_or (λ why. Err why) stop (Ok all) ≡ Ok bits
     → ◌≡◌ {A = Writing DraftFault} (record { bits = all; stop = stop; turns = turns }) (wrote bits turns)
 wrote_all bits all None turns h = let same : all ≡ bits = cc in ap (λ x. wrote x turns) same
 wrote_all bits all (Some why) turns h = absurd cc h
@@ -347,7 +349,7 @@ turns_left course s items mid h = walk_turns (plain_filler (end_left s.left)) (�
 
 -- nothing is taken at a fault
 fault_is_last : (end : ℕ) (next : Next) (left : List DraftEntry) (f : DraftFault) → IsFaultNext next left f → IsLast (plain_filler end) next (items_left left)
-fault_is_last end (take_next spec) (Holds d ∷ more) f h = (at_line d.line h.0, ap (plainly d.line spec) h.1)
+fault_is_last end (take_next spec) (Holds d ∷ more) f h = (at_line d.line h.0, ap (result_map_both (λ c. written_item c (bits_for spec.width c)) (at_line d.line)) h.1)
 fault_is_last end (take_next spec) left f h = tt
 fault_is_last end at_end left f h = tt
 fault_is_last end (refused r) left f h = tt
@@ -555,7 +557,7 @@ module _ (n : ℕ) (course : Course) (all : List Subset) (done : ℕ) (s : Plain
       is_last f = last (next_writing course s.left) rest (next_writing course s.left).stop refl
         where
           last : (w more : Writing DraftFault) (stop : Option DraftFault) → w.stop ≡ stop → map_err document_fault (bits_of_writing w) ≡ Err f → writing_then w stop more ≡ w
-          last w more None e r = absurd cc (sym (ap (λ o. map_err document_fault (bits_or w.bits o)) e) ∙ r)
+          last w more None e r = absurd cc (sym (ap (λ o. map_err document_fault (option_map_or (λ why. Err why) o (Ok w.bits))) e) ∙ r)
           last w more (Some why) e r = refl
 
       by : (f : DocumentFault) → IsDocumentRefusal f (map_err document_fault (fill_next course s.left)) → IsDocumentRefusal f (map_err document_fault (plain_data course all))
@@ -563,8 +565,8 @@ module _ (n : ℕ) (course : Course) (all : List Subset) (done : ℕ) (s : Plain
       by f (inr r) = inr (ap (λ w. map_err document_fault (bits_of_writing w)) (by_next ∙ ap (writing_then (wrote s.bits h.made) None) (is_last f r))
           ∙ same_refusal (next_writing course s.left).stop r)
         where
-          same_refusal : (o : Option DraftFault) → map_err document_fault (bits_or (next_writing course s.left).bits o) ≡ Err f
-              → map_err document_fault (bits_or (s.bits ++ (next_writing course s.left).bits) o) ≡ Err f
+          same_refusal : (o : Option DraftFault) → map_err document_fault (option_map_or (λ why. Err why) o (Ok (next_writing course s.left).bits)) ≡ Err f
+              → map_err document_fault (option_map_or (λ why. Err why) o (Ok (s.bits ++ (next_writing course s.left).bits))) ≡ Err f
           same_refusal None r = absurd cc r
           same_refusal (Some why) r = r
 

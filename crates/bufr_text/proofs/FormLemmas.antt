@@ -16,7 +16,7 @@ use Rattle.bufr_walk.proofs.NextField.{AreRead, table_read, next_field}
 use Rattle.bufr_fill.proofs.WholeLaws.{packed_rows, reads_specs, template_apart, template_together}
 use Rattle.bufr_fill.proofs.GoodReads.{plain_specs}
 use Rattle.bufr_fill.proofs.FormLaws.{all_followed, plain_subsets, subsets_said, subset_bits, bits_or_none, row_bits, follow_reading}
-use Rattle.bufr_text.specs.Prelude.{subset_entries, document_of, lines_before, items_shown, IsAccepted, dump_items, HaveNoMinusZero, ArePacked, AreWritten, IsCanonical, IsEncodedAgain, HasReadingIn, IsForForm, IsFormed, IsFaultIn, EncodesForm, EncodesAgain, HasSameReading, data_bits, octets_of_bits, encoding_of, map_err, parts_as, compressed_as, message_of, encoding_in, IsDocumentRefusal, compressed_by, form_of_flag, compressed_in, Document, DocumentFault, Form, document_fault}
+use Rattle.bufr_text.specs.Prelude.{header_in, subset_entries, document_of, lines_before, items_shown, IsAccepted, dump_items, HaveNoMinusZero, ArePacked, AreWritten, IsCanonical, IsEncodedAgain, HasReadingIn, IsForForm, IsFormed, IsFaultIn, EncodesForm, EncodesAgain, HasSameReading, data_bits, octets_of_bits, encoding_of, map_err, parts_as, compressed_as, message_of, encoding_in, IsDocumentRefusal, compressed_by, form_of_flag, Document, DocumentFault, Form, document_fault}
 use Rattle.bufr_text.proofs.DumpableLemmas.{sections_given}
 use Rattle.bufr_text.proofs.RoundTripLemmas.{all_apart, encoded_to, parts_back, parts_with, size_least, fills_as, bit_back, section2_back, enough, suffix, encoded_again, as_written, data_refused, parts_of_document, plain_reading, packed_reading, filled, is_message}
 use Rattle.std.specs.Global.{Global}
@@ -140,7 +140,8 @@ canonical_encoded table sequences m s template values used at rows legal a c =
     let short : length made ≤ length s.payload = omega (arith, ap length payload, length-evened edition 4 made, even-least edition (4 + length made)) in
     let most : message_size edition (parts_with s made) ≤ max_octets = size_least s made max_octets short (not-too-long m s a.sections a.few) in
     let few : message_size edition (parts_of_document d made) ≤ max_octets = subst (λ (p : layout.MessageParts). message_size edition p ≤ max_octets) (sym same) most in
-    let fills : data_bits (compressed_in d) course (subsets_of d.entries) ≡ Ok f.out = fills_as (compressed_in d) s.compressed course (subsets_of d.entries) f.out (bit_back s.compressed) f.fills in
+    let fills : data_bits (header_in d).compressed course (subsets_of d.entries)
+    ≡ Ok f.out = fills_as (header_in d).compressed s.compressed course (subsets_of d.entries) f.out (bit_back s.compressed) f.fills in
     encoded_to table sequences d template f.out a.expands fills few
     ∙ ap (λ (p : layout.MessageParts). Ok (message_octets s.head p)) same
     ∙ ap Ok (sym (written-even s.head s.local1 s.section2 s.descriptors s.subsets s.observed s.compressed made)

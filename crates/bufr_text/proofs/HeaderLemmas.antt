@@ -4,7 +4,7 @@ use Rattle.bufr_fill.proofs.EntryLemmas.{length-prepended}
 use Rattle.std.proofs.Common.{◌≡◌, ℕ, ◌+◌, List, [], ◌∷◌, ◌++◌, length, refl, ap, ◌∙◌, subst, sym, arith, zero, suc, ◌-◌, ◌*◌, ◌<◌, ◌≤◌, ◌==◌, nat_le, nat_lt, Bool, true, false, Option, Some, None, codes, if◌then◌else◌, length-append, cond, map, take, drop, get_or, ◌&&◌, not, IfSome, slice_index, option_map, position}
 use Rattle.std.specs.List.{AllByRecursion, position_from}
 use Rattle.bufr_fill.specs.Prelude.{Draft, DraftEntry, Holds, Ends, Subset, prepend_to_subset, subsets_of, DraftValue, number_token, text_form, missing_form, reference_token, draft, HasOctets, AllHaveOctets, AreOctets}
-use Rattle.bufr_text.specs.Prelude.{Document, read_line, edition_in, subsets_in, Between, Heading, BeforeSubsets, Filling, Stopped, LineEffect, Parsing, LineStep, IsLineStep, in_range, heading, before_subsets, in_subset, beginning, closing, with_entry, line_step, are_in_range, head_from_values, IsHeaded, IsOctet, IsDescriptorWord, AreEnded, IsBare, HasLineGroups, EntryHasOctets, HasSubsets, IsParsing, without_space, upper_value, either_value, pair_value, onto_read, hex_read, fxy_read, descriptors_read, number_read, QuotedToken, Octet, quoting_of, quoted_on, quoted_read, is_number_octet, is_passed_after, prefix_while, suffix_while, Line, Passed, Opens, Header, Local1, Section2, Descriptors, Begins, ItemLine, Closes, Wrong, keys, index_from, made, with_one_to, item_if_comment, number_value, value_read, valued, item_line, worded, line_of, leasts, mosts, is_named, lead_of, key_at}
+use Rattle.bufr_text.specs.Prelude.{header_in, Document, read_line, Between, Heading, BeforeSubsets, Filling, Stopped, LineEffect, Parsing, LineStep, IsLineStep, in_range, heading, before_subsets, in_subset, beginning, closing, with_entry, line_step, are_in_range, IsHeaded, IsOctet, IsDescriptorWord, AreEnded, IsBare, HasLineGroups, EntryHasOctets, HasSubsets, IsParsing, without_space, upper_value, either_value, pair_value, onto_read, hex_read, fxy_read, descriptors_read, number_read, QuotedToken, Octet, quoting_of, quoted_on, quoted_read, is_number_octet, is_passed_after, prefix_while, suffix_while, Line, Passed, Opens, Header, Local1, Section2, Descriptors, Begins, ItemLine, Closes, Wrong, keys, made, with_one_to, item_if_comment, number_value, value_read, valued, item_line, worded, line_of, leasts, mosts, is_named, lead_of}
 use Rattle.bufr_text.specs.declared.document.LineGroup.{LineGroup}
 use Rattle.bufr_text.specs.declared.document.LineGroup.TheVariants as group
 use Rattle.std.specs.Str.{bytes_eq}
@@ -190,7 +190,7 @@ worded-sound word rest =
     (if-line (bytes_eq word (codes "subset")) _ _ (made-always (λ text. made Begins (number_read text)) (without_space rest) (λ text. made-always Begins (number_read text) (λ n. tt)))
     (if-line (bytes_eq word (codes "R")) _ _ (made-always (item_line (number_value reference_token)) (without_space rest) (λ text. item-line-sound (number_value reference_token) text reference-sound))
     (if-line (bytes_eq word (codes "end")) _ _ (if-line (length rest == 0) Closes Wrong tt tt)
-    (made-always (λ index. made (λ text. made (Header index) (number_read text)) (without_space rest)) (index_from 0 word keys) (λ index.
+    (made-always (λ index. made (λ text. made (Header index) (number_read text)) (without_space rest)) (position_from (bytes_eq word) 0 keys) (λ index.
     made-always (λ text. made (Header index) (number_read text)) (without_space rest) (λ text. made-always (Header index) (number_read text) (λ n. tt))))))))))
 
 line-sound : (line : List ℕ) → IsSound (line_of line)
@@ -213,12 +213,12 @@ value-most e k (suc i) (x ∷ xs) h =
     let same : k + 1 + i ≡ k + suc i = omega arith in
     subst (λ (n : ℕ). slice_index xs i ≤ slice_index (mosts e) n) same (value-most e (k + 1) i xs (and_second (in_range e k x) (are_in_range e (k + 1) xs) h))
 
-pub header-most : (d : Document) (i : ℕ) → IsHeaded d → slice_index d.header i ≤ slice_index (mosts (edition_in d)) i
+pub header-most : (d : Document) (i : ℕ) → IsHeaded d → slice_index d.header i ≤ slice_index (mosts (header_in d).head.edition) i
 header-most d i h =
     let same : 0 + i ≡ i = omega arith in
-    subst (λ (n : ℕ). slice_index d.header i ≤ slice_index (mosts (edition_in d)) n) same (value-most (edition_in d) 0 i d.header h.ranges)
+    subst (λ (n : ℕ). slice_index d.header i ≤ slice_index (mosts (header_in d).head.edition) n) same (value-most (header_in d).head.edition 0 i d.header h.ranges)
 
-pub subsets-few : (d : Document) → IsHeaded d → subsets_in d < 65536
+pub subsets-few : (d : Document) → IsHeaded d → (header_in d).subsets < 65536
 unfolding mosts
 subsets-few d h = let most : slice_index d.header 19 ≤ 65535 = header-most d 19 h in omega (arith, most)
 
@@ -248,7 +248,7 @@ mosts-of-4 e other =
     subst P (sym no) refl
 
 pub header-widest : (d : Document) (i : ℕ) → IsHeaded d → slice_index d.header i ≤ slice_index (mosts 4) i
-header-widest d i h = omega (arith, header-most d i h, widest (edition_in d) i)
+header-widest d i h = omega (arith, header-most d i h, widest (header_in d).head.edition i)
 
 -- the head can be written
 value-least : (e : ℕ) (xs : List ℕ) → 0 < length xs → are_in_range e 0 xs ≡ true → in_range e 0 (slice_index xs 0) ≡ true
@@ -258,11 +258,11 @@ value-least e (x ∷ xs) some h = and_first (in_range e 0 x) (are_in_range e 1 x
 known : (n : ℕ) → (nat_le 3 n && nat_le n 4) ≡ true → is_edition n ≡ true
 known n h1 = grind (arith, nat_tests, common_steps)
 
-pub headed-fits : (d : Document) → IsHeaded d → IsFitting (head_from_values d)
+pub headed-fits : (d : Document) → IsHeaded d → IsFitting (header_in d).head
 unfolding leasts mosts
 headed-fits d h = record {
-  edition = known (edition_in d) (value-least (edition_in d) d.header (omega (arith, h.whole)) h.ranges);
-  fits = at-most (values_of (head_from_values d)) (greatest_values (edition_in d)) (
+  edition = known (header_in d).head.edition (value-least (header_in d).head.edition d.header (omega (arith, h.whole)) h.ranges);
+  fits = at-most (values_of (header_in d).head) (greatest_values (header_in d).head.edition) (
     header-most d 1 h,
     (
       header-most d 2 h,
@@ -329,12 +329,13 @@ not-false false e = absurd cc
 still-bare : (d : Document) (value : ℕ) → IsBare d → IsBare (with_value d value)
 still-bare d value bare = record { local1 = bare.local1; section2 = bare.section2; descriptors = bare.descriptors; entries = bare.entries }
 
-value-so : (at key value : ℕ) (d : Document) (b : Bool) → (key == 19) ≡ b → length d.header < 20 → are_in_range (edition_in d) 0 d.header ≡ true → length d.entries < at → key ≡ length d.header
-    → in_range (edition_in d) key value ≡ true → IsBare d
+value-so : (at key value : ℕ) (d : Document) (b : Bool) → (key == 19) ≡ b → length d.header < 20 → are_in_range (header_in d).head.edition 0 d.header ≡ true → length d.entries < at
+    → key ≡ length d.header
+    → in_range (header_in d).head.edition key value ≡ true → IsBare d
     → IsParsing (at + 1) (if b then BeforeSubsets group.Local1 else Heading, with_value d value)
 value-so at key value d b h1 h2 h3 h4 h5 h6 h7 = grind (arith, nat_tests, common_steps, length-append, ranges-again, written-bare, still-bare)
 
-heading-so : (at key value : ℕ) (d : Document) → length d.header < 20 → are_in_range (edition_in d) 0 d.header ≡ true → length d.entries < at → IsBare d
+heading-so : (at key value : ℕ) (d : Document) → length d.header < 20 → are_in_range (header_in d).head.edition 0 d.header ≡ true → length d.entries < at → IsBare d
     → IsLineStep (at + 1) (heading d (Header key value))
 heading-so at key value d h1 h2 h3 h4 = grind (arith, nat_tests, common_steps, if-so, value-so, same-key, not-false)
 
@@ -419,8 +420,7 @@ named key name = grind (arith, nat_tests, common_steps)
 
 -- the index of a key is that of what is before its value
 module _ {Row : Type 0} (lead : Row → List ℕ) (name : List ℕ) where
-  places : (at : ℕ) (rows : List Row) (ks : List (List ℕ)) → map lead rows ≡ map lead_of ks → position_from (λ row. is_named (lead row) name) at rows ≡ index_from at name ks
-  unfolding index_from
+  places : (at : ℕ) (rows : List Row) (ks : List (List ℕ)) → map lead rows ≡ map lead_of ks → position_from (λ row. is_named (lead row) name) at rows ≡ position_from (bytes_eq name) at ks
   places at [] [] same = refl
   places at [] (k ∷ ks) same = cc
   places at (row ∷ rows) [] same = cc
@@ -431,7 +431,7 @@ module _ {Row : Type 0} (lead : Row → List ℕ) (name : List ℕ) where
       ap (λ (b : Bool). cond b (Some at) rest) (ap (λ (l : List ℕ). is_named l name) here ∙ named k name)
       ∙ ap (λ (o : Option ℕ). cond (bytes_eq name k) (Some at) o) (places (at + 1) rows ks there)
 
-  pub key_index-is : (rows : List Row) → map lead rows ≡ map lead_of keys → position (λ row. is_named (lead row) name) rows ≡ index_from 0 name keys
+  pub key_index-is : (rows : List Row) → map lead rows ≡ map lead_of keys → position (λ row. is_named (lead row) name) rows ≡ position_from (bytes_eq name) 0 keys
   key_index-is rows same = position_from-zero (λ row. is_named (lead row) name) rows ∙ places 0 rows keys same
 
 -- what is before a value has the key's name and a space after its first octet
@@ -449,10 +449,10 @@ module _ {Row : Type 0} (lead : Row → List ℕ) where
   take_all (x ∷ xs) = ap (λ l. x ∷ l) (take_all xs)
 
   pub word_there : (rows : List Row) (i : ℕ) (row : Row) → map lead rows ≡ map lead_of keys → i < length rows → row ≡ get_or rows i row
-      → take (length (lead row) - 1) (drop 1 (lead row)) ≡ key_at i ++ 32 ∷ []
+      → take (length (lead row) - 1) (drop 1 (lead row)) ≡ get_or keys i [] ++ 32 ∷ []
   word_there rows i row same below is =
-      let is_lead : lead row ≡ lead_of (key_at i) = ap lead is ∙ lead_at rows keys i row same below in
-      let word : List ℕ = key_at i ++ 32 ∷ [] in
+      let is_lead : lead row ≡ lead_of (get_or keys i []) = ap lead is ∙ lead_at rows keys i row same below in
+      let word : List ℕ = get_or keys i [] ++ 32 ∷ [] in
       let count : length (10 ∷ word) - 1 ≡ length word = omega arith in
       ap (λ l. take (length l - 1) (drop 1 l)) is_lead ∙ ap (λ n. take n word) count ∙ take_all word
 

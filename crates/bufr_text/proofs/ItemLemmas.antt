@@ -1,5 +1,5 @@
 -- How a line is taken apart: its word, descriptors, digits and quoted texts.
-use Rattle.std.proofs.Common.{◌≡◌, IfSome, ℕ, zero, suc, ◌+◌, ◌<◌, ◌≤◌, ◌==◌, Bool, true, false, List, [], ◌∷◌, ◌++◌, length, take, drop, refl, sym, ap, ◌∙◌, arith, Option, Some, None, append-nil, append_assoc, if◌then◌else◌, ◌&&◌, not, codes, ◌*◌, nat_le, nat_lt, length-drop, length-set, length-take, subst, slice_index, option_map, MatchOption, slice_set, unwrap_or, ◌||◌}
+use Rattle.std.proofs.Common.{◌≡◌, IfSome, ℕ, zero, suc, ◌+◌, ◌-◌, ◌<◌, ◌≤◌, ◌==◌, Bool, true, false, List, [], ◌∷◌, ◌++◌, length, take, drop, refl, sym, ap, ◌∙◌, arith, Option, Some, None, append-nil, append_assoc, if◌then◌else◌, ◌&&◌, not, codes, ◌*◌, nat_le, nat_lt, length-drop, length-set, length-take, subst, slice_index, option_map, MatchOption, slice_set, unwrap_or, ◌||◌}
 use Rattle.std.specs.Borrow.{Bor}
 use Rattle.std.specs.List.{list_all}
 use Rattle.std.specs.Str.{bytes_eq}
@@ -8,11 +8,12 @@ use Rattle.std.proofs.lemmas.Grind.{common_steps}
 use Rattle.std.proofs.lemmas.List.{drop_all, drop-drop}
 use Rattle.bufr_bits.proofs.DecimalLemmas.{and_first, and_second}
 use Rattle.bufr_tables.specs.Prelude.{fxy_of, is_fxy, f_in, x_in, y_in}
-use Rattle.bufr_text.specs.Prelude.{prefix_while, suffix_while, without_space, without_prefix, fxy_read, is_number_octet, is_hashed, is_passed_after, hex_read, onto_read, descriptors_read, either_value, pair_value, QuotedToken, Closed, Octet, Nothing, is_unescaped, upper_value, says_pair, escape_of, quoting_of, octet_onto, quoted_on, quoted_read, Describes, Unhexes, Unquotes, value_read, number_value, Passed, ItemLine, Local1, Section2, made, with_one_to, item_line, worded, line_of, is_no_space, Descriptors, Wrong}
+use Rattle.bufr_text.specs.Prelude.{prefix_while, suffix_while, without_space, without_prefix, fxy_read, is_number_octet, is_hashed, is_passed_after, hex_read, onto_read, descriptors_read, either_value, pair_value, QuotedToken, Closed, Octet, Nothing, is_unescaped, upper_value, says_pair, escape_of, quoting_of, quoted_on, quoted_read, Describes, Unhexes, Unquotes, value_read, number_value, Passed, ItemLine, Local1, Section2, made, with_one_to, item_line, worded, line_of, is_no_space, Descriptors, Wrong}
 use Rattle.bufr_fill.specs.Prelude.{number_token, reference_token, DraftValue, text_form, missing_form}
 use Rattle.memchr.specs.Find.{IsFirstByte, is_byte}
 use Rattle.std.specs.Char.{is_ascii_digit}
 use Rattle.std.proofs.Math.Seq.{drop-nil}
+use Rattle.bufr_text.proofs.LineLemmas.{octet_onto}
 
 -- the descriptors that were read are a prefix of `out`
 pub record IsDescribing (text out : List ℕ) (count : ℕ) : Type 0 where
@@ -508,9 +509,15 @@ says-in text octet written e some =
     (q.0, q.1 some)
 
 -- what is read after an octet
-pub says-on : (text : List ℕ) (octet written : ℕ) → Octet octet written ≡ quoting_of text → 0 < length text → quoted_read 0 text ≡ octet_onto octet (quoted_read 0 (drop written text))
+pub says-on : (text : List ℕ) (octet written : ℕ) → Octet octet written ≡ quoting_of text → 0 < length text → quoted_read 0 text
+    ≡ octet_onto octet (quoted_read 0 (drop written text))
 unfolding quoted_read
-says-on text octet written h1 h2 = grind (arith, nat_tests, common_steps, says-in, quoted-skip)
+says-on [] octet written e some = absurd (omega arith)
+says-on (c ∷ more) octet zero e some = absurd (omega (arith, (says-in (c ∷ more) octet zero e some).0))
+says-on (c ∷ more) octet (suc k) e some =
+    let one : suc k - 1 ≡ k = omega arith in
+    ap (λ (q : QuotedToken). quoted_on q more (λ skip. quoted_read skip more)) (sym e)
+    ∙ ap (octet_onto octet) (ap (λ (n : ℕ). quoted_read n more) one ∙ quoted-skip k more)
 
 pub closed-on : (text : List ℕ) → Closed ≡ quoting_of text → 0 < length text → quoted_read 0 text ≡ Some ([], drop 1 text)
 unfolding quoted_read

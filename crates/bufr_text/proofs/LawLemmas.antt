@@ -1,11 +1,11 @@
 -- What the lines of a text spell, and the laws on what a reading reports.
-use Rattle.std.proofs.Common.{inl, inr, ◌⊎◌, ◌≡◌, ◌∙◌, ℕ, ◌+◌, ◌==◌, ◌&&◌, nat_le, not, Bool, true, false, if◌then◌else◌, List, [], ◌∷◌, ◌++◌, length, map, refl, sym, ap, subst, arith, append_assoc, append-nil, length-append, ◌<◌}
+use Rattle.std.proofs.Common.{slice_index, inl, inr, ◌⊎◌, ◌≡◌, ◌∙◌, ℕ, ◌+◌, ◌==◌, ◌&&◌, nat_le, not, Bool, true, false, if◌then◌else◌, List, [], ◌∷◌, ◌++◌, length, map, refl, sym, ap, subst, arith, append_assoc, append-nil, length-append, ◌<◌}
 use Rattle.std.specs.List.{concat}
 use Rattle.std.proofs.lemmas.Bool.Decides.{nat_tests}
 use Rattle.std.proofs.lemmas.List.{map-append}
 use Rattle.bufr_bits.proofs.DecimalLemmas.{and_first}
 use Rattle.bufr_fill.specs.Prelude.{DraftValue, draft, DraftEntry, Holds, Ends}
-use Rattle.bufr_text.specs.Prelude.{Document, edition_in, optional_in, subsets_in, ParserState, Between, Heading, BeforeSubsets, Filling, Stopped, LineEffect, Continues, Completes, Refuses, Parsing, LineStep, between, before_subsets, IsLineStep, NotAllowed, SubsetCount, HeaderRange, in_range, heading, beginning, closing, with_entry, line_step, read_line, parse_lines, parsing_after, reported_at, reported_at_end, lines_of, documents_of, Line, Passed, Opens, Header, Local1, Section2, Descriptors, Begins, ItemLine, Closes, NumberedLine, numbered_line, onto_heard, numbered_lines, header_says, Element, SubsetHeard, subsets_heard, first_at, entries_heard, IsDocument, AreReported, IsProperlyReported, AreProper, IsBare, IsParsing}
+use Rattle.bufr_text.specs.Prelude.{header_in, Document, ParserState, Between, Heading, BeforeSubsets, Filling, Stopped, LineEffect, Continues, Completes, Refuses, Parsing, LineStep, between, before_subsets, IsLineStep, NotAllowed, SubsetCount, HeaderRange, in_range, heading, beginning, closing, with_entry, line_step, read_line, parse_lines, parsing_after, reported_at, reported_at_end, lines_of, documents_of, Line, Passed, Opens, Header, Local1, Section2, Descriptors, Begins, ItemLine, Closes, NumberedLine, numbered_line, onto_heard, numbered_lines, header_says, Element, SubsetHeard, subsets_heard, first_at, entries_heard, IsDocument, AreReported, IsProperlyReported, AreProper, IsBare, IsParsing}
 use Rattle.bufr_text.proofs.ReaderLemmas.{stopped-reports}
 use Rattle.bufr_text.specs.declared.document.LineGroup.{LineGroup}
 use Rattle.bufr_text.specs.declared.document.LineGroup.TheVariants as group
@@ -96,7 +96,7 @@ record IsBegun (d : Document) (own : List NumberedLine) : Type 0 where
   local1_is : d.local1 ≡ concat local1
   section2_is : d.section2 ≡ concat section2
   descriptors_are : d.descriptors ≡ concat descriptors
-  flagged : (section2 ≡ []) ⊎ (optional_in d ≡ 1)
+  flagged : (section2 ≡ []) ⊎ (slice_index d.header 18 ≡ 1)
 
 -- `message` and header lines
 record IsHeading (d : Document) (own : List NumberedLine) : Type 0 where
@@ -162,9 +162,10 @@ heading-open at key value d own is =
     let here = own ++ numbered_line at (Header key value) ∷ [] in
     let next = with_value d value in
     let taken : LineStep = (Continues (if key == 19 then BeforeSubsets group.Local1 else Heading), next) in
-    let ranged : LineStep = if not (in_range (edition_in d) key value) then (Refuses HeaderRange, d) else taken in
+    let ranged : LineStep = if not (in_range (header_in d).head.edition key value) then (Refuses HeaderRange, d) else taken in
     if-open here (not (key == length d.header)) (Refuses NotAllowed, d) ranged (λ e. tt) (λ e.
-    if-open here (not (in_range (edition_in d) key value)) (Refuses HeaderRange, d) taken (λ f. tt) (λ f. by (key == 19) (equal key (length d.header) (not-false (key == length d.header) e))))
+    if-open here (not (in_range (header_in d).head.edition key value)) (Refuses HeaderRange, d) taken (λ f. tt)
+    (λ f. by (key == 19) (equal key (length d.header) (not-false (key == length d.header) e))))
   where
     by : (last : Bool) → key ≡ length d.header → IsOpen (if last then BeforeSubsets group.Local1 else Heading, with_value d value) (own ++ numbered_line at (Header key value) ∷ [])
     by true same = record {
@@ -230,7 +231,7 @@ local1-open at d octets own is =
       none = is.none;
     }
 
-section2-open : (at : ℕ) (part : LineGroup) (d : Document) (octets : List ℕ) (own : List NumberedLine) → (part ≡ group.Descriptors → ⊥) → optional_in d ≡ 1 → IsBeforeSubsets part d own
+section2-open : (at : ℕ) (part : LineGroup) (d : Document) (octets : List ℕ) (own : List NumberedLine) → (part ≡ group.Descriptors → ⊥) → slice_index d.header 18 ≡ 1 → IsBeforeSubsets part d own
     → IsBeforeSubsets group.Section2 (with_section2 d octets) (own ++ numbered_line at (Section2 octets) ∷ [])
 section2-open at part d octets own early flag is =
     let b = is.with_open_group in
@@ -295,8 +296,8 @@ is-next subset read most e = equal subset (read + 1) (and_first (subset == read 
 first-open : (at subset : ℕ) (part : LineGroup) (d : Document) (own : List NumberedLine) → IsBeforeSubsets part d own
     → IsOpenAfter (beginning 0 d subset, d) (own ++ numbered_line at (Begins subset) ∷ [])
 first-open at subset part d own is =
-    if-effect (own ++ numbered_line at (Begins subset) ∷ []) ((subset == 0 + 1) && nat_le subset (subsets_in d)) (Continues (Filling subset)) (Refuses SubsetCount) d (λ e.
-    let number : subset ≡ 1 = is-next subset 0 (subsets_in d) e in record {
+    if-effect (own ++ numbered_line at (Begins subset) ∷ []) ((subset == 0 + 1) && nat_le subset (header_in d).subsets) (Continues (Filling subset)) (Refuses SubsetCount) d (λ e.
+    let number : subset ≡ 1 = is-next subset 0 (header_in d).subsets e in record {
       prefix = own;
       with_open_group = is.with_open_group;
       done = [];
@@ -309,7 +310,7 @@ first-open at subset part d own is =
 none-open : (at : ℕ) (part : LineGroup) (d : Document) (own : List NumberedLine) → IsBeforeSubsets part d own → IsOpenAfter (closing 0 d, d) (own ++ numbered_line at Closes ∷ [])
 none-open at part d own is =
     let b = is.with_open_group in
-    if-effect (own ++ numbered_line at Closes ∷ []) (0 == subsets_in d) Completes (Refuses SubsetCount) d (λ e. record {
+    if-effect (own ++ numbered_line at Closes ∷ []) (0 == (header_in d).subsets) Completes (Refuses SubsetCount) d (λ e. record {
       header = b.header;
       local1 = b.local1;
       section2 = b.section2;
@@ -324,7 +325,7 @@ none-open at part d own is =
       section2_is = b.section2_is;
       descriptors_are = b.descriptors_are;
       flagged = b.flagged;
-      counted = equal 0 (subsets_in d) e;
+      counted = equal 0 (header_in d).subsets e;
       entries = is.none;
     }) (λ e. tt)
 
@@ -339,8 +340,8 @@ next-open : (at subset next : ℕ) (d : Document) (own : List NumberedLine) → 
     → IsOpenAfter (beginning subset d next, with_entry d (Ends at)) (own ++ numbered_line at (Begins next) ∷ [])
 next-open at subset next d own is =
     let parts = is.done ++ is.last ∷ [] in
-    if-effect (own ++ numbered_line at (Begins next) ∷ []) ((next == subset + 1) && nat_le next (subsets_in d)) (Continues (Filling next)) (Refuses SubsetCount) (with_entry d (Ends at)) (λ e.
-    let number : next ≡ 1 + length parts = omega (arith, is-next next subset (subsets_in d) e, is.counted, length-append is.done (is.last ∷ [])) in record {
+    if-effect (own ++ numbered_line at (Begins next) ∷ []) ((next == subset + 1) && nat_le next (header_in d).subsets) (Continues (Filling next)) (Refuses SubsetCount) (with_entry d (Ends at)) (λ e.
+    let number : next ≡ 1 + length parts = omega (arith, is-next next subset (header_in d).subsets e, is.counted, length-append is.done (is.last ∷ [])) in record {
       prefix = is.prefix;
       with_open_group = begun-still d (Ends at) is.prefix is.with_open_group;
       done = parts;
@@ -368,7 +369,7 @@ end-open : (at subset : ℕ) (d : Document) (own : List NumberedLine) → IsFill
 end-open at subset d own is =
     let b = is.with_open_group in
     let parts = is.done ++ is.last ∷ [] in
-    if-effect (own ++ numbered_line at Closes ∷ []) (subset == subsets_in d) Completes (Refuses SubsetCount) (with_entry d (Ends at)) (λ e. record {
+    if-effect (own ++ numbered_line at Closes ∷ []) (subset == (header_in d).subsets) Completes (Refuses SubsetCount) (with_entry d (Ends at)) (λ e. record {
       header = b.header;
       local1 = b.local1;
       section2 = b.section2;
@@ -386,7 +387,7 @@ end-open at subset d own is =
       section2_is = b.section2_is;
       descriptors_are = b.descriptors_are;
       flagged = b.flagged;
-      counted = omega (arith, equal subset (subsets_in d) e, is.counted, length-append is.done (is.last ∷ []));
+      counted = omega (arith, equal subset (header_in d).subsets e, is.counted, length-append is.done (is.last ∷ []));
       entries = ended-entries at subset d own is;
     }) (λ e. tt)
 
@@ -397,10 +398,10 @@ by-part at group.Section2 d octets own is = tt
 by-part at group.Descriptors d octets own is = tt
 
 by-flag : (at : ℕ) (part : LineGroup) (d : Document) (octets : List ℕ) (own : List NumberedLine) → (part ≡ group.Descriptors → ⊥) → IsBeforeSubsets part d own
-    → IsOpenAfter (if optional_in d == 1 then (Continues (BeforeSubsets group.Section2), with_section2 d octets) else (Refuses NotAllowed, d)) (own ++ numbered_line at (Section2 octets) ∷ [])
+    → IsOpenAfter (if (header_in d).optional then (Continues (BeforeSubsets group.Section2), with_section2 d octets) else (Refuses NotAllowed, d)) (own ++ numbered_line at (Section2 octets) ∷ [])
 by-flag at part d octets own early is =
-    if-open (own ++ numbered_line at (Section2 octets) ∷ []) (optional_in d == 1) (Continues (BeforeSubsets group.Section2), with_section2 d octets) (Refuses NotAllowed, d)
-    (λ e. section2-open at part d octets own early (equal (optional_in d) 1 e) is) (λ e. tt)
+    if-open (own ++ numbered_line at (Section2 octets) ∷ []) (header_in d).optional (Continues (BeforeSubsets group.Section2), with_section2 d octets) (Refuses NotAllowed, d)
+    (λ e. section2-open at part d octets own early (equal (slice_index d.header 18) 1 e) is) (λ e. tt)
 
 section2-after : (at : ℕ) (part : LineGroup) (d : Document) (octets : List ℕ) (own : List NumberedLine) → IsBeforeSubsets part d own
     → IsOpenAfter (before_subsets part d (Section2 octets)) (own ++ numbered_line at (Section2 octets) ∷ [])

@@ -7,7 +7,7 @@ use Rattle.bufr_tables.specs.Prelude.{fxy_of, fxy_text, f_of, x_of, y_of, f_in, 
 use Rattle.std.specs.Fmt.{decimal}
 use Rattle.std.proofs.lemmas.Fmt.{decimal_is_IsNumeral_wide, length-decimal-le_wide}
 use Rattle.bufr_bits.proofs.DecimalLemmas.{own, and_first, and_second, all_digits-take, all_digits-drop, zeros_digits}
-use Rattle.bufr_text.specs.Prelude.{prefix_while, suffix_while, hex_digit, upper_value, either_value, pair_value, hex_pair, hex_text, hex_read, fxy_read, descriptors_text, descriptors_read, number_read, is_unescaped, escaped, quoted, octet_onto, quoted_read, is_number_octet, without_prefix, is_hashed, is_passed_after, runs_after, IsOctet, IsDescriptorWord, local1_line, section2_line, descriptors_line, subset_line, comment_text, dump_value_of, form_text, item_text, IsValue, IsComment, IsItem, text_of_lines, Opens, Header, Local1, Section2, Descriptors, Begins, ItemLine, Closes, key_at, keys, made, index_from, number_value, value_read, worded, line_of, Line, lines_of}
+use Rattle.bufr_text.specs.Prelude.{prefix_while, suffix_while, hex_digit, upper_value, either_value, pair_value, hex_pair, hex_text, hex_read, fxy_read, descriptors_text, descriptors_read, number_read, is_unescaped, escaped, quoted, quoted_read, is_number_octet, without_prefix, is_hashed, is_passed_after, runs_after, IsOctet, IsDescriptorWord, local1_line, section2_line, descriptors_line, subset_line, comment_text, dump_value_of, form_text, item_text, IsValue, IsComment, IsItem, text_of_lines, Opens, Header, Local1, Section2, Descriptors, Begins, ItemLine, Closes, keys, made, number_value, value_read, worded, line_of, Line, lines_of}
 use Rattle.std.proofs.lemmas.List.{length-replicate, take-append-drop}
 use Rattle.std.proofs.lemmas.List.Folds.{list_all-append}
 use Rattle.bufr_bits.specs.Prelude.{decimal_text_of, unsigned_text, pointed}
@@ -108,6 +108,10 @@ descriptors_back (w ∷ ws) (word, all) = rw (fxy_back w word, descriptors_back 
 pub number_back : (n : ℕ) → n < 65536 → number_read (decimal n) ≡ Some n
 number_back n h1 = grind (arith, nat_tests, common_steps, decimal_is_IsNumeral_wide, own)
 
+-- one more octet before a text that was read
+abbrev pub octet_onto : ℕ → Option (List ℕ × List ℕ) → Option (List ℕ × List ℕ)
+octet_onto octet read = option_map (λ r. (octet ∷ r.0, r.1)) read
+
 read-plain : (c : ℕ) (rest : List ℕ) → is_unescaped c ≡ true → quoted_read 0 (c ∷ rest) ≡ octet_onto c (quoted_read 0 rest)
 unfolding quoted_read
 read-plain c rest h1 = grind (arith, nat_tests, common_steps)
@@ -130,7 +134,8 @@ pub quoted_back : (xs rest : List ℕ) → AllByRecursion IsOctet xs → quoted_
 unfolding quoted
 quoted_back [] rest all = close rest
 quoted_back (c ∷ xs) rest (octet, all) =
-    ap (quoted_read 0) (append_assoc (escaped c) (quoted xs) rest) ∙ by-plain c (quoted xs ++ rest) (is_unescaped c) refl octet ∙ ap (octet_onto c) (quoted_back xs rest all)
+    ap (quoted_read 0) (append_assoc (escaped c) (quoted xs) rest) ∙ by-plain c (quoted xs ++ rest) (is_unescaped c) refl octet
+    ∙ ap (octet_onto c) (quoted_back xs rest all)
 
 -- ---- Decimal texts are number tokens.
 
@@ -234,8 +239,8 @@ unfolding line_of worded prefix_while suffix_while
 end-says = refl
 
 -- header lines
-pub key-says : (k : ℕ) (rest : List ℕ) → k < 20 → line_of (key_at k ++ 32 ∷ rest) ≡ made (Header k) (number_read rest)
-unfolding line_of worded prefix_while suffix_while without_prefix index_from keys
+pub key-says : (k : ℕ) (rest : List ℕ) → k < 20 → line_of (get_or keys k [] ++ 32 ∷ rest) ≡ made (Header k) (number_read rest)
+unfolding line_of worded prefix_while suffix_while without_prefix keys
 key-says k rest h1 = grind (arith, nat_tests, common_steps)
 
 suffix_is : (word text rest : List ℕ) → without_prefix word text ≡ Some rest → text ≡ word ++ rest
@@ -249,11 +254,11 @@ suffix_is (w ∷ word) (c ∷ text) rest h = by (c == w) refl h (suffix_is word 
     by false is h more = absurd cc h
 
 -- what is after a key and a space is its value
-pub value_there : (k : ℕ) (word line rest : List ℕ) (r : Option ℕ) → k < 20 → word ≡ key_at k ++ 32 ∷ [] → Some rest ≡ without_prefix word line → r ≡ number_read rest
+pub value_there : (k : ℕ) (word line rest : List ℕ) (r : Option ℕ) → k < 20 → word ≡ get_or keys k [] ++ 32 ∷ [] → Some rest ≡ without_prefix word line → r ≡ number_read rest
     → IfSome r (λ v. line_of line ≡ Header k v)
 value_there k word line rest None few is there read = tt
 value_there k word line rest (Some v) few is there read =
-    let name : List ℕ = key_at k in
+    let name : List ℕ = get_or keys k [] in
     let whole : line ≡ name ++ 32 ∷ rest = suffix_is word line rest (sym there) ∙ ap (λ w. w ++ rest) is ∙ append_assoc name (32 ∷ []) rest in
     ap line_of whole ∙ key-says k rest few ∙ ap (made (Header k)) (sym read)
 
@@ -446,11 +451,11 @@ key-passes-at (k ∷ ks) (suc i) h below = key-passes-at ks i (and_second (key-p
 key-clean : (k : List ℕ) → key-passes k ≡ true → IsClean k 16
 key-clean k h1 = grind (arith, nat_tests, common_steps)
 
-pub header-line : (k v : ℕ) → k < 20 → v < 65536 → IsLineOf (key_at k ++ 32 ∷ decimal v) (Header k v)
+pub header-line : (k v : ℕ) → k < 20 → v < 65536 → IsLineOf (get_or keys k [] ++ 32 ∷ decimal v) (Header k v)
 header-line k v h n =
-    let name = key-clean (key_at k) (key-passes-at keys k keys-pass (omega (arith, keys-length))) in
-    line-from (key_at k ++ 32 ∷ decimal v) (Header k v) 22 (key-says k (decimal v) h ∙ ap (made (Header k)) (number_back v (omega arith)))
-    (joined-two (key_at k) (32 ∷ decimal v) 16 6 22 name (one-more 32 (decimal v) 5 6 (omega arith) (decimal-clean v 5 (omega arith) (omega arith) (omega arith)) (omega arith)) (omega arith))
+    let name = key-clean (get_or keys k []) (key-passes-at keys k keys-pass (omega (arith, keys-length))) in
+    line-from (get_or keys k [] ++ 32 ∷ decimal v) (Header k v) 22 (key-says k (decimal v) h ∙ ap (made (Header k)) (number_back v (omega arith)))
+    (joined-two (get_or keys k []) (32 ∷ decimal v) 16 6 22 name (one-more 32 (decimal v) 5 6 (omega arith) (decimal-clean v 5 (omega arith) (omega arith) (omega arith)) (omega arith)) (omega arith))
     (omega arith)
 
 -- items

@@ -12,7 +12,7 @@ use Rattle.bufr_fill.specs.Prelude.{Subset, subsets_of, Draft, AllHaveOctets, Ar
 use Rattle.bufr_fill.specs.declared.fault.DraftFault.{DraftFault}
 use Rattle.bufr_fill.proofs.BackLaws.{plain_template_back, packed_template_back}
 use Rattle.bufr_fill.proofs.FieldLemmas.{same_ok}
-use Rattle.bufr_text.specs.Prelude.{mosts, Form, Document, optional_in, head_from_values, Complete, documents_of, key_value, compressed_in, section2_in, ◌>>=◌, map_err, data_bits, octets_of_bits, parts_as, compressed_as, message_of, encoding_in, DocumentFault, encoding_of, bit, header_lines, local1_line, section2_line, descriptors_line, head_lines, item_text, subset_line, subset_lines, text_of_lines, dump_text_of, subset_entries, lines_before, document_of, IsProper, header_as, normal_head, normal_line, draft_answer, line_and, normal_items, normal_subsets, normal, AreValuesOf, IsReadAs, runs_of, items_shown, dump_items, document_fault}
+use Rattle.bufr_text.specs.Prelude.{header_in, mosts, Form, Document, Complete, documents_of, section2_in, ◌>>=◌, map_err, data_bits, octets_of_bits, parts_as, compressed_as, message_of, encoding_in, DocumentFault, encoding_of, header_lines, local1_line, section2_line, descriptors_line, head_lines, item_text, subset_line, subset_lines, text_of_lines, dump_text_of, subset_entries, lines_before, document_of, IsProper, header_as, normal_head, normal_line, draft_answer, line_and, normal_items, normal_subsets, normal, AreValuesOf, IsReadAs, runs_of, items_shown, dump_items, document_fault}
 use Rattle.bufr_text.proofs.DumpableLemmas.{dumpable, optional_octets}
 use Rattle.bufr_walk.proofs.NextField.{table_read}
 use Rattle.bufr_text.proofs.RoundTripLemmas.{same_form, all_apart, bit_back, parts_back, parts_with, parts_of_document, plain_reading, packed_reading, is_message}
@@ -26,6 +26,7 @@ use Rattle.bufr_text.specs.declared.encode.Form.TheVariants.{AsWritten, Plain, C
 use Rattle.bufr_text.proofs.DumpTextLemmas.{one-document}
 use Rattle.bufr_walk.specs.Reading as reading
 use Rattle.std.proofs.lemmas.Grind.{common_steps}
+use Rattle.std.specs.Int.{from_bool}
 
 -- ---- The message of a document that was encoded is accepted, and says what the document says.
 
@@ -56,16 +57,16 @@ module _ (form : Form) (records : List Record) (table : List Row) (sequences : L
   data_in template = data_bits (compressed_as form d) (next_item table template) (subsets_of d.entries)
 
   made : (template : Tree) (bits : List Bool) → tree_of (tables_of table sequences) d.descriptors ≡ Ok template → data_in template ≡ Ok bits
-      → message_size (head_from_values d).edition (parts_as (compressed_as form d) d (octets_of_bits bits)) ≤ max_octets
-      → IsReadAs form table sequences d (message_octets (head_from_values d) (parts_as (compressed_as form d) d (octets_of_bits bits)))
+      → message_size (header_in d).head.edition (parts_as (compressed_as form d) d (octets_of_bits bits)) ≤ max_octets
+      → IsReadAs form table sequences d (message_octets (header_in d).head (parts_as (compressed_as form d) d (octets_of_bits bits)))
   made template bits expands fills few =
-      let head = head_from_values d in
+      let head = (header_in d).head in
       let payload = octets_of_bits bits in
       let parts = parts_as (compressed_as form d) d payload in
       let legal = (tree_fine (tables_of table sequences) d.descriptors template expands).legal in
       let f = filled records table template rows legal (subsets_of d.entries) bits proper.texts (compressed_as form d) fills in
-      let w = is_message head parts bits (headed-fits d proper.headed) proper.local1 (optional_octets (optional_in d == 1) d.section2 proper.section2) proper.descriptors (subsets-few d proper.headed)
-      refl few in
+      let w = is_message head parts bits (headed-fits d proper.headed) proper.local1 (optional_octets (header_in d).optional d.section2 proper.section2) proper.descriptors
+      (subsets-few d proper.headed) refl few in
       record {
         sections = sections_from head parts;
         template = template;
@@ -91,22 +92,22 @@ module _ (form : Form) (records : List Record) (table : List Row) (sequences : L
       }
 
   by_size : (template : Tree) (bits : List Bool) → tree_of (tables_of table sequences) d.descriptors ≡ Ok template → data_in template ≡ Ok bits → (b : Bool)
-      → nat_lt max_octets (message_size (head_from_values d).edition (parts_as (compressed_as form d) d (octets_of_bits bits))) ≡ b
-      → (if b then Err (fault.TooLong d.line) else Ok (message_octets (head_from_values d) (parts_as (compressed_as form d) d (octets_of_bits bits)))) ≡ Ok octets
+      → nat_lt max_octets (message_size (header_in d).head.edition (parts_as (compressed_as form d) d (octets_of_bits bits))) ≡ b
+      → (if b then Err (fault.TooLong d.line) else Ok (message_octets (header_in d).head (parts_as (compressed_as form d) d (octets_of_bits bits)))) ≡ Ok octets
       → IsReadAs form table sequences d octets
   by_size template bits expands fills true p e = absurd cc
   by_size template bits expands fills false p e =
-      subst (IsReadAs form table sequences d) (same_ok (message_octets (head_from_values d) (parts_as (compressed_as form d) d (octets_of_bits bits))) octets e)
-      (made template bits expands fills (ltb-false max_octets (message_size (head_from_values d).edition (parts_as (compressed_as form d) d (octets_of_bits bits))) p))
+      subst (IsReadAs form table sequences d) (same_ok (message_octets (header_in d).head (parts_as (compressed_as form d) d (octets_of_bits bits))) octets e)
+      (made template bits expands fills (ltb-false max_octets (message_size (header_in d).head.edition (parts_as (compressed_as form d) d (octets_of_bits bits))) p))
 
   by_bits : (template : Tree) → tree_of (tables_of table sequences) d.descriptors ≡ Ok template → (r : Result (List Bool) DraftFault) → data_in template ≡ r
-      → (map_err document_fault r >>= λ b. message_of d.line (head_from_values d) (parts_as (compressed_as form d) d (octets_of_bits b))) ≡ Ok octets → IsReadAs form table sequences d octets
+      → (map_err document_fault r >>= λ b. message_of d.line (header_in d).head (parts_as (compressed_as form d) d (octets_of_bits b))) ≡ Ok octets → IsReadAs form table sequences d octets
   by_bits template expands (Err why) p e = absurd cc
-  by_bits template expands (Ok bits) p e = by_size template bits expands p (nat_lt max_octets (message_size (head_from_values d).edition (parts_as (compressed_as form d) d (octets_of_bits bits))))
+  by_bits template expands (Ok bits) p e = by_size template bits expands p (nat_lt max_octets (message_size (header_in d).head.edition (parts_as (compressed_as form d) d (octets_of_bits bits))))
       refl e
 
   by_template : (r : Result Tree TemplateFault) → tree_of (tables_of table sequences) d.descriptors ≡ r
-      → (map_err (fault.Template d.line) r >>= λ t. map_err document_fault (data_in t) >>= λ b. message_of d.line (head_from_values d) (parts_as (compressed_as form d) d (octets_of_bits b)))
+      → (map_err (fault.Template d.line) r >>= λ t. map_err document_fault (data_in t) >>= λ b. message_of d.line (header_in d).head (parts_as (compressed_as form d) d (octets_of_bits b)))
       ≡ Ok octets
       → IsReadAs form table sequences d octets
   by_template (Err why) p e = absurd cc
@@ -159,10 +160,10 @@ all_values (suc n) [] h = absurd (omega (arith, h))
 all_values (suc n) (x ∷ xs) h = let l : length xs ≡ n = omega (arith, h) in ap (λ more. x ∷ more) (all_values n xs l ∙ sym (values_after n 0 x xs))
 
 -- a flag of 0 or 1
-flag_back : (v : ℕ) → v ≤ 1 → bit (v == 1) ≡ v
+flag_back : (v : ℕ) → v ≤ 1 → from_bool (v == 1) ≡ v
 flag_back v h1 = grind (arith, nat_tests, common_steps)
 
-section2_flag : (b : Bool) (octets : List ℕ) → bit (is_some (if b then Some octets else None)) ≡ bit b
+section2_flag : (b : Bool) (octets : List ℕ) → from_bool (is_some (if b then Some octets else None)) ≡ from_bool b
 section2_flag true octets = refl
 section2_flag false octets = refl
 
@@ -192,15 +193,15 @@ module _ (form : Form) (d : Document) (proper : IsProper d) where
   whole = all_values 20 d.header proper.headed.whole
 
   -- the flag of compression is the form's
-  form_flag : (f : Form) → with_flags d.header (value 16) (bit (compressed_as f d)) (value 18) ≡ header_as f d.header
+  form_flag : (f : Form) → with_flags d.header (value 16) (from_bool (compressed_as f d)) (value 18) ≡ header_as f d.header
   form_flag AsWritten = ap (λ c. with_flags d.header (value 16) c (value 18)) (flag_back (value 17) few.1) ∙ sym whole
   form_flag Plain = ap (λ (h : List ℕ). take 17 h ++ 0 ∷ drop 18 h) (sym whole)
   form_flag Compressed = ap (λ (h : List ℕ). take 17 h ++ 1 ∷ drop 18 h) (sym whole)
 
-  header_is : with_flags d.header (bit (key_value d 16 == 1)) (bit (compressed_as form d)) (bit (is_some (section2_in d))) ≡ header_as form d.header
+  header_is : with_flags d.header (from_bool (header_in d).observed) (from_bool (compressed_as form d)) (from_bool (is_some (section2_in d))) ≡ header_as form d.header
   header_is =
-      ap (λ o. with_flags d.header o (bit (compressed_as form d)) (bit (is_some (section2_in d)))) (flag_back (value 16) few.0)
-      ∙ ap (λ s. with_flags d.header (value 16) (bit (compressed_as form d)) s) (section2_flag (optional_in d == 1) d.section2 ∙ flag_back (value 18) few.2)
+      ap (λ o. with_flags d.header o (from_bool (compressed_as form d)) (from_bool (is_some (section2_in d)))) (flag_back (value 16) few.0)
+      ∙ ap (λ s. with_flags d.header (value 16) (from_bool (compressed_as form d)) s) (section2_flag (header_in d).optional d.section2 ∙ flag_back (value 18) few.2)
       ∙ form_flag form
 
   -- the head of a message that says what the document says
@@ -217,7 +218,7 @@ module _ (form : Form) (d : Document) (proper : IsProper d) where
         payload = [];
         size = 0;
       }))
-      ∙ (λ j. head_with d (header_is j) (section2_same (optional_in d == 1) d.section2 proper.no_section2 j))
+      ∙ (λ j. head_with d (header_is j) (section2_same (header_in d).optional d.section2 proper.no_section2 j))
 
 -- ---- the text
 
@@ -323,21 +324,21 @@ module _ (form : Form) (records : List Record) (table : List Row) (sequences : L
     parts_are payload = parts_back at h.sections shown_items payload ∙ (λ j. parts_of (h.local1 j) (h.section2 j) (h.descriptors j) (h.subsets j) (h.observed j) (h.compressed j) payload)
 
     -- the bits of the data are the same
-    data_are : IsProper d → data_bits (compressed_as form d) course (subsets_of d.entries) ≡ data_bits (compressed_in again) course drafts_again
+    data_are : IsProper d → data_bits (compressed_as form d) course (subsets_of d.entries) ≡ data_bits (header_in again).compressed course drafts_again
     data_are proper =
         ap (λ b. data_bits b course (subsets_of d.entries)) (sym h.compressed)
         ∙ drafts_are.alike (subsets_of d.entries) (proper.counted ∙ sym h.subsets) h.said
         ∙ ap (λ b. data_bits b course drafts_again) (sym (bit_back h.sections.compressed))
 
-    encoded_from : encoding_in form table sequences d ≡ message_with d.line (head_from_values d) parts_said (data_bits (compressed_as form d) course (subsets_of d.entries))
+    encoded_from : encoding_in form table sequences d ≡ message_with d.line (header_in d).head parts_said (data_bits (compressed_as form d) course (subsets_of d.entries))
     unfolding encoding_in
     encoded_from =
-        ap (λ r. map_err (fault.Template d.line) r >>= λ t. message_with d.line (head_from_values d) parts_said (data_bits (compressed_as form d) (next_item table t) (subsets_of d.entries)))
+        ap (λ r. map_err (fault.Template d.line) r >>= λ t. message_with d.line (header_in d).head parts_said (data_bits (compressed_as form d) (next_item table t) (subsets_of d.entries)))
         (ap (tree_of (tables_of table sequences)) (sym h.descriptors) ∙ h.accepted.expands)
 
-    again_from : encoding_of table sequences again ≡ message_with at h.sections.head (parts_of_document again) (data_bits (compressed_in again) course drafts_again)
+    again_from : encoding_of table sequences again ≡ message_with at h.sections.head (parts_of_document again) (data_bits (header_in again).compressed course drafts_again)
     unfolding encoding_in
-    again_from = ap (λ r. map_err (fault.Template at) r >>= λ t. message_with at h.sections.head (parts_of_document again) (data_bits (compressed_in again) (next_item table t) drafts_again))
+    again_from = ap (λ r. map_err (fault.Template at) r >>= λ t. message_with at h.sections.head (parts_of_document again) (data_bits (header_in again).compressed (next_item table t) drafts_again))
         h.accepted.expands
 
     -- and it is encoded to the same octets
@@ -345,7 +346,7 @@ module _ (form : Form) (records : List Record) (table : List Row) (sequences : L
     encoded_again_same proper e =
         again_from
         ∙ (λ j. message_with at (h.head j) (λ payload. parts_are payload j) (sym (data_are proper) j))
-        ∙ other_line d.line (head_from_values d) parts_said (data_bits (compressed_as form d) course (subsets_of d.entries)) (sym encoded_from ∙ e)
+        ∙ other_line d.line (header_in d).head parts_said (data_bits (compressed_as form d) course (subsets_of d.entries)) (sym encoded_from ∙ e)
 
   pub one_document_again : IsProper d → documents_of (normal form table h.template d) ≡ Complete (document_of 1 h.sections shown_items) ∷ []
   one_document_again proper =

@@ -1,7 +1,7 @@
 -- Numbers, digit by digit and at a scale, and octets as texts.
 use Rattle.std.proofs.Common.{◌≡◌, ℕ, ◌≤◌, List, ◌++◌, length, take, drop, sym, ◌∙◌, ap, Option, None, Some, Ok, Err, append_assoc, ◌+◌, zero, suc, [], ◌∷◌, replicate, refl, subst, arith, append-nil, length-append, map, inl, inr, codes, ◌-◌, ◌<◌, Bool, true, false, ◌*◌, ◌/◌, ◌%◌, ◌^◌, ◌&&◌, T, eqb, eqb→eq, eq-zero-or-pos, get_or, length-drop, int_lt, ◌==◌, if◌then◌else◌, not, ℤ, pos, negsuc, min, option_map, Result, flat_map, decimal, unwrap_or, IsTrue, ◌↔◌, is_some, unsigned_abs, slice_index}
 use Rattle.std.proofs.lemmas.List.{take_rest, take-append-drop, length-take-le, take_all, length-replicate, at_drop_more, at_drop_all, take_more, length-set, take_more_set}
-use Rattle.bufr_text.specs.Prelude.{flag, zero_padded, escaped, hex_pair, hex_text, is_unescaped, quoted}
+use Rattle.bufr_text.specs.Prelude.{zero_padded, escaped, hex_pair, hex_text, is_unescaped, quoted}
 use Rattle.std.proofs.lemmas.Grind.{common_steps}
 use Rattle.bufr_tables.specs.Prelude.{places}
 use Rattle.std.specs.Int.{from_bool}
@@ -14,6 +14,7 @@ use Rattle.bufr_bits.specs.Prelude.{pointed, decimal_text_of, unsigned_text, sig
 use Rattle.std.proofs.lemmas.Fmt.{decimal_digit, decimal_step, decimal_nonempty}
 use Rattle.std.proofs.lemmas.Bool.Decides.{nat_tests}
 use Rattle.std.specs.Char.{is_ascii_digit}
+use Rattle.std.specs.Fmt.{digits}
 use Rattle.std.specs.Str.Parse.{digits_value}
 use Rattle.std.specs.List.{list_all}
 use Rattle.std.proofs.lemmas.List.Folds.{list_all_more}
@@ -224,7 +225,8 @@ pub quoted_more : (octets : List ℕ) (i : ℕ) → i < length octets → is_une
 quoted_more octets i h1 h2 h3 = grind (arith, nat_tests, common_steps, quoted_next, append_assoc, take_more)
 
 -- a flag is the digit of its number
-pub flag_digit : (on : Bool) (n : ℕ) → n ≡ from_bool on → flag on ≡ (48 + n) ∷ []
+pub flag_digit : (on : Bool) (n : ℕ) → n ≡ from_bool on → decimal (from_bool on) ≡ (48 + n) ∷ []
+unfolding digits
 flag_digit true n is = rw is refl
 flag_digit false n is = rw is refl
 

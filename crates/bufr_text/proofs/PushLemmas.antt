@@ -1,10 +1,10 @@
 -- Texts that are pushed one after another, and the calls that show a reading.
-use Rattle.std.proofs.Common.{◌≡◌, ℕ, ◌≤◌, List, ◌++◌, length, take, drop, sym, ◌∙◌, ap, Option, None, Some, Ok, Err, append_assoc, ◌+◌, zero, suc, [], ◌∷◌, replicate, refl, subst, arith, append-nil, length-append, map, inl, inr, codes, ◌-◌, ◌<◌, Bool, true, false, ℤ, min, option_map, Result, flat_map, decimal, unwrap_or, IsTrue, ◌↔◌, is_some}
+use Rattle.std.proofs.Common.{get_or, ◌≡◌, ℕ, ◌≤◌, List, ◌++◌, length, take, drop, sym, ◌∙◌, ap, Option, None, Some, Ok, Err, append_assoc, ◌+◌, zero, suc, [], ◌∷◌, replicate, refl, subst, arith, append-nil, length-append, map, inl, inr, codes, ◌-◌, ◌<◌, Bool, true, false, ℤ, min, option_map, Result, flat_map, decimal, unwrap_or, IsTrue, ◌↔◌, is_some}
 use Rattle.std.specs.Io.KnownBytes.{Appends}
 use Rattle.std.proofs.KnownBytes.{Appends-trans}
 use Rattle.std.proofs.lemmas.List.{take_rest, take-append-drop, length-take-le, take_all, length-replicate, at_drop_more, at_drop_all, take_more, length-set, take_more_set}
 use Rattle.bufr_frame.specs.declared.fault.RunFault.{RunFault}
-use Rattle.bufr_text.specs.Prelude.{MovesPrefix, Writes, GrowsByPrefix, CountsWrites, LineModel, Moves, MovesOn, StaysFailed, PushesFrom, Pushes, Puts, joined, item_text, comment_text, subset_line, subset_lines, text_of_lines, head_lines, dump_text_of, bit, header_of, header_lines, local1_line, section2_line, descriptors_line, CountsFaults, MakesSteps, StepsWithin, WritesPrefix, call_line, PushesCall, descriptors_text, runs_after, runs_of, lead_of, key_at, counts_texts, ls_line, source_texts, time_texts, items_shown, dump_items}
+use Rattle.bufr_text.specs.Prelude.{keys, MovesPrefix, Writes, GrowsByPrefix, CountsWrites, LineModel, Moves, MovesOn, StaysFailed, PushesFrom, Pushes, Puts, item_text, comment_text, subset_line, subset_lines, text_of_lines, head_lines, dump_text_of, header_of, header_lines, local1_line, section2_line, descriptors_line, CountsFaults, MakesSteps, StepsWithin, WritesPrefix, call_line, PushesCall, descriptors_text, runs_after, runs_of, lead_of, counts_texts, ls_line, source_texts, time_texts, items_shown, dump_items}
 use Rattle.std.proofs.Math.Seq.{take-append_seam}
 use borrow.Rule.Slice.PartMut.{put_mid, post_of}
 use Rattle.std.proofs.lemmas.Grind.{common_steps}
@@ -13,12 +13,12 @@ use Rattle.bufr_frame.specs.declared.fault.RunFault.TheVariants.{Write, Memory}
 use Rattle.bufr_tables.specs.Prelude.{Row, fxy_text, row_comment, row_line_start}
 use Rattle.bufr_walk.specs.declared.fault.ShowFault.{ShowFault}
 use Rattle.bufr_walk.specs.Prelude.{item_call, Timed, View, shown_missing, shown_number, view_of, item_calls, subset_calls, calls_for, calls_of, turns_shown, values_read, Shows, EndsAt, Content, Course, ticked, Item, Values, plain, after, turns_after, walk_shown, each_subset, turns_in}
-use Rattle.std.specs.Int.{from_bool}
 use Rattle.bufr_bits.specs.Prelude.{decimal_text_of}
 use Rattle.std.proofs.lemmas.Bool.Decides.{nat_tests}
 use Rattle.bufr_walk.specs.declared.fault.ShowFault.TheVariants as show
 use Rattle.bufr_walk.specs.Reading as outcome
 use Rattle.bufr_bits.proofs.CountLemmas.{empty_writes_after-some}
+use Rattle.std.specs.List.{concat}
 
 -- one more write of the rest
 pub more-written : (a b c : Option (List ℕ)) (octets rest rest' : List ℕ) (n : ℕ) → MovesPrefix a b octets rest → n ≤ length rest → Appends b c (take n rest) → rest' ≡ drop n rest
@@ -441,23 +441,18 @@ key-on name value more = grind (arith, nat_tests, common_steps)
 unfoldable pub header_text : (key : ℕ) → List ℕ → List ℕ
 header_text key [] = []
 header_text key (value ∷ more) =
-    lead_of (key_at key) ++ (decimal value ++ header_text (key + 1) more)
+    lead_of (get_or keys key []) ++ (decimal value ++ header_text (key + 1) more)
 
 -- lines of keys, with the line feed before each in place of the one after it
 pub header-lines : (key : ℕ) (values : List ℕ) → 10 ∷ text_of_lines (header_lines key values) ≡ header_text key values ++ 10 ∷ []
 unfolding header_lines header_text
 header-lines key [] = refl
 header-lines key (value ∷ more) =
-    let name : List ℕ = key_at key in
+    let name : List ℕ = get_or keys key [] in
     let lines = text_of_lines (header_lines (key + 1) more) in
     ap (λ (l : List ℕ). 10 ∷ l) (append_assoc (name ++ 32 ∷ decimal value) (10 ∷ []) lines ∙ append_assoc name (32 ∷ decimal value) (10 ∷ lines)
     ∙ ap (λ l. name ++ (32 ∷ (decimal value ++ l))) (header-lines (key + 1) more)
     ∙ key-on name (decimal value) (header_text (key + 1) more))
-
--- a flag as a number
-pub flag-is : (on : Bool) → from_bool on ≡ bit on
-flag-is true = refl
-flag-is false = refl
 
 -- no section 2, no lines
 pub section2-or : {X : Type 0} (f : X → List ℕ) (o : Option X) (none r : X) (section2 : Option (List ℕ)) → option_map f o ≡ section2 → r ≡ unwrap_or o none → f none ≡ [] → f r ≡ unwrap_or section2 []
@@ -540,17 +535,17 @@ pub is_some-map : {X Y : Type 0} (f : X → Y) (o : Option X) → is_some (optio
 is_some-map f (Some x) = refl
 is_some-map f None = refl
 
-pub joined-append : (xs ys : List (List ℕ)) → joined xs ++ joined ys ≡ joined (xs ++ ys)
+pub joined-append : (xs ys : List (List ℕ)) → concat xs ++ concat ys ≡ concat (xs ++ ys)
 joined-append [] ys = refl
-joined-append (x ∷ xs) ys = append_assoc x (joined xs) (joined ys) ∙ ap (λ l. x ++ l) (joined-append xs ys)
+joined-append (x ∷ xs) ys = append_assoc x (concat xs) (concat ys) ∙ ap (λ l. x ++ l) (joined-append xs ys)
 
 -- texts were pushed, and then others
-pub joined_then : {a b c : LineModel} (xs ys : List (List ℕ)) → Pushes a (joined xs) b → Pushes b (joined ys) c → Pushes a (joined (xs ++ ys)) c
+pub joined_then : {a b c : LineModel} (xs ys : List (List ℕ)) → Pushes a (concat xs) b → Pushes b (concat ys) c → Pushes a (concat (xs ++ ys)) c
 joined_then xs ys first second = retold (first ⨾ second) (joined-append xs ys)
 
 -- the stretches of the line, one after another
-pub line-pushed : {a one two b : LineModel} (offset : ℕ) (s : Sections) → Pushes a (joined (source_texts offset s.size s.head)) one → Pushes one (joined (time_texts s.head)) two
-    → Pushes two (joined (counts_texts s.subsets s.observed s.compressed (is_some s.section2) (length s.descriptors))) b → Pushes a (ls_line offset s) b
+pub line-pushed : {a one two b : LineModel} (offset : ℕ) (s : Sections) → Pushes a (concat (source_texts offset s.size s.head)) one → Pushes one (concat (time_texts s.head)) two
+    → Pushes two (concat (counts_texts s.subsets s.observed s.compressed (is_some s.section2) (length s.descriptors))) b → Pushes a (ls_line offset s) b
 line-pushed offset s source time counts =
     let C = counts_texts s.subsets s.observed s.compressed (is_some s.section2) (length s.descriptors) in
     joined_then (source_texts offset s.size s.head) (time_texts s.head ++ C) source (joined_then (time_texts s.head) C time counts)

@@ -3,12 +3,12 @@ use Rattle.bufr_text.proofs.LineLemmas.{both}
 use Rattle.std.proofs.Common.{◌≡◌, ℕ, ◌+◌, ◌<◌, ◌≤◌, ◌==◌, nat_lt, not, Bool, true, false, List, [], ◌∷◌, ◌++◌, length, refl, sym, ap, ◌∙◌, arith, append_assoc, append-nil, length-append, subst, if◌then◌else◌, ◌⊎◌, inl, inr, zero, suc, ◌&&◌, take, drop, Option, Some, None, ◌-◌, length-drop, Result, Ok, Err, OnErr, slice_index}
 use Rattle.std.proofs.lemmas.Bool.Decides.{nat_tests}
 use Rattle.bufr_bits.proofs.DecimalLemmas.{and_first, and_second}
-use Rattle.bufr_text.specs.Prelude.{blank, Line, Passed, ItemLine, Closes, Wrong, line_of, ParserState, Between, Heading, BeforeSubsets, Filling, Stopped, LineEffect, Continues, Completes, Refuses, Parsing, LineStep, between, ParseResult, Refused, NotAllowed, line_step, read_line, parse_lines, parsing_after, reported_at, reported_at_end, lines_of, prepend_to_line, Split, onto_split, split_of, parse_open_lines, documents_of, open_documents_of, Document, with_entry, has_no_feed, ReaderPosition, parse, parse_open, ContinuesParse, ReaderModel, KeepsUnread, IsMissingFeed, ReadsLines, TakesWholeLines, position_of, parsing_of, IsParsing, IsLineStep, position_with, TakesLines, IsTaking, WantsAt, adds, ends_by_feed, IsProgress, IsReader, ParsesHeldLines, WantsHere, stopped, text_of_lines, ReadFault}
+use Rattle.bufr_text.specs.Prelude.{blank, Line, Passed, ItemLine, Closes, Wrong, line_of, ParserState, Between, Heading, BeforeSubsets, Filling, Stopped, LineEffect, Continues, Completes, Refuses, Parsing, LineStep, between, ParseResult, Refused, NotAllowed, line_step, read_line, parse_lines, parsing_after, reported_at, reported_at_end, lines_of, Split, onto_split, split_of, parse_open_lines, documents_of, open_documents_of, Document, with_entry, has_no_feed, ReaderPosition, parse, parse_open, ContinuesParse, ReaderModel, KeepsUnread, IsMissingFeed, ReadsLines, TakesWholeLines, position_of, parsing_of, IsParsing, IsLineStep, position_with, TakesLines, IsTaking, WantsAt, adds, ends_by_feed, IsProgress, IsReader, ParsesHeldLines, WantsHere, stopped, text_of_lines, ReadFault}
 use Rattle.std.proofs.lemmas.Bool.{true≢false}
 use Rattle.memchr.specs.Find.{IsFirstByte, is_byte}
 use Rattle.std.proofs.lemmas.List.{take_at, drop-drop}
 use Rattle.bufr_fill.specs.Prelude.{DraftValue, DraftEntry, draft, Holds}
-use Rattle.std.specs.List.{AllByRecursion}
+use Rattle.std.specs.List.{onto_first, AllByRecursion}
 use Rattle.std.proofs.lemmas.Grind.{common_steps, flat_map-append}
 use Rattle.bufr_text.specs.declared.document.Progress.{Progress}
 use Rattle.bufr_text.proofs.HeaderLemmas.{line_step-holds, said-sound}
@@ -92,11 +92,11 @@ pub stays : (a : ReaderPosition) → ContinuesParse a a []
 stays a = record { whole = λ t none. refl; openly = λ unended t. refl }
 
 -- a line that is too long is refused before its end is seen
-onto-some : (c : ℕ) (ls : List (List ℕ)) → (more : List ℕ) × (rest : List (List ℕ)) × (prepend_to_line c ls ≡ (c ∷ more) ∷ rest)
+onto-some : (c : ℕ) (ls : List (List ℕ)) → (more : List ℕ) × (rest : List (List ℕ)) × (onto_first c ls ≡ (c ∷ more) ∷ rest)
 onto-some c [] = ([], [], refl)
 onto-some c (line ∷ ls) = (line, ls, refl)
 
-onto-line : (c : ℕ) (t : List ℕ) → (c == 10) ≡ false → lines_of (c ∷ t) ≡ prepend_to_line c (lines_of t)
+onto-line : (c : ℕ) (t : List ℕ) → (c == 10) ≡ false → lines_of (c ∷ t) ≡ onto_first c (lines_of t)
 unfolding lines_of
 onto-line c t h = rw h refl
 
@@ -107,7 +107,7 @@ long-first (c ∷ []) t h some =
     (more, rest, onto-line c t (no-feed-first c (and_first (not (c == 10)) true h)) ∙ e)
 long-first (c ∷ d ∷ held) t h some =
     let (more, rest, e) = long-first (d ∷ held) t (and_second (not (c == 10)) (has_no_feed (d ∷ held)) h) (omega arith) in
-    (more, rest, onto-line c ((d ∷ held) ++ t) (no-feed-first c (and_first (not (c == 10)) (has_no_feed (d ∷ held)) h)) ∙ ap (prepend_to_line c) e)
+    (more, rest, onto-line c ((d ∷ held) ++ t) (no-feed-first c (and_first (not (c == 10)) (has_no_feed (d ∷ held)) h)) ∙ ap (onto_first c) e)
 
 -- the reading has met no fault
 abbrev pub Reads : ParserState → Type 0
@@ -168,7 +168,7 @@ unfolding lines_of
 one-line [] h some = absurd (omega arith)
 one-line (c ∷ []) h some = rw (no-feed-first c (and_first (not (c == 10)) true h)) refl
 one-line (c ∷ d ∷ held) h some =
-    rw (no-feed-first c (and_first (not (c == 10)) (has_no_feed (d ∷ held)) h)) (ap (prepend_to_line c) (one-line (d ∷ held) (and_second (not (c == 10)) (has_no_feed (d ∷ held)) h) (omega arith)))
+    rw (no-feed-first c (and_first (not (c == 10)) (has_no_feed (d ∷ held)) h)) (ap (onto_first c) (one-line (d ∷ held) (and_second (not (c == 10)) (has_no_feed (d ∷ held)) h) (omega arith)))
 
 pub ends-inside : (at : ℕ) (parsing : Parsing)
     → ContinuesParse (record { at = at; parsing = parsing; held = []; ended = true }) (record { at = at; parsing = (Stopped, parsing.1); held = []; ended = true }) (reported_at_end at parsing.0)

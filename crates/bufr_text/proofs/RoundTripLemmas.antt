@@ -5,7 +5,7 @@ use Rattle.std.proofs.lemmas.Bool.Decides.{nat_tests}
 use Rattle.bufr_tables.specs.Prelude.{Row, IsLegal, tree_of, tables_of, Tree, Sequence, places}
 use Rattle.bufr_walk.proofs.NextField.{AreRead}
 use Rattle.bufr_walk.specs.Prelude.{FieldSpec, Content, shown, Course, next_item, data_of, Item, IsPackedReading, IsReading, Values, apart, together, View, subsets_from, IsPlainReading}
-use Rattle.bufr_text.specs.Prelude.{IsDescriptorWord, items_shown, IsOctet, bit, dump_value_of, item_entries, subset_entries, document_of, dump_text_of, lines_before, IsAccepted, dump_items, extra_octets, SaySame, HasSameReading, IsEncodedAgain, Document, head_from_values, compressed_in, ◌>>=◌, map_err, data_bits, octets_of_bits, message_of, encoding_in, encoding_of, compressed_as, parts_as, AreOctetsOf, IsData, IsDocumentRefusal, Form, WritesForm, DocumentFault, document_fault}
+use Rattle.bufr_text.specs.Prelude.{header_in, IsDescriptorWord, items_shown, IsOctet, dump_value_of, item_entries, subset_entries, document_of, dump_text_of, lines_before, IsAccepted, dump_items, extra_octets, SaySame, HasSameReading, IsEncodedAgain, Document, ◌>>=◌, map_err, data_bits, octets_of_bits, message_of, encoding_in, encoding_of, compressed_as, parts_as, AreOctetsOf, IsData, IsDocumentRefusal, Form, WritesForm, DocumentFault, document_fault}
 use Rattle.std.proofs.lemmas.List.{take_at, drop_at, length-replicate}
 use Rattle.bufr_bits.specs.Prelude.{bits_of, padding}
 use Rattle.bufr_frame.specs.Prelude.{three_octets, octets_of_words, u24_at, Sections, sections_of, edition_of, section3_begins, section4_begins, IsFitting, MessageParts, even_size, with_even_length, message_octets, message_size, max_octets, section0_octets, section1_octets, section2_octets, section3_octets, section4_octets, data_flags, head_octets, max_extra_octets, parts_in, parts_of, sections_from, min_section_1, FrameAt, has_word_at, stated_length, classify, stream_event, candidate_len, scan_from}
@@ -26,9 +26,10 @@ use Rattle.bufr_walk.specs.Reading as reading
 use Rattle.bufr_fill.specs.Draft as fill
 use Rattle.std.proofs.lemmas.Grind.{common_steps}
 use Rattle.bufr_text.proofs.DumpableLemmas.{sections_given, octets_are}
+use Rattle.std.specs.Int.{from_bool}
 
 abbrev pub parts_of_document : Document → (payload : List ℕ) → MessageParts
-parts_of_document d payload = parts_as (compressed_in d) d payload
+parts_of_document d payload = parts_as (header_in d).compressed d payload
 
 -- ---- The document of an accepted message is encoded to a message with the same reading.
 
@@ -212,18 +213,18 @@ within : (a b : ℕ) → a ≤ b → nat_lt b a ≡ false
 within a b h = grind (arith, nat_tests)
 
 pub encoded_to : (table : List Row) (sequences : List Sequence) (d : Document) (template : Tree) (bits : List Bool)
-    → tree_of (tables_of table sequences) d.descriptors ≡ Ok template → data_bits (compressed_in d) (next_item table template) (subsets_of d.entries) ≡ Ok bits
-    → message_size (head_from_values d).edition (parts_of_document d (octets_of_bits bits)) ≤ max_octets
-    → encoding_of table sequences d ≡ Ok (message_octets (head_from_values d) (parts_of_document d (octets_of_bits bits)))
+    → tree_of (tables_of table sequences) d.descriptors ≡ Ok template → data_bits (header_in d).compressed (next_item table template) (subsets_of d.entries) ≡ Ok bits
+    → message_size (header_in d).head.edition (parts_of_document d (octets_of_bits bits)) ≤ max_octets
+    → encoding_of table sequences d ≡ Ok (message_octets (header_in d).head (parts_of_document d (octets_of_bits bits)))
 unfolding encoding_in
 encoded_to table sequences d template bits h1 h2 h3 = grind (arith, nat_tests, common_steps)
 
 -- what the document of a message says
-pub bit_back : (b : Bool) → (bit b == 1) ≡ b
+pub bit_back : (b : Bool) → (from_bool b == 1) ≡ b
 bit_back true = refl
 bit_back false = refl
 
-pub section2_back : (section2 : Option (List ℕ)) → (if bit (is_some section2) == 1 then Some (unwrap_or section2 []) else None) ≡ section2
+pub section2_back : (section2 : Option (List ℕ)) → (if from_bool (is_some section2) == 1 then Some (unwrap_or section2 []) else None) ≡ section2
 section2_back None = refl
 section2_back (Some octets) = refl
 
@@ -361,8 +362,8 @@ encoded_again table sequences m s template values used at rows legal a =
     let least : message_size edition parts ≤ length m + extra_octets m = size_least s payload (length m + extra_octets m) short (at-most-even m s a.sections) in
     let most : message_size edition parts ≤ max_octets = size_least s payload max_octets short (not-too-long m s a.sections a.few) in
     let few : message_size edition (parts_of_document d payload) ≤ max_octets = subst (λ (p : MessageParts). message_size edition p ≤ max_octets) (sym same) most in
-    let fills : data_bits (compressed_in d) (next_item table template) (subsets_of d.entries) ≡ Ok f.out =
-    fills_as (compressed_in d) s.compressed (next_item table template) (subsets_of d.entries) f.out (bit_back s.compressed) f.fills in
+    let fills : data_bits (header_in d).compressed (next_item table template) (subsets_of d.entries) ≡ Ok f.out =
+    fills_as (header_in d).compressed s.compressed (next_item table template) (subsets_of d.entries) f.out (bit_back s.compressed) f.fills in
     let given = sections_given m s a.octets a.sections in
     let w = is_message s.head parts f.out given.head given.local1 given.section2 given.descriptors given.few refl most in
     record {
@@ -399,23 +400,23 @@ module _ (form : Form) (table : List Row) (sequences : List Sequence) (d : Docum
   -- a message that is written is the definition's
   pub as_written : (template : Tree) (bits : List Bool) (payload : List ℕ) → tree_of (tables_of table sequences) d.descriptors ≡ Ok template
       → data_bits (compressed_as form d) (next_item table template) (subsets_of d.entries) ≡ Ok bits → payload ≡ octets_of_bits bits
-      → encoding_in form table sequences d ≡ message_of d.line (head_from_values d) (parts_as (compressed_as form d) d payload)
+      → encoding_in form table sequences d ≡ message_of d.line (header_in d).head (parts_as (compressed_as form d) d payload)
   unfolding encoding_in
   as_written template bits payload e f p =
       ap (λ r. map_err (fault.Template d.line) r >>= λ t. map_err document_fault (data_bits (compressed_as form d) (next_item table t) (subsets_of d.entries)) >>= λ b. message_of d.line
-      (head_from_values d)
+      (header_in d).head
       (parts_as (compressed_as form d) d (octets_of_bits b))) e
-      ∙ ap (λ r. map_err document_fault r >>= λ b. message_of d.line (head_from_values d) (parts_as (compressed_as form d) d (octets_of_bits b))) f
-      ∙ ap (λ o. message_of d.line (head_from_values d) (parts_as (compressed_as form d) d o)) (sym p)
+      ∙ ap (λ r. map_err document_fault r >>= λ b. message_of d.line (header_in d).head (parts_as (compressed_as form d) d (octets_of_bits b))) f
+      ∙ ap (λ o. message_of d.line (header_in d).head (parts_as (compressed_as form d) d o)) (sym p)
 
   pub whole : (n : ℕ) (template : Tree) (payload octets : List ℕ) (steps : ℕ) → tree_of (tables_of table sequences) d.descriptors ≡ Ok template
       → (h : IsData n (compressed_as form d) (next_item table template) (subsets_of d.entries) payload steps) → ((bits : List Bool) → AreOctetsOf payload bits → payload ≡ octets_of_bits bits)
-      → message_of d.line (head_from_values d) (parts_as (compressed_as form d) d payload) ≡ Ok octets → encoding_in form table sequences d ≡ Ok octets
+      → message_of d.line (header_in d).head (parts_as (compressed_as form d) d payload) ≡ Ok octets → encoding_in form table sequences d ≡ Ok octets
   whole n template payload octets steps e h p m = as_written template h.out payload e h.is (p h.out h.octets_are) ∙ m
 
   pub not_whole : (n : ℕ) (template : Tree) (payload : List ℕ) (steps : ℕ) (o : DocumentFault) → tree_of (tables_of table sequences) d.descriptors ≡ Ok template
       → (h : IsData n (compressed_as form d) (next_item table template) (subsets_of d.entries) payload steps) → ((bits : List Bool) → AreOctetsOf payload bits → payload ≡ octets_of_bits bits)
-      → IsDocumentRefusal o (message_of d.line (head_from_values d) (parts_as (compressed_as form d) d payload)) → IsDocumentRefusal o (encoding_in form table sequences d)
+      → IsDocumentRefusal o (message_of d.line (header_in d).head (parts_as (compressed_as form d) d payload)) → IsDocumentRefusal o (encoding_in form table sequences d)
   not_whole n template payload steps o e h p m = subst (λ r. IsDocumentRefusal o r) (sym (as_written template h.out payload e h.is (p h.out h.octets_are))) m
 
   pub data_refused : (template : Tree) (why : DocumentFault) → tree_of (tables_of table sequences) d.descriptors ≡ Ok template
@@ -423,9 +424,9 @@ module _ (form : Form) (table : List Row) (sequences : List Sequence) (d : Docum
   unfolding encoding_in
   data_refused template why e h =
       ap (λ r. map_err (fault.Template d.line) r >>= λ t. map_err document_fault (data_bits (compressed_as form d) (next_item table t) (subsets_of d.entries)) >>= λ b. message_of d.line
-      (head_from_values d)
+      (header_in d).head
       (parts_as (compressed_as form d) d (octets_of_bits b))) e
-      ∙ ap (λ r. r >>= λ b. message_of d.line (head_from_values d) (parts_as (compressed_as form d) d (octets_of_bits b))) h
+      ∙ ap (λ r. r >>= λ b. message_of d.line (header_in d).head (parts_as (compressed_as form d) d (octets_of_bits b))) h
 
   pub no_data : (template : Tree) (o : DocumentFault) → tree_of (tables_of table sequences) d.descriptors ≡ Ok template
       → IsDocumentRefusal o (map_err document_fault (data_bits (compressed_as form d) (next_item table template) (subsets_of d.entries))) → IsDocumentRefusal o (encoding_in form table sequences d)
@@ -436,7 +437,7 @@ module _ (form : Form) (table : List Row) (sequences : List Sequence) (d : Docum
       → IsDocumentRefusal o (encoding_in form table sequences d)
   unfolding encoding_in
   no_template o (inl out) = inl out
-  no_template o (inr h) = inr (ap (λ r. r >>= λ t. map_err document_fault (data_bits (compressed_as form d) (next_item table t) (subsets_of d.entries)) >>= λ b. message_of d.line (head_from_values d)
+  no_template o (inr h) = inr (ap (λ r. r >>= λ t. map_err document_fault (data_bits (compressed_as form d) (next_item table t) (subsets_of d.entries)) >>= λ b. message_of d.line (header_in d).head
       (parts_as (compressed_as form d) d (octets_of_bits b))) h)
 
   -- a document whose data are not written is refused

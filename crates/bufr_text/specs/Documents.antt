@@ -13,6 +13,7 @@ use Rattle.bufr_text.specs.declared.document.ParserState.TheVariants.{Between, H
 use Rattle.bufr_text.specs.declared.document.LineEffect.{LineEffect}
 use Rattle.bufr_text.specs.declared.document.LineEffect.TheVariants.{Continues, Completes, Refuses}
 use Rattle.bufr_text.specs.declared.document.LineGroup.{LineGroup}
+use Rattle.std.specs.List.{onto_first}
 use Rattle.bufr_text.specs.declared.document.LineGroup.TheVariants as group
 
 -- ---- A message as its text gives it; no value is looked at yet. (a choice of this project)
@@ -34,16 +35,26 @@ abbrev pub blank : (line : ℕ) → Document
 blank line =
     record { line = line; header = []; local1 = []; section2 = []; descriptors = []; entries = [] }
 
--- the edition, the first value
-abbrev pub edition_in : Document → ℕ
-edition_in d = slice_index d.header 0
+-- the edition and section 1, whether the data are observed and compressed, whether there is a
+-- section 2, and the number of subsets
+pub record DocumentHeader : Type 0 where
+  pub head : Head
+  pub observed : Bool
+  pub compressed : Bool
+  pub optional : Bool
+  pub subsets : ℕ
 
--- whether there is a section 2, the nineteenth value; the number of subsets, the last
-abbrev pub optional_in : Document → ℕ
-optional_in d = slice_index d.header 18
-
-abbrev pub subsets_in : Document → ℕ
-subsets_in d = slice_index d.header 19
+-- the values of the header lines by name; a value that was not read yet is 0
+abbrev pub header_in : Document → DocumentHeader
+header_in d =
+    let value : ℕ → ℕ = slice_index d.header in
+    record {
+      head = head_by (value 0) (λ key in_4 in_3. value key);
+      observed = value 16 == 1;
+      compressed = value 17 == 1;
+      optional = value 18 == 1;
+      subsets = value 19;
+    }
 
 -- where the reading is, and the document as far as it was read
 abbrev pub Parsing : Type 0
@@ -75,7 +86,7 @@ in_range edition key value = nat_le (slice_index leasts key) value
 -- rule: reading-header-order, fault-61, fault-order-of-a-line
 abbrev pub heading : Document → Line → LineStep
 heading d (Header key value) = if not (key == length d.header) then (Refuses NotAllowed, d)
-    else if not (in_range (edition_in d) key value) then (Refuses HeaderRange, d) else (
+    else if not (in_range (header_in d).head.edition key value) then (Refuses HeaderRange, d) else (
       Continues (if key == 19 then BeforeSubsets group.Local1 else Heading),
       record d { header = d.header ++ value ∷ [] },
     )
@@ -84,13 +95,13 @@ heading d line = (Refuses NotAllowed, d)
 -- `subset` and its number, where so many subsets were read
 -- rule: reading-subsets, fault-57
 abbrev pub beginning : (read : ℕ) → Document → (subset : ℕ) → LineEffect
-beginning read d subset = if (subset == read + 1) && nat_le subset (subsets_in d)
+beginning read d subset = if (subset == read + 1) && nat_le subset (header_in d).subsets
     then Continues (Filling subset) else Refuses SubsetCount
 
 -- `end`
 -- rule: reading-subsets, fault-57
 abbrev pub closing : (read : ℕ) → Document → LineEffect
-closing read d = if read == subsets_in d then Completes else Refuses SubsetCount
+closing read d = if read == (header_in d).subsets then Completes else Refuses SubsetCount
 
 -- octets of local use come first, then those of section 2, where there is one
 -- rule: reading-section2
@@ -100,8 +111,8 @@ may_be_local1 group.Section2 = false
 may_be_local1 group.Descriptors = false
 
 abbrev pub may_be_section2 : LineGroup → Document → Bool
-may_be_section2 group.Local1 d = optional_in d == 1
-may_be_section2 group.Section2 d = optional_in d == 1
+may_be_section2 group.Local1 d = (header_in d).optional
+may_be_section2 group.Section2 d = (header_in d).optional
 may_be_section2 group.Descriptors d = false
 
 -- a line after the header and before the first subset
@@ -188,16 +199,11 @@ parse_lines at p (line ∷ more) =
     let here = line_step at p (read_line line) in reported_at at here
     ++ parse_lines (at + 1) (parsing_after here) more
 
--- one more octet before the first line
-abbrev pub prepend_to_line : ℕ → List (List ℕ) → List (List ℕ)
-prepend_to_line c [] = (c ∷ []) ∷ []
-prepend_to_line c (line ∷ more) = (c ∷ line) ∷ more
-
 -- the lines of a text, each without its line feed; the last may lack it
 -- rule: reading-last-line
 unfoldable pub lines_of : List ℕ → List (List ℕ)
 lines_of [] = []
-lines_of (c ∷ more) = if c == 10 then [] ∷ lines_of more else prepend_to_line c (lines_of more)
+lines_of (c ∷ more) = if c == 10 then [] ∷ lines_of more else onto_first c (lines_of more)
 
 -- the documents of a text, up to its end or to the first line that is refused
 abbrev pub documents_of : List ℕ → List ParseResult
@@ -232,23 +238,9 @@ split_of (c ∷ more) =
 abbrev pub open_documents_of : List ℕ → List ParseResult
 open_documents_of text = parse_open_lines 1 between (split_of text).whole (split_of text).rest
 
--- ---- What the header of a document says, in the words of a message. (a choice of this project)
-
--- the value of a key, by its index
-abbrev pub key_value : Document → (key : ℕ) → ℕ
-key_value d key = slice_index d.header key
-
--- section 1, and the edition
-abbrev pub head_from_values : Document → Head
-head_from_values d = head_by (key_value d 0) (λ key in_4 in_3. key_value d key)
-
--- whether the data are compressed
-abbrev pub compressed_in : Document → Bool
-compressed_in d = key_value d 17 == 1
-
 -- section 2, where there is one
 abbrev pub section2_in : Document → Option (List ℕ)
-section2_in d = if optional_in d == 1 then Some d.section2 else None
+section2_in d = if (header_in d).optional then Some d.section2 else None
 
 -- each value is within the range of its key, from a key on
 abbrev pub are_in_range : (edition key : ℕ) → List ℕ → Bool
@@ -259,7 +251,7 @@ are_in_range edition key (value ∷ more) =
 -- The header is whole, each value within its range.
 pub record IsHeaded (d : Document) : Type 0 where
   pub whole : length d.header ≡ 20
-  pub ranges : are_in_range (edition_in d) 0 d.header ≡ true
+  pub ranges : are_in_range (header_in d).head.edition 0 d.header ≡ true
 
 -- the most entries that an input of 2^32 reads of 4,096 octets can give
 abbrev pub most_entries : ℕ

@@ -1,47 +1,35 @@
 -- The dump text of a message, line by line, its items and their bounds, and the line that lists it.
 -- (A choice of this project)
 -- Cited by public contracts.
-use Rattle.std.specs.Prelude.{ℕ, ◌+◌, Bool, if◌then◌else◌, List, [], ◌∷◌, ◌++◌, length, map, flat_map, codes, decimal, Option, Some, None, is_some, unwrap_or, pos, ◌≡◌, ◌^◌, ◌<◌, ◌≤◌, true, unsigned_abs, replicate, ◌-◌}
+use Rattle.std.specs.Prelude.{get_or, ℕ, ◌+◌, Bool, List, [], ◌∷◌, ◌++◌, length, map, flat_map, codes, decimal, Option, Some, None, is_some, unwrap_or, pos, ◌≡◌, ◌^◌, ◌<◌, ◌≤◌, true, unsigned_abs, replicate, ◌-◌}
 use Rattle.bufr_bits.specs.Prelude.{decimal_text_of}
 use Rattle.bufr_tables.specs.Prelude.{fxy_text, Row, is_name}
 use Rattle.bufr_frame.specs.Prelude.{Sections, IsFitting, values_of}
 use Rattle.bufr_fill.specs.Prelude.{DraftValue, draft, number_token, text_form, missing_form, reference_token, DraftEntry, Holds, Ends}
 use Rattle.bufr_text.specs.Documents.{Document}
-use Rattle.bufr_text.specs.Line.{key_at, runs_of, hex_text, descriptors_text, quoted}
+use Rattle.bufr_text.specs.Line.{keys, runs_of, hex_text, descriptors_text, quoted}
 use Rattle.bufr_walk.specs.Prelude.{View, view_of, Content, Item, ShownValue, shown_number, shown_text, shown_missing, shown_reference, Values, each_subset}
-use Rattle.std.specs.List.{AllByRecursion}
+use Rattle.std.specs.List.{concat, AllByRecursion}
 use Rattle.bufr_frame.specs.declared.section1.Head.{Head}
+use Rattle.std.specs.Int.{from_bool}
 
 -- decimal digits, at least so many, with leading zeros
 -- rule: listing-time
 abbrev pub zero_padded : (least n : ℕ) → List ℕ
 zero_padded least n = replicate (least - length (decimal n)) 48 ++ decimal n
 
--- 1 or 0
--- rule: listing-flags
-abbrev pub flag : Bool → List ℕ
-flag on = if on then codes "1" else codes "0"
-
--- texts, one after another
-abbrev pub joined : List (List ℕ) → List ℕ
-joined [] = []
-joined (text ∷ more) = text ++ joined more
-
-abbrev pub bit : Bool → ℕ
-bit on = if on then 1 else 0
-
 -- the values of the header lines
 -- rule: text-header, text-header-of-edition-3
 abbrev pub header_of : Sections → List ℕ
 header_of s =
-    s.head.edition ∷ values_of s.head ++ bit s.observed ∷ bit s.compressed
-    ∷ bit (is_some s.section2) ∷ s.subsets ∷ []
+    s.head.edition ∷ values_of s.head ++ from_bool s.observed ∷ from_bool s.compressed
+    ∷ from_bool (is_some s.section2) ∷ s.subsets ∷ []
 
 -- the header lines from a key on
 unfoldable pub header_lines : (key : ℕ) → List ℕ → List (List ℕ)
 header_lines key [] = []
 header_lines key (value ∷ more) =
-    (key_at key ++ 32 ∷ decimal value) ∷ header_lines (key + 1) more
+    (get_or keys key [] ++ 32 ∷ decimal value) ∷ header_lines (key + 1) more
 
 -- rule: text-local1
 abbrev pub local1_line : List ℕ → List ℕ
@@ -67,7 +55,7 @@ dump_value_of (shown_reference v) = reference_token (decimal_text_of v (pos 0))
 -- rule: text-comment, text-no-comment
 abbrev pub comment_text : Option Row → List ℕ
 comment_text None = []
-comment_text (Some row) = joined (codes "  # " ∷ row.name ∷ codes " [" ∷ row.unit ∷ codes "]" ∷ [])
+comment_text (Some row) = concat (codes "  # " ∷ row.name ∷ codes " [" ∷ row.unit ∷ codes "]" ∷ [])
 
 -- a descriptor and its value's text
 -- rule: text-quoted, text-missing, text-reference, text-inserted
@@ -202,17 +190,18 @@ time_texts h =
     codes " time=" ∷ zero_padded 4 h.year ∷ codes "-" ∷ zero_padded 2 h.month ∷ codes "-" ∷ zero_padded 2 h.day ∷
     codes "T" ∷ zero_padded 2 h.hour ∷ codes ":" ∷ zero_padded 2 h.minute ∷ codes ":" ∷ zero_padded 2 h.second ∷ []
 
--- how many subsets and descriptors it has, and its flags
+-- how many subsets and descriptors it has, and its flags: 1 or 0
+-- rule: listing-flags
 abbrev pub counts_texts : (subsets : ℕ) (observed compressed optional : Bool)
     (descriptors : ℕ) → List (List ℕ)
 counts_texts subsets observed compressed optional descriptors =
-    codes " subsets=" ∷ decimal subsets ∷ codes " observed=" ∷ flag observed
-    ∷ codes " compressed=" ∷
-    flag compressed ∷ codes " optional=" ∷ flag optional ∷ codes " descriptors=" ∷
-    decimal descriptors ∷ codes "\n" ∷ []
+    codes " subsets=" ∷ decimal subsets ∷ codes " observed=" ∷ decimal (from_bool observed)
+    ∷ codes " compressed=" ∷ decimal (from_bool compressed)
+    ∷ codes " optional=" ∷ decimal (from_bool optional)
+    ∷ codes " descriptors=" ∷ decimal descriptors ∷ codes "\n" ∷ []
 
 -- the line of a message at an offset, with its line feed
 -- rule: listing-line, listing-offset-and-length
 abbrev pub ls_line : ℕ → Sections → List ℕ
-ls_line offset s = joined (source_texts offset s.size s.head ++ (time_texts s.head
+ls_line offset s = concat (source_texts offset s.size s.head ++ (time_texts s.head
     ++ counts_texts s.subsets s.observed s.compressed (is_some s.section2) (length s.descriptors)))

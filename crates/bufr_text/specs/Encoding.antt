@@ -1,7 +1,7 @@
 -- The message that a document is encoded to, or its first refusal, with the turns made.
 -- (WMO-No. 306, Volume I.2, FM 94: sections 0 to 5)
 -- Cited by public contracts.
-use Rattle.std.specs.Prelude.{◌==◌, Bool, true, false, ℕ, ◌+◌, ◌/◌, nat_lt, if◌then◌else◌, List, ◌++◌, length, Result, Ok, Err, ◌≡◌, Option, Some, None, ◌≤◌, [], ◌∷◌, Vec, ◌*◌, ◌≢◌, ◌⊎◌, codes, decimal}
+use Rattle.std.specs.Prelude.{Bool, true, false, ℕ, ◌+◌, ◌/◌, nat_lt, if◌then◌else◌, List, ◌++◌, length, Result, Ok, Err, ◌≡◌, Option, Some, None, ◌≤◌, [], ◌∷◌, Vec, ◌*◌, ◌≢◌, ◌⊎◌, codes, decimal}
 use Rattle.bufr_text.specs.declared.encode.Form.{Form}
 use Rattle.bufr_bits.specs.Prelude.{◌>>=◌, padding, bits_of, map_err}
 use Rattle.bufr_tables.specs.declared.fault.TemplateFault.{TemplateFault}
@@ -11,7 +11,7 @@ use Rattle.bufr_frame.specs.Prelude.{MessageParts, message_octets, message_size,
 use Rattle.bufr_walk.specs.Prelude.{octets_in, Course, next_item, ticked}
 use Rattle.bufr_fill.specs.Prelude.{Writing, bits_of_writing, writing_of, Subset, subsets_of, item_report, walk_refused, at_line}
 use Rattle.bufr_text.specs.declared.encode.Form.TheVariants.{AsWritten}
-use Rattle.bufr_text.specs.Documents.{Document, subsets_in, head_from_values, key_value, compressed_in, section2_in}
+use Rattle.bufr_text.specs.Documents.{header_in, Document, section2_in}
 use Rattle.bufr_text.specs.declared.fault.DocumentFault.{DocumentFault}
 use Rattle.std.specs.Global.{Global}
 use Rattle.bufr_walk.specs.declared.walker.WalkStop.{WalkStop}
@@ -74,8 +74,8 @@ parts_as compressed d payload =
       local1 = d.local1;
       section2 = section2_in d;
       descriptors = d.descriptors;
-      subsets = subsets_in d;
-      observed = key_value d 16 == 1;
+      subsets = (header_in d).subsets;
+      observed = (header_in d).observed;
       compressed = compressed;
       payload = payload;
     }
@@ -83,7 +83,7 @@ parts_as compressed d payload =
 -- whether the data of a document are compressed in a form
 -- rule: form-option
 abbrev pub compressed_as : Form → Document → Bool
-compressed_as form d = compressed_by form (compressed_in d)
+compressed_as form d = compressed_by form (header_in d).compressed
 
 -- a message of these parts, where it is not too long
 -- rule: fault-60
@@ -101,7 +101,7 @@ encoding_in form table sequences d = do
   template ← map_err (fault.Template d.line) (tree_of (tables_of table sequences) d.descriptors)
   bits ← map_err document_fault
       (data_bits (compressed_as form d) (next_item table template) (subsets_of d.entries))
-  message_of d.line (head_from_values d) (parts_as (compressed_as form d) d (octets_of_bits bits))
+  message_of d.line (header_in d).head (parts_as (compressed_as form d) d (octets_of_bits bits))
 
 -- a document's message, or its first fault, in the form that the document says
 abbrev pub encoding_of : List Row → List Sequence → Document → Result (List ℕ) DocumentFault

@@ -1,8 +1,8 @@
 -- The words and values that lines are made of, what a line says, and the keys of the header.
 -- (A choice of this project)
 -- Cited by public contracts.
-use Rattle.std.specs.Prelude.{ℕ, zero, suc, ◌+◌, ◌==◌, nat_le, nat_lt, Bool, not, ◌&&◌, if◌then◌else◌, List, [], ◌∷◌, Option, Some, None, option_map, codes, length, get_or, replicate, ◌-◌, ◌++◌, take, drop, ◌≡◌, ◌*◌, ◌≤◌, ◌/◌, ◌%◌, min, true, false, ◌||◌, slice_index}
-use Rattle.std.specs.List.{list_all}
+use Rattle.std.specs.Prelude.{ℕ, zero, suc, ◌+◌, ◌==◌, nat_le, nat_lt, Bool, not, ◌&&◌, if◌then◌else◌, List, [], ◌∷◌, Option, Some, None, option_map, codes, length, replicate, ◌-◌, ◌++◌, take, drop, ◌≡◌, ◌*◌, ◌≤◌, ◌/◌, ◌%◌, min, true, false, ◌||◌, slice_index}
+use Rattle.std.specs.List.{list_all, position_from}
 use Rattle.std.specs.Char.{is_ascii_digit}
 use Rattle.std.specs.Str.Parse.{digits_value}
 use Rattle.bufr_tables.specs.Prelude.{fxy_of, fxy_text}
@@ -11,6 +11,7 @@ pub use Rattle.bufr_text.specs.declared.line.QuotedToken.TheVariants.{Closed, Oc
 use Rattle.std.specs.Str.{bytes_eq}
 use Rattle.bufr_frame.specs.Prelude.{greatest_values}
 use Rattle.bufr_fill.specs.Prelude.{DraftValue, number_token, text_form, missing_form, reference_token}
+use Rattle.std.specs.Option.{option_zip}
 
 -- the longest prefix of elements that pass a test, and the rest
 unfoldable pub prefix_while : (ℕ → Bool) → List ℕ → List ℕ
@@ -55,9 +56,7 @@ either_value c = if nat_le 97 c && nat_le c 102 then Some (c - 87) else upper_va
 
 -- two digits as an octet
 abbrev pub pair_value : Option ℕ → Option ℕ → Option ℕ
-pair_value (Some high) (Some low) = Some (16 * high + low)
-pair_value (Some high) None = None
-pair_value None low = None
+pair_value high low = option_map (λ both. 16 * both.0 + both.1) (option_zip high low)
 
 -- two digits for an octet
 abbrev pub hex_pair : ℕ → List ℕ
@@ -71,9 +70,7 @@ hex_text (octet ∷ more) = hex_pair octet ++ hex_text more
 
 -- one more element before a list that was read
 abbrev pub onto_read : {X : Type 0} → Option X → Option (List X) → Option (List X)
-onto_read (Some x) (Some xs) = Some (x ∷ xs)
-onto_read (Some x) None = None
-onto_read None xs = None
+onto_read x xs = option_map (λ both. both.0 ∷ both.1) (option_zip x xs)
 
 -- the octets that digits of either case write
 unfoldable pub hex_read : List ℕ → Option (List ℕ)
@@ -139,14 +136,11 @@ quoting_of text = if slice_index text 0 == 34 then Closed
     else if is_unescaped (slice_index text 0) then Octet (slice_index text 0) 1 else Nothing
 
 -- a text that was read, and what is after its closing quote
-abbrev pub octet_onto : ℕ → Option (List ℕ × List ℕ) → Option (List ℕ × List ℕ)
-octet_onto octet None = None
-octet_onto octet (Some read) = Some (octet ∷ read.0, read.1)
-
 abbrev pub quoted_on : QuotedToken → (closed : List ℕ) → (more : ℕ → Option (List ℕ × List ℕ))
     → Option (List ℕ × List ℕ)
 quoted_on Closed closed more = Some ([], closed)
-quoted_on (Octet octet written) closed more = octet_onto octet (more (written - 1))
+quoted_on (Octet octet written) closed more =
+    option_map (λ read. (octet ∷ read.0, read.1)) (more (written - 1))
 quoted_on Nothing closed more = None
 
 -- the octets of a text and what is after its closing quote; octets that were seen are skipped
@@ -195,10 +189,6 @@ keys =
     ∷ codes "minute" ∷ codes "second" ∷ codes "observed" ∷ codes "compressed"
     ∷ codes "optional" ∷ codes "subsets" ∷ []
 
--- the key at an index
-abbrev pub key_at : (index : ℕ) → List ℕ
-key_at index = get_or keys index []
-
 -- the least value of each key, and the greatest by edition
 -- rule: reading-header-ranges
 unfoldable pub leasts : List ℕ
@@ -206,12 +196,6 @@ leasts = 3 ∷ replicate 19 0
 
 unfoldable pub mosts : (edition : ℕ) → List ℕ
 mosts edition = 4 ∷ greatest_values edition ++ 1 ∷ 1 ∷ 1 ∷ 65535 ∷ []
-
--- the index of a key of this name, where the first of these keys has index `at`
-unfoldable pub index_from : (at : ℕ) → (name : List ℕ) → List (List ℕ) → Option ℕ
-index_from at name [] = None
-index_from at name (key ∷ more) =
-    if bytes_eq name key then Some at else index_from (at + 1) name more
 
 -- a line that what was read makes, or none
 abbrev pub made : {X : Type 0} → (X → Line) → Option X → Line
@@ -268,7 +252,7 @@ worded word rest =
     then made (item_line (number_value reference_token)) (without_space rest)
     else if bytes_eq word (codes "end") then (if length rest == 0 then Closes else Wrong)
     else made (λ index. made (λ text. made (Header index) (number_read text)) (without_space rest))
-    (index_from 0 word keys)
+    (position_from (bytes_eq word) 0 keys)
 
 abbrev pub is_no_space : ℕ → Bool
 is_no_space c = not (c == 32)

@@ -7,7 +7,7 @@ use Rattle.bufr_frame.specs.Prelude.{max_octets, with_even_length, u24_at, secti
 use Rattle.bufr_walk.specs.Prelude.{next_item, data_of, Values, IsReading, Item, apart, together, Content, each_subset}
 use Rattle.bufr_text.specs.declared.encode.Form.{Form}
 use Rattle.bufr_text.specs.declared.encode.Form.TheVariants.{AsWritten}
-use Rattle.bufr_text.specs.Documents.{Document, subsets_in, head_from_values, key_value, section2_in}
+use Rattle.bufr_text.specs.Documents.{header_in, Document, section2_in}
 use Rattle.bufr_text.specs.Dump.{dump_items, IsOctet}
 use Rattle.bufr_text.specs.Encoding.{compressed_by, encoding_of, octets_of_bits, compressed_as}
 use Rattle.std.specs.Global.{Global}
@@ -173,11 +173,11 @@ pub record IsReadAs (form : Form) (table : List Row) (sequences : List Sequence)
   -- in a stream it is one message, whatever is after it
   pub framed : (at : ℕ) (suffix : List ℕ) → scan_from 0 at (octets ++ suffix)
       ≡ FrameAt at octets ∷ scan_from 0 (at + length octets) suffix
-  pub head : sections.head ≡ head_from_values d
+  pub head : sections.head ≡ (header_in d).head
   pub local1 : sections.local1 ≡ d.local1
   pub section2 : sections.section2 ≡ section2_in d
   pub descriptors : sections.descriptors ≡ d.descriptors
-  pub subsets : sections.subsets ≡ subsets_in d
-  pub observed : sections.observed ≡ (key_value d 16 == 1)
+  pub subsets : sections.subsets ≡ (header_in d).subsets
+  pub observed : sections.observed ≡ (header_in d).observed
   pub compressed : sections.compressed ≡ compressed_as form d
   pub said : AreValuesOf values (subsets_of d.entries)

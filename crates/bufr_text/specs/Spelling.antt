@@ -1,10 +1,10 @@
 -- Only contracts need this file. What the lines of a document are, in order, and the one spelling
 -- that a dump has. (A choice of this project)
-use Rattle.std.specs.Prelude.{◌≡◌, ◌==◌, false, List, [], ◌∷◌, length, ◌≤◌, ◌⊎◌, ℕ, ◌+◌, ◌++◌, map, if◌then◌else◌, take, drop, codes, None, Result, Ok, Err}
+use Rattle.std.specs.Prelude.{slice_index, ◌≡◌, false, List, [], ◌∷◌, length, ◌≤◌, ◌⊎◌, ℕ, ◌+◌, ◌++◌, map, if◌then◌else◌, take, drop, codes, None, Result, Ok, Err}
 use Rattle.std.specs.List.{AllByRecursion, concat}
 use Rattle.bufr_fill.specs.Prelude.{AllHaveOctets, DraftEntry, Holds, Ends, subsets_of, DraftValue, draft, Draft, Subset, content_of, normal_form}
 use Rattle.bufr_fill.specs.declared.fault.ItemFault.{ItemFault}
-use Rattle.bufr_text.specs.Documents.{Document, optional_in, subsets_in, IsHeaded, ParseResult, Complete, Refused, most_entries, read_line}
+use Rattle.bufr_text.specs.Documents.{header_in, Document, IsHeaded, ParseResult, Complete, Refused, most_entries, read_line}
 use Rattle.bufr_text.specs.Dump.{IsOctet, IsDescriptorWord, header_lines, local1_line, section2_line, descriptors_line, form_text, comment_text, subset_line, text_of_lines}
 use Rattle.bufr_text.specs.Line.{Line, Passed, Opens, Header, Local1, Section2, Descriptors, Begins, ItemLine, Closes, runs_of}
 use Rattle.bufr_tables.specs.Prelude.{Row, entry_of, Tree}
@@ -28,10 +28,10 @@ pub record IsProper (d : Document) : Type 0 where
   pub headed : IsHeaded d
   pub local1 : AllByRecursion IsOctet d.local1
   pub section2 : AllByRecursion IsOctet d.section2
-  pub no_section2 : (optional_in d == 1) ≡ false → d.section2 ≡ []
+  pub no_section2 : (header_in d).optional ≡ false → d.section2 ≡ []
   pub descriptors : AllByRecursion IsDescriptorWord d.descriptors
   pub texts : AllHaveOctets (subsets_of d.entries)
-  pub counted : length (subsets_of d.entries) ≡ subsets_in d
+  pub counted : length (subsets_of d.entries) ≡ (header_in d).subsets
   pub ended : AreEnded d.entries
 
 -- ---- A document that was read whole, and the documents of a text. (a choice of this project)
@@ -120,8 +120,8 @@ pub record IsDocument (d : Document) (lines : List NumberedLine) : Type 0 where
   pub local1_is : d.local1 ≡ concat local1
   pub section2_is : d.section2 ≡ concat section2
   pub descriptors_are : d.descriptors ≡ concat descriptors
-  pub flagged : (section2 ≡ []) ⊎ (optional_in d ≡ 1)
-  pub counted : length subsets ≡ subsets_in d
+  pub flagged : (section2 ≡ []) ⊎ (slice_index d.header 18 ≡ 1)
+  pub counted : length subsets ≡ (header_in d).subsets
   pub entries : d.entries ≡ entries_heard subsets end
 
 -- What is reported of lines: documents one after another, up to the end of the lines or to the

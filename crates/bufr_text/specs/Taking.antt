@@ -8,10 +8,10 @@ use Rattle.bufr_text.specs.declared.document.ParserState.{ParserState}
 use Rattle.bufr_text.specs.declared.document.ParserState.TheVariants.{Between, Heading, BeforeSubsets, Filling, Stopped}
 use Rattle.bufr_text.specs.declared.document.LineEffect.{LineEffect}
 use Rattle.bufr_text.specs.declared.document.LineEffect.TheVariants.{Continues, Completes, Refuses}
-use Rattle.bufr_text.specs.Documents.{max_line, are_in_range, IsHeaded, adds, read_line, Document, Parsing, LineStep, parsing_after, reported_at, blank, ParseResult, Complete, Refused, edition_in, optional_in}
+use Rattle.bufr_text.specs.Documents.{header_in, max_line, are_in_range, IsHeaded, adds, read_line, Document, Parsing, LineStep, parsing_after, reported_at, blank, ParseResult, Complete, Refused}
 use Rattle.bufr_text.specs.Dump.{IsOctet, IsDescriptorWord}
 use Rattle.bufr_text.specs.Spelling.{IsProper}
-use Rattle.bufr_text.specs.declared.document.ParsedLine.{ParsedLine}
+use Rattle.bufr_text.specs.declared.line.ParsedLine.{ParsedLine}
 use Rattle.bufr_text.specs.Reader.{has_no_feed, ReaderPosition, ContinuesParse, TakesWholeLines, TakesEndLine, ReaderModel, position_of, AddsNext}
 use Rattle.bufr_text.specs.declared.document.Progress.{Progress}
 use Rattle.bufr_frame.specs.Prelude.{max_reads, InputModel, FillsInput}
@@ -20,7 +20,7 @@ use Rattle.bufr_frame.specs.declared.fault.RunFault.TheVariants.{Memory}
 use Rattle.bufr_text.specs.declared.fault.ReadFault.{ReadFault}
 use Rattle.bufr_text.specs.declared.fault.ReadFault.TheVariants.{Line, Run}
 use Rattle.bufr_text.specs.Line as line
-use Rattle.bufr_text.specs.declared.document.ParsedLine.TheVariants as said
+use Rattle.bufr_text.specs.declared.line.ParsedLine.TheVariants as said
 
 abbrev pub document_kept : Inside → Document
 document_kept d = record {
@@ -59,7 +59,7 @@ pub record IsBare (d : Document) : Type 0 where
 pub record HasLineGroups (d : Document) : Type 0 where
   pub local1 : AllByRecursion IsOctet d.local1
   pub section2 : AllByRecursion IsOctet d.section2
-  pub no_section2 : (optional_in d == 1) ≡ false → d.section2 ≡ []
+  pub no_section2 : (header_in d).optional ≡ false → d.section2 ≡ []
   pub descriptors : AllByRecursion IsDescriptorWord d.descriptors
 
 -- the text of an item is of octets
@@ -78,7 +78,8 @@ pub record HasSubsets (ended : ℕ) (d : Document) : Type 0 where
 abbrev pub IsParsing : (at : ℕ) → Parsing → Type 0
 IsParsing at (Between, d) = d ≡ blank 0
 IsParsing at (Heading, d) = (length d.header < 20)
-    × (are_in_range (edition_in d) 0 d.header ≡ true) × (length d.entries < at) × IsBare d
+    × (are_in_range (header_in d).head.edition 0 d.header ≡ true) × (length d.entries < at)
+    × IsBare d
 IsParsing at (BeforeSubsets part, d) =
     IsHeaded d × (length d.entries < at) × HasLineGroups d × (d.entries ≡ [])
 IsParsing at (Filling subset, d) =

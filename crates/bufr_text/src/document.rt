@@ -2,11 +2,12 @@
 ghost use Rattle.std.specs.Prelude.{◌==◌, ◌≡◌, ◌+◌, ◌<◌, ◌≤◌, length, IsTrue, slice_index, option_map, true, IfOk, OnErr, ◌^◌, false};
 ghost use Rattle.bufr_fill.specs.Prelude.{subsets_of};
 ghost use Rattle.bufr_frame.specs.Prelude.{is_writable};
-ghost use Rattle.bufr_text.specs.Prelude.{subsets_in, beginning, closing, line_step, adds, read_line, head_from_values, key_value, compressed_in, section2_in, most_entries, IsWhole, mosts, meaning, IsParsing, parsing_of, TakesLines, WantsAt, has_no_feed, Header, blank};
+ghost use Rattle.bufr_text.specs.Prelude.{header_in, beginning, closing, line_step, adds, read_line, section2_in, most_entries, IsWhole, mosts, meaning, IsParsing, parsing_of, TakesLines, WantsAt, has_no_feed, Header, blank};
 
 use crate::fault::TextLineFault;
 use crate::header::{MOST_WORDS, in_range};
-use crate::line::{MAX_LINE, decimal_item, missing_item, prefix, read_line, suffix};
+use crate::line::{MAX_LINE, ParsedLine, decimal_item, missing_item, read_line};
+use crate::slices::{prefix, suffix};
 use bufr_fill::{DraftItem, DraftValue, Entries};
 use bufr_frame::Head;
 use bufr_tables::Fxy;
@@ -126,7 +127,7 @@ impl Document {
     /// The edition, which is 3 or 4, and what section 1 says; it can be written.
     #[tactic(auto, unfolding(crate::specs::Line::mosts))]
     pub fn head(&self) -> Head
-        ensures value { result ≡ head_from_values self.now }
+        ensures value { result ≡ (header_in self.now).head }
         ensures writable { IsTrue (is_writable result) }
     {
         Head {
@@ -151,21 +152,21 @@ impl Document {
 
     /// Whether the data are observed (octet 7 of section 3, bit 1).
     pub fn observed(&self) -> bool
-        ensures { result ≡ (key_value self.now 16 == 1) }
+        ensures { result ≡ (header_in self.now).observed }
     {
         self.parts.value(16) == 1
     }
 
     /// Whether the data are compressed (octet 7 of section 3, bit 2).
     pub fn compressed(&self) -> bool
-        ensures { result ≡ compressed_in self.now }
+        ensures { result ≡ (header_in self.now).compressed }
     {
         self.parts.value(17) == 1
     }
 
     /// How many subsets there are.
     pub fn subsets(&self) -> u16
-        ensures { result ≡ subsets_in self.now }
+        ensures { result ≡ (header_in self.now).subsets }
     {
         self.parts.value(19)
     }
@@ -207,25 +208,10 @@ impl Document {
     pub(crate) fn items(&self) -> &Entries
         ensures same { result.now ≡ self.now.entries }
         ensures few { length result.now ≤ most_entries }
-        ensures many { length (subsets_of result.now) ≡ subsets_in self.now }
+        ensures many { length (subsets_of result.now) ≡ (header_in self.now).subsets }
     {
         &self.parts.entries
     }
-}
-
-/// What a line says. Octets of hexadecimal digits and of texts are those that they mean.
-#[derive(Clone, Copy)]
-pub(crate) enum ParsedLine<'a> {
-    Passed,
-    Opens,
-    Header { key: usize, value: u32 },
-    Local1(&'a [u8]),
-    Section2(&'a [u8]),
-    Descriptors(&'a [u16]),
-    Begins(u32),
-    Item { fxy: u16, form: DraftValue<'a> },
-    Closes,
-    Wrong,
 }
 
 /// How far the parts before the subsets have come: they are in this order.

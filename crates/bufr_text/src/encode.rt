@@ -3,7 +3,7 @@ ghost use Rattle.std.specs.Prelude.{ℕ, ◌≡◌, ◌≢◌, ◌≤◌, ◌*�
 ghost use Rattle.bufr_tables.specs.Prelude.{Tree, places, Record, AreRows, tree_of, tables_of};
 ghost use Rattle.bufr_frame.specs.Prelude.{Sections};
 ghost use Rattle.bufr_walk.specs.Prelude.{Values, next_item, ticked};
-ghost use Rattle.bufr_text.specs.Prelude.{document_of, IsAccepted, dump_items, EncodesAgain, EncodesForm, encoding_in, encoding_of, octets_of_bits, message_of, compressed_as, parts_as, IsDocumentRefusal, AreOctetsOf, WritesData, stop_fault, CountsSteps, places_by, bits_by, turns_by, compressed_by, head_from_values, AsWritten, WritesForm};
+ghost use Rattle.bufr_text.specs.Prelude.{header_in, document_of, IsAccepted, dump_items, EncodesAgain, EncodesForm, encoding_in, encoding_of, octets_of_bits, message_of, compressed_as, parts_as, IsDocumentRefusal, AreOctetsOf, WritesData, stop_fault, CountsSteps, places_by, bits_by, turns_by, compressed_by, AsWritten, WritesForm};
 ghost use Rattle.bufr_fill.specs.Prelude.{subsets_of};
 
 use crate::document::Document;
@@ -128,10 +128,10 @@ fn write_whole(
     payload: &[u8],
 ) -> Result<Vec<u8>, DocumentFault>
     ensures octets { IfOk result (λ octets. message_of document.now.line
-        (head_from_values document.now)
+        (header_in document.now).head
         (parts_as (compressed_as form document.now) document.now payload.now) ≡ Ok octets.items) }
     ensures fault { IfErr result (λ why. IsDocumentRefusal why
-        (message_of document.now.line (head_from_values document.now)
+        (message_of document.now.line (header_in document.now).head
         (parts_as (compressed_as form document.now) document.now payload.now))) }
     ensures payload { (bits : List Bool) → AreOctetsOf payload.now bits
         → payload.now ≡ octets_of_bits bits }

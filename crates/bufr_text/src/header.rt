@@ -1,8 +1,10 @@
 //! The twenty keys of the header of a dump text, and the descriptors of a line.
-ghost use Rattle.std.specs.Prelude.{◌≡◌, ◌<◌, ◌++◌, [], ◌∷◌, length, map, position, true, IfSome, ◌+◌, ◌*◌, ◌≤◌, option_map};
-ghost use Rattle.bufr_text.specs.Prelude.{in_range, is_named, lead_of, key_at, keys, leasts, mosts, index_from, Describes, fxy_read};
+ghost use Rattle.std.specs.Prelude.{get_or, ◌≡◌, ◌<◌, ◌++◌, [], ◌∷◌, length, map, position, true, IfSome, ◌+◌, ◌*◌, ◌≤◌, option_map};
+ghost use Rattle.bufr_text.specs.Prelude.{in_range, is_named, lead_of, keys, leasts, mosts, Describes, fxy_read};
+ghost use Rattle.std.specs.Str.{bytes_eq};
+ghost use Rattle.std.specs.List.{position_from};
 
-use crate::line::{is, prefix, suffix};
+use crate::slices::{is, prefix, suffix};
 use bufr_tables::Fxy;
 
 /// What is before a key's value, its least value, and its greatest in editions 3 and 4.
@@ -63,7 +65,7 @@ fn position(keys: &[Key], name: &[u8]) -> Option<usize>
 /// The name of the key at an index, and the space after it.
 pub(crate) fn word_at(index: usize) -> Option<&'static [u8]>
     ensures few { IfSome result (λ _. index < 20) }
-    ensures word { IfSome result (λ word. word.now ≡ key_at index ++ 32 ∷ []) }
+    ensures word { IfSome result (λ word. word.now ≡ get_or keys index [] ++ 32 ∷ []) }
 {
     match keys().get(index)?.0 {
         [_, word @ ..] => Some(word),
@@ -73,7 +75,7 @@ pub(crate) fn word_at(index: usize) -> Option<&'static [u8]>
 
 /// The index of a key of this name.
 pub(crate) fn key_index(name: &[u8]) -> Option<usize>
-    ensures value { result ≡ index_from 0 name.now keys }
+    ensures value { result ≡ position_from (bytes_eq name.now) 0 keys }
     ensures few { IfSome result (λ index. index < 20) }
 {
     position(keys(), name)

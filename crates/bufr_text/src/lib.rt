@@ -14,6 +14,7 @@ mod line;
 mod line_writer;
 mod ls;
 mod numbers;
+mod slices;
 
 pub use document::Document;
 pub use dump::{DumpMemory, write_dump, write_dump_by};

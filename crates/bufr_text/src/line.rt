@@ -1,12 +1,11 @@
 //! What a line says: its first word, numbers, items, texts in quotes and octets.
 ghost use Rattle.std.specs.Prelude.{◌≡◌, ℕ, ◌<◌, ◌≤◌, ◌==◌, IfSome, List, length, take, drop, option_map, if◌then◌else◌, min, ◌+◌, ◌-◌, slice_index, Some, ◌*◌};
-ghost use Rattle.std.specs.Str.{bytes_eq};
 ghost use Rattle.bufr_text.specs.Prelude.{max_line, read_line, prefix_while, suffix_while, without_space, hex_read, number_read, without_prefix, is_number_octet, is_hashed, is_passed_after, is_unescaped, upper_value, quoting_of, either_value, Line, made, with_one_to, worded, line_of, value_read, item_line, number_value, ItemLine, Unquotes, Unhexes, meaning, Wrong};
 ghost use Rattle.bufr_bits.specs.Prelude.{short_text};
 ghost use Rattle.bufr_fill.specs.Prelude.{number_token, reference_token, missing_form, form_in};
 
-use crate::document::ParsedLine;
 use crate::header::{MOST_WORDS, describe, fxy_prefix, key_index, word_at};
+use crate::slices::{is, prefix, suffix};
 use bufr_bits::ShortDecimal;
 use bufr_fill::DraftValue;
 use bufr_tables::Fxy;
@@ -14,6 +13,21 @@ use memchr::memchr;
 
 /// The most octets of a line, without its line feed.
 pub(crate) const MAX_LINE: usize = 4096;
+
+/// What a line says. Octets of hexadecimal digits and of texts are those that they mean.
+#[derive(Clone, Copy)]
+pub(crate) enum ParsedLine<'a> {
+    Passed,
+    Opens,
+    Header { key: usize, value: u32 },
+    Local1(&'a [u8]),
+    Section2(&'a [u8]),
+    Descriptors(&'a [u16]),
+    Begins(u32),
+    Item { fxy: u16, form: DraftValue<'a> },
+    Closes,
+    Wrong,
+}
 
 /// The octets, 1 to 32 of them, that the digits after one space write, put into `scratch`.
 // rule: reading-long-lists
@@ -137,13 +151,6 @@ pub(crate) fn number(text: &[u8]) -> Option<u32>
         number = (10 * number + u32::from(*octet - b'0')).min(65536);
     }
     Some(number)
-}
-
-/// Whether a text is this word.
-pub(crate) fn is(text: &[u8], word: &[u8]) -> bool
-    ensures { result ≡ bytes_eq text.now word.now }
-{
-    text == word
 }
 
 /// Whether an octet may be in a number token.
@@ -407,22 +414,6 @@ pub(crate) fn octet_at(text: &[u8], index: usize) -> u8
     ensures { result ≡ slice_index text.now index }
 {
     if index < text.len() { text[index] } else { 0 }
-}
-
-/// The octets before an index.
-pub(crate) fn prefix<'a>(text: &'a [u8], index: usize) -> &'a [u8]
-    requires { index ≤ length text.now }
-    ensures { result.now ≡ take index text.now }
-{
-    &text[..index]
-}
-
-/// What is after an index.
-pub(crate) fn suffix<'a>(text: &'a [u8], index: usize) -> &'a [u8]
-    requires { index ≤ length text.now }
-    ensures { result.now ≡ drop index text.now }
-{
-    &text[index..]
 }
 
 /// What is after a word.

@@ -4,8 +4,9 @@ ghost use Rattle.bufr_bits.specs.Prelude.{counted, decimal_text_of};
 ghost use Rattle.bufr_tables.specs.Prelude.{row_of_entry, row_comment, row_line_start};
 ghost use Rattle.bufr_text.specs.Prelude.{Pushes, Writes, CountsWrites, zero_padded, Puts, escaped, hex_digit, hex_text, is_unescaped, quoted};
 
-use crate::line::{is_unescaped, suffix};
+use crate::line::is_unescaped;
 use crate::numbers::{fill_missing_line, fill_named, fill_number_line, put};
+use crate::slices::suffix;
 use bufr_bits::{Failed, Sink};
 use bufr_frame::RunFault;
 use bufr_tables::Entry;

@@ -1,6 +1,7 @@
 //! The line that lists a message.
 ghost use Rattle.std.specs.Prelude.{◌≡◌};
-ghost use Rattle.bufr_text.specs.Prelude.{Pushes, Writes, CountsWrites, joined, ls_line, source_texts, time_texts};
+ghost use Rattle.bufr_text.specs.Prelude.{Pushes, Writes, CountsWrites, ls_line, source_texts, time_texts};
+ghost use Rattle.std.specs.List.{concat};
 
 use crate::line_writer::LineWriter;
 use crate::numbers::pair;
@@ -14,7 +15,7 @@ const LINE: usize = 256;
 #[inline(always)]
 fn push_source<W: Sink>(line: &mut LineWriter<'_, '_, W>, offset: u64, message: &Message<'_>)
     ensures { Pushes line.old
-        (joined (source_texts offset message.now.size message.now.head)) line.new }
+        (concat (source_texts offset message.now.size message.now.head)) line.new }
 {
     let head = message.head();
     line.push_named(b"offset=", offset);
@@ -35,7 +36,7 @@ fn push_source<W: Sink>(line: &mut LineWriter<'_, '_, W>, offset: u64, message: 
 #[inline(always)]
 // rule: listing-time
 fn push_time<W: Sink>(line: &mut LineWriter<'_, '_, W>, message: &Message<'_>)
-    ensures { Pushes line.old (joined (time_texts message.now.head)) line.new }
+    ensures { Pushes line.old (concat (time_texts message.now.head)) line.new }
 {
     let head = message.head();
     if head.year > 9_999

@@ -1,14 +1,15 @@
 use Rattle.std.proofs.Common.{◌∙◌, ◌++◌, ap, codes, refl, sym, is_some}
-use Rattle.bufr_text.specs.Prelude.{Pushes, bit, header_of, keys}
-use Rattle.bufr_text.proofs.PushLemmas.{header_text, flag-is, is_some-map, head-is, header-lines, section2-or, ◌⨾◌, nothing_pushed, retold}
+use Rattle.bufr_text.specs.Prelude.{Pushes, header_of, keys}
+use Rattle.bufr_text.proofs.PushLemmas.{header_text, is_some-map, head-is, header-lines, section2-or, ◌⨾◌, nothing_pushed, retold}
+use Rattle.std.specs.Int.{from_bool}
 use Rattle.bufr_text.proofs.dump.push_head_lines.Goals as goal
 
 pub returns : goal.returns
 unfolding keys header_text
 returns g c =
-    let observed = c.from-17.ensures ∙ flag-is c.observed.result ∙ ap bit c.observed.ensures in
-    let compressed = c.from-18.ensures ∙ flag-is c.compressed.result ∙ ap bit c.compressed.ensures in
-    let optional = c.from-19.ensures ∙ flag-is c.is_some.result ∙ ap bit (c.is_some.ensures ∙ sym (is_some-map (λ s. s.now) c.section2.result) ∙ ap is_some c.section2.ensures) in
+    let observed = c.from-17.ensures ∙ ap from_bool c.observed.ensures in
+    let compressed = c.from-18.ensures ∙ ap from_bool c.compressed.ensures in
+    let optional = c.from-19.ensures ∙ ap from_bool (c.is_some.ensures ∙ sym (is_some-map (λ s. s.now) c.section2.result) ∙ ap is_some c.section2.ensures) in
     let keys : Pushes c.push.new.self (header_text 0 (header_of c.args.message.now)) c.push_named-20.new.self =
     rw (
       ← c.head-head.ensures,

@@ -1,6 +1,6 @@
 use Rattle.std.proofs.Common.{◌≡◌, ◌∙◌, sym, arith, ap}
 use Rattle.bufr_frame.specs.Prelude.{parts_of}
-use Rattle.bufr_text.specs.Prelude.{compressed_as, message_of, parts_as, compressed_by, head_from_values}
+use Rattle.bufr_text.specs.Prelude.{header_in, compressed_as, message_of, parts_as, compressed_by}
 use Rattle.bufr_text.proofs.EncodeLemmas.{message-made, octets_are_bits}
 use Rattle.bufr_text.proofs.encode.write_whole.Goals as goal
 
@@ -20,7 +20,7 @@ returns-in-Ok-clause-octets c =
     let parts : parts_of _ _ _ _ _ _ payload ≡ parts_as (compressed_as c.args.form d) d payload =
     λ j. parts_of (c.local1.ensures j) (c.section2.ensures j) (c.descriptors.ensures j) (c.subsets.ensures j) (c.observed.ensures j)
     ((c.is_compressed.ensures ∙ ap (compressed_by c.args.form) c.compressed.ensures) j) payload in
-    let head : c.head.result ≡ head_from_values d = c.head.ensures.value in
-    let whole : message_of d.line c.head.result _ ≡ message_of d.line (head_from_values d) (parts_as (compressed_as c.args.form d) d payload) = λ j. message_of d.line (head j) (parts j) in
+    let head : c.head.result ≡ (header_in d).head = c.head.ensures.value in
+    let whole : message_of d.line c.head.result _ ≡ message_of d.line (header_in d).head (parts_as (compressed_as c.args.form d) d payload) = λ j. message_of d.line (head j) (parts j) in
     sym whole
     ∙ message-made d.line c.head.result _ c.in-Ok.octets.items (λ long. absurd (let e = c.in-Ok.ensures.too_long.1 long in cc)) c.in-Ok.ensures.layout
