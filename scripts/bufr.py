@@ -189,7 +189,7 @@ def _table_of_subsets(part: Part, columns: Sequence[str]) -> _Table:
 
 
 def _tables(reader: Reader, columns: Sequence[str], keep: Sequence[str] = (), has_levels: bool = False) -> Iterator[_Table]:
-    """Yields a table for each part, and then warns about gaps, unless only a piece of a file was read."""
+    """Yields a table for each part, and then warns about gaps."""
     gaps = bufr_text.Gaps(columns, keep, reader.table_b)
     for part in reader:
         table = _table_of_levels(part, columns, keep, gaps) if has_levels else _table_of_subsets(part, columns)
@@ -199,8 +199,7 @@ def _tables(reader: Reader, columns: Sequence[str], keep: Sequence[str] = (), ha
             gaps.with_item.update([at] * (len(kinds) > 0))
             gaps.with_value.update([at] * bool((kinds != MISSING).any()))
         yield table
-    if reader.is_whole:
-        gaps.warn()
+    gaps.warn(reader.is_whole)
 
 
 def _table_of_levels(part: Part, columns: Sequence[str], keep: Sequence[str], gaps: bufr_text.Gaps) -> _Table:
@@ -222,8 +221,10 @@ def _table_of_levels(part: Part, columns: Sequence[str], keep: Sequence[str], ga
         try:
             passes = bufr_text.passes(own, counts[begin:end], _FACTORS)
         except bufr_text.Ambiguous as twice:
-            gaps.skip(bufr_text.AMBIGUOUS, int(numbers[at]), int(subset[at]), bufr_calls.fxy(twice.args[0]))
+            fxy = bufr_calls.fxy(twice.args[0])
+            gaps.skip(bufr_text.AMBIGUOUS, int(numbers[at]), int(subset[at]), part.name, fxy)
             continue
+        gaps.look(own, passes, asked)
         kept = [begin + own.index(word) if word in own else -1 for word in asked_kept]
         for first, last in passes:
             level = own[first:last]
@@ -232,7 +233,7 @@ def _table_of_levels(part: Part, columns: Sequence[str], keep: Sequence[str], ga
                 rows.append(at)
                 found.append(kept + values)
         if len(rows) == before:
-            gaps.skip(bufr_text.BARE, int(numbers[at]), int(subset[at]))
+            gaps.skip(bufr_text.BARE, int(numbers[at]), int(subset[at]), part.name)
     indices = numpy.array(found, "i8").reshape(len(found), len(keep) + len(columns))
     indices = numpy.where(indices < 0, -1, numpy.append(places, -1)[indices])
     chosen = numpy.array(rows, "i8")
@@ -490,8 +491,7 @@ def items(
     gaps.has_rows = bool((all_rows["subsets"][all_rows["fault"] == 0] > 0).any())
     gaps.with_item.update(at for at, word in enumerate(gaps.columns) if word in words)
     gaps.with_value.update(gaps.with_item)
-    if reader.is_whole:
-        gaps.warn("no message contains {}")
+    gaps.warn(reader.is_whole, "no message contains {}")
     return Items(all_items, all_rows, bytes(texts), _elements(words, reader.table_b))
 
 

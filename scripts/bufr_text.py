@@ -493,8 +493,9 @@ def levels(
     found = _by_library("levels", messages, faults, where, columns, header, keep)
     if found is not None:
         return found
+    file = os.fsdecode(messages) if isinstance(messages, (str, os.PathLike)) else ""
     messages = _messages(messages, faults, where)
-    return _levels(_subsets(messages, [*header, "message", "subset"]), columns, keep)
+    return _levels(_subsets(messages, [*header, "message", "subset"]), columns, keep, file)
 
 
 def _by_library(
@@ -655,33 +656,34 @@ def _rows(
 
 
 def _levels(
-    subsets: Iterable[Tuple[List[Cell], List[Item]]], columns: Sequence[str], keep: Sequence[str]
+    subsets: Iterable[Tuple[List[Cell], List[Item]]], columns: Sequence[str], keep: Sequence[str], file: str
 ) -> Iterator[Tuple[Cell, ...]]:
     gaps = Gaps(columns, keep)
     for (*header, message, count), subset in subsets:
+        items = [item for item in subset if not item.reference]
         try:
-            found_passes = _passes(subset)
+            found_passes = _passes(items)
         except Ambiguous as twice:
-            gaps.skip(AMBIGUOUS, message, count, twice)
+            gaps.skip(AMBIGUOUS, message, count, file, twice)
             continue
-        kept = [find(subset, fxy) for fxy in keep]
+        gaps.look([item.fxy for item in items], found_passes, columns)
+        kept = [find(items, fxy) for fxy in keep]
         has_levels = False
-        for one in found_passes:
-            found = [find(one, fxy) for fxy in columns]
+        for begin, end in found_passes:
+            found = [find(items[begin:end], fxy) for fxy in columns]
             if found[0] and (len(found) == 1 or any(found[1:])):
                 has_levels = True
                 gaps.add([*kept, *found])
                 yield (*header, *map(_cell, [*kept, *found]))
         if not has_levels:
-            gaps.skip(BARE, message, count)
+            gaps.skip(BARE, message, count, file)
     gaps.warn()
 
 
-def _passes(subset: List[Item]) -> List[List[Item]]:
-    """Returns the items in each pass of each delayed replication. Raises `Ambiguous` if the passes are ambiguous."""
-    items = [item for item in subset if not item.reference]
+def _passes(items: List[Item]) -> List[Tuple[int, int]]:
+    """Returns where each pass of each delayed replication begins and ends. Raises `Ambiguous` if the passes are ambiguous."""
     counts = [int(item.value) if item.fxy in FACTORS and isinstance(item.value, Decimal) else 0 for item in items]
-    return [items[begin:end] for begin, end in passes([item.fxy for item in items], counts, FACTORS)]
+    return passes([item.fxy for item in items], counts, FACTORS)
 
 
 # Why subsets have no levels.
@@ -697,6 +699,9 @@ class Gaps:
     def __init__(self, columns: Sequence[str], keep: Sequence[str] = (), table_b: Optional[_Path] = None) -> None:
         self.columns, self.kept, self.table_b = [*keep, *columns], len(keep), table_b
         self.has_rows = False
+        # The indices of the columns that occur in a level, and of those that occur in a subset, but not in its levels.
+        self.inside: Set[int] = set()
+        self.outside: Set[int] = set()
         # The indices of the columns with an item, and of those with a value.
         self.with_item: Set[int] = set()
         self.with_value: Set[int] = set()
@@ -712,26 +717,43 @@ class Gaps:
                 if item.value is not None:
                     self.with_value.add(at)
 
-    def skip(self, kind: str, message: Cell, subset: Cell, fxy: object = None) -> None:
-        why = "" if fxy is None else f" ({fxy} begins a level and occurs in it again)"
+    def look(self, words: Sequence[_Word], found: Sequence[Tuple[int, int]], columns: Sequence[_Word]) -> None:
+        """Records which columns occur in a subset, and whether in its levels: the passes that `passes` found in `words`."""
+        for at, word in enumerate(columns, self.kept):
+            if at not in self.inside and word in words:
+                is_inside = any(word in words[begin:end] for begin, end in found)
+                (self.inside if is_inside else self.outside).add(at)
+
+    def skip(self, kind: str, message: Cell, subset: Cell, file: str, fxy: object = None) -> None:
+        why = f" of {file}" if file else ""
+        why += "" if fxy is None else f" ({fxy} begins a level and occurs in it again)"
         count, first = self.skipped.get(kind, (0, f"message {message} subset {subset}{why}"))
         self.skipped[kind] = count + 1, first
 
-    def warn(self, text: str = "column {} is empty, because no row has an item for it") -> None:
-        """Issues a warning for each gap. `text` says that there is no item for a column."""
-        # Without rows, nothing is known about columns that apply to the whole subset.
+    def warn(self, is_whole: bool = True, text: str = "column {} is empty, because no row has an item for it") -> None:
+        """Issues a warning for each gap. If only a piece of a file was read, nothing is known about its columns.
+
+        `text` says that there is no item for a column.
+        """
+        if is_whole and (self.has_rows or self.skipped):
+            self.warn_of_columns(text)
+        for kind in filter(self.skipped.get, (BARE, AMBIGUOUS)):
+            count, first = self.skipped[kind]
+            warn(f"skipped a subset {kind}: {first}" if count == 1 else f"skipped {count} subsets {kind}; the first is {first}")
+
+    def warn_of_columns(self, text: str) -> None:
+        # Without rows, nothing is known about columns that apply to the whole subset, or that other levels contain.
         asked = list(enumerate(self.columns))[0 if self.has_rows else self.kept :]
-        is_empty = self.has_rows or bool(self.skipped)
-        name, defined = names(self.table_b) if is_empty and len(self.with_item) < len(asked) else ("", {})
-        for at, word in asked if is_empty else []:
-            if at not in self.with_item:
+        asked = [(at, word) for at, word in asked if self.has_rows or at not in self.inside]
+        name, defined = names(self.table_b) if not {at for at, _ in asked} <= self.with_item else ("", {})
+        for at, word in asked:
+            if at in self.outside - self.inside:
+                warn(f"column {word} is empty, because {word} occurs only outside the levels; pass keep=['{word}'] instead")
+            elif at not in self.with_item:
                 is_unknown = defined and word[0] == "0" and word[:6] not in defined
                 warn(text.format(word) + f"; {name} does not define {word[:6]}" * bool(is_unknown))
             elif at not in self.with_value:
                 warn(f"column {word} is empty, because all its values are missing")
-        for kind in filter(self.skipped.get, (BARE, AMBIGUOUS)):
-            count, first = self.skipped[kind]
-            warn(f"skipped a subset {kind}: {first}" if count == 1 else f"skipped {count} subsets {kind}; the first is {first}")
 
 
 class Ambiguous(ValueError):

@@ -99,6 +99,8 @@ def differences(path: pathlib.Path, tables: tuple, rng: random.Random) -> list:
         wanted, skipped = told_by(lambda: list(getattr(bufr_text, name)(messages, *words)))
         same(f"{name} {words}", shown(found), shown(wanted))
         same(f"{name}: faults", faults, wanted_faults)
+        # messages have no file
+        notes = [note.replace(f" of {path}", "") for note in notes]
         same(f"{name}: notes", sorted(map(short, notes)), sorted(map(short, wanted_notes + skipped)))
     with warnings.catch_warnings():
         warnings.simplefilter("ignore")
@@ -215,10 +217,13 @@ class Same(WithFolder):
             bits.put(number, width)
         octets = lib.message(bits.octets(), lib.words("103000 031001 008002 020011 008002"))
         self.alike("ambiguous levels", octets, TABLES)
-        said = "^skipped 2 subsets with ambiguous levels; the first is message 1 subset 1 "
-        with self.assertWarnsRegex(bufr.DumpWarning, said) as one:
-            self.assertEqual(list(bufr.levels([octets, octets], ["008002"])), [])
-        self.assertEqual(one.filename, __file__)
+        said = "^skipped 2 subsets with ambiguous levels; the first is message 1 subset 1 of {} .008002 begins a level"
+        self.stream.write_bytes(octets)
+        # of pieces too, because soundings are lost
+        for source, name in (([octets, octets], "bytes"), (bufr.pieces([self.stream] * 2), self.stream)):
+            with self.assertWarnsRegex(bufr.DumpWarning, said.format(name)) as one:
+                self.assertEqual(list(bufr.levels(source, ["008002"])), [])
+            self.assertEqual(one.filename, __file__)
 
     def test_parts_of_any_size(self):
         self.without_warnings()
@@ -672,13 +677,18 @@ class Faults(WithFolder):
     def test_subsets_without_levels_are_warned_of(self):
         sounding = TOP / "examples/sounding.bufr"
         empty = "column {} is empty, because no row has an item for it"
-        one = "skipped a subset without a level: message 1 subset 1"
-        three = "skipped 3 subsets without a level; the first is message {} subset 1"
+        outside = "column {0} is empty, because {0} occurs only outside the levels; pass keep=['{0}'] instead"
+        one = f"skipped a subset without a level: message 1 subset 1 of {sounding}"
+        three = "skipped 3 subsets without a level; the first is message {} subset 1 of {}"
         for call in (bufr.levels, bufr_text.levels, lambda *words: bufr.frame(*words[:2], keep=words[3], levels=True)):
             for source, columns, keep, wanted in [
                 # without a row, nothing is known of what applies to the whole subset
-                (SYNOP, ["012104"], ["012103"], [empty.format("012104"), three.format(1)]),
+                (SYNOP, ["012104"], ["012103"], [empty.format("012104"), three.format(1, SYNOP)]),
                 (sounding, ["012104"], ["001002"], [empty.format("012104"), one]),
+                # other columns are not called empty, because they have values in other levels
+                (sounding, ["001002", "007004", "012101"], [], [outside.format("001002"), one]),
+                (sounding, ["007004", "001002"], [], [outside.format("001002"), one]),
+                (sounding, ["007004", "012101", "001002"], [], [outside.format("001002")]),
                 (sounding, ["007004"], ["012104"], [empty.format("012104")]),
                 (sounding, ["007004", "012101", "012104"], ["001002"], [empty.format("012104")]),
             ]:
@@ -687,7 +697,7 @@ class Faults(WithFolder):
             with unittest.mock.patch.multiple(bufr_parts, _PART_OF_ALL=size):
                 octets = sounding.read_bytes() + b"BUFR\0\0\1" + sounding.read_bytes() + SYNOP.read_bytes()
                 told = told_by(lambda: [*bufr.levels(octets, ["007004"], faults="ignore")])[1]
-                self.assertEqual(told, [three.format(3)])
+                self.assertEqual(told, [three.format(3, "bytes")])
 
     def test_notes_on_tables(self):
         later = lib.asking(SYNOP.read_bytes(), 45)

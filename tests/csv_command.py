@@ -119,8 +119,9 @@ def wanted_levels(files: list, columns: list, keep: list) -> list:
     rows = []
     for file, message, m, s, subset in subsets_of(files):
         begin = [Number(m), Number(s), *columns_of(keep, message, subset, file)]
-        for one in bufr_text._passes(subset):
-            found = [bufr_text.find(one, fxy) for fxy in columns]
+        items = [item for item in subset if not item.reference]
+        for first, last in bufr_text._passes(items):
+            found = [bufr_text.find(items[first:last], fxy) for fxy in columns]
             if found[0] and (len(found) == 1 or any(found[1:])):
                 rows.append([*begin, *map(value_of, found)])
     return rows
