@@ -33,15 +33,16 @@ there is no library, importing this module raises `ImportError`.
 """
 from __future__ import annotations
 
+import pathlib
 import re
 from decimal import Decimal
-from typing import Any, Dict, Iterable, Iterator, List, NamedTuple, Optional, Sequence, Tuple
+from typing import Any, Callable, Dict, Iterable, Iterator, List, NamedTuple, Optional, Sequence, Tuple
 
 import numpy
 
 import bufr_calls
 import bufr_text
-from bufr_calls import MISSING, NUMBER, REFERENCE, TEXT, WIDE, Array, Path
+from bufr_calls import MISSING, NUMBER, REFERENCE, TEXT, WIDE, Array, Path, Tables
 from bufr_parts import Faults, Part, Piece, Reader, Source, TwoTables, pieces
 from bufr_text import BufrError, Cell, DumpWarning, Fault, Value
 
@@ -94,7 +95,14 @@ def _decimal(integer: int, scale: int) -> Decimal:
     return Decimal(integer * 10**-scale) if scale <= 0 else Decimal(f"{integer}E-{scale}")
 
 
-def _cells(part: Part, items: Array, is_exact: bool = False) -> List[Any]:
+def _decoded(octets: bytes) -> str:
+    """Returns a string without trailing spaces. It has a character for each byte, as in `bufr-csv --json`."""
+    return octets.rstrip(b" ").decode("latin-1")
+
+
+def _cells(
+    part: Part, items: Array, is_exact: bool = False, text: Callable[[bytes], str] = bufr_text.text_cell
+) -> List[Any]:
     """Returns the cell of each item: a number, a string, or `None`."""
     kind, scale = items["kind"], items["scale"]
     cells: List[Any] = [None] * len(items)
@@ -107,7 +115,7 @@ def _cells(part: Part, items: Array, is_exact: bool = False) -> List[Any]:
         cells[index] = _decimal(integer, places) if is_exact else integer * 10**-places
     some = numpy.flatnonzero(kind == TEXT)
     for index, begin, length in zip(some.tolist(), items["value"][some].tolist(), items["length"][some].tolist()):
-        cells[index] = bufr_text.text_cell(part.texts[begin : begin + length])
+        cells[index] = text(part.texts[begin : begin + length])
     return cells
 
 
@@ -126,6 +134,43 @@ def _times(messages: Array) -> Array:
     is_time &= day.astype("M8[M]").astype("i8") == month  # the month has such a day
     is_time &= (messages["hour"] < 24) & (messages["minute"] < 60) & (messages["second"] < 60)
     return numpy.where(is_time, day.astype("M8[s]") + seconds, numpy.datetime64("NaT"))
+
+
+def _optional(part: Part) -> Array:
+    """Returns 1 for each message that has a section 2, and 0 for the others."""
+    flags = (octets[17 if octets[7] == 4 else 15] if len(octets) > 17 else 0 for octets in part.octets)
+    return numpy.array([flag >> 7 for flag in flags], "i8") * (part.messages["edition"] > 0)
+
+
+# The names and units of elements.
+
+
+class _Elements:
+    """The names and units of the elements of items, from the Table B with which each item was read."""
+
+    def __init__(self) -> None:
+        # For each descriptor, the name and unit in each table that defines it.
+        self.found: Dict[str, Dict[str, Tuple[str, str]]] = {}
+
+    def add(self, fxy: str, used: Iterable[Optional[Tables]]) -> List[str]:
+        """Adds the tables with which items of a descriptor were read. Returns the units in these tables."""
+        defined = {tables.files[0]: tables.elements[fxy] for tables in used if tables and fxy in tables.elements}
+        self.found.setdefault(fxy, {}).update(defined)
+        return [unit for _, unit in defined.values()]
+
+    def element(self, word: str, table_b: Optional[Path]) -> Dict[str, str]:
+        """Returns the name and the unit of an element. If it does not occur, they come from `table_b` or the latest set."""
+        found = [*self.found.get(word[:6], {}).values()] or [bufr_text.names(table_b)[1].get(word[:6], ("", ""))]
+        return {"name": found[0][0], "unit": " or ".join(dict.fromkeys(unit for _, unit in found))}
+
+    def warn(self) -> None:
+        """Warns about each element whose unit depends on the table."""
+        for fxy, found in self.found.items():
+            files = {"CODE TABLE" if "CODE TABLE" in unit.upper() else unit: file for file, (_, unit) in found.items()}
+            units = sorted((pathlib.Path(file).parent.name, unit) for unit, file in files.items())
+            if len(units) > 1:
+                told = " and ".join(f"{unit} in {name}" for name, unit in units)
+                bufr_text.warn(f"the unit of {fxy} depends on the table set: it is {told}")
 
 
 # The tables of rows and levels.
@@ -155,8 +200,7 @@ class _Table(NamedTuple):
         if key == "time":
             return _times(messages)[self.message]
         if key == "optional":
-            flags = (octets[17 if octets[7] == 4 else 15] if len(octets) > 17 else 0 for octets in self.part.octets)
-            return numpy.array([flag >> 7 for flag in flags], "u1")[self.message]
+            return _optional(self.part)[self.message]
         # A smaller type would overflow without a warning, for example in 60 * hour.
         return messages[key].astype("i8")[self.message]
 
@@ -252,18 +296,28 @@ def _tuples(tables: Iterable[_Table], header: Sequence[str]) -> Iterator[Tuple[C
         yield from zip(*found) if found else [()] * len(table.message)
 
 
-def _column(part: Part, indices: Array, unit: str, is_exact: bool) -> Any:
-    """Returns the values of a column of a data frame: floats, `Int64`, or objects."""
+def _kind_of(units: Iterable[str], is_exact: bool) -> str:
+    """Returns the type of a data frame column whose elements have these units."""
+    if is_exact or "CCITT IA5" in units:
+        return "object"
+    return "Int64" if all(map(_is_table, units)) and units else "float64"
+
+
+def _column(part: Part, indices: Array, elements: _Elements, fxy: str, is_exact: bool) -> Any:
+    """Returns the values of a column of a data frame: floats, `Int64`, or objects. If it has no item, returns its length."""
     import pandas  # type: ignore[import]
 
     is_there = indices >= 0
     items = part.items[indices[is_there]]
-    kind = items["kind"]
-    if is_exact or unit == "CCITT IA5" or (kind == TEXT).any():
+    if not len(items):
+        return len(indices)
+    units = elements.add(fxy, dict.fromkeys(part.tables[message] for message in numpy.unique(items["message"]).tolist()))
+    kind, type_of_column = items["kind"], _kind_of(units, is_exact)
+    if type_of_column == "object" or (kind == TEXT).any():
         cells = numpy.full(len(indices), None, object)
-        cells[is_there] = _cells(part, items, is_exact)
+        cells[is_there] = _cells(part, items, is_exact, _decoded)
         return cells
-    if _is_table(unit) and not items["scale"].any() and not (kind == WIDE).any():
+    if type_of_column == "Int64" and not items["scale"].any() and not (kind == WIDE).any():
         values, is_missing = numpy.zeros(len(indices), "i8"), numpy.ones(len(indices), bool)
         values[is_there], is_missing[is_there] = items["value"], kind == MISSING
         return pandas.arrays.IntegerArray(values, is_missing)
@@ -272,10 +326,15 @@ def _column(part: Part, indices: Array, unit: str, is_exact: bool) -> Any:
     return floats
 
 
-def _elements(columns: Iterable[str], table_b: Optional[Path]) -> Dict[str, Dict[str, str]]:
-    """Returns the name and the unit of each column, from the latest table set or from the given Table B."""
-    known = bufr_text.names(table_b)[1]
-    return {word: dict(zip(("name", "unit"), known.get(word[:6], ("", "")))) for word in columns}
+def _joined(parts: List[Any], unit: str, is_exact: bool) -> Any:
+    """Returns a column of a data frame from its parts. A part without items is the number of its rows."""
+    import pandas
+
+    kinds = {str(part.dtype) for part in parts if not isinstance(part, int)} or {_kind_of([unit], is_exact)}
+    # Values whose kind depends on the table set become floats, or strings and numbers as objects.
+    kind = kinds.pop() if len(kinds) == 1 else "object" if "object" in kinds else "float64"
+    parts = [numpy.full(part, None, object) if isinstance(part, int) else part for part in parts]
+    return pandas.concat([pandas.Series(part).astype(kind) for part in parts], ignore_index=True)
 
 
 def frame(
@@ -322,17 +381,22 @@ def frame(
     if keep and not levels:
         raise TypeError("keep= needs levels=True")
     reader = Reader(source, None if levels else columns, where, tables, faults)
-    asked = [*keep, *columns]
-    elements = _elements(asked, reader.table_b)
-    frames = []
+    asked, elements, count = [*keep, *columns], _Elements(), 0
+    heads: List[List[Array]] = [[] for _ in header]
+    parts: List[List[Any]] = [[] for _ in asked]
     for table in _tables(reader, columns, keep, levels):
-        values = [table.header(key) for key in header]
-        for word, indices in zip(asked, table.columns):
-            values.append(_column(table.part, indices, elements[word]["unit"], exact))
-        frames.append(pandas.DataFrame(dict(enumerate(values)), index=range(len(table.message))))
-    result = pandas.concat(frames, ignore_index=True)
+        count += len(table.message)
+        for key, values in zip(header, heads):
+            values.append(table.header(key))
+        for word, indices, values in zip(asked, table.columns, parts):
+            values.append(_column(table.part, indices, elements, word[:6], exact))
+    elements.warn()
+    attrs = {word: elements.element(word, reader.table_b) for word in asked}
+    whole = [*map(numpy.concatenate, heads)]
+    whole += [_joined(values, attrs[word]["unit"], exact) for word, values in zip(asked, parts)]
+    result = pandas.DataFrame(dict(enumerate(whole)), index=range(count))
     result.columns = [*header, *asked]
-    result.attrs.update(elements)
+    result.attrs.update(attrs)
     return result
 
 
@@ -405,6 +469,7 @@ class Items(NamedTuple):
     messages: Array
     texts: bytes
     elements: Dict[str, Dict[str, str]]
+    names: List[Dict[str, Tuple[str, str]]]
 
     def exact(self, index: int) -> Value:
         """Returns the value of an item: a `Decimal`, a string as bytes, or `None` if it is missing.
@@ -431,18 +496,23 @@ class Items(NamedTuple):
         """
         import pandas
 
-        words, codes = numpy.unique(self.items["fxy"], return_inverse=True)
-        fxy = numpy.array([f"{word:06}" for word in words.tolist()], object)
+        # A pair is a Table B and a descriptor.
+        tables = numpy.unique([id(names) for names in self.names], return_inverse=True)[1]
+        pairs = tables[self.items["message_row"]] * 1000000 + self.items["fxy"]
+        _, firsts, codes = numpy.unique(pairs, return_index=True, return_inverse=True)
+        words = [f"{word:06}" for word in self.items["fxy"][firsts].tolist()]
+        names = [self.names[row] for row in self.items["message_row"][firsts].tolist()]
+        elements = [known.get(word, ("", "")) for known, word in zip(names, words)]
         rows = self.messages[self.items["message_row"]]
         columns = {key: rows[key] for key in ("file", "offset", "time")}
-        columns.update(subset=self.items["subset"].astype("i8"), fxy=fxy[codes])
-        for key in ("name", "unit"):
-            columns[key] = numpy.array([self.elements[word][key] for word in fxy], object)[codes]
+        columns.update(subset=self.items["subset"].astype("i8"), fxy=numpy.array(words, object)[codes])
+        for at, key in enumerate(("name", "unit")):
+            columns[key] = numpy.array([element[at] for element in elements], object)[codes]
             columns[key][self.items["kind"] == REFERENCE] = "REFERENCE" if key == "name" else ""
         texts = numpy.full(len(self.items), None, object)
         some = numpy.flatnonzero(self.items["kind"] == TEXT)
         for index, (begin, length) in zip(some.tolist(), self.items[some][["integer", "length"]].tolist()):
-            texts[index] = bufr_text.text_cell(self.texts[begin : begin + length])
+            texts[index] = _decoded(self.texts[begin : begin + length])
         return pandas.DataFrame({**columns, "value": self.items["value"], "text": texts})
 
 
@@ -473,6 +543,7 @@ def items(
     reader = Reader(source, columns, where, tables, faults)
     gaps = bufr_text.Gaps(columns or (), table_b=reader.table_b)
     found, rows, texts, count = [], [], bytearray(), 0
+    elements, known = _Elements(), []
     for part in reader:
         some = numpy.empty(len(part.items), _ITEM)
         for name in ("subset", "kind", "scale", "length"):
@@ -486,18 +557,25 @@ def items(
         rows.append(_message_rows(part))
         texts += part.texts
         count += len(part.messages)
+        known += [tables.elements if tables else {} for tables in part.tables]
+        used = [*dict.fromkeys(part.tables)]
+        numbers = numpy.array([used.index(tables) for tables in part.tables], "i8")
+        for pair in numpy.unique(numbers[part.items["message"]] * 1000000 + some["fxy"]).tolist():
+            elements.add(f"{pair % 1000000:06}", [used[pair // 1000000]])
     all_items, all_rows = numpy.concatenate(found), numpy.concatenate(rows)
     words = [f"{word:06}" for word in numpy.unique(all_items["fxy"]).tolist()]
     gaps.has_rows = bool((all_rows["subsets"][all_rows["fault"] == 0] > 0).any())
     gaps.with_item.update(at for at, word in enumerate(gaps.columns) if word in words)
     gaps.with_value.update(gaps.with_item)
     gaps.warn(reader.is_whole, "no message contains {}")
-    return Items(all_items, all_rows, bytes(texts), _elements(words, reader.table_b))
+    elements.warn()
+    attrs = {word: elements.element(word, reader.table_b) for word in words}
+    return Items(all_items, all_rows, bytes(texts), attrs, known)
 
 
 _KEYS = [name for name in bufr_calls.MESSAGE.names or () if name not in ("first", "items", "reserved")]
 # Smaller types would overflow without a warning, for example in 60 * hour.
-_MESSAGE = numpy.dtype([("file", "O"), *((name, "i8") for name in _KEYS), ("time", "M8[s]")])
+_MESSAGE = numpy.dtype([("file", "O"), *((name, "i8") for name in [*_KEYS, "optional"]), ("time", "M8[s]")])
 
 
 def messages(
@@ -526,5 +604,5 @@ def _message_rows(part: Part) -> Array:
     rows = numpy.empty(len(part.messages), _MESSAGE)
     for name in _KEYS:
         rows[name] = part.messages[name]
-    rows["file"], rows["time"] = part.name, _times(part.messages)
+    rows["file"], rows["optional"], rows["time"] = part.name, _optional(part), _times(part.messages)
     return rows

@@ -8,14 +8,15 @@ The arrays have the same members as the structures in bufr.h, but their names ar
 from __future__ import annotations
 
 import ctypes
+import functools
 import os
 import pathlib
 import shlex
-from typing import Any, Iterator, List, Optional, Sequence, Tuple, Union
+from typing import Any, Dict, Iterator, List, Optional, Sequence, Tuple, Union
 
 import numpy
 
-from bufr_text import BufrError
+from bufr_text import BufrError, names
 
 Array = Any  # a NumPy array
 Path = Union[str, "os.PathLike[str]"]
@@ -110,6 +111,11 @@ class Tables:
     def __init__(self, table_b: Path, table_d: Path) -> None:
         self.files = os.fspath(table_b), os.fspath(table_d)
         self.contents = pathlib.Path(table_b).read_bytes(), pathlib.Path(table_d).read_bytes()
+
+    @functools.cached_property
+    def elements(self) -> Dict[str, Tuple[str, str]]:
+        """The name and the unit of each element in Table B."""
+        return names(self.files[0])[1]
 
     def items(self, octets: bytes, wanted: Array) -> Tuple[Array, Array, bytes]:
         """Returns the rows of the items in a stream, the rows of its messages, and the bytes of its strings.

@@ -13,7 +13,7 @@ import itertools
 import os
 import sys
 from dataclasses import dataclass
-from typing import IO, Any, Callable, Dict, Iterable, Iterator, List, NamedTuple, Optional, Sequence, Tuple, Union, cast
+from typing import IO, Any, Callable, Collection, Dict, Iterable, Iterator, List, NamedTuple, Optional, Sequence, Tuple, Union, cast
 
 import numpy
 
@@ -55,6 +55,7 @@ class Part(NamedTuple):
     accepted: int
     messages: Array
     octets: List[bytes]
+    tables: List[Optional[Tables]]
     items: Array
     texts: bytes
 
@@ -99,14 +100,14 @@ def _opened(source: Source) -> Iterator[_Stream]:
             yield _Stream(source.file, file, source.begin, source.end - source.begin, is_whole=False)
     elif isinstance(source, (bytes, bytearray, memoryview)):
         yield _Stream("bytes", io.BytesIO(source))
-    elif source == "-":
+    elif isinstance(source, str) and source == "-":
         yield _Stream("-", sys.stdin.buffer)
     elif isinstance(source, (str, os.PathLike)):
         with open(source, "rb") as file:
             yield _Stream(os.fspath(source), file)
     elif isinstance(source, io.TextIOBase):
         raise TypeError("the source is a text file; open it with mode 'rb'")
-    elif hasattr(source, "read"):
+    elif callable(getattr(source, "read", None)):
         yield _Stream(str(getattr(source, "name", "stream")), cast(IO[bytes], source))
     elif not hasattr(source, "__iter__"):
         raise TypeError(f"expected a file name, bytes, an open binary file, a Piece or a list of these, found {source}")
@@ -121,9 +122,9 @@ def _size(source: Source) -> int:
         return source.end - source.begin
     if isinstance(source, (str, os.PathLike)):
         return os.path.getsize(source) if os.path.isfile(source) else 0
-    if isinstance(source, (list, tuple)):
-        return sum(map(_size, source))
-    return len(source) if isinstance(source, (bytes, bytearray, memoryview)) else 0
+    if isinstance(source, (bytes, bytearray, memoryview)):
+        return len(source)
+    return sum(map(_size, source)) if isinstance(source, Collection) else 0
 
 
 def _divided(stream: _Stream, size: int, are_pieces: bool = False) -> Iterator[Tuple[int, List[_Found]]]:
@@ -208,14 +209,14 @@ class Reader:
 
     def __iter__(self) -> Iterator[Part]:
         progress, done = bufr_guard.Progress(_size(self.source), False), 0
-        if isinstance(self.source, (list, tuple)) and not self.source:
-            yield self.part([])
+        is_empty = True
         try:
             for stream in _opened(self.source):
                 self.begin_file(stream.name)
                 self.is_whole = self.is_whole and stream.is_whole
                 for end, found in _divided(stream, self.size):
                     yield self.part(found)
+                    is_empty = False
                     progress.at(done + end - stream.begin)
                 done += end - stream.begin
                 if self.is_bare and stream.is_whole and self.faults != "ignore":
@@ -223,6 +224,8 @@ class Reader:
                         raise BufrError(stream.no_message(), file=stream.name)
                     warn(stream.no_message())
                 self.end_file()
+            if is_empty:
+                yield self.part([])  # an empty list of sources
         finally:
             progress.clear()
 
@@ -248,12 +251,14 @@ class Reader:
         groups: Dict[Tables, List[int]] = {}
         notes: Dict[int, List[bufr_auto.Reason]] = {}
         messages = numpy.zeros(len(found), bufr_calls.MESSAGE)
+        used: List[Optional[Tables]] = [None] * len(found)
         for index, (_, octets, fault) in enumerate(found):
             if fault:
                 messages["length"][index], messages["fault"][index] = 4, int(fault.split()[0])
                 continue
             tables, reasons = self.chosen(octets)
             groups.setdefault(tables, []).append(index)
+            used[index] = tables
             if reasons:
                 notes[index] = reasons
         items, texts = [numpy.empty(0, bufr_calls.ITEM)], bytearray()
@@ -276,7 +281,7 @@ class Reader:
                 for reason in reasons:
                     reason.count += 1
                     reason.first = reason.first or f"at offset {found[index].offset}"
-        part = Part(self.name, self.accepted, messages, [one.octets for one in found], all_items, bytes(texts))
+        part = Part(self.name, self.accepted, messages, [one.octets for one in found], used, all_items, bytes(texts))
         self.accepted += int(numpy.count_nonzero(messages["fault"] == 0))
         return part
 

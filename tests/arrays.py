@@ -114,8 +114,10 @@ def differences(path: pathlib.Path, tables: tuple, rng: random.Random) -> list:
             of_pieces += [(row, piece.begin) for row in rows_of_piece]
         whole = list(bufr.rows(path, columns, ["offset", "subset"], **asked))
     for at in range(len(columns)):
-        same(f"column {at} of the frame", [*map(number_of, frame.iloc[:, at])], [number_of(row[at]) for row in rows])
-    same("exact frame", [*map(cell_of, exact.to_numpy().ravel())], [cell for row in rows for cell in map(cell_of, row)])
+        found = [*map(number_of, map(escaped, frame.iloc[:, at]))]
+        same(f"column {at} of the frame", found, [number_of(row[at]) for row in rows])
+    cells = [cell_of(escaped(cell)) for cell in exact.to_numpy().ravel()]
+    same("exact frame", cells, [cell for row in rows for cell in map(cell_of, row)])
     same("items", *item_lines(items, messages))
     same("messages", *message_lines(items.messages, listed, wanted_faults))
     same(f"pieces {pieces}", [row for row, _ in of_pieces], whole)
@@ -132,6 +134,11 @@ def short(note: str) -> str:
 def number_of(cell):
     """A cell as a float where it is a number, and None where it is missing."""
     return cell if isinstance(cell, str) else None if cell is None or pandas.isna(cell) else float(cell)
+
+
+def escaped(cell):
+    """A string of a frame with the escapes of a dump."""
+    return bufr_text.text_cell(cell.encode("latin-1")) if isinstance(cell, str) else cell
 
 
 def cell_of(cell):
@@ -162,7 +169,7 @@ def item_values(found: bufr.Items) -> list:
 
 def message_lines(rows, listed: list, faults: list) -> tuple:
     """The rows of messages with a header, as `bufr ls` lists them, and the faults."""
-    names = [name for name in bufr_text.Listed._fields if name not in ("optional", "descriptors")]
+    names = [name for name in bufr_text.Listed._fields if name != "descriptors"]
     given = [tuple(row[name].item() for name in names) for row in rows if row["edition"]]
     wanted = [tuple(getattr(one, name) for name in names) for one in listed]
     given += [(row["offset"].item(), row["fault"].item()) for row in rows if row["fault"]]
@@ -297,10 +304,16 @@ class Sources(WithFolder):
                 in_memory = octets, bytearray(octets), memoryview(octets), io.BytesIO(octets)
                 for source in (str(SYNOP), *in_memory, file, raw, run.stdout):
                     self.assertEqual(list(bufr.rows(source, ["001015", "012101"], ["offset", "time"])), wanted, source)
-        for source in ([SYNOP, octets], (SYNOP, bufr.Piece(str(SYNOP), 0, 595)), (one for one in [SYNOP, SYNOP])):
+        paths = [str(SYNOP)] * 2
+        of_packages = pandas.Series(paths, [5, "read"]), pandas.Index(paths), numpy.array(paths), pandas.Series([SYNOP] * 2)
+        others = [SYNOP, octets], (SYNOP, bufr.Piece(str(SYNOP), 0, 595)), (one for one in [SYNOP, SYNOP])
+        for source in (*others, *of_packages):
             self.assertEqual(list(bufr.rows(source, ["001015", "012101"], ["offset", "time"])), wanted * 2)
         rows = list(bufr.rows([SYNOP, io.BytesIO(octets), octets], [], ["file", "message", "subset"]))
         self.assertEqual(rows[::3], [(str(SYNOP), 1, 1), ("stream", 2, 1), ("bytes", 3, 1)])
+        for source in (pandas.Series([], dtype=object), numpy.array([]), iter([])):
+            self.assertEqual(bufr.frame(source, ["012101"], ["time"]).shape, (0, 2))
+        self.assertEqual(len(bufr.pieces(pandas.Series(paths))), 2)
 
     def test_standard_input(self):
         code = "import sys; sys.path.insert(0, sys.argv[1]); import bufr; print(len(bufr.frame('-', ['012101'])))"
@@ -545,6 +558,72 @@ class Values(WithFolder):
         names = bufr.items(octets, tables=OF_VECTORS).frame()[["fxy", "name", "unit", "value"]].to_numpy().tolist()
         self.assertEqual(names[0], ["012101", "REFERENCE", "", -400])
         self.assertEqual(names[1][1:3], [*bufr.frame(octets, ["012101"], tables=OF_VECTORS).attrs["012101"].values()])
+
+    def test_names_and_units_of_each_version(self):
+        """Names, units and kinds come from the table with which a value was read."""
+        words = ["012101", "022191", "022179", "033066"]
+
+        def octets(version: int, *values) -> bytes:
+            bits = lib.Bits()
+            for value, width in values:
+                bits.put(value, width)
+            return lib.asking(lib.message(bits.octets(), lib.words(" ".join(words))), version)
+
+        old = octets(14, (28000, 16), (125, 20), (int.from_bytes(b"A".ljust(32), "big"), 256), (3, 4))
+        new = octets(39, (28000, 16), (12500, 16), (1500, 16), (3, 24))
+        told = ["m2 rad-1 s in wmo-14 and m in wmo-39", "CCITT IA5 in wmo-14 and m in wmo-39"]
+        told = [*told, "CODE TABLE in wmo-14 and FLAG TABLE in wmo-39"]
+        told = [f"the unit of {word} depends on the table set: it is {units}" for word, units in zip(words[1:], told)]
+        for size in (1, 1 << 20):
+            with unittest.mock.patch.multiple(bufr_parts, _PART=size, _PART_OF_ALL=size):
+                alone = bufr.frame(old, words)
+                both, notes = told_by(lambda: bufr.frame([old, new, old], words))
+                items, notes_of_items = told_by(lambda: bufr.items([old, new]))
+            self.assertEqual([str(kind) for kind in alone.dtypes], ["float64", "float64", "object", "Int64"])
+            units = ["K", "m2 rad-1 s", "CCITT IA5", "CODE TABLE"]
+            self.assertEqual([alone.attrs[word]["unit"] for word in words], units)
+            self.assertEqual(alone.attrs["012101"]["name"], "TEMPERATURE/DRY-BULB TEMPERATURE")
+            self.assertEqual([str(kind) for kind in both.dtypes], ["float64", "float64", "object", "Int64"])
+            self.assertEqual(both.iloc[:2].to_numpy().tolist(), [[280, 1.25, "A", 3], [280, 1.25, 1.0, 3]])
+            units = ["K", "m2 rad-1 s or m", "CCITT IA5 or m", "CODE TABLE or FLAG TABLE"]
+            self.assertEqual([both.attrs[word]["unit"] for word in words], units)
+            self.assertEqual((sorted(notes), sorted(notes_of_items)), (sorted(told), sorted(told)))
+            self.assertEqual([items.elements[word]["unit"] for word in words], units)
+            found = pickle.loads(pickle.dumps(items)).frame()
+            self.assertEqual(found["unit"].tolist(), "K,m2 rad-1 s,CCITT IA5,CODE TABLE,K,m,m,FLAG TABLE".split(","))
+            self.assertEqual(found["name"].tolist()[::4], ["TEMPERATURE/DRY-BULB TEMPERATURE", "TEMPERATURE/AIR TEMPERATURE"])
+        # a float column may be without items in a part, and so may a column of codes
+        with unittest.mock.patch.multiple(bufr_parts, _PART=1):
+            frame = bufr.frame([lib.message(b"\x14"), old, lib.message(b"\x14")], ["012101", "033066", "001001"])
+        self.assertEqual([str(kind) for kind in frame.dtypes], ["float64", "Int64", "float64"])
+
+    def test_names_and_units_of_local_elements(self):
+        wmo, own = self.folder / "wmo-39", self.folder / "wmo-39+98-7"
+        shutil.copytree(pathlib.Path(TABLES[0]).parent, wmo)
+        shutil.copytree(wmo, own)
+        with open(own / "B.csv", "a") as table:
+            table.write("063192,OWN CODE,CODE TABLE,0,0,8\n")
+        octets = lib.asking(lib.message(b"\x07", lib.words("063192")), 39, 7)
+        with unittest.mock.patch.dict(os.environ, BUFR_TABLES=str(self.folder)):
+            frame, told = told_by(lambda: bufr.frame(octets, ["063192"]))
+            items = bufr.items(octets).frame()
+        self.assertEqual((frame["063192"].dtype, frame["063192"].tolist(), told), ("Int64", [7], []))
+        self.assertEqual(frame.attrs["063192"], {"name": "OWN CODE", "unit": "CODE TABLE"})
+        self.assertEqual(items[["name", "unit"]].to_numpy().tolist(), [["OWN CODE", "CODE TABLE"]])
+
+    def test_strings_are_decoded(self):
+        octets = lib.message(b'B\xd6"\\\0\n  ', lib.words("205008"))
+        self.assertEqual(list(bufr.rows(octets, ["205008"])), [('B\\xD6\\"\\\\\\x00\\x0A',)])
+        for is_exact in (False, True):
+            self.assertEqual(bufr.frame(octets, ["205008"], exact=is_exact)["205008"].tolist(), ['B\xd6"\\\0\n'])
+        self.assertEqual(bufr.items(octets).frame()["text"].tolist(), ['B\xd6"\\\0\n'])
+
+    def test_the_optional_section(self):
+        octets = (VECTORS / "messages/local_use_sections.bufr").read_bytes() + SYNOP.read_bytes() + b"BUFR"
+        rows = bufr.messages(octets, faults="ignore")
+        frame = bufr.frame(octets, [], ["optional"], faults="ignore")
+        self.assertEqual((rows["optional"].tolist(), frame["optional"].tolist()), ([1, 0, 0], [1, 0, 0, 0]))
+        self.assertEqual(((frame["optional"] - 2).min(), (rows["optional"] - 2).min()), (-2, -2))
 
     def test_rows_of_messages_without_a_header(self):
         octets = SYNOP.read_bytes()
