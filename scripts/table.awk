@@ -231,7 +231,7 @@ function begin_row(   line, column) {
 # Skips a subset in which the descriptor that begins a pass also occurs inside a pass.
 function skip_subset(fxy) {
     if (!unclear++) {
-        first_unclear = message " subset " subset " (" fxy " begins a level and occurs in it again)"
+        first_unclear = message " subset " subset " (" fxy " begins a level and occurs again in it)"
         if (feed == 1)
             tell_skipped(0, "with ambiguous levels", first_unclear)
     }

@@ -361,7 +361,7 @@ def notes(folder: pathlib.Path) -> None:
     twice = lib.message(bits.octets(), lib.words("103000 031001 008002 020011 008002"))
     done = run("--levels", "-c", "020011", input=twice)
     (folder / "twice").write_bytes(twice)
-    told = b"bufr-csv: skipped a subset with ambiguous levels: message 1 subset 1 (008002 begins a level and occurs in it again)%s\n"
+    told = b"bufr-csv: skipped a subset with ambiguous levels: message 1 subset 1 (008002 begins a level and occurs again in it)%s\n"
     of_file = run("--levels", "-c", "020011", folder / "twice")
     for what, done, rest in (("a file", of_file, b""), ("a pipe", done, b"; others will not be reported")):
         holds(f"ambiguous levels of {what}", (done.returncode, done.stderr) == (1, told % rest), done)
