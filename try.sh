@@ -1,5 +1,5 @@
 #!/bin/sh
-# Dumps a BUFR file with a trial build of the program, which takes one or two minutes. It does not prove or install anything.
+# Dumps a BUFR file with a trial build of the program. This takes one or two minutes, and does not prove or install anything.
 #
 #     ./try.sh FILE
 set -eu

@@ -1,4 +1,4 @@
-"""Reads BUFR messages into NumPy arrays and pandas data frames, through the library for C.
+"""Reads BUFR messages into NumPy arrays and pandas data frames, using the library for C.
 
     >>> import bufr
     >>> frame = bufr.frame("synop.bufr", ["001015", "012101"], header=["time"])
@@ -9,23 +9,23 @@
     2 2023-03-14 18:00:00    SAENTIS  270.55
 
 `frame` returns a data frame with a row for each subset (usually a station) or for each level of a sounding, and `rows` and
-`levels` yield the same rows as tuples. `items` returns all values, and `messages` a row for each message. `pieces` divides
-files into pieces that several processes can read at the same time.
+`levels` yield the same rows as tuples. `items` returns all values, and `messages` returns a row for each message. `pieces`
+divides files into pieces that several processes can read at the same time.
 
 Each function takes a source: the name of a file, `"-"` for standard input, bytes, an open binary file, a `Piece`, or a list
 of these. A source is read in parts of a few MB, so it can be larger than the available memory. Each message is read with the
-table set that bufr-auto would choose, unless you pass the names of two tables as `tables=(B, D)`. To select messages, pass a
-list of conditions `KEY=VALUE` or `KEY!=VALUE` as `where`, as for bufr-extract.
+table set that bufr-auto would choose, unless you pass the names of two tables as `tables=(B, D)`. To select messages, set
+`where` to a list of conditions of the form `KEY=VALUE` or `KEY!=VALUE`, as in bufr-extract.
 
-A fault is a refused message or a stray (the word `BUFR` where no complete message begins). `faults` determines what happens:
+A fault is a refused message or a stray (the word `BUFR` outside any complete message). `faults` determines what happens:
 
-- `"warn"` (default): at the end of each file, a `DumpWarning` counts the faults.
+- `"warn"` (default): at the end of each file, a `DumpWarning` says how many faults there were.
 - `"raise"`: the first fault, or a file without messages, raises `BufrError`.
 - `"ignore"`: faults and files without messages are not reported, but `messages` still returns a row for each fault.
 - a list: a `Fault` with the members `offset`, `number`, `text` and `file` is appended to the list for each fault.
 
-A `DumpWarning` also reports files without messages, messages whose tables are missing, columns for which there are no items
-or no values, and subsets without levels.
+A `DumpWarning` also reports files without messages, messages whose tables are missing, columns without items or values, and
+subsets without levels.
 
 This module needs NumPy, and `frame` needs pandas. The library is the file libbufr.so.0 next to this module, or in the
 directory `lib` of the installation or clone. To use another file, set the environment variable BUFR_LIBRARY to its path. If
@@ -79,7 +79,7 @@ def _floats(part: Part, items: Array) -> Array:
 
 
 def _integers(part: Part, items: Array) -> List[int]:
-    """Returns the integer of each item. An item's value is its integer divided by a power of ten."""
+    """Returns the integer in each item. The item's value is this integer divided by `10**scale`."""
     found: List[int] = items["value"].tolist()
     for index in numpy.flatnonzero(items["kind"] == WIDE).tolist():
         found[index] = _wide(part.texts, found[index])
@@ -103,7 +103,7 @@ def _decoded(octets: bytes) -> str:
 def _cells(
     part: Part, items: Array, is_exact: bool = False, text: Callable[[bytes], str] = bufr_text.text_cell
 ) -> List[Any]:
-    """Returns the cell of each item: a number, a string, or `None`."""
+    """Returns the cell for each item: a number, a string, or `None`."""
     kind, scale = items["kind"], items["scale"]
     cells: List[Any] = [None] * len(items)
     is_float = (kind != MISSING) & (kind != TEXT) & (scale > 0) & (not is_exact)
@@ -120,7 +120,7 @@ def _cells(
 
 
 def _times(messages: Array) -> Array:
-    """Returns the time of each message, or NaT if the time does not exist or pandas cannot represent it.
+    """Returns the time of each message, or NaT if the time is invalid or pandas cannot represent it.
 
     Edition 3 has only the year of the century. As in POSIX, 69 to 99 stand for 1969 to 1999, and 0 to 68 for 2000 to 2068.
     """
@@ -179,8 +179,8 @@ class _Elements:
 class _Table(NamedTuple):
     """The rows of a table that come from one part.
 
-    `message` and `subset` contain the index of the message and the number of the subset for each row. Each column contains
-    the index of an item for each row, or -1 if the row has no such item.
+    For each row, `message` contains the index of the message, and `subset` contains the number of the subset. Each column
+    contains the index of an item, or -1 if the row has no item for that column.
     """
 
     part: Part
@@ -206,7 +206,7 @@ class _Table(NamedTuple):
 
 
 def _subsets(part: Part) -> Tuple[Array, Array, Array]:
-    """Returns the message and the number of each subset in a part, and the index of the subset of each item."""
+    """Returns the message index and the number of each subset in a part, and the subset index of each item."""
     count = numpy.where(part.messages["fault"] == 0, part.messages["subsets"], 0).astype("i8")
     first = numpy.cumsum(count) - count
     message = numpy.repeat(numpy.arange(len(count)), count)
@@ -304,7 +304,7 @@ def _kind_of(units: Iterable[str], is_exact: bool) -> str:
 
 
 def _column(part: Part, indices: Array, elements: _Elements, fxy: str, is_exact: bool) -> Any:
-    """Returns the values of a column of a data frame: floats, `Int64`, or objects. If it has no item, returns its length."""
+    """Returns the values for a data frame column: floats, `Int64`, or objects. Without items, returns the number of rows."""
     import pandas  # type: ignore[import]
 
     is_there = indices >= 0
@@ -351,9 +351,9 @@ def frame(
 ) -> Any:
     """Returns a pandas data frame with the rows that `rows` yields or, with `levels=True`, the rows that `levels` yields.
 
-    Numbers are the nearest floats, and missing numbers are NaN. Values from code tables and flag tables are `Int64`, strings
-    are `str` or `None`, and the header key `"time"` is `datetime64`. `frame.attrs` contains the name and unit of each
-    element, from the latest table set.
+    Numbers are rounded to the nearest float, and missing numbers are NaN. Values from code tables and flag tables are `Int64`,
+    strings are `str` or `None`, and the values of the header key `"time"` are `datetime64`. `frame.attrs` contains the name
+    and unit of each element, from the latest table set.
 
         >>> frame = bufr.frame("synop.bufr", ["001015", "001001", "012101"], header=["time"])
         >>> frame.attrs["012101"]
@@ -365,9 +365,9 @@ def frame(
         >>> bufr.frame("sounding.bufr", ["007004", "012101"], levels=True, keep=["001002"]).iloc[0].tolist()
         [836.0, 98520.0, 258.55]
 
-    With `exact=True`, all numbers, including codes, are `Decimal` or `None`, in columns of type `object`. pandas computes
-    with them slowly, and some of its methods, such as `std`, `round` and `plot`, fail. `<` and `>` work with floats, but `==`
-    is true only for the exact value, and adding a float is an error. To get floats, use `astype(float)`.
+    With `exact=True`, all numbers, including codes, are `Decimal` or `None`, in columns of type `object`. Calculations with
+    these columns are slow, and some pandas methods, such as `std`, `round` and `plot`, fail. `<` and `>` work with floats, but
+    `==` is true only for the exact value, and adding a float is an error. To get floats, use `astype(float)`.
 
         >>> air = bufr.frame("synop.bufr", ["012101"], exact=True)["012101"]
         >>> (air - Decimal("273.15")).tolist()
@@ -409,13 +409,14 @@ def rows(
     tables: TwoTables = None,
     faults: Faults = "warn",
 ) -> Iterator[Tuple[Cell, ...]]:
-    """Yields a tuple for each subset: header values, then column values. The tuples are those of `bufr_text.rows`.
+    """Yields a tuple for each subset: header values, then column values. `bufr_text.rows` yields the same tuples.
 
-    A column is a descriptor such as `"012101"`, or `"012101:2"` for the second such item in the subset. `header` can contain
-    the header keys of a dump, such as `"year"`; `"file"`, `"offset"`, `"length"` and `"time"` of the message; and
-    `"message"` and `"subset"`, which count the accepted messages of the source and the subsets of a message from 1. A number
-    is an `int` if its scale allows no decimal places, and otherwise the nearest `float`. A value is `None` if it is missing,
-    or if the subset has no such item.
+    A column is a descriptor such as `"012101"`, or `"012101:2"` for the second item with that descriptor in the subset.
+    `header` can contain the header keys of a dump, such as `"year"`, and also `"file"`, `"offset"`, `"length"`, `"time"`,
+    `"message"` and `"subset"`. `"message"` is the number of the message among the accepted messages in the source, and
+    `"subset"` is the number of the subset in the message. Both are counted from 1. A number is an `int` if its scale does not
+    allow decimal places, and otherwise the nearest `float`. A value is `None` if it is missing or if the subset does not
+    contain the item.
 
         >>> next(bufr.rows("synop.bufr", ["001015", "012101"], ["year", "subset"]))
         (2023, 1, 'SODANKYLA', 259.35)
@@ -436,8 +437,8 @@ def levels(
 ) -> Iterator[Tuple[Cell, ...]]:
     """Yields a tuple for each level of a sounding: header values, then the values for `keep`, then column values.
 
-    The tuples are those of `bufr_text.levels`, which explains what a level is. In all other respects, `levels` works like
-    `rows`.
+    `bufr_text.levels` yields the same tuples, and its documentation explains what a level is. In all other respects, `levels`
+    works like `rows`.
 
         >>> next(bufr.levels("sounding.bufr", ["007004", "012101"], keep=["001002"]))
         (836, 98520, 258.55)
@@ -447,15 +448,16 @@ def levels(
 
 
 class Items(NamedTuple):
-    """The items of a source, and its messages.
+    """The items and messages in a source.
 
-    `items` is a structured array with a row for each item: `message_row` (the index of its message in `messages`), `subset`
-    (from 1), `fxy` (the descriptor as a number: 12101 for 012101), `kind` (`bufr.NUMBER`, `bufr.TEXT` and so on), and
-    `value` (a float, or NaN if the item is missing or a string). If the kind is `NUMBER`, the value is exactly
-    `integer / 10**scale`. `exact` returns the value of any item, and `frame` all items with names and strings.
+    `items` is a structured array with a row for each item. Its main columns are `message_row` (the index of the message in
+    `messages`), `subset` (from 1), `fxy` (the descriptor as a number: 12101 for 012101), `kind` (`bufr.NUMBER`, `bufr.TEXT`
+    and so on), and `value` (a float, or NaN if the item is missing or a string). If the kind is `NUMBER`, the columns
+    `integer` and `scale` give the exact value, `integer / 10**scale`. The method `exact` returns the exact value of any item,
+    and `frame` returns a data frame of all items, with names and strings.
 
     `messages` is the result of `bufr.messages`. It also has rows for refused messages, which have no items. `elements`
-    contains the name and the unit of each descriptor that occurs, like `frame.attrs`.
+    contains the name and the unit of each descriptor that occurs, as in `frame.attrs`.
 
         >>> found = bufr.items("synop.bufr")
         >>> air = found.items[found.items["fxy"] == 12101]
@@ -485,9 +487,9 @@ class Items(NamedTuple):
         return _decimal(_wide(self.texts, value) if kind == WIDE else value, scale)
 
     def frame(self) -> Any:
-        """Returns a pandas data frame with a row for each item, which has the descriptor as a string, and also text.
+        """Returns a pandas data frame with a row for each item, including its descriptor and any text as strings.
 
-        A new reference value that is defined in the data has the name REFERENCE.
+        New reference values, which are defined in the data, have the name REFERENCE.
 
         >>> bufr.items("synop.bufr", ["001015", "012101"]).frame().query("subset == 2")[["fxy", "value", "text", "unit"]]
               fxy   value      text       unit
@@ -530,7 +532,7 @@ def items(
     tables: TwoTables = None,
     faults: Faults = "warn",
 ) -> Items:
-    """Returns all items of a source, or those with the descriptors in `columns`, and its messages.
+    """Returns the messages in a source and all their items, or only the items with the descriptors in `columns`.
 
         >>> found = bufr.items("synop.bufr", ["012101"])
         >>> found.items["value"].max()
@@ -581,11 +583,11 @@ _MESSAGE = numpy.dtype([("file", "O"), *((name, "i8") for name in [*_KEYS, "opti
 def messages(
     source: Source, *, where: Iterable[str] = (), tables: TwoTables = None, faults: Faults = "warn"
 ) -> Array:
-    """Returns a structured array with a row for each message, and for each word `BUFR` where no message begins.
+    """Returns a structured array with a row for each message and each stray.
 
-    Its columns are `file`, `offset`, `length`, the header keys of a dump, `subsets`, `fault` and `time`. `fault` is 0 if the
-    message is accepted, and otherwise the number of its fault. `time` is the time of the message. If the header cannot be
-    read, all header fields are 0, including `edition`, and `time` is NaT.
+    Its columns are `file`, `offset`, `length`, the header keys of a dump, `subsets`, `fault` and `time`. `fault` is 0 for an
+    accepted message, and otherwise the number of the fault. If the header cannot be read, all header fields are 0, including
+    `edition`, and `time` is NaT.
 
         >>> bufr.messages("synop.bufr")[["offset", "length", "centre", "subsets", "fault"]].tolist()
         [(0, 595, 78, 3, 0)]

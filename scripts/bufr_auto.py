@@ -1,4 +1,4 @@
-"""Implements bufr-auto: finds the messages in a stream, or the documents in a dump, and chooses a table set for each one.
+"""Implements bufr-auto: finds the messages in a stream, or the documents in a dump, and chooses a table set for each.
 
     status = bufr_auto.dump(["a.bufr", None], output=pipe)  # None is standard input
 
@@ -143,7 +143,7 @@ class Finder:
 
 
 def is_stray(fault: bytes) -> bool:
-    """Returns whether `fault` describes a stray instead of a skipped message."""
+    """Returns whether `fault` describes a stray rather than a skipped message."""
     return fault[:1].isdigit()
 
 
@@ -154,7 +154,7 @@ def stray_line(offset: int, fault: bytes, prefix: bytes = b"") -> bytes:
 
 
 class Masker:
-    """Hides messages that declare more than `longest` bytes from the program that reads the stream, and reports them.
+    """Hides messages from the program that reads the stream if they declare more than `longest` bytes, and reports them.
 
     To keep the offsets of other messages unchanged, it replaces the first four bytes of each hidden message with zeros.
     """
@@ -163,7 +163,7 @@ class Masker:
         self.finder, self.count = Finder(longest), 0
 
     def take(self, octets: bytes) -> Iterator[bytes]:
-        """Adds the next block of the stream (an empty one at the end), and yields the bytes that can now be passed on."""
+        """Adds the next block of the stream (an empty block at the end), and yields the bytes that can now be passed on."""
         finder = self.finder
         finder.put(octets)
         first = finder.at
@@ -179,7 +179,7 @@ class Masker:
 
 
 class Source:
-    """The pieces of a file, in order. Each piece is valid until the next one is requested.
+    """The pieces of a file, in order. Each piece is valid until the next piece is requested.
 
     The iterator yields None before a read that may block. If `is_long` is true, the piece that was just yielded is only
     the beginning of a long piece. In that case, `rest` yields the whole piece, block by block, and sets `lines` to the
@@ -323,7 +323,10 @@ class Store:
 
 
 class Reason:
-    """The reason why a table set may not match a message exactly, the affected descriptors, and how to get the right set."""
+    """A reason why a table set may not match a message exactly.
+
+    It includes the affected descriptors, and advice on how to get the right set.
+    """
 
     def __init__(self, text: str, concerns: Callable[[str], bool], advice: Callable[[], str] = str) -> None:
         self.text, self.concerns, self.advice = text, concerns, advice
@@ -391,7 +394,7 @@ class Run:
             self.read, self.at = b"", 0
 
     def take_fault(self) -> None:
-        """Reads the next fault line, and sets `place` and `told` (the text). At the end, sets `place` to `NOWHERE`."""
+        """Reads the next fault line, and sets `place` and `told` (the fault text). At the end, sets `place` to `NOWHERE`."""
         for line in self.errors:
             word, _, self.told = line.partition(b": ")
             if word.startswith(self.PLACE) and word[len(self.PLACE) :].isdigit():
@@ -527,7 +530,7 @@ class Part:
 
 
 class Notes:
-    """The reasons why no table set matches exactly. Each has the number of affected pieces and the place of the first one."""
+    """The reasons why no table set matches exactly. Each records the number of affected pieces and the place of the first."""
 
     def __init__(self) -> None:
         self.reasons: Dict[str, Reason] = {}
@@ -536,7 +539,7 @@ class Notes:
     def known(self, reason: Reason) -> Reason:
         """Records a reason, unless one with the same text has already been recorded, and returns the recorded reason.
 
-        If there are already too many reasons, returns the one that stands for all others.
+        If there are already too many reasons, returns the reason that stands for all others.
         """
         if reason.text not in self.reasons and len(self.reasons) >= KINDS_OF_NOTES:
             return self.others
@@ -702,7 +705,7 @@ class Work:
         yield None
 
     def full_parts(self, feed: Feed, source: Source, pieces: Iterator[Optional[Piece]]) -> Iterator[Optional[Part]]:
-        """Yields the parts of a file, except the last one, which remains in `self.part`."""
+        """Yields the parts of a file, except the last, which remains in `self.part`."""
         count = 0
         for piece in pieces:
             count += piece is not None and not is_stray(piece[2])

@@ -1,9 +1,9 @@
-"""Calls the library for C through ctypes, with NumPy arrays for its rows.
+"""Calls the library for C through ctypes, and returns its rows as NumPy arrays.
 
     tables = bufr_calls.Tables("B.csv", "D.csv")
     items, messages, texts = tables.items(stream, bufr_calls.words(["012101"]))
 
-The arrays have the same members as the structures in bufr.h, but their names are those of the header keys in a dump.
+The arrays have the same members as the structures in bufr.h, but each header field is named after its key in a dump.
 """
 from __future__ import annotations
 
@@ -87,7 +87,7 @@ class Counts(ctypes.Structure):
 
 
 def loaded() -> ctypes.CDLL:
-    """Loads the library. Raises `ImportError` if there is none, or if it has a different version."""
+    """Loads the library. Raises `ImportError` if there is no library, or if its version does not match this module."""
     named = os.environ.get("BUFR_LIBRARY")
     here = pathlib.Path(__file__).resolve().parent
     # Next to this file (in a wheel), in a clone or an unpacked release, or in an installation.
@@ -106,7 +106,7 @@ LIBRARY = loaded()
 
 
 class Tables:
-    """The contents of the two tables of a table set."""
+    """The contents of the two tables in a table set."""
 
     def __init__(self, table_b: Path, table_d: Path) -> None:
         self.files = os.fspath(table_b), os.fspath(table_d)
@@ -118,7 +118,7 @@ class Tables:
         return names(self.files[0])[1]
 
     def items(self, octets: bytes, wanted: Array) -> Tuple[Array, Array, bytes]:
-        """Returns the rows of the items in a stream, the rows of its messages, and the bytes of its strings.
+        """Returns the rows for the items and the messages in a stream, and the bytes of the strings.
 
         `wanted` contains the descriptors of the items to return. If it is empty, all items are returned.
         """
@@ -168,7 +168,7 @@ class Tables:
 
 
 def word(fxy: str) -> int:
-    """Returns the descriptor at the beginning of a column such as `012101` or `012101:2`, as the library writes it."""
+    """Converts the descriptor in a column such as `012101` or `012101:2` to the number that the library uses for it."""
     return int(fxy[0]) << 14 | int(fxy[1:3]) << 8 | int(fxy[3:6])
 
 
@@ -185,7 +185,7 @@ def fxy(word: int) -> str:
 
 
 def is_place(items: Array) -> Array:
-    """Returns, for each item, whether its value is an index of the bytes of strings."""
+    """Returns, for each item, whether its value is an index into the bytes of the strings."""
     return (items["kind"] == TEXT) | (items["kind"] == WIDE)
 
 
@@ -196,7 +196,7 @@ def checked(status: int) -> int:
 
 
 def lines(octets: bytes) -> Iterator[Tuple[int, bytes]]:
-    """Yields the offset and the line of each message that `bufr ls` lists."""
+    """Yields the offset and the line for each message that `bufr ls` lists."""
     texts, status = Texts(), NO_ROOM
     room, faults = ctypes.create_string_buffer(ROOM), ctypes.create_string_buffer(ROOM)
     outputs = room, ctypes.c_size_t(ROOM), faults, ctypes.c_size_t(ROOM)

@@ -1,14 +1,15 @@
-"""Conditions of the form KEY=VALUE or KEY!=VALUE on lines from `bufr ls`, for bufr-extract, bufr-csv and bufr_text.
+"""Checks lines from `bufr ls` against conditions, for bufr-extract, bufr-csv and bufr_text.
 
     conditions = bufr_conditions.Conditions(["category=0", "time=2024-01-02"])
     for line in listing:        # a line as bytes
         if conditions.are_met(line):
-            ..
+            ...
     note = conditions.note()    # says how many edition 3 messages were left out; empty if none were
 
-KEY is the name of a field. VALUE must match the whole field, or the beginning of the field up to a separator (/, -, T or
-:). For example, category=0 matches 0/2/0, and time=2024-01-02 matches any time on that day. To accept several values,
-separate them with commas. A line must meet every condition. An invalid condition raises `ValueError`.
+A condition has the form KEY=VALUE or KEY!=VALUE. KEY is the name of a field. VALUE must match the whole field, or the
+beginning of the field up to a separator (/, -, T or :). For example, category=0 matches 0/2/0, and time=2024-01-02 matches
+any time on that day. To accept several values, separate them with commas. A line must meet every condition. An invalid
+condition raises `ValueError`.
 """
 from __future__ import annotations
 
@@ -23,9 +24,10 @@ TIME = re.compile(r"\d{4,}(-\d{2,}(-\d{2,}(T\d{2,}(:\d{2,}(:\d{2,})?)?)?)?)?").f
 
 
 class Conditions:
-    """Conditions that a line must meet. `patterns` has a pair for each: whether it is negated, and the pattern to search for.
+    """Conditions that a line must meet.
 
-    The patterns work both with grep -E and with `re`. Edition 3 messages contain only a two-digit year: `bufr ls`
+    For each condition, `patterns` contains a pair: whether the condition is negated, and the pattern to search for. The
+    patterns work both with grep -E and with `re`. Edition 3 messages contain only a two-digit year: `bufr ls`
     prints 2024 as 0024, so time=2024 does not match. `left_out` counts the messages that are left out for this reason.
     """
 
@@ -84,7 +86,7 @@ class Conditions:
             return ""
         messages = "1 message" if self.left_out == 1 else f"{self.left_out} messages"
         both = f"{self.asked},{','.join(self.of_century)}"
-        advice = f"to select messages in both editions, use {both}"
+        advice = f"to select messages in editions 3 and 4, use {both}"
         return f"left out {messages}{so_far} in edition 3, which has only two-digit years; {advice}"
 
     def new_note(self, so_far: str) -> List[str]:

@@ -8,7 +8,7 @@ function raises `Failed` if it cannot continue.
         errors = bufr_guard.temporary()
         process = bufr_guard.start([bufr_guard.program(), "ls"], source, errors=errors)
         status = bufr_guard.wait(process)
-        ..
+        ...
     sys.excepthook = bufr_guard.hook  # before the script imports anything else
     bufr_guard.run(work, __doc__)
 
@@ -284,7 +284,7 @@ def say(lines: bytes) -> None:
 
 
 def bare(file: Optional[str], begin: bytes, piece: str = "message") -> bytes:
-    """Returns a note that a file contains no messages or documents (`piece`), with a guess at the type of file."""
+    """Returns the note for a file without messages or documents (`piece`), including a guess at the type of the file."""
     head = begin.lstrip()
     if head[:1] == b"<":
         head = head.lower()
@@ -381,8 +381,8 @@ def lines_from(
 ) -> Iterator[bytes]:
     """Yields blocks of whole lines from a pipe and, at the end, the incomplete last line, if any.
 
-    While waiting, displays the progress, `place()`. Calls `report()` if no block arrives for a second, and otherwise once a
-    minute.
+    While waiting, displays `place()` as the progress. Calls `report()` if no block arrives for a second, and otherwise once
+    a minute.
     """
     rest, block, due = b"", b" ", time.monotonic() + INTERVAL
     while block:

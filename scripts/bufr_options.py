@@ -5,10 +5,10 @@
         as_json = asked.has("--json")
         columns = asked.last("-c")            # None without -c
         for file in asked.files():            # None for standard input
-            ..
+            ...
     bufr_guard.run(work, __doc__)
 
-`-c VALUE` means the same as `-cVALUE`, and `--name VALUE` the same as `--name=VALUE`. Options may follow operands.
+`-c VALUE` means the same as `-cVALUE`, and `--name VALUE` means the same as `--name=VALUE`. Options can follow operands.
 After `--`, every word is an operand. A function in `values` converts a word to a value, or raises a `ValueError` that
 says what was expected.
 
@@ -85,9 +85,9 @@ class Asked:
         return [default, *self.all(name)][-1]
 
     def files(self, skipped: int = 0) -> list[Optional[str]]:
-        """Returns the operands after the first `skipped` ones as file names.
+        """Skips the first `skipped` operands, and returns the others as file names.
 
-        None stands for standard input, which is read if the operand is `-` or if there are no file names.
+        None stands for standard input, which is read if an operand is `-` or if there are no file names.
         """
         return [None if file == "-" else file for file in self.operands[skipped:]] or [None]
 

@@ -3,8 +3,8 @@
     for part in bufr_parts.Reader("synop.bufr", ["012101"]):
         print(part.messages["offset"], part.items["value"])
 
-A part has about 8 MB of messages, or 1 MB if all items are wanted. A single call of the library reads all messages in a part
-that need the same table set.
+A part contains about 8 MB of messages, or 1 MB if all items are wanted. A single call to the library reads all messages in a
+part that need the same table set.
 """
 from __future__ import annotations
 
@@ -37,7 +37,7 @@ _PART, _PART_OF_ALL = 1 << 23, 1 << 20
 
 @dataclass(frozen=True)
 class Piece:
-    """A range of bytes in a file that begins and ends between messages, so that another process can read it."""
+    """A range of bytes in a file. The range begins and ends between messages, so that another process can read it."""
 
     file: str
     begin: int
@@ -45,10 +45,10 @@ class Piece:
 
 
 class Part(NamedTuple):
-    """A part of a stream: its messages and strays in order, their bytes (none for a stray), and the items of the messages.
+    """A part of a stream: its messages and strays in order, their bytes (none for a stray), and the items in the messages.
 
-    The member `message` of an item is the index of its message, and `texts` contains the bytes of strings. `accepted` is the
-    number of messages that were accepted in earlier parts of the source.
+    In each item, `message` is the index of its message. `texts` contains the bytes of all strings. `accepted` is the number of
+    messages that were accepted in earlier parts of the source.
     """
 
     name: str
@@ -61,7 +61,7 @@ class Part(NamedTuple):
 
 
 class _Found(NamedTuple):
-    """A message, or a stray with its fault and without bytes."""
+    """A message or a stray. A stray has a fault, but no bytes."""
 
     offset: int
     octets: bytes
@@ -88,7 +88,7 @@ class _Stream:
         return octets
 
     def no_message(self) -> str:
-        """Returns a warning that the file contains no message, with the likely type of the file."""
+        """Returns the warning for a file that contains no message, including a guess at the type of the file."""
         return f"{self.name}: the file contains no message{looks(self.start)}"
 
 
@@ -128,10 +128,10 @@ def _size(source: Source) -> int:
 
 
 def _divided(stream: _Stream, size: int, are_pieces: bool = False) -> Iterator[Tuple[int, List[_Found]]]:
-    """Yields the offset at which each part of a stream ends, with a list of the messages and strays in it.
+    """For each part of a stream, yields the offset at which the part ends and a list of the messages and strays in it.
 
-    Each part except the last contains at least `size` bytes. If only pieces are wanted, the lists are empty, and each piece
-    extends at least to the declared end of each stray in it, so that the stray has the same fault if the piece is read alone.
+    Each part except the last contains at least `size` bytes. With `are_pieces`, the lists are empty, and each part extends at
+    least to the declared end of each stray in it, so that the stray has the same fault if the part is read as a piece.
     """
     finder, found, length, reach = bufr_auto.Finder(), [], 0, 0
     while True:
@@ -159,8 +159,8 @@ def _divided(stream: _Stream, size: int, are_pieces: bool = False) -> Iterator[T
 def pieces(files: Union[Path, Iterable[Path]], size: int = 1 << 26) -> List[Piece]:
     """Divides files into pieces of about `size` bytes. Returns the pieces in order; together, they cover every byte.
 
-    A piece begins and ends between messages. If the word `BUFR` occurs where no message begins, a piece may be up to 16 MB
-    longer. Pass each piece to a function of this module, for example in another process:
+    A piece begins and ends between messages. If a file contains strays, a piece can be up to 16 MB longer. Pass each piece to
+    a function of this module, for example in another process:
 
         >>> from concurrent.futures import ProcessPoolExecutor
         >>> from functools import partial
@@ -237,7 +237,7 @@ class Reader:
             self.chooser.known.clear()  # it contains the counts of the previous notes
 
     def end_file(self) -> None:
-        """Warns about the faults in a file, of table sets that may not match, and of messages that were left out."""
+        """Warns about faults in a file, about table sets that may not match, and about messages that were left out."""
         told = self.counts.told() if self.faults == "warn" else []
         if self.chooser is not None:
             lines = self.chooser.notes.lines("message", "")
@@ -246,7 +246,7 @@ class Reader:
             warn(f"{self.name}: {text}")
 
     def part(self, found: List[_Found]) -> Part:
-        """Reads a part. Messages that need the same tables are read together, and then sorted by their places."""
+        """Reads a part. Messages that need the same tables are read together, and the items are then sorted by message."""
         every, found = found, self.selected(found)
         groups: Dict[Tables, List[int]] = {}
         notes: Dict[int, List[bufr_auto.Reason]] = {}
@@ -286,7 +286,7 @@ class Reader:
         return part
 
     def selected(self, found: List[_Found]) -> List[_Found]:
-        """Returns the strays, the messages that meet the conditions, and those that `bufr ls` does not list."""
+        """Returns the strays, the messages that meet the conditions, and the messages that `bufr ls` does not list."""
         if not self.where:
             return found
         octets = [one.octets for one in found]
@@ -295,7 +295,7 @@ class Reader:
         return [one for one, begin in zip(found, begins) if one.fault or begin not in left_out]
 
     def chosen(self, octets: bytes) -> Tuple[Tables, List[bufr_auto.Reason]]:
-        """Returns the tables for a message, and the reasons why they may not match it exactly."""
+        """Returns the tables for a message, and the reasons why the tables may not match the message exactly."""
         if self.tables is not None:
             return self.tables, []
         assert self.chooser is not None

@@ -60,7 +60,7 @@ class TableSet:
         return sequences
 
     def cached(self) -> None:
-        """Records that the set is cached. If there are now too many cached sets, drops the tables of the oldest one."""
+        """Records that the set is cached. If there are now too many cached sets, drops the tables of the oldest set."""
         if self not in cache:
             cache.append(self)
         if len(cache) > CACHED:
@@ -104,9 +104,10 @@ def rows_of(file: str, *columns: str) -> Iterator[List[str]]:
 
 
 class TableSets:
-    """All table sets in a directory, such as `wmo-13`, or `wmo-13+98-102` with local rows (centre 98, local version 102).
+    """The table sets in a directory.
 
-    A set that lacks one of its tables is ignored, and a line in `notes` says so.
+    Their names are, for example, `wmo-13` or, with local rows, `wmo-13+98-102` (centre 98, local version 102). Sets that lack a
+    table are ignored, and reported in `notes`.
     """
 
     def __init__(self) -> None:

@@ -98,7 +98,7 @@ _CAUSES = [
         (rb".* ", "a space at the end"),
         (rb"[a-z][^#]*#.*", "a comment, which is allowed only after an item"),
         (rb"\d{6} \"[^\"]*\\x(?![0-9A-F]{2}).*", "\\x without two upper-case hexadecimal digits"),
-        (rb"\d{6} \"[^\"]*[^ -~].*", "a byte in a string that must be escaped as \\xHH"),
+        (rb"\d{6} \"[^\"]*[^ -~].*", "a byte that must be escaped as \\xHH in a string"),
         (rb"\d{6} \".*", "an unescaped \" or \\ in a string, or no closing \""),
         (rb"\d{6} [^-.\d\"].*", "a string without quotes"),
     ]
@@ -154,7 +154,7 @@ class BufrError(RuntimeError):
 
 
 class DumpWarning(UserWarning):
-    """Warns that a file has no messages, that messages were refused or left out, or that a table has gaps."""
+    """Warns, for example, that a file has no messages, that messages were refused or left out, or that a column is empty."""
 
 
 def warn(text: str) -> None:
@@ -180,11 +180,11 @@ class Fault(NamedTuple):
         return f"offset {self.offset}: {self.number} {self.text}"
 
 
-STRAY = "the word BUFR where no complete message begins"
+STRAY = "the word BUFR outside any complete message"
 
 
 class FaultCounts:
-    """The number of refused messages and of strays in a file, and the first fault."""
+    """The numbers of refused messages and strays in a file, and the first fault."""
 
     def __init__(self) -> None:
         self.refused = self.strays = 0
@@ -204,7 +204,7 @@ class FaultCounts:
             strays = "1 stray" if self.strays == 1 else f"{self.strays} strays"
             kinds.append(f"skipped {strays} ({STRAY})")
         where = " " if self.refused + self.strays == 1 else "; the first fault is "
-        advice = "to get each fault, pass a list as faults; 'Faults and remedies' in the guide explains them"
+        advice = "to get all faults, pass a list as faults; 'Faults and remedies' in the guide explains them"
         return [f"{' and '.join(kinds)}{where}at {self.first}; {advice}"] * bool(kinds)
 
 
@@ -243,7 +243,7 @@ class Listed(NamedTuple):
 class Item:
     """An item in a subset: its six-digit descriptor, its value, and its name and unit from Table B.
 
-    The name and the unit are `None` if the item was read without a row in Table B. `reference` is true if the item is a
+    The name and the unit are `None` if no row in Table B was used to read the item. `reference` is true if the item is a
     new reference value that is defined in the data (a line that begins with `R`).
     """
 
@@ -318,8 +318,8 @@ def read(stream: Iterable[bytes]) -> Iterator[Message]:
     """Yields the messages in a dump. `stream` yields the lines of the dump as bytes, like a file opened in mode "rb".
 
     Raises `TextError` at the first invalid line. `read` does not check whether header values are in range or whether the
-    items match the descriptors; `bufr encode` does. A number such as `1.` raises `TextError` here, but is fault 52 in
-    `bufr encode`.
+    items match the descriptors; `bufr encode` does. A number such as `1.` raises `TextError` here, whereas `bufr encode`
+    reports it as fault 52.
     """
     lines = _Lines(stream)
     line = lines.take()
@@ -433,7 +433,7 @@ def _escaped(found: re.Match[bytes]) -> bytes:
 
 
 def find(subset: List[Item], fxy: str, count: int = 1) -> Optional[Item]:
-    """Returns the `count`-th item with this descriptor in a subset, or `None` if there are fewer.
+    """Returns the `count`-th item with this descriptor in a subset, or `None` if there are fewer than `count`.
 
     New reference values (items whose `reference` is true) are not counted.
     """
@@ -481,13 +481,13 @@ def levels(
 ) -> Iterator[Tuple[Cell, ...]]:
     """Yields a tuple for each level of a sounding: header values, then the values for `keep`, then column values.
 
-    A level is one repetition (pass) of a delayed replication. It yields a tuple only if it contains the descriptor of the
+    A level is one repetition (pass) of a delayed replication. A level is left out unless it contains the descriptor of the
     first column and, if there are other columns, at least one of their descriptors. Each column selects the first item
     with that descriptor in the level, and each descriptor in `keep` selects the first one in the whole subset. In all
     other respects, `levels` works like `rows`.
 
-    A subset is skipped if it has no levels, or if they are ambiguous because the descriptor that begins a level occurs
-    again in it. A `DumpWarning` at the end says how many subsets were skipped for each of these reasons.
+    A subset is skipped if it has no levels, or if its levels are ambiguous because the descriptor that begins a level
+    occurs again in the same level. A `DumpWarning` at the end says how many subsets were skipped for each of these reasons.
     """
     columns, header, keep = checked(columns, header, keep)
     found = _by_library("levels", messages, faults, where, columns, header, keep)
@@ -501,9 +501,9 @@ def levels(
 def _by_library(
     call: str, file: Any, faults: Optional[List[Fault]], where: Sequence[str], *words: Sequence[str]
 ) -> Optional[Iterator[Tuple[Cell, ...]]]:
-    """Returns the rows from the module `bufr`, which reads files faster.
+    """Returns the rows from the module `bufr`, which is faster than the program.
 
-    Returns `None` if the module is not available, or if the user wants to run another `bufr`.
+    Returns `None` if the module is not available, or if the environment variable `BUFR` names a program.
     """
     if not isinstance(file, (str, os.PathLike)) or os.environ.get("BUFR"):
         return None
@@ -532,7 +532,7 @@ def checked(
 ) -> List[List[str]]:
     """Returns the arguments as lists. Raises `ValueError` if a word is not a column or a header key.
 
-    If `has_counts` is true, columns can have counts. `more` contains additional header keys.
+    If `has_counts` is true, a column can end with a count, such as `:2`. `more` contains additional header keys.
     """
     keys = (*HEADER, "optional", "subsets", "offset", "length", "message", "subset", *more)
     for words in (columns, header, keep):
@@ -557,7 +557,7 @@ def checked(
 def _meant(word: str, keys: Sequence[str]) -> str:
     """Returns the part of an error message that says what to write instead of an invalid column.
 
-    If the word occurs in names of elements, the part lists their descriptors, exact matches first.
+    If the word occurs in the names of elements, the part lists their descriptors, starting with exact matches.
     """
     if re.fullmatch(r"\d{4,5}", word):
         return f"; write '0{word:0>5}'"
@@ -566,11 +566,12 @@ def _meant(word: str, keys: Sequence[str]) -> str:
     asked = word.upper()
     names_of = [(fxy, name.upper()) for fxy, (name, _) in names()[1].items() if asked in name.upper()]
     found = sorted((asked not in name.split("/"), fxy) for fxy, name in names_of)
-    return f", which occurs in the names of {', '.join(fxy for _, fxy in found)}" if word and found else ""
+    where = "name" if len(found) == 1 else "names"
+    return f", which occurs in the {where} of {', '.join(fxy for _, fxy in found)}" if word and found else ""
 
 
 def _instead(word: str) -> str:
-    """Returns the part of an error message that says what a descriptor is, and lists the elements of a sequence."""
+    """Returns the part of an error message that explains a descriptor and, if it is a sequence, lists its elements."""
     if word[0] != "3":
         return f" but {'a replication' if word[0] == '1' else 'an operator'}, which has no value"
     tables = _latest()
@@ -581,7 +582,7 @@ def _instead(word: str) -> str:
 
 
 def _latest() -> Optional[TableSet]:
-    """Returns the latest table set, or `None` if there is none."""
+    """Returns the latest table set, or `None` if there are no table sets."""
     import bufr_guard
     import bufr_sets
 
@@ -594,7 +595,7 @@ def _latest() -> Optional[TableSet]:
 def names(table_b: Optional[_Path] = None) -> Tuple[str, Dict[str, Tuple[str, str]]]:
     """Returns the name of a Table B, and a dictionary with the name and the unit of each element.
 
-    Without `table_b`, these come from the latest table set. The dictionary is empty if the table cannot be read.
+    Without `table_b`, uses Table B from the latest table set. The dictionary is empty if the table cannot be read.
     """
     import bufr_sets
 
@@ -693,7 +694,8 @@ AMBIGUOUS, BARE = "with ambiguous levels", "without a level"
 class Gaps:
     """Records which columns have no items or no values, and which subsets have no levels.
 
-    A table of levels has the columns `keep` before `columns`. `table_b` is the Table B that was passed, if any.
+    In a table of levels, the columns in `keep` come before those in `columns`. `table_b` is the Table B that was passed, if
+    any.
     """
 
     def __init__(self, columns: Sequence[str], keep: Sequence[str] = (), table_b: Optional[_Path] = None) -> None:
@@ -726,14 +728,14 @@ class Gaps:
 
     def skip(self, kind: str, message: Cell, subset: Cell, file: str, fxy: object = None) -> None:
         why = f" of {file}" if file else ""
-        why += "" if fxy is None else f" ({fxy} begins a level and occurs in it again)"
+        why += "" if fxy is None else f" ({fxy} begins a level and occurs again in it)"
         count, first = self.skipped.get(kind, (0, f"message {message} subset {subset}{why}"))
         self.skipped[kind] = count + 1, first
 
     def warn(self, is_whole: bool = True, text: str = "column {} is empty, because no row has an item for it") -> None:
         """Issues a warning for each gap. If only a piece of a file was read, nothing is known about its columns.
 
-        `text` says that there is no item for a column.
+        `text` is the warning for a column without items; `{}` stands for the column.
         """
         if is_whole and (self.has_rows or self.skipped):
             self.warn_of_columns(text)
@@ -753,11 +755,11 @@ class Gaps:
                 is_unknown = defined and word[0] == "0" and word[:6] not in defined
                 warn(text.format(word) + f"; {name} does not define {word[:6]}" * bool(is_unknown))
             elif at not in self.with_value:
-                warn(f"column {word} is empty, because all its values are missing")
+                warn(f"column {word} is empty, because all of its values are missing")
 
 
 class Ambiguous(ValueError):
-    """The levels of a subset are ambiguous, because a descriptor that begins a level occurs in the level again."""
+    """Reports ambiguous levels in a subset: a descriptor that begins a level occurs again in that level."""
 
 
 #: The descriptors of the factors of delayed replications.
@@ -771,7 +773,7 @@ def passes(words: Sequence[_Word], counts: Sequence[int], factors: Container[_Wo
     at the index of the factor. Raises `Ambiguous` if the passes are ambiguous.
 
     `left` passes of the replication have yet to begin. Each pass begins with the descriptor `opener`. The current pass begins
-    at `begin`, which is -1 outside a pass, and has `inner` factors so far. The previous one had `pass_items` items and
+    at `begin`, which is -1 outside a pass, and has `inner` factors so far. The previous pass had `pass_items` items and
     `pass_inner` factors.
     """
     found: List[Tuple[int, int]] = []
@@ -803,7 +805,7 @@ def passes(words: Sequence[_Word], counts: Sequence[int], factors: Container[_Wo
 
 
 def listing(file: _Path, faults: Optional[List[Fault]] = None) -> Iterator[Listed]:
-    """Yields a `Listed` for each line that `bufr ls` prints. Reports faults and raises exceptions like `dump`."""
+    """Yields a `Listed` for each line that `bufr ls` prints. Reports faults and raises exceptions as `dump` does."""
     told = _Told(file, faults)
     with _opened(file) as stream, tempfile.TemporaryFile() as errors:
         for place in _listed(stream, errors, told):
@@ -813,7 +815,7 @@ def listing(file: _Path, faults: Optional[List[Fault]] = None) -> Iterator[Liste
 
 
 def parts(places: Iterable[Listed], octets: int = 1 << 19) -> Iterator[List[Listed]]:
-    """Splits the places into lists. In each list except the last, the messages have at least `octets` bytes in total."""
+    """Splits results of `listing` into lists. Except in the last list, the messages have at least `octets` bytes in total."""
     part: List[Listed] = []
     held = 0
     for place in places:
@@ -836,8 +838,9 @@ def dump(
 ) -> Iterator[Message]:
     """Yields the messages in a file. Runs `bufr dump` with these two tables, or `bufr-auto` if you do not pass tables.
 
-    `where` is a list of conditions `KEY=VALUE` or `KEY!=VALUE`, as for bufr-extract: `["category=0", "centre!=98"]`. Only
-    messages that meet every condition are dumped. Instead of `where`, you can pass results of `listing` as `places`.
+    `where` is a list of conditions of the form `KEY=VALUE` or `KEY!=VALUE`, as in bufr-extract; for example,
+    `["category=0", "centre!=98"]`. Only messages that meet every condition are dumped. Instead of `where`, you can pass
+    results of `listing` as `places`.
 
     Faults are appended to the list `faults`, in order: when you get a message, the list contains all earlier faults.
     Without a list, faults are printed to `sys.stderr`, and a `DumpWarning` at the end says how many there were. There is
@@ -883,7 +886,7 @@ def _dumped(words: List[str], told: _Told, places: Optional[Iterable[Listed]]) -
 
 
 class _Told:
-    """Reports the faults and strays in a file, in order, and then the notes."""
+    """Reports the refused messages and strays in a file, in order, and then the notes."""
 
     def __init__(self, file: _Path, faults: Optional[List[Fault]]) -> None:
         self.file, self.name, self.faults, self.is_bare = file, os.fsdecode(file), faults, False
@@ -924,7 +927,7 @@ class _Told:
         return refused
 
     def end(self, stream: IO[bytes]) -> None:
-        """Reports the remaining strays. Then issues a warning with the number of faults, and one for each note."""
+        """Reports the remaining strays. Then issues a warning with the number of faults, and a warning for each note."""
         self.up_to(float("inf"))
         self.warn([f"the file contains no message{looks(os.pread(stream.fileno(), 256, 0))}"] * self.is_bare)
 
@@ -1034,9 +1037,9 @@ def _run(words: List[str], source: IO[bytes], target: IO[bytes]) -> subprocess.C
 
 
 def _failure(status: int, words: List[str], errors: Iterable[bytes]) -> RunError:
-    """Returns the error for a failed program. It contains what the program printed, or else its exit status.
+    """Returns the error for a failed program.
 
-    If the disk is full, the error says so.
+    The error contains what the program printed, or else the exit status. It also reports if the disk is full.
     """
     told = b"".join(line for line in errors if not _FAULT.match(line)).decode(errors="replace").strip()
     told = told or f"{words[0]} " + (f"was killed (signal {-status})" if status < 0 else f"exited with status {status}")
@@ -1051,7 +1054,7 @@ def _bufr() -> str:
 def _program(name: str) -> str:
     """Returns the path of a program next to this file, or in the `bin` directory of this installation or of Python.
 
-    If there is none, returns just the name of the program, which is then looked up on PATH.
+    If the program is in none of these places, returns just its name, which is then looked up on PATH.
     """
     here = pathlib.Path(__file__).resolve().parent
     for path in (here / name, here.parent.parent / "bin" / name, pathlib.Path(sys.prefix) / "bin" / name):

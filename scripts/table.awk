@@ -10,10 +10,10 @@
 # defined in the data has the name REFERENCE. The columns in `keep`, which must be header keys, come after the subset.
 #
 # With `columns`, each subset has a row. A column is a descriptor or a header key (the first word of a header line). The
-# column 012101 contains the value of the first item with this descriptor in the subset, and 012101:2 that of the second. If
-# a subset does not contain the item, the field is empty.
+# column 012101 contains the value of the first item with this descriptor in the subset, and 012101:2 contains the value of
+# the second such item. If a subset does not contain the item, the field is empty.
 #
-# With levels=1, each row is a level. A level is one repetition (pass) of a delayed replication, whose factor (031000 to
+# With levels=1, each level has a row. A level is one repetition (pass) of a delayed replication, whose factor (031000 to
 # 031002) is in the data. A level has a row only if it contains an item for the first column and, if there are other
 # columns, for at least one of them. The columns in `keep` apply to the whole subset and come first.
 #
@@ -134,7 +134,7 @@ function split_columns(words, list, keys,   count, column, word) {
         if (index(keys, " " word " "))
             is_key[word] = wanted[word] = 1
         else if (by_item)
-            fail("without columns=, keep= can contain only header keys, found '" word "'")
+            fail("without columns=, keep= can contain only header keys, but it contains '" word "'")
         else if (is_descriptor(word, keys != ""))
             wanted[substr(word, 1, 6)] = 1
         else
@@ -231,7 +231,7 @@ function begin_row(   line, column) {
 # Skips a subset in which the descriptor that begins a pass also occurs inside a pass.
 function skip_subset(fxy) {
     if (!unclear++) {
-        first_unclear = message " subset " subset " (" fxy " begins a level and occurs in it again)"
+        first_unclear = message " subset " subset " (" fxy " begins a level and occurs again in it)"
         if (feed == 1)
             tell_skipped(0, "with ambiguous levels", first_unclear)
     }
@@ -299,7 +299,8 @@ BEGIN {
         level_count = split_columns(columns, level, "")
     is_joined = !placed && ("offset" in is_key || "length" in is_key)
     if (is_joined && (listing == "" || faults == ""))
-        fail("the columns 'offset' and 'length' require listing=FILE (output of bufr ls) and faults=FILE (standard error of bufr dump)")
+        fail("the columns 'offset' and 'length' require listing=FILE (the output of bufr ls)" \
+            " and faults=FILE (the standard error output of bufr dump)")
     fault = -1
     for (column = 1; column <= kept_count; column++) {
         word = kept[column]

@@ -31,7 +31,7 @@ def kind(unit: str) -> str:
 
 
 def rows(folder: str, name: str, *columns: str):
-    """Yields the values in these columns, as a list, for each row of a table."""
+    """Yields a list with the values in these columns for each row of a table."""
     path = pathlib.Path(folder) / name
     with open(path, encoding="utf-8-sig", errors="surrogateescape", newline="") as file:
         table = csv.DictReader(file)

@@ -65,7 +65,7 @@ def one_line(text: str) -> str:
 
 
 def of_csv(folder: pathlib.Path, pattern: str, columns: list):
-    """Yields the values in these columns, as a list, for each row of the matching files. Ignores byte order marks."""
+    """Yields a list with the values in these columns for each row of the matching files. Ignores byte order marks."""
     for path in sorted(folder.glob(pattern)):
         with open(path, newline="", **{**AS_IT_IS, "encoding": "utf-8-sig"}) as file:
             rows = csv.reader(file)
@@ -100,7 +100,7 @@ def lines_of(path: pathlib.Path):
 
 
 def of_element_table(path: pathlib.Path):
-    """Yields the rows of ecCodes' element.table. Its lines are code|abbreviation|type|name|unit|scale|reference|width|..."""
+    """Yields the rows of ecCodes' element.table. Each line is code|abbreviation|type|name|unit|scale|reference|width|..."""
     for number, line in lines_of(path):
         if not line.startswith("#"):
             fields = [one_line(field) for field in line.split("|")]
@@ -121,7 +121,7 @@ def of_sequence_def(path: pathlib.Path):
 
 
 def of_wreport_b(path: pathlib.Path):
-    """Yields the values in the six columns of `OURS_B`, as a list, for each row of wreport's B*.txt."""
+    """Yields a list with the values in the six columns of `OURS_B` for each row of wreport's B*.txt."""
     for number, line in lines_of(path):
         fxy, name, unit, *numbers = (one_line(line[at:end]) for at, end in zip(WREPORT_B, WREPORT_B[1:]))
         if not all(numbers):
@@ -191,12 +191,12 @@ def is_whole(text: str, least: int, most: int) -> bool:
 
 
 def whole(text: str) -> int:
-    """Converts a string to a number. The string may have any number of leading zeros."""
+    """Converts a string to a number. The string can have any number of leading zeros."""
     return int(re.sub("^(-?)0+(?=[0-9])", r"\1", text))
 
 
 def no_descriptor(fxy: str, first: str) -> str:
-    """Returns why a string is not a descriptor that begins with `first`, or an empty string if it is one."""
+    """Returns why a string is not a descriptor that begins with `first`, or an empty string if it is."""
     if not re.fullmatch(f"[{first}][0-9]{{5}}", fxy):
         return f"expected six digits, beginning with {first}"
     return "X is over 63" if int(fxy[1:3]) > 63 else "Y is over 255" if int(fxy[3:]) > 255 else ""
@@ -248,7 +248,7 @@ def shown(words: list) -> str:
 
 
 def taken(folder: pathlib.Path, entries, refused) -> tuple:
-    """Reports the entries that `bufr` refuses. Returns the other entries, by descriptor, and the number of refused ones."""
+    """Reports the entries that `bufr` refuses. Returns the other entries, by descriptor, and the number of refused entries."""
     found, left_out = {}, 0
     for entry in entries:
         found.setdefault(entry[0], []).append(entry)

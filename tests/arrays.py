@@ -687,8 +687,8 @@ class Faults(WithFolder):
         for call in (bufr.messages, bufr.items, rows, frame):
             with self.assertWarns(bufr.DumpWarning) as warned:
                 call(self.stream)
-            stray, first = "(the word BUFR where no complete message begins)", "the first fault is at offset 0: 2 short length"
-            wanted = f"refused 2 messages and skipped 2 strays {stray}; {first}; to get each fault, pass a list as faults; "
+            stray, first = "(the word BUFR outside any complete message)", "the first fault is at offset 0: 2 short length"
+            wanted = f"refused 2 messages and skipped 2 strays {stray}; {first}; to get all faults, pass a list as faults; "
             self.assertTrue(str(warned.warning).startswith(f"{self.stream}: {wanted}"), warned.warning)
             self.assertEqual(warned.filename, __file__)
         refused = lib.message(b"\x14", b"\x3f\xff")
@@ -700,7 +700,7 @@ class Faults(WithFolder):
     def test_raise(self):
         with self.assertRaises(bufr.BufrError) as error:
             bufr.frame(self.stream, ["012101"], faults="raise")
-        stray = "found a stray (the word BUFR where no complete message begins)"
+        stray = "found a stray (the word BUFR outside any complete message)"
         advice = "to continue after a fault, pass faults='warn'"
         self.assertEqual(str(error.exception), f"{self.stream}: {stray} at offset 0: 2 short length; {advice}")
         with self.assertRaises(bufr.BufrError) as error:
@@ -749,7 +749,7 @@ class Faults(WithFolder):
         for call in (bufr.rows, bufr.frame, bufr_text.rows):
             self.stream.write_bytes(lib.message(b"\xfe\x14", lib.words("001001 001001")))
             _, told = told_by(lambda: len([*call(self.stream, ["001001", "001001:2"])]))
-            self.assertEqual(told, ["column 001001 is empty, because all its values are missing"])
+            self.assertEqual(told, ["column 001001 is empty, because all of its values are missing"])
             self.stream.write_bytes(lib.message(b"\xfe\x14", lib.words("001001 001001")) + lib.message(b"\x14"))
             self.assertEqual(told_by(lambda: len([*call(self.stream, ["001001"])]))[1], [])
 

@@ -100,7 +100,7 @@ def of_definitions(place: pathlib.Path, script, holds) -> None:
         holds(f"a dump with the rows of an earlier set after {name}", (status, "063255 3 " in output, errors), (0, True, ""))
         for set in ("wmo-17+9-5", "wmo-18+9-5"):
             shutil.rmtree(place / "tables" / set, ignore_errors=True)
-        asking = "bufr-lacks: the table set wmo-17+7-5 lacks some rows; ask centre 7 for its tables " + LOOKUP.format(7)
+        asking = "bufr-lacks: the table set wmo-17+7-5 lacks rows that the messages need; ask centre 7 for its tables " + LOOKUP.format(7)
         for fxy in ("063254", "001191"):
             unknown = script("bufr-lacks", made(17, 5, 7, fxy, b"\3"))[2]
             holds(f"a set without a row for {fxy}", unknown, asking)
@@ -130,7 +130,7 @@ def versions_and_editions(script, holds) -> None:
     newer = "bufr-lacks: there is no table set wmo-41; get newer tables from WMO (wmo-im/BUFR4 on GitHub), and convert them with tables/convert.py\n"
     holds("a row of a later version", script("bufr-lacks", made(41, 0, 98, "001191", b"\1")), (1, wanted.replace("255", "191"), newer))
     question = "ask centre 98 which table version its messages use " + LOOKUP.format(98)
-    asking = "bufr-lacks: the table set wmo-13 lacks some rows; " + question
+    asking = "bufr-lacks: the table set wmo-13 lacks rows that the messages need; " + question
     wanted = "1 message from centre 98/0, tables 0/13/0, lacks 013164\n"
     holds("a row of another version", script("bufr-lacks", made(13, 0, 98, "013164", b"\1")), (1, wanted, asking))
     rows = ["063255", "063001", "063254", "063002", "063253", "063003"]
@@ -164,7 +164,7 @@ def limits(script, holds) -> None:
     many = " ".join(f"0{x}{y:03}" for x in range(48, 64) for y in range(256))
     status, output, errors = script("bufr-lacks", b"".join(made(13, 1, centre, many, b"") for centre in range(1, 15)))
     rows = sum(len(line.partition("lacks")[2].split()) for line in output.splitlines())
-    told = errors.startswith("bufr-lacks: left out some rows, because bufr-lacks lists at most 50,000 missing rows\n")
+    told = errors.startswith("bufr-lacks: left out further rows, because bufr-lacks lists at most 50,000 missing rows\n")
     holds("the rows that are listed", (status, rows, told), (1, 50_000, True))
 
 

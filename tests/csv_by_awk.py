@@ -263,7 +263,7 @@ def tries_levels(awk: list, sounding: bytes, synop: bytes) -> None:
     # the descriptor that begins a pass comes twice before an inner group
     again = b"message\nsubset 1\n031001 3\n" + b"007004 1\n007004 2\n031001 1\n011001 3\n" * 3 + b"end\n"
     status, output, errors = run(awk, again, levels="1", columns="007004")
-    is_so = (status, output.count("\n")) == (1, 1) and "ambiguous levels: message 1 subset 1 (007004 begins a level and occurs in it again)\n" in errors
+    is_so = (status, output.count("\n")) == (1, 1) and "ambiguous levels: message 1 subset 1 (007004 begins a level and occurs again in it)\n" in errors
     want(is_so, f"{awk}: a descriptor that comes again gives {status}, {output}, {errors}")
     # ambiguous passes between others: the rest is given
     good = BEHIND.splitlines(True)
@@ -271,7 +271,7 @@ def tries_levels(awk: list, sounding: bytes, synop: bytes) -> None:
     between = both + NESTED + ENCLOSED % 2 + ODD + NESTED
     status, output, errors = run(awk, between, levels="1", columns="007004,012101")
     told = "table.awk: skipped a subset without a level: message 4 subset 1\n"
-    told += "table.awk: skipped 2 subsets with ambiguous levels; the first is message 1 subset 1 (008002 begins a level and occurs in it again)\n"
+    told += "table.awk: skipped 2 subsets with ambiguous levels; the first is message 1 subset 1 (008002 begins a level and occurs again in it)\n"
     want((status, errors) == (1, told), f"{awk}: ambiguous passes give {status}, {errors}")
     rows = [line.split(",")[0] for line in output.splitlines()[1:]]
     want(rows == ["2"] * 5 + ["5"] * 5, f"{awk}: beside ambiguous passes there are {output}")

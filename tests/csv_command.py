@@ -275,7 +275,7 @@ def names(folder: pathlib.Path) -> None:
         alike(f"--names {options}", done, heading, wanted_rows([SYNOP], columns), bool(options))
         holds("a heading with quotes", bool(options) or b',"001002 The ""WMO"" number",' in done.stdout, done.stdout[:300])
         done = run("-c", "wmo\" NUM", *options, SYNOP, environment={"BUFR_TABLES": str(tables.parent)})
-        holds("a part of a name in lower case", b"names contain 'wmo\" NUM': 001002; see" in done.stderr, done)
+        holds("a part of a name in lower case", b"('wmo\" NUM' occurs in the name of 001002); see" in done.stderr, done)
         done = run(*options, SYNOP, environment={"BUFR_TABLES": str(tables.parent)})
         found = (rows_of_json if options else rows_of_csv)(done.stdout)[1][2]
         holds(f"a name of an item {options}", found[5] == odd.encode(), found)
@@ -362,7 +362,7 @@ def notes(folder: pathlib.Path) -> None:
     twice = lib.message(bits.octets(), lib.words("103000 031001 008002 020011 008002"))
     done = run("--levels", "-c", "020011", input=twice)
     (folder / "twice").write_bytes(twice)
-    told = b"bufr-csv: skipped a subset with ambiguous levels: message 1 subset 1 (008002 begins a level and occurs in it again)%s\n"
+    told = b"bufr-csv: skipped a subset with ambiguous levels: message 1 subset 1 (008002 begins a level and occurs again in it)%s\n"
     of_file = run("--levels", "-c", "020011", folder / "twice")
     for what, done, rest in (("a file", of_file, b""), ("a pipe", done, b"; others will not be reported")):
         holds(f"ambiguous levels of {what}", (done.returncode, done.stderr) == (1, told % rest), done)
@@ -382,8 +382,8 @@ def refusals(_folder: pathlib.Path) -> None:
         (["-c=001001"], b"unknown column '=001001'"),
         (["-c", ""], b"empty column name"),
         (["-c", "001001,"], b"empty column name"),
-        (["-c", "AIR TEMPERATURE"], b"names contain 'AIR TEMPERATURE': 012001, 012101, 012004, 012104"),
-        (["-c", "air temperature"], b"names contain 'air temperature': 012001, 012101, 012004, 012104"),
+        (["-c", "AIR TEMPERATURE"], b"'AIR TEMPERATURE' occurs in the names of 012001, 012101, 012004, 012104"),
+        (["-c", "air temperature"], b"'air temperature' occurs in the names of 012001, 012101, 012004, 012104"),
         (["-c", "001001,AIR TEMPERATURE"], b"'AIR TEMPERATURE'"),
         (["--levels", "-c", "PRESSURE"], b"007004"),
         (["--levels", "--keep", "STATION NUMBER", "-c", "007004"], b"001002"),

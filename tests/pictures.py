@@ -240,7 +240,7 @@ def draws(python: str, program: str, folder: pathlib.Path) -> None:
         (["sounding", folder / "b.png"], b"# a note\n", 1, "bufr-plot: the input contains no message"),
         (["map", "--value", "", folder / "b.png"], texts["synop"], 2, "--value '': expected a descriptor such as 012101, found ''"),
         (["map", "--value", "T", folder / "b.png"], texts["synop"], 2, "--value 'T': expected a descriptor such as 012101, found 'T'"),
-        (["map", ""], texts["synop"], 2, "the name of PICTURE must end in .png, .svg or .pdf, but it is ''"),
+        (["map", ""], texts["synop"], 2, "PICTURE must end in .png, .svg or .pdf, but it is ''"),
         (["map", folder / "b.png", ""], b"", 2, "cannot open ''"),
         (["sounding", "--message", "x", folder / "b.png"], b"", 2, "--message 'x': expected a whole number of at least 1"),
         (["sounding", "--subset", "0", folder / "b.png"], b"", 2, "--subset '0': expected a whole number of at least 1"),

@@ -89,7 +89,7 @@ MISTAKES = [
     (2, b"edition 4 # NOTE\n", "a comment, which is allowed only after an item"),
     (24, b'001015 "\\xc4"\n', "\\x without two upper-case hexadecimal digits"),
     (24, b'001015 "\\xC"\n', "\\x without two upper-case hexadecimal digits"),
-    (24, b'001015 "B\xc3\x96BLINGEN"\n', "a byte in a string that must be escaped as \\xHH"),
+    (24, b'001015 "B\xc3\x96BLINGEN"\n', "a byte that must be escaped as \\xHH in a string"),
     (24, b'001015 "a"b"\n', 'an unescaped " or \\ in a string, or no closing "'),
     (24, b'001015 "a\n', 'an unescaped " or \\ in a string, or no closing "'),
     (24, b"001015 HEATHROW\n", "a string without quotes"),
@@ -320,7 +320,7 @@ class Tables(unittest.TestCase):
 
     def notes(self, told: list) -> list:
         """Warnings as table.awk prints them, without those that it lacks."""
-        return [f"table.awk: {one.message}" for one in told if "all its values are missing" not in str(one.message)]
+        return [f"table.awk: {one.message}" for one in told if "all of its values are missing" not in str(one.message)]
 
     def alike(self, rows) -> list:
         """The cells of a table, with all spellings of a number as one."""
@@ -350,7 +350,7 @@ class Tables(unittest.TestCase):
                 for call in (bufr_text.rows, bufr_text.levels):
                     [[cell]] = call(messages, ["012101"])
                     self.assertEqual((cell, type(cell)), (wanted, type(wanted)), text)
-            said = ["column 012101 is empty, because all its values are missing"] * (wanted is None)
+            said = ["column 012101 is empty, because all of its values are missing"] * (wanted is None)
             self.assertEqual([str(one.message) for one in told], said * 2)
 
     def test_rows(self):
@@ -400,6 +400,7 @@ class Tables(unittest.TestCase):
             pathlib.Path(without_tables, "wmo-39/D.csv").touch()
             for text, told in (
                 ("fxy,name,unit\nshort\n001001,Old air temperature,K\n012101,Air temperature,K\n", ", which occurs in the names of 012101, 001001"),
+                ("fxy,name,unit\n012101,Air temperature,K\n", ", which occurs in the name of 012101"),
                 ("fxy,unit\n012101,K\n", ""),
                 ("", ""),
             ):
@@ -436,7 +437,7 @@ class Tables(unittest.TestCase):
             unclear += done.returncode
         self.assertGreater(count, 100)
         self.assertGreater(unclear, 0)
-        said = r"^skipped a subset with ambiguous levels: message 1 subset 1 \(008002 begins a level and occurs in it again\)$"
+        said = r"^skipped a subset with ambiguous levels: message 1 subset 1 \(008002 begins a level and occurs again in it\)$"
         with self.assertWarnsRegex(bufr_text.DumpWarning, said):
             list(bufr_text.levels(bufr_text.read(io.BytesIO(texts[-5])), ["020011"]))
         with warnings.catch_warnings():
@@ -636,11 +637,11 @@ class Runs(unittest.TestCase):
             lines = told.getvalue().splitlines()
             refused = [line for line in lines if re.match(r"offset \d+: \d\d", line)]
             text = f"{self.stream}: refused {len(refused)} message{'s' * (len(refused) > 1)} and skipped {len(lines) - len(refused)} strays "
-            text += f"(the word BUFR where no complete message begins); the first fault is at {lines[0]}; to get each fault, "
+            text += f"(the word BUFR outside any complete message); the first fault is at {lines[0]}; to get all faults, "
             self.assertEqual(str(warned.warning)[: len(text)], text)
             self.assertEqual(warned.filename, __file__)
         self.stream.write_bytes((TOP / "examples/synop.bufr").read_bytes() + b"BUFR")
-        told = r"skipped 1 stray \(the word BUFR where no complete message begins\) at offset 595: 1 cut; to get each fault, "
+        told = r"skipped 1 stray \(the word BUFR outside any complete message\) at offset 595: 1 cut; to get all faults, "
         with self.assertWarnsRegex(bufr_text.DumpWarning, f"^{self.stream}: {told}"):
             with contextlib.redirect_stderr(io.StringIO()):
                 list(bufr_text.dump(self.stream, *TABLES))
@@ -701,7 +702,7 @@ class Runs(unittest.TestCase):
         with warnings.catch_warnings(record=True) as told, contextlib.redirect_stderr(io.StringIO()):
             warnings.simplefilter("always")
             list(bufr_text.dump(self.stream))
-        wanted = ["the file contains no message: it looks like HTML", "skipped 20 strays (the word BUFR where no complete message begins)"]
+        wanted = ["the file contains no message: it looks like HTML", "skipped 20 strays (the word BUFR outside any complete message)"]
         self.assertEqual([str(one.message).partition("; ")[0] for one in told], [f"{self.stream}: {text}" for text in wanted])
 
     def test_failures_are_told(self):

@@ -1,4 +1,3 @@
-mod ShorterForms
 mod ExampleTables
 mod ReadingExamples
 mod SpecExamples
