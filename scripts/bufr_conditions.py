@@ -19,6 +19,8 @@ from typing import Iterable, List, Tuple
 KEYS = (
     "offset length edition centre update category tables time subsets observed compressed optional descriptors".split()
 )
+# How to write the keys with several numbers.
+EXAMPLES = {"centre": "98/0", "category": "0/2/0", "tables": "0/39/0"}
 # A time, or its beginning up to a separator.
 TIME = re.compile(r"\d{4,}(-\d{2,}(-\d{2,}(T\d{2,}(:\d{2,}(:\d{2,})?)?)?)?)?").fullmatch
 
@@ -37,15 +39,20 @@ class Conditions:
         self.asked = ""
         self.of_century: List[str] = []
         self.left_out, self.is_told = 0, False
+        # The number of lines, and of those that meet the conditions or are left out.
+        self.seen = self.met = 0
+        if isinstance(words, str) or not isinstance(words, Iterable):
+            error = ValueError if isinstance(words, str) else TypeError
+            raise error(f"where must be a list of conditions such as ['category=0'], not {words!r}")
         for word in words:
             self.add(word)
         self.compiled = [(negated, re.compile(pattern.encode())) for negated, pattern in self.patterns]
         self.is_left_out = re.compile(self.pattern_of_left_out().encode())
 
     def add(self, word: str) -> None:
-        found = re.fullmatch(r"([a-z]+)(!?)=(.*)", word)
+        found = re.fullmatch(r"([a-z]+)(!?)=(.*)", word) if isinstance(word, str) else None
         if not found:
-            raise ValueError(f"'{word}' is not a condition: expected KEY=VALUE or KEY!=VALUE")
+            raise ValueError(f"{word!r} is not a condition: expected KEY=VALUE or KEY!=VALUE")
         key, negated, text = found.groups()
         if key not in KEYS:
             raise ValueError(f"unknown key '{key}' in '{word}'; the keys are {' '.join(KEYS)}")
@@ -54,6 +61,10 @@ class Conditions:
         values = text.split(",")
         if key == "time" and not all(map(TIME, values)):
             raise ValueError(f"the value in '{word}' can never match; write the time as in time=2023-03-14T18")
+        example = EXAMPLES.get(key, "1")
+        numbers = re.compile("(0|[1-9][0-9]*)(/(0|[1-9][0-9]*)){0,%d}" % example.count("/")).fullmatch
+        if key != "time" and not all(map(numbers, values)):
+            raise ValueError(f"the value in '{word}' can never match; write it as in {key}={example}, without leading zeros")
         pattern = f"(^| ){key}=({'|'.join(values)})([ T:/-]|$)"
         if key == "time" and not negated:
             of_century = [f"00{year[2:]}" for year in values if f"00{year[2:4]}" not in {value[:4] for value in values}]
@@ -74,11 +85,17 @@ class Conditions:
     def are_met(self, line: bytes) -> bool:
         """Returns whether a line meets every condition. Counts the edition 3 messages that are left out."""
         line = line.rstrip(b"\n")
+        self.seen += 1
         if any(bool(pattern.search(line)) == negated for negated, pattern in self.compiled):
             return False
+        self.met += 1
         is_left_out = bool(self.is_left_out.search(line))
         self.left_out += is_left_out
         return not is_left_out
+
+    def unmet(self) -> str:
+        """Returns a warning that no line met the conditions. It is empty if one did, or if there was no line."""
+        return "no message meets the conditions in where" if self.seen and not self.met else ""
 
     def note(self, so_far: str = "") -> str:
         """Returns a note that says how many edition 3 messages were left out, or an empty string if none were."""

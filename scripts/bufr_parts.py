@@ -156,7 +156,7 @@ def _divided(stream: _Stream, size: int, are_pieces: bool = False) -> Iterator[T
             finder.put(stream.block())
 
 
-def pieces(files: Union[Path, Iterable[Path]], size: int = 1 << 26) -> List[Piece]:
+def pieces(files: Union[Path, Iterable[Path]], size: int = 1 << 26, *, faults: Faults = "warn") -> List[Piece]:
     """Divides files into pieces of about `size` bytes. Returns the pieces in order; together, they cover every byte.
 
     A piece begins and ends between messages. If a file contains strays, a piece can be up to 16 MB longer. Pass each piece to
@@ -171,15 +171,32 @@ def pieces(files: Union[Path, Iterable[Path]], size: int = 1 << 26) -> List[Piec
         11
     """
     found: List[Piece] = []
+    checked_faults(faults)
     for file in [files] if isinstance(files, (str, os.PathLike)) else files:
+        if not isinstance(file, (str, os.PathLike)) or file == "-":
+            raise TypeError(f"expected the name of a file, which other processes can open too, found {file!r}")
         begin = 0
         for stream in _opened(file):
             for end, _ in _divided(stream, size, are_pieces=True):
                 found.append(Piece(stream.name, begin, end))
                 begin = end
-            if not stream.has_message and stream.is_whole:
-                warn(stream.no_message())
+            if not stream.has_message:
+                report_bare(stream, faults)
     return found
+
+
+def checked_faults(faults: Faults) -> Faults:
+    if faults not in ("warn", "raise", "ignore") and not hasattr(faults, "append"):
+        raise ValueError(f"faults must be 'warn', 'raise', 'ignore' or a list, not {faults!r}")
+    return faults
+
+
+def report_bare(stream: _Stream, faults: Faults) -> None:
+    """Reports a file without messages."""
+    if faults == "raise":
+        raise BufrError(stream.no_message(), file=stream.name)
+    if faults != "ignore":
+        warn(stream.no_message())
 
 
 class Reader:
@@ -193,11 +210,9 @@ class Reader:
         tables: TwoTables = None,
         faults: Faults = "warn",
     ) -> None:
-        if faults not in ("warn", "raise", "ignore") and not hasattr(faults, "append"):
-            raise ValueError(f"faults must be 'warn', 'raise', 'ignore' or a list, not {faults!r}")
-        if isinstance(where, str):
-            raise ValueError(f"where must be a list of conditions, such as ['{where}'], not a string")
-        self.source, self.where, self.faults = source, list(where), faults
+        if tables is not None and (isinstance(tables, (str, os.PathLike)) or len(tables) != 2):
+            raise TypeError(f"expected tables=(B, D), the names of Table B and Table D, found {tables!r}")
+        self.source, self.conditions, self.faults = source, bufr_conditions.Conditions(where), checked_faults(faults)
         self.is_whole = True
         self.wanted, self.size = bufr_calls.words(columns), _PART_OF_ALL if columns is None else _PART
         self.tables = None if tables is None else Tables(*tables)
@@ -219,19 +234,19 @@ class Reader:
                     is_empty = False
                     progress.at(done + end - stream.begin)
                 done += end - stream.begin
-                if self.is_bare and stream.is_whole and self.faults != "ignore":
-                    if self.faults == "raise":
-                        raise BufrError(stream.no_message(), file=stream.name)
-                    warn(stream.no_message())
+                if self.is_bare and stream.is_whole:
+                    report_bare(stream, self.faults)
                 self.end_file()
             if is_empty:
                 yield self.part([])  # an empty list of sources
+            if self.is_whole and self.conditions.unmet():
+                warn(self.conditions.unmet())
         finally:
             progress.clear()
 
     def begin_file(self, name: str) -> None:
         self.name, self.is_bare, self.counts = name, True, FaultCounts()
-        self.conditions = bufr_conditions.Conditions(self.where)
+        self.conditions.left_out = 0
         if self.chooser is not None:
             self.chooser.notes = bufr_auto.Notes()
             self.chooser.known.clear()  # it contains the counts of the previous notes
@@ -287,7 +302,7 @@ class Reader:
 
     def selected(self, found: List[_Found]) -> List[_Found]:
         """Returns the strays, the messages that meet the conditions, and the messages that `bufr ls` does not list."""
-        if not self.where:
+        if not self.conditions.patterns:
             return found
         octets = [one.octets for one in found]
         begins = itertools.accumulate(map(len, octets), initial=0)
@@ -319,7 +334,7 @@ class Reader:
             self.counts.add(fault)
             if self.faults == "raise":
                 what = "refused a message" if fault.number >= 10 else f"found a stray ({STRAY})"
-                raise BufrError(f"{self.name}: {what} at {fault}; to continue after a fault, pass faults='warn'", *fault)
+                raise BufrError(f"{self.name}: {what} at {fault.line()}; to continue after a fault, pass faults='warn'", *fault)
             if not isinstance(self.faults, str):
                 self.faults.append(fault)
 

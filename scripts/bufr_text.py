@@ -176,8 +176,12 @@ class Fault(NamedTuple):
     text: str
     file: str = ""
 
-    def __str__(self) -> str:
+    def line(self) -> str:
+        """Returns the line with which `bufr` reports the fault. It does not name the file."""
         return f"offset {self.offset}: {self.number} {self.text}"
+
+    def __str__(self) -> str:
+        return f"{self.file}: {self.line()}" if self.file else self.line()
 
 
 STRAY = "the word BUFR outside any complete message"
@@ -197,6 +201,8 @@ class FaultCounts:
 
     def told(self) -> List[str]:
         """Returns a list with the text of a warning, or an empty list if there are no faults."""
+        if self.first is None:
+            return []
         kinds = []
         if self.refused:
             kinds.append("refused 1 message" if self.refused == 1 else f"refused {self.refused} messages")
@@ -205,7 +211,7 @@ class FaultCounts:
             kinds.append(f"skipped {strays} ({STRAY})")
         where = " " if self.refused + self.strays == 1 else "; the first fault is "
         advice = "to get all faults, pass a list as faults; 'Faults and remedies' in the guide explains them"
-        return [f"{' and '.join(kinds)}{where}at {self.first}; {advice}"] * bool(kinds)
+        return [f"{' and '.join(kinds)}{where}at {self.first.line()}; {advice}"]
 
 
 class Listed(NamedTuple):
@@ -535,15 +541,19 @@ def checked(
     If `has_counts` is true, a column can end with a count, such as `:2`. `more` contains additional header keys.
     """
     keys = (*HEADER, "optional", "subsets", "offset", "length", "message", "subset", *more)
-    for words in (columns, header, keep):
+    for words, example in ((columns, "012101"), (header, "time" if "time" in more else "year"), (keep, "001002")):
         if isinstance(words, str):
             raise ValueError(f"expected a list such as ['{words}'], found the string '{words}'")
         if not isinstance(words, Iterable):
-            raise TypeError(f"expected a list such as ['012101'], found {words}")
+            raise TypeError(f"expected a list such as ['{example}'], found {words}")
     columns, header, keep = list(columns), list(header), list(keep)
     form = _COLUMN if has_counts else re.compile(_FXY.decode())
     for word in (*columns, *keep):
         if not isinstance(word, str) or not form.fullmatch(word):
+            if isinstance(word, str) and _COLUMN.fullmatch(word):
+                raise ValueError(f"'{word}' has a count, which is possible only in a row for a whole subset; pass '{word[:6]}'")
+            if re.fullmatch(r"\d{6}", str(word)):
+                raise ValueError(f"no table can define {word}, because descriptors FXXYYY end at 3, 63 and 255")
             raise ValueError(f"expected a descriptor such as 012101, found {word!r}{_meant(str(word), keys)}")
         # The characters that 2 05 Y inserts are the only items whose descriptor is not that of an element.
         if word[0] in "123" and word[:3] != "205":
@@ -901,7 +911,7 @@ class _Told:
         if self.faults is not None:
             self.faults.append(fault)
         elif sys.stderr is not None:
-            print(fault, file=sys.stderr)
+            print(fault.line(), file=sys.stderr)
 
     def up_to(self, offset: float) -> None:
         """Reports the strays before this offset."""
@@ -942,6 +952,8 @@ class _Told:
             told.append(self.conditions.note())
         for text in told:
             warn(f"{self.name}: {text}")
+        if self.conditions and self.conditions.unmet():
+            warn(self.conditions.unmet())
 
 
 def _opened(file: _Path) -> IO[bytes]:

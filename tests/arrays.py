@@ -376,6 +376,21 @@ class Sources(WithFolder):
         [whole] = bufr.pieces(SYNOP)
         self.assertEqual(len(bufr.messages(bufr.Piece(str(SYNOP), 595, 595), faults="raise")), 0)
 
+    def test_pieces_of_files_without_messages(self):
+        empty = self.folder / "empty"
+        empty.touch()
+        self.assertEqual(told_by(lambda: len(bufr.pieces([empty, SYNOP], faults="ignore"))), (2, []))
+        for faults in ("warn", []):
+            self.assertEqual(len(told_by(lambda: bufr.pieces([empty, SYNOP], faults=faults))[1]), 1)
+        with self.assertRaisesRegex(bufr.BufrError, "the file contains no message: it is empty$") as error:
+            bufr.pieces([SYNOP, empty], faults="raise")
+        self.assertEqual(error.exception.file, str(empty))
+        with self.assertRaisesRegex(ValueError, "faults must be"):
+            bufr.pieces([], faults="no")
+        for files in ("-", [SYNOP, "-"], [b"BUFR"], [5], [bufr.Piece(str(SYNOP), 0, 595)]):
+            with self.assertRaisesRegex(TypeError, "expected the name of a file, which other processes can open too, found "):
+                bufr.pieces(files)
+
     def test_progress(self):
         self.stream.write_bytes(SYNOP.read_bytes() * 9)
         shown = []
@@ -395,9 +410,35 @@ class Sources(WithFolder):
             rows = bufr.messages(self.stream, where=where, faults="ignore")
             self.assertEqual(rows["offset"][rows["fault"] == 0].tolist(), wanted)
             self.assertTrue(wanted)
-        for where in (["categori=0"], "category=0"):
-            with self.assertRaises(ValueError):
-                bufr.rows(self.stream, ["012101"], where=where)
+        never, list_of = "can never match; write it as in", "where must be a list of conditions such as .'category=0'., not "
+        for where, error, told in [
+            (["categori=0"], ValueError, "unknown key 'categori'"),
+            ("category=0", ValueError, f"{list_of}'category=0'$"),
+            (None, TypeError, f"{list_of}None$"),
+            ([("category", 0)], ValueError, r"^.'category', 0. is not a condition: expected KEY=VALUE or KEY!=VALUE$"),
+            (["centre=078"], ValueError, f"'centre=078' {never} centre=98/0, without leading zeros$"),
+            (["category!=02"], ValueError, f"'category!=02' {never} category=0/2/0, without leading zeros$"),
+            (["tables=0/39/00,0/39/0"], ValueError, f"{never} tables=0/39/0, without leading zeros$"),
+            (["category=0/2/0/0"], ValueError, never),
+            (["subsets=1/2"], ValueError, f"{never} subsets=1, without leading zeros$"),
+            (["subsets=1-"], ValueError, never),
+        ]:
+            for call in (bufr.rows, bufr_text.rows):
+                if where is not None or call is bufr.rows:
+                    with self.assertRaisesRegex(error, told):
+                        call(self.stream, ["012101"], where=where)
+        # a warning, if no message of any file meets the conditions
+        (self.folder / "empty").touch()
+        for call in (bufr.rows, bufr_text.rows):
+            for where, wanted in ((["category=99"], 1), (["category=0"], 0), (["category!=99"], 0), ([], 0)):
+                _, told = told_by(lambda: list(call(SYNOP, ["012101"], where=where)))
+                self.assertEqual(told, ["no message meets the conditions in where"] * wanted)
+        sounding = TOP / "examples/sounding.bufr"
+        for source in ([SYNOP, sounding], [sounding, SYNOP], bufr.pieces(sounding)):
+            self.assertEqual(told_by(lambda: bufr.messages(source, where=["category=0"]))[1], [])
+        _, told = told_by(lambda: bufr.messages(self.folder / "empty", where=["category=0"]))
+        self.assertEqual(len(told), 1)
+        self.assertIn("the file contains no message", told[0])
         # each file has its own note
         old = self.folder / "old"
         one = next(one for one in bufr_text.listing(self.stream, []) if one.edition == 3)
@@ -511,16 +552,22 @@ class Values(WithFolder):
             for call in (bufr.frame, bufr.rows, bufr.levels, lambda *words: bufr.frame(*words, levels=True)):
                 with self.assertRaisesRegex(ValueError, told):
                     call(SYNOP, *words)
-        for call in (bufr.items, bufr.levels):
-            with self.assertRaises(ValueError):
+        for call in (bufr.items, bufr.levels, bufr_text.levels, lambda *words: bufr.frame(*words, levels=True)):
+            with self.assertRaisesRegex(ValueError, "^'012101:2' has a count, which is possible only in .*; pass '012101'$"):
                 call(SYNOP, ["012101:2"])
+        for call in (bufr.frame, bufr.items, bufr_text.rows):
+            for word in ("012999", "064001", "401001", 912101):
+                with self.assertRaisesRegex(ValueError, f"^no table can define {word}, because "):
+                    call(SYNOP, ["001015", word])
         with self.assertRaisesRegex(ValueError, "'001002'"):
             bufr.levels(SYNOP, ["012101"], keep="001002")
         with self.assertRaisesRegex(ValueError, "found 'time', which is a header key; pass header=.'time'.$"):
             bufr.frame(SYNOP, ["012101"], keep=["time"], levels=True)
-        for words in ((None,), (["012101"], None), (["012101"], 5)):
-            with self.assertRaisesRegex(TypeError, f"expected a list such as .'012101'., found {words[-1]}$"):
+        for words, example in (((None,), "012101"), ((["012101"], None), "time"), ((["012101"], 5), "time")):
+            with self.assertRaisesRegex(TypeError, f"expected a list such as .'{example}'., found {words[-1]}$"):
                 bufr.frame(SYNOP, *words)
+        with self.assertRaisesRegex(TypeError, "expected a list such as .'001002'., found 5$"):
+            bufr.frame(SYNOP, ["012101"], keep=5, levels=True)
         with self.assertRaisesRegex(TypeError, "keep= needs levels=True"):
             bufr.frame(SYNOP, ["012101"], keep=["001002"])
 
@@ -531,7 +578,7 @@ class Values(WithFolder):
             with unittest.mock.patch.multiple(bufr_parts, _PART=1):
                 found = call([octets] * 2, iter(["001015", "012101"]), iter(["year", "offset"]), where=iter(["category=0"]))
                 self.assertEqual([tuple(row) for row in found], wanted)
-        self.assertEqual(list(bufr.rows([octets] * 2, [], where=iter(["centre=1"]))), [])
+        self.assertEqual(list(bufr.rows([octets] * 2, [], where=iter(["category=0", "centre=78"]))), [()] * 6)
         words = iter(["007004"]), iter(["offset"]), iter(["001002"])
         sounding = TOP / "examples/sounding.bufr"
         self.assertEqual([*bufr.levels(sounding, *words)], [*bufr.levels(sounding, ["007004"], ["offset"], ["001002"])])
@@ -677,7 +724,9 @@ class Faults(WithFolder):
         frame, told = told_by(lambda: bufr.frame(self.stream, ["012101"], faults=faults))
         self.assertEqual((len(frame), told, faults), (6, [], self.wanted))
         self.assertIsInstance(faults[0], bufr.Fault)
-        self.assertEqual((faults[1].file, str(faults[1])), (str(self.stream), "offset 7: 20 unknown element 063255"))
+        self.assertEqual((faults[1].file, str(faults[1])), (str(self.stream), f"{self.stream}: {faults[1].line()}"))
+        self.assertEqual(faults[1].line(), "offset 7: 20 unknown element 063255")
+        self.assertEqual(str(bufr.Fault(*faults[1][:3])), faults[1].line())
         two = []
         bufr.messages([self.stream, b"BUFR" + SYNOP.read_bytes()], faults=two)
         self.assertEqual([fault.file for fault in two], [str(self.stream)] * 4 + ["bytes"])
@@ -743,7 +792,8 @@ class Faults(WithFolder):
         for source in ([], pieces, [*pieces, SYNOP]):
             self.assertEqual(told_by(lambda: [bufr.frame(source, ["012104"]), bufr.items(source, ["012104"])])[1], [])
         for call in (bufr.frame, bufr.items):
-            self.assertEqual(told_by(lambda: call(SYNOP, ["012104"], where=["centre=1"]))[1], [])
+            _, told = told_by(lambda: call(SYNOP, ["012104"], where=["centre=1"]))
+            self.assertEqual(told, ["no message meets the conditions in where"])
 
     def test_columns_without_values_are_warned_of(self):
         for call in (bufr.rows, bufr.frame, bufr_text.rows):
@@ -796,9 +846,11 @@ class Faults(WithFolder):
             words = said.partition("run: bufr ")[2]
             done = subprocess.run(f"'{lib.program()}' {words}", shell=True, stderr=subprocess.PIPE)
             self.assertRegex(done.stderr.decode(), f"^table [BD]: {fault}$")
-        for tables, error in (((TABLES[0], "none"), FileNotFoundError), ((TABLES[0],), TypeError)):
-            with self.assertRaises(error):
+        for tables in ((TABLES[0],), "tables/wmo-39", TOP / "tables/wmo-39", "BD"):
+            with self.assertRaisesRegex(TypeError, r"^expected tables=.B, D., the names of Table B and Table D, found "):
                 bufr.frame(SYNOP, ["012101"], tables=tables)
+        with self.assertRaises(FileNotFoundError):
+            bufr.frame(SYNOP, ["012101"], tables=(TABLES[0], "none"))
         with unittest.mock.patch.dict(os.environ, BUFR_TABLES="/none"):
             with self.assertRaisesRegex(bufr.BufrError, "BUFR_TABLES is /none"):
                 bufr.messages(SYNOP)

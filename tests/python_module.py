@@ -490,7 +490,7 @@ class Runs(unittest.TestCase):
         faults = []
         messages = list(bufr_text.dump(self.stream, *OLD_TABLES, faults))
         self.assertEqual(written(messages), done.stdout)
-        self.assertEqual([f"{fault}\n" for fault in faults], done.stderr.decode().splitlines(True))
+        self.assertEqual([f"{fault.line()}\n" for fault in faults], done.stderr.decode().splitlines(True))
         self.assertIn((701, 21, "unknown sequence 315008", str(self.stream)), faults)
         # each message alone
         listed = re.findall(rb"^offset=(\d+) length=(\d+) ", run(lib.program(), "ls", self.stream).stdout, re.M)
@@ -567,7 +567,9 @@ class Runs(unittest.TestCase):
                 self.assertEqual(written(messages), wanted)
                 self.assertEqual(log.read_bytes(), done.stdout)
                 os.environ["BUFR"] = lib.program()
-                lines = "".join(f"{fault}\n" for fault in faults)
+                lines = "".join(f"{fault.line()}\n" for fault in faults)
+                # only the module warns, because an empty result of bufr-extract is seen at once
+                told = [one for one in told if str(one.message) != "no message meets the conditions in where"]
                 notes = "".join(f"bufr-extract: {note.message}\n".replace(f"{self.stream}: ", "") for note in told)
                 self.assertEqual(lines + notes, done.stderr.decode())
                 texts.add(wanted)
