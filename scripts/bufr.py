@@ -17,15 +17,17 @@ of these. A source is read in parts of a few MB, so it can be larger than the av
 table set that bufr-auto would choose, unless you pass the names of two tables as `tables=(B, D)`. To select messages, set
 `where` to a list of conditions of the form `KEY=VALUE` or `KEY!=VALUE`, as in bufr-extract.
 
-A fault is a refused message or a stray (the word `BUFR` outside any complete message). `faults` determines what happens:
+A fault is a refused message or a stray (the word `BUFR` outside any complete message, for example at the start of a message
+that is cut off). `faults` determines what happens:
 
 - `"warn"` (default): at the end of each file, a `DumpWarning` says how many faults there were.
-- `"raise"`: the first fault, or a file without messages, raises `BufrError`.
+- `"raise"`: the first fault, or a file without messages, raises `BufrError`. A piece may be without messages.
 - `"ignore"`: faults and files without messages are not reported, but `messages` still returns a row for each fault.
 - a list: a `Fault` with the members `offset`, `number`, `text` and `file` is appended to the list for each fault.
 
-A `DumpWarning` also reports files without messages, messages whose tables are missing, columns without items or values, and
-subsets without levels.
+A `DumpWarning` also reports files without messages, messages whose tables are missing, columns without items or values,
+conditions that no message meets, subsets without levels, and elements whose unit depends on the table set. If the source
+contains a `Piece`, columns and conditions are not reported, because other pieces may contain what this one lacks.
 
 This module needs NumPy, and `frame` needs pandas. The library is the file libbufr.so.0 next to this module, or in the
 directory `lib` of the installation or clone. To use another file, set the environment variable BUFR_LIBRARY to its path. If
@@ -50,6 +52,8 @@ __all__ = (
     "MISSING NUMBER REFERENCE TEXT WIDE BufrError Cell DumpWarning Fault Items Piece "
     "frame items levels messages pieces rows"
 ).split()
+
+__version__ = "0.1.0"
 
 # The header keys that a dump does not have.
 _KEYS_OF_FILES = "file", "time"
@@ -353,7 +357,12 @@ def frame(
 
     Numbers are rounded to the nearest float, and missing numbers are NaN. Values from code tables and flag tables are `Int64`,
     strings are `str` or `None`, and the values of the header key `"time"` are `datetime64`. `frame.attrs` contains the name
-    and unit of each element, from the latest table set.
+    and unit of each column, from the Table B with which its values were read. If these tables have different units, `attrs`
+    contains all of them, and a `DumpWarning` says which table sets they come from.
+
+    A string has a character for each byte, as in ISO 8859-1: unlike those of `rows`, it has no escapes. The time of a message
+    is NaT if it does not exist. In edition 3, years have two digits: 69 to 99 stand for 1969 to 1999, and 0 to 68 for 2000 to
+    2068.
 
         >>> frame = bufr.frame("synop.bufr", ["001015", "001001", "012101"], header=["time"])
         >>> frame.attrs["012101"]
@@ -365,9 +374,13 @@ def frame(
         >>> bufr.frame("sounding.bufr", ["007004", "012101"], levels=True, keep=["001002"]).iloc[0].tolist()
         [836.0, 98520.0, 258.55]
 
-    With `exact=True`, all numbers, including codes, are `Decimal` or `None`, in columns of type `object`. Calculations with
-    these columns are slow, and some pandas methods, such as `std`, `round` and `plot`, fail. `<` and `>` work with floats, but
-    `==` is true only for the exact value, and adding a float is an error. To get floats, use `astype(float)`.
+    With `levels=True`, a level has a row only if it contains the first column and, if there are other columns, at least one
+    of them. If an element occurs once in a subset, such as the station number 001002, pass it in `keep`.
+
+    With `exact=True`, all numbers except those of header keys are `Decimal` or `None`, in columns of type `object`, even codes.
+    Calculations with these columns are slow, and some pandas methods, such as `std`, `round` and `plot`, fail. `<` and `>`
+    work with floats, but `==` is true only for the exact value, and adding a float is an error. To get floats, use
+    `astype(float)`.
 
         >>> air = bufr.frame("synop.bufr", ["012101"], exact=True)["012101"]
         >>> (air - Decimal("273.15")).tolist()
@@ -457,7 +470,8 @@ class Items(NamedTuple):
     and `frame` returns a data frame of all items, with names and strings.
 
     `messages` is the result of `bufr.messages`. It also has rows for refused messages, which have no items. `elements`
-    contains the name and the unit of each descriptor that occurs, as in `frame.attrs`.
+    contains the name and the unit of each descriptor that occurs, as in `frame.attrs`. `names` contains, for each row of
+    `messages`, a dictionary with the name and the unit of each element in the Table B with which the message was read.
 
         >>> found = bufr.items("synop.bufr")
         >>> air = found.items[found.items["fxy"] == 12101]
@@ -489,7 +503,8 @@ class Items(NamedTuple):
     def frame(self) -> Any:
         """Returns a pandas data frame with a row for each item, including its descriptor and any text as strings.
 
-        New reference values, which are defined in the data, have the name REFERENCE.
+        The name and unit come from the Table B with which the item was read. New reference values, which are defined in the
+        data, have the name REFERENCE. Strings are the same as in `bufr.frame`.
 
         >>> bufr.items("synop.bufr", ["001015", "012101"]).frame().query("subset == 2")[["fxy", "value", "text", "unit"]]
               fxy   value      text       unit
@@ -585,7 +600,7 @@ def messages(
 ) -> Array:
     """Returns a structured array with a row for each message and each stray.
 
-    Its columns are `file`, `offset`, `length`, the header keys of a dump, `subsets`, `fault` and `time`. `fault` is 0 for an
+    Its columns are `file`, `offset`, `length`, the header keys of a dump, `fault` and `time`. `fault` is 0 for an
     accepted message, and otherwise the number of the fault. If the header cannot be read, all header fields are 0, including
     `edition`, and `time` is NaT.
 

@@ -13,7 +13,8 @@ import itertools
 import os
 import sys
 from dataclasses import dataclass
-from typing import IO, Any, Callable, Collection, Dict, Iterable, Iterator, List, NamedTuple, Optional, Sequence, Tuple, Union, cast
+from typing import IO, Any, Callable, Collection, Dict, Iterable, Iterator, List, NamedTuple, Optional, Sequence, Tuple
+from typing import Union, cast
 
 import numpy
 
@@ -159,8 +160,9 @@ def _divided(stream: _Stream, size: int, are_pieces: bool = False) -> Iterator[T
 def pieces(files: Union[Path, Iterable[Path]], size: int = 1 << 26, *, faults: Faults = "warn") -> List[Piece]:
     """Divides files into pieces of about `size` bytes. Returns the pieces in order; together, they cover every byte.
 
-    A piece begins and ends between messages. If a file contains strays, a piece can be up to 16 MB longer. Pass each piece to
-    a function of this module, for example in another process:
+    A piece begins and ends between messages. If a file contains strays, a piece can be up to 16 MB longer. A file without
+    messages is reported here, because a piece may be without messages: with `faults="raise"`, it raises `BufrError`. Pass
+    each piece to a function of this module, for example in another process:
 
         >>> from concurrent.futures import ProcessPoolExecutor
         >>> from functools import partial

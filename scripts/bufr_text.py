@@ -184,7 +184,7 @@ class Fault(NamedTuple):
         return f"{self.file}: {self.line()}" if self.file else self.line()
 
 
-STRAY = "the word BUFR outside any complete message"
+STRAY = "the word BUFR outside any complete message, for example at the start of an incomplete one"
 
 
 class FaultCounts:

@@ -736,7 +736,7 @@ class Faults(WithFolder):
         for call in (bufr.messages, bufr.items, rows, frame):
             with self.assertWarns(bufr.DumpWarning) as warned:
                 call(self.stream)
-            stray, first = "(the word BUFR outside any complete message)", "the first fault is at offset 0: 2 short length"
+            stray, first = f"({bufr_text.STRAY})", "the first fault is at offset 0: 2 short length"
             wanted = f"refused 2 messages and skipped 2 strays {stray}; {first}; to get all faults, pass a list as faults; "
             self.assertTrue(str(warned.warning).startswith(f"{self.stream}: {wanted}"), warned.warning)
             self.assertEqual(warned.filename, __file__)
@@ -749,7 +749,7 @@ class Faults(WithFolder):
     def test_raise(self):
         with self.assertRaises(bufr.BufrError) as error:
             bufr.frame(self.stream, ["012101"], faults="raise")
-        stray = "found a stray (the word BUFR outside any complete message)"
+        stray = "found a stray (the word BUFR outside any complete message, for example at the start of an incomplete one)"
         advice = "to continue after a fault, pass faults='warn'"
         self.assertEqual(str(error.exception), f"{self.stream}: {stray} at offset 0: 2 short length; {advice}")
         with self.assertRaises(bufr.BufrError) as error:
@@ -990,6 +990,9 @@ class Processes(WithFolder):
 
 
 class Wheel(WithFolder):
+    def test_its_version(self):
+        self.assertIn(f'NAME = "bufr_text-{bufr.__version__}"', (TOP / "build_wheel.py").read_text())
+
     def test_a_wheel_is_enough(self):
         """In an environment that has NumPy, an installed wheel needs neither a library nor tables from elsewhere."""
         code = "import sys, build_wheel; print(build_wheel.build_wheel(sys.argv[1], {'library': sys.argv[2]}))"
