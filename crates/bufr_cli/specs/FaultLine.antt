@@ -21,6 +21,11 @@ stream_report (stream.Section fault) = section_report fault
 stream_report (stream.Template fault) = template_report fault.now
 stream_report (stream.Data fault) = data_report fault.now
 
+-- a line that reports a fault: what it is of, its number and its text
+abbrev pub report_line : (subject : List (List ℕ)) → (report : ℕ × List (List ℕ)) → List ℕ
+report_line subject report =
+    concat (subject ++ decimal report.0 ∷ codes " " ∷ (report.1 ++ codes "\n" ∷ []))
+
 -- the prefix of a line: a word, the position that it counts, and the fault's number
 abbrev pub prefix_texts : (word : List ℕ) (position number : ℕ) → List (List ℕ)
 prefix_texts word position number =
