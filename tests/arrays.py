@@ -986,7 +986,8 @@ class Processes(WithFolder):
                 done = subprocess.run(words, stdout=subprocess.PIPE, text=True, check=True)
                 used.append(int(re.search(r"^VmHWM:\s+(\d+) kB$", done.stdout, re.M)[1]) // 1000)
             print(f"arrays: {call}: {used[0]} MB, and {used[1]} MB for three times the messages")
-            self.assertLess(used[1] - used[0], 20, call)
+            # If a call retained the input or its items, it would need at least 40 MB more. Equal runs differ by up to 15 MB.
+            self.assertLess(used[1] - used[0], 30, call)
 
 
 class Wheel(WithFolder):

@@ -13,10 +13,10 @@ use Rattle.bufr_fill.specs.Prelude.{item_too_many, walk_refused, too_many_values
 use Rattle.bufr_fill.specs.declared.fault.Expected.TheVariants as expected
 use Rattle.bufr_fill.specs.declared.fault.ItemFault.TheVariants as wrong
 use Rattle.bufr_text.specs.declared.fault.DocumentFault.TheVariants as document
-use Rattle.bufr_text.specs.Prelude.{Refused}
+use Rattle.bufr_text.specs.Prelude.{line_report, Refused}
 use Rattle.bufr_text.specs.declared.fault.TextLineFault.TheVariants.{NotAllowed, SubsetCount, HeaderRange}
 use Rattle.bufr_text.specs.declared.encode.Form.TheVariants.{AsWritten}
-use Rattle.bufr_cli.specs.Prelude.{fault_line, refused_line, refusal_line, OnOutput, OnErrors, ls_piece, encode_pieces, up_to_refused}
+use Rattle.bufr_cli.specs.Prelude.{document_line, fault_line, refusal_line, OnOutput, OnErrors, ls_piece, encode_pieces, up_to_refused}
 
 -- a message with one block number, 48 octets
 abbrev pub one_block_number : List ℕ
@@ -84,7 +84,7 @@ data-lines = refl
 
 -- of the lines of a text
 -- rule: fault-lines-of-reading
-refused-lines : map (refused_line 26) (NotAllowed ∷ SubsetCount ∷ HeaderRange ∷ [])
+refused-lines : map (λ fault. document_line 26 (line_report fault)) (NotAllowed ∷ SubsetCount ∷ HeaderRange ∷ [])
     ≡ codes "line 26: 50 line\n" ∷ codes "line 26: 57 subset count\n" ∷ codes "line 26: 61 header range\n" ∷ []
 unfolding digits
 refused-lines = refl

@@ -1,7 +1,7 @@
 -- How a run of the program ended, what is flushed after it, its last line, and its exit status. (a
 -- choice of this project)
 -- Cited by public contracts.
-use Rattle.std.specs.Prelude.{◌≡◌, ◌⊎◌, ◌<◌, ◌≤◌, ◌-◌, ◌^◌, ℕ, true, List, Result, Ok, Err, if◌then◌else◌, ◌==◌, [], ◌∷◌, ◌++◌, codes, decimal}
+use Rattle.std.specs.Prelude.{◌≡◌, ◌⊎◌, ◌<◌, ◌≤◌, ◌-◌, ◌^◌, ℕ, true, List, Result, Ok, Err, if◌then◌else◌, ◌==◌, [], ◌∷◌, codes}
 use Rattle.std.specs.Io.KnownBytes.{Appends, Keeps}
 use Rattle.bufr_bits.specs.Prelude.{counted}
 use Rattle.bufr_frame.specs.Prelude.{run_report}
@@ -16,6 +16,7 @@ use Rattle.bufr_tables.specs.declared.fault.TableFault.TheVariants as table
 use Rattle.bufr_cli.specs.declared.outcome.Outcome.{Outcome}
 use Rattle.bufr_cli.specs.declared.outcome.Outcome.TheVariants.{Ran, Usage, CannotOpen, TableB, TableD, Run}
 use Rattle.std.specs.List.{concat}
+use Rattle.bufr_cli.specs.FaultLine.{report_line}
 
 -- after want of memory, or of reads, the output is flushed once, which may fail; a read that failed
 -- came after all was handed on
@@ -47,20 +48,15 @@ pub record EndsRun (pieces : RunPieces) (from to : Input) (before after : Writer
   pub rest : FlushesRest between.output after.output ran
   pub errors : after.errors ≡ between.errors
 
--- a line of a fault without a place: what it is of, its number and its text
-abbrev pub last_fault_line : (name : List ℕ) → (report : ℕ × List (List ℕ)) → List ℕ
-last_fault_line name report =
-    concat (name ∷ decimal report.0 ∷ codes " " ∷ (report.1 ++ codes "\n" ∷ []))
-
 -- the line of a fault that ends a run
 abbrev pub run_line : RunFault → List ℕ
-run_line fault = last_fault_line (codes "bufr: ") (run_report fault)
+run_line fault = report_line (codes "bufr: " ∷ []) (run_report fault)
 
 -- the line of a table that cannot be read; want of memory is reported as in a run
 -- rule: status-of-table, fault-73
 abbrev pub table_line : (table : List ℕ) → TableFault → List ℕ
 table_line name table.Memory = run_line Memory
-table_line name fault = last_fault_line name (table_report fault)
+table_line name fault = report_line (name ∷ []) (table_report fault)
 
 -- the line before status 2, or the usage text; nothing where the run went through
 -- rule: status-of-usage, status-of-open

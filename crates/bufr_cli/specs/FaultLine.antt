@@ -10,7 +10,6 @@ use Rattle.bufr_text.specs.Prelude.{line_report, document_report, line_of_fault}
 use Rattle.bufr_text.specs.declared.fault.DocumentFault.{DocumentFault}
 use Rattle.bufr_cli.specs.declared.fault_line.StreamFault.{StreamFault}
 use Rattle.bufr_cli.specs.declared.fault_line.StreamFault.TheVariants as stream
-use Rattle.bufr_text.specs.declared.fault.TextLineFault.{TextLineFault}
 use Rattle.bufr_text.specs.declared.fault.ReadFault.{ReadFault}
 use Rattle.std.specs.List.{concat}
 use Rattle.bufr_text.specs.declared.fault.ReadFault.TheVariants as read
@@ -21,30 +20,24 @@ stream_report (stream.Section fault) = section_report fault
 stream_report (stream.Template fault) = template_report fault.now
 stream_report (stream.Data fault) = data_report fault.now
 
--- the prefix of a line: a word, the position that it counts, and the fault's number
-abbrev pub prefix_texts : (word : List ℕ) (position number : ℕ) → List (List ℕ)
-prefix_texts word position number =
-    word ∷ decimal position ∷ codes ": " ∷ decimal number ∷ codes " " ∷ []
+-- a line that reports a fault: what it is of, its number and its text
+abbrev pub report_line : (subject : List (List ℕ)) → (report : ℕ × List (List ℕ)) → List ℕ
+report_line subject report =
+    concat (subject ++ decimal report.0 ∷ codes " " ∷ (report.1 ++ codes "\n" ∷ []))
 
--- the line of a fault at the offset of `BUFR`: its number and its text
+-- the line of a fault at the offset of `BUFR`
 -- rule: stream-fault-line
 abbrev pub fault_line : (offset : ℕ) → (report : ℕ × List (List ℕ)) → List ℕ
-fault_line offset report =
-    concat (prefix_texts (codes "offset ") offset report.0 ++ (report.1 ++ codes "\n" ∷ []))
+fault_line offset = report_line (codes "offset " ∷ decimal offset ∷ codes ": " ∷ [])
 
--- the line of a fault at a line of the text, from 1: its number and its text
-abbrev pub document_line : (line : ℕ) → (report : ℕ × List (List ℕ)) → List ℕ
-document_line line report =
-    concat (prefix_texts (codes "line ") line report.0 ++ (report.1 ++ codes "\n" ∷ []))
-
--- a line that is refused
+-- the line of a fault at a line of the text, from 1
 -- rule: fault-lines-of-reading
-abbrev pub refused_line : (line : ℕ) → TextLineFault → List ℕ
-refused_line line fault = document_line line (line_report fault)
+abbrev pub document_line : (line : ℕ) → (report : ℕ × List (List ℕ)) → List ℕ
+document_line line = report_line (codes "line " ∷ decimal line ∷ codes ": " ∷ [])
 
 -- the line of a fault of the reading; that of a device or of memory has none
 abbrev pub line_of_read_fault : ReadFault → List ℕ
-line_of_read_fault (read.Line line fault) = refused_line line fault
+line_of_read_fault (read.Line line fault) = document_line line (line_report fault)
 line_of_read_fault (read.Run fault) = []
 
 -- a document that is refused: its template's fault is reported as that of a message; want of memory

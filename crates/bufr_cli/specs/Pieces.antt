@@ -1,14 +1,14 @@
 -- What each command writes for an input, in order, and on which writer. (a choice of this project)
 -- Cited by public contracts.
-use Rattle.std.specs.Prelude.{ℕ, Bool, true, false, List, [], ◌∷◌, map, Result, Ok, Err}
+use Rattle.std.specs.Prelude.{ℕ, Bool, true, false, not, List, [], ◌∷◌, map, Result, Ok, Err}
 use Rattle.std.specs.Option.{option_map_or}
 use Rattle.std.specs.Result.{result_map_both}
 use Rattle.bufr_bits.specs.Prelude.{◌>>=◌, map_err}
 use Rattle.bufr_frame.specs.Prelude.{StreamEvent, FrameAt, StrayAt, cause_report, section_report, Sections, sections_of}
 use Rattle.bufr_frame.specs.declared.fault.SectionFault.{SectionFault}
-use Rattle.bufr_text.specs.Prelude.{ls_line, dump_text_of, ParseResult, Complete, Refused, encoding_in, dump_items}
+use Rattle.bufr_text.specs.Prelude.{ls_line, dump_text_of, ParseResult, Complete, Refused, encoding_in, dump_items, line_report}
 use Rattle.bufr_text.specs.declared.fault.DocumentFault.{DocumentFault}
-use Rattle.bufr_cli.specs.FaultLine.{fault_line, refused_line, refusal_line}
+use Rattle.bufr_cli.specs.FaultLine.{fault_line, document_line, refusal_line}
 use Rattle.bufr_tables.specs.Prelude.{tree_of, tables_of, template_report, Row, Sequence}
 use Rattle.bufr_walk.specs.Prelude.{next_item, data_report, data_of, reading_of, fault_of, DataReading}
 use Rattle.bufr_text.specs.declared.encode.Form.{Form}
@@ -35,8 +35,7 @@ is_accepted (OnErrors text) = false
 
 -- whether a piece goes to the errors: its event was refused
 abbrev pub is_refused : Piece → Bool
-is_refused (OnOutput text) = false
-is_refused (OnErrors text) = true
+is_refused piece = not (is_accepted piece)
 
 -- a text, or the fault line of a report
 -- rule: refused-messages-write-nothing
@@ -79,7 +78,7 @@ encoded (Err why) = OnErrors (refusal_line why)
 -- rule: document-read-first
 abbrev pub result_piece : Form → List Row → List Sequence → ParseResult → Piece
 result_piece form b d (Complete document) = encoded (encoding_in form b d document)
-result_piece form b d (Refused line fault) = OnErrors (refused_line line fault)
+result_piece form b d (Refused line fault) = OnErrors (document_line line (line_report fault))
 
 -- nothing more is written after the first fault
 -- rule: first-refusal-ends

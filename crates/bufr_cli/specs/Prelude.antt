@@ -3,7 +3,7 @@ pub use Rattle.bufr_cli.specs.RoundTrip.{accepted_in, accepted_messages, dump_pi
 unfoldable pub use Rattle.bufr_cli.specs.RoundTrip.{normal_texts}
 pub use Rattle.bufr_cli.specs.Running.{HandsOn, IsHandedOn, HandsOnBoth, IsFlushedIf, FlushesIf, HandsOnWritten, unflushed_after, RunPieces, WritesWhole, event_pieces, read_pieces, ReadsAndWrites, RunEnds, IsAllWritten, IsUnrefused, FlushesAtMost, FlushesByRead, NoFlushFails, LeavesDevices, WritesPieces, WritesPrefixes, Tallies, ReadsFewer, BlamesWriter, CountsCalls, Input, Writers, ReadsAll, WrittenInPart, holding, document_pieces, ReadsAtMost, Writer, input_of, writers_of, OnlyWrites, writer_of, IsSame, HasFailed}
 pub use Rattle.bufr_cli.specs.Steps.{LeavesOther, LeavesPiece, StopsPiece, RunReads, counted_accepted, counted_refused, tally_after, Progress, no_progress, with_piece, with_octets, IsOpen, IsDone, IsCut, TakesStep, ReadsOctets, CountsRead, WritesEvents, NeedsOctets, WritesDocuments, EncodesDocuments, NeedsText}
-pub use Rattle.bufr_cli.specs.FaultLine.{document_line, line_of_read_fault, refusal_line, refused_line, prefix_texts, fault_line, stream_report}
+pub use Rattle.bufr_cli.specs.FaultLine.{report_line, document_line, line_of_read_fault, refusal_line, fault_line, stream_report}
 pub use Rattle.bufr_cli.specs.Pieces.{Piece, output_of, errors_of, is_accepted, is_refused, dump_piece, OnOutput, OnErrors, text_or_fault, dump_or_report, encode_pieces, encoded, result_piece, ls_piece}
 unfoldable pub use Rattle.bufr_cli.specs.Pieces.{up_to_refused}
 pub use Rattle.bufr_cli.specs.Ending.{EndsRun, FlushesRest, WritesLine, run_line, last_line, status_of, table_line}

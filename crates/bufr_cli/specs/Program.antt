@@ -27,14 +27,9 @@ use Rattle.bufr_cli.specs.declared.job.LineFault.{LineFault}
 use Rattle.bufr_cli.specs.declared.job.LineFault.TheVariants.{Help, Usage, Memory}
 
 -- The name of what is opened: of a file, or none for standard input.
-pub record InputName : Type 0 where
-  pub name : Option (List ℕ)
-
-abbrev pub standard_name : InputName
-standard_name = record { name = None }
-
-abbrev pub file_name : List ℕ → InputName
-file_name name = record { name = Some name }
+pub data InputName : Type 0 where
+  standard_name : InputName
+  file_name : (name : List ℕ) → InputName
 
 -- where it is known what was opened before, these were opened after it
 abbrev pub Opens : (before after : Option (List InputName)) → List InputName → Type 0
@@ -54,12 +49,7 @@ abbrev pub known : {Standard File : Type 0} → (standard : Option (List ℕ))
     → (named : List ℕ → Option (List ℕ)) → (Standard → Input) → (File → Input)
     → Known Standard File
 known standard named of_standard of_file =
-    record {
-      standard = standard;
-      named = named;
-      of_standard = of_standard;
-      of_file = of_file;
-    }
+    record { standard = standard; named = named; of_standard = of_standard; of_file = of_file }
 
 -- the pieces of a command whose tables were read
 abbrev pub command_pieces : Command → RunPieces

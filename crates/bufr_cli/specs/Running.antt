@@ -1,7 +1,7 @@
 -- What a run leaves: its reads, its writes, its counts, and the devices that a fault is of.
 -- (A choice of this project)
 -- Cited by public contracts.
-use Rattle.std.specs.Prelude.{ℕ, ◌+◌, Bool, true, OnOk, IfErr, IfOk, ◌≢◌, List, Option, ◌≡◌, ◌⊎◌, Result, Ok, Err, ◌<◌, ◌≤◌, false, ◌++◌, None, flat_map, count_by, option_to_list, map, [], IfSome, Vec, length}
+use Rattle.std.specs.Prelude.{if◌then◌else◌, ◌+◌, ℕ, Bool, true, OnOk, IfErr, IfOk, ◌≢◌, List, Option, ◌≡◌, ◌⊎◌, Result, Ok, Err, ◌<◌, ◌≤◌, false, ◌++◌, None, flat_map, count_by, option_to_list, map, [], IfSome, Vec, length}
 use Rattle.bufr_frame.specs.declared.fault.RunFault.{RunFault}
 use Rattle.bufr_frame.specs.declared.fault.RunFault.TheVariants.{Read, Write, InputTooLong, Memory}
 use Rattle.bufr_text.specs.Prelude.{CountsWrites, GrowsByPrefix, documents_of, open_documents_of}
@@ -173,8 +173,7 @@ document_pieces form b d =
 
 -- the pieces of the octets that were read: all at the end of the input, else those that are certain
 abbrev pub read_pieces : RunPieces → (ended : Bool) → List ℕ → List Piece
-read_pieces pieces true bs = pieces.whole bs
-read_pieces pieces false bs = pieces.certain bs
+read_pieces pieces ended bs = if ended then pieces.whole bs else pieces.certain bs
 
 -- what was written to a writer is handed on: nothing was, or all that the writer took is
 abbrev pub IsHandedOn : (before after : Writer) → Type 0
@@ -293,7 +292,8 @@ NoFlushFails before after =
 -- written and counted, whatever may follow what was read. Nothing follows the end, and after a
 -- refusal that ends the run nothing counts. A read that failed, or was not made, came after all
 -- that is certain. An input is too long only if 2^32 octets of it were read. A flush that
--- failed came after all. Memory was wanted where a piece was to be written, or before all of the reads were made.
+-- failed came after all. Memory was wanted where a piece was to be written, or before all of the
+-- reads were made.
 -- rule: input-not-read, fault-line-not-written, reader-gone, fault-70
 abbrev pub RunEnds : {pieces : RunPieces} → {from to : Input} → {before after : Writers}
     → ReadsAndWrites pieces from to before after → Result Tally RunFault → Type 0

@@ -5,7 +5,7 @@ ghost use Rattle.bufr_tables.specs.Prelude.{fxy_text, template_report};
 ghost use Rattle.bufr_walk.specs.Prelude.{data_report, spot_text};
 ghost use Rattle.bufr_fill.specs.Prelude.{expected_text, item_report};
 ghost use Rattle.bufr_text.specs.Prelude.{line_report, Pushes, Writes};
-ghost use Rattle.bufr_cli.specs.Prelude.{fault_line, stream_report, prefix_texts, document_line, line_of_read_fault, refusal_line, OnlyWrites, writer_of};
+ghost use Rattle.bufr_cli.specs.Prelude.{fault_line, stream_report, document_line, line_of_read_fault, refusal_line, OnlyWrites, writer_of};
 ghost use Rattle.std.specs.List.{concat};
 
 use bufr_bits::Sink;
@@ -44,7 +44,8 @@ fn push_number<E: Sink>(line: &mut LineWriter<'_, '_, E>, number: u8)
 #[inline(always)]
 // rule: stream-fault-line
 fn push_prefix<E: Sink>(line: &mut LineWriter<'_, '_, E>, word: &[u8], position: u64, number: u8)
-    ensures { Pushes line.old (concat (prefix_texts word.now position number)) line.new }
+    ensures { Pushes line.old (concat (word.now ∷ decimal position ∷ codes ": " ∷ decimal number
+        ∷ codes " " ∷ [])) line.new }
 {
     line.push_named(word, position);
     push_number(line, number);

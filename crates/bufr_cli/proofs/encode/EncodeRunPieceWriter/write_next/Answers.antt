@@ -3,8 +3,8 @@ use Rattle.std.proofs.lemmas.Result.{err_from_is_err_and}
 use Rattle.bufr_text.proofs.CallLemmas.{call-none}
 use Rattle.bufr_cli.specs.declared.outcome.Verdict.TheVariants as verdict
 use Rattle.bufr_frame.specs.declared.fault.RunFault.{RunFault}
-use Rattle.bufr_text.specs.Prelude.{Complete, Refused}
-use Rattle.bufr_cli.specs.Prelude.{OnErrors, refused_line, writers_of}
+use Rattle.bufr_text.specs.Prelude.{line_report, Complete, Refused}
+use Rattle.bufr_cli.specs.Prelude.{document_line, OnErrors, writers_of}
 use Rattle.bufr_cli.proofs.DumpLemmas.{errors-reported, line-stopped}
 use Rattle.bufr_cli.proofs.FaultLineLemmas.{as_read}
 use Rattle.bufr_text.specs.declared.fault.ReadFault.TheVariants.{Run}
@@ -62,7 +62,7 @@ returns-in_err-write_read_fault-in-Some-Err g c =
     let some : (run : RunFault) → here.fault ≡ Run run → ⊥ = λ run is. search rules in
     let refusal = read-refusal here.fault some in
     let fault = c.in_err-write_read_fault-in-Some-Err.field-0.0 in
-    let cut = line-stopped _ _ _ c.write_read_fault.result fault (Err fault) (OnErrors (refused_line refusal.0 refusal.1)) refl
+    let cut = line-stopped _ _ _ c.write_read_fault.result fault (Err fault) (OnErrors (document_line refusal.0 (line_report refusal.1))) refl
     (as_read _ _ _ here.fault refusal.0 refusal.1 refusal.2 c.write_read_fault.ensures.writes) refl
     c.in_err-write_read_fault-in-Some-Err.was refl in
     record {
@@ -101,7 +101,7 @@ returns-in_ok-write_read_fault-in-Some-Err g c =
     let some : (run : RunFault) → here.fault ≡ Run run → ⊥ = λ run is. search rules in
     let refusal = read-refusal here.fault some in
     let reported = errors-reported (writers_of g.W.Sink c.args.w.now g.E.Sink c.args.e.now) (writers_of g.W.Sink c.args.w.now g.E.Sink c.write_read_fault.new.e) _
-    (OnErrors (refused_line refusal.0 refusal.1)) refl
+    (OnErrors (document_line refusal.0 (line_report refusal.1))) refl
     (rw c.in_ok-write_read_fault-in-Some-Err.was at (as_read _ _ _ here.fault refusal.0 refusal.1 refusal.2 c.write_read_fault.ensures.writes)) refl in
     record {
       next = λ so reached.
