@@ -624,8 +624,8 @@ class Values(WithFolder):
         for size in (1, 1 << 20):
             with unittest.mock.patch.multiple(bufr_parts, _PART=size, _PART_OF_ALL=size):
                 alone = bufr.frame(old, words)
-                both, notes = told_by(lambda: bufr.frame([old, new, old], words))
-                items, notes_of_items = told_by(lambda: bufr.items([old, new]))
+                both, notes = told_by(lambda: bufr.frame(old + new + old, words))
+                items, notes_of_items = told_by(lambda: bufr.items(old + new))
             self.assertEqual([str(kind) for kind in alone.dtypes], ["float64", "float64", "object", "Int64"])
             units = ["K", "m2 rad-1 s", "CCITT IA5", "CODE TABLE"]
             self.assertEqual([alone.attrs[word]["unit"] for word in words], units)
