@@ -176,7 +176,7 @@ def pieces(files: Union[Path, Iterable[Path]], size: int = 1 << 26, *, faults: F
     checked_faults(faults)
     for file in [files] if isinstance(files, (str, os.PathLike)) else files:
         if not isinstance(file, (str, os.PathLike)) or file == "-":
-            raise TypeError(f"expected the name of a file, which other processes can open too, found {file!r}")
+            raise TypeError(f"expected the name of a file that other processes can open, found {file!r}")
         begin = 0
         for stream in _opened(file):
             for end, _ in _divided(stream, size, are_pieces=True):

@@ -551,9 +551,11 @@ def checked(
     for word in (*columns, *keep):
         if not isinstance(word, str) or not form.fullmatch(word):
             if isinstance(word, str) and _COLUMN.fullmatch(word):
-                raise ValueError(f"'{word}' has a count, which is possible only in a row for a whole subset; pass '{word[:6]}'")
+                allowed = "counts are allowed only in columns that apply to a whole subset"
+                raise ValueError(f"'{word}' has a count, but {allowed}; pass '{word[:6]}'")
             if re.fullmatch(r"\d{6}", str(word)):
-                raise ValueError(f"no table can define {word}, because descriptors FXXYYY end at 3, 63 and 255")
+                limits = "in a descriptor FXXYYY, F is at most 3, XX at most 63, and YYY at most 255"
+                raise ValueError(f"no table defines {word}, because {limits}")
             raise ValueError(f"expected a descriptor such as 012101, found {word!r}{_meant(str(word), keys)}")
         # The characters that 2 05 Y inserts are the only items whose descriptor is not that of an element.
         if word[0] in "123" and word[:3] != "205":

@@ -388,7 +388,7 @@ class Sources(WithFolder):
         with self.assertRaisesRegex(ValueError, "faults must be"):
             bufr.pieces([], faults="no")
         for files in ("-", [SYNOP, "-"], [b"BUFR"], [5], [bufr.Piece(str(SYNOP), 0, 595)]):
-            with self.assertRaisesRegex(TypeError, "expected the name of a file, which other processes can open too, found "):
+            with self.assertRaisesRegex(TypeError, "expected the name of a file that other processes can open, found "):
                 bufr.pieces(files)
 
     def test_progress(self):
@@ -553,11 +553,11 @@ class Values(WithFolder):
                 with self.assertRaisesRegex(ValueError, told):
                     call(SYNOP, *words)
         for call in (bufr.items, bufr.levels, bufr_text.levels, lambda *words: bufr.frame(*words, levels=True)):
-            with self.assertRaisesRegex(ValueError, "^'012101:2' has a count, which is possible only in .*; pass '012101'$"):
+            with self.assertRaisesRegex(ValueError, "^'012101:2' has a count, but counts are allowed .*; pass '012101'$"):
                 call(SYNOP, ["012101:2"])
         for call in (bufr.frame, bufr.items, bufr_text.rows):
             for word in ("012999", "064001", "401001", 912101):
-                with self.assertRaisesRegex(ValueError, f"^no table can define {word}, because "):
+                with self.assertRaisesRegex(ValueError, f"^no table defines {word}, because in a descriptor FXXYYY, "):
                     call(SYNOP, ["001015", word])
         with self.assertRaisesRegex(ValueError, "'001002'"):
             bufr.levels(SYNOP, ["012101"], keep="001002")
