@@ -19,7 +19,7 @@ function raises `Failed` if it cannot continue.
 - `opened`, `temporary` and `copied` return file descriptors. They raise `Failed` if there is no space for temporary
   files. `output` returns an object that writes to a descriptor (by default, standard output) in large blocks.
 - `say` writes lines to standard error, and `Progress` displays a temporary progress line. `bare` returns the note for a
-  file that contains no message.
+  file that contains no messages.
 
 Every script loads this module, so it imports as few modules as possible.
 """
@@ -292,7 +292,7 @@ def bare(file: Optional[str], begin: bytes, piece: str = "message") -> bytes:
     if kind is None and all(octet >= 32 or octet in b"\1\3\t\n\r" for octet in head):
         kind = "text"
     looks = ": it is empty" if not begin else f": it looks like {kind}" if kind else ""
-    return f"{name()}: {shown(file or 'standard input')} contains no {piece}{looks}\n".encode()
+    return f"{name()}: {shown(file or 'standard input')} contains no {piece}s{looks}\n".encode()
 
 
 class Progress:

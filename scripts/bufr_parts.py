@@ -89,8 +89,8 @@ class _Stream:
         return octets
 
     def no_message(self) -> str:
-        """Returns the warning for a file that contains no message, including a guess at the type of the file."""
-        return f"{self.name}: the file contains no message{looks(self.start)}"
+        """Returns the warning for a file that contains no messages, including a guess at the type of the file."""
+        return f"{self.name}: the file contains no messages{looks(self.start)}"
 
 
 def _opened(source: Source) -> Iterator[_Stream]:
@@ -254,7 +254,7 @@ class Reader:
             self.chooser.known.clear()  # it contains the counts of the previous notes
 
     def end_file(self) -> None:
-        """Warns about faults in a file, about table sets that may not match, and about messages that were left out."""
+        """Warns about faults in a file, table sets that may not match its messages, and messages that were left out."""
         told = self.counts.told() if self.faults == "warn" else []
         if self.chooser is not None:
             lines = self.chooser.notes.lines("message", "")

@@ -210,7 +210,7 @@ class FaultCounts:
             strays = "1 stray" if self.strays == 1 else f"{self.strays} strays"
             kinds.append(f"skipped {strays} ({STRAY})")
         where = " " if self.refused + self.strays == 1 else "; the first fault is "
-        advice = "to get all faults, pass a list as faults; 'Faults and remedies' in the guide explains them"
+        advice = "to get all faults, pass an empty list as the argument faults; 'Faults and remedies' in the guide explains them"
         return [f"{' and '.join(kinds)}{where}at {self.first.line()}; {advice}"]
 
 
@@ -941,7 +941,7 @@ class _Told:
     def end(self, stream: IO[bytes]) -> None:
         """Reports the remaining strays. Then issues a warning with the number of faults, and a warning for each note."""
         self.up_to(float("inf"))
-        self.warn([f"the file contains no message{looks(os.pread(stream.fileno(), 256, 0))}"] * self.is_bare)
+        self.warn([f"the file contains no messages{looks(os.pread(stream.fileno(), 256, 0))}"] * self.is_bare)
 
     def warn(self, told: Sequence[str] = ()) -> None:
         told = [*told]
@@ -981,7 +981,7 @@ def looks(begin: bytes) -> str:
     """Returns a guess at what a file without messages contains, such as `: it is empty`, or an empty string."""
     import bufr_guard
 
-    return bufr_guard.bare(None, begin[:256]).decode(errors="replace").rstrip().partition("contains no message")[2]
+    return bufr_guard.bare(None, begin[:256]).decode(errors="replace").rstrip().partition("contains no messages")[2]
 
 
 def _listed(stream: IO[bytes], errors: IO[bytes], told: _Told) -> Iterator[Listed]:

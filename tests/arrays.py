@@ -353,7 +353,7 @@ class Sources(WithFolder):
             for call in (bufr.messages, bufr.pieces, bufr.items, lambda source: bufr.frame(source, ["012101"])):
                 with self.assertWarns(bufr.DumpWarning) as warned:
                     call(self.stream)
-                self.assertEqual(str(warned.warning), f"{self.stream}: the file contains no message{told}")
+                self.assertEqual(str(warned.warning), f"{self.stream}: the file contains no messages{told}")
                 self.assertEqual(warned.filename, __file__)
             for faults, kinds in (("raise", [bufr.BufrError]), ("ignore", []), ([], [bufr.DumpWarning])):
                 with warnings.catch_warnings(record=True) as warned:
@@ -362,10 +362,10 @@ class Sources(WithFolder):
                         list(bufr.rows(self.stream, ["012101"], faults=faults))
                     except bufr.BufrError as error:
                         self.assertEqual((error.file, kinds), (str(self.stream), [bufr.BufrError]))
-                        self.assertTrue(error.number or str(error) == f"{self.stream}: the file contains no message{told}")
+                        self.assertTrue(error.number or str(error) == f"{self.stream}: the file contains no messages{told}")
                     else:
                         self.assertEqual([one.category for one in warned], kinds)
-        with self.assertRaisesRegex(bufr.BufrError, "^bytes: the file contains no message: it is empty$") as error:
+        with self.assertRaisesRegex(bufr.BufrError, "^bytes: the file contains no messages: it is empty$") as error:
             bufr.frame([SYNOP, b""], ["012101"], faults="raise")
         self.assertEqual((error.exception.file, error.exception.offset, error.exception.number), ("bytes", None, None))
         # but not of a piece of a file
@@ -382,7 +382,7 @@ class Sources(WithFolder):
         self.assertEqual(told_by(lambda: len(bufr.pieces([empty, SYNOP], faults="ignore"))), (2, []))
         for faults in ("warn", []):
             self.assertEqual(len(told_by(lambda: bufr.pieces([empty, SYNOP], faults=faults))[1]), 1)
-        with self.assertRaisesRegex(bufr.BufrError, "the file contains no message: it is empty$") as error:
+        with self.assertRaisesRegex(bufr.BufrError, "the file contains no messages: it is empty$") as error:
             bufr.pieces([SYNOP, empty], faults="raise")
         self.assertEqual(error.exception.file, str(empty))
         with self.assertRaisesRegex(ValueError, "faults must be"):
@@ -438,7 +438,7 @@ class Sources(WithFolder):
             self.assertEqual(told_by(lambda: bufr.messages(source, where=["category=0"]))[1], [])
         _, told = told_by(lambda: bufr.messages(self.folder / "empty", where=["category=0"]))
         self.assertEqual(len(told), 1)
-        self.assertIn("the file contains no message", told[0])
+        self.assertIn("the file contains no messages", told[0])
         # each file has its own note
         old = self.folder / "old"
         one = next(one for one in bufr_text.listing(self.stream, []) if one.edition == 3)
@@ -737,7 +737,7 @@ class Faults(WithFolder):
             with self.assertWarns(bufr.DumpWarning) as warned:
                 call(self.stream)
             stray, first = f"({bufr_text.STRAY})", "the first fault is at offset 0: 2 short length"
-            wanted = f"refused 2 messages and skipped 2 strays {stray}; {first}; to get all faults, pass a list as faults; "
+            wanted = f"refused 2 messages and skipped 2 strays {stray}; {first}; to get all faults, pass an empty list as the argument faults; "
             self.assertTrue(str(warned.warning).startswith(f"{self.stream}: {wanted}"), warned.warning)
             self.assertEqual(warned.filename, __file__)
         refused = lib.message(b"\x14", b"\x3f\xff")

@@ -495,12 +495,12 @@ class Trial:
             file = self.place / "other"
             file.write_bytes(begin)
             done = self.auto(str(file))
-            note = f"bufr-auto: {file} contains no message{': it ' + kind if kind else ''}\n".encode()
+            note = f"bufr-auto: {file} contains no messages{': it ' + kind if kind else ''}\n".encode()
             told = done.stderr.splitlines(True)[-1:] == [note]
             self.holds(f"{kind}", told and (done.stdout, done.returncode) == (b"", status), (done, note))
         file = self.place / "a\x1b[31mb"
         file.write_bytes(b"x" * 300 + b"\0")
-        note = f"bufr-auto: {self.place}/a\\x1B[31mb contains no message: it looks like text\n".encode()
+        note = f"bufr-auto: {self.place}/a\\x1B[31mb contains no messages: it looks like text\n".encode()
         self.holds("a name with an escape", self.auto(str(file)).stderr == note, self.auto(str(file)))
         # What two reads give is looked at as a whole.
         pipes = dict(stdin=subprocess.PIPE, stdout=subprocess.PIPE, stderr=subprocess.PIPE, bufsize=0)
@@ -508,12 +508,12 @@ class Trial:
             child.stdin.write(b"\x1f")
             self.wait(lambda: fcntl.ioctl(child.stdin, termios.FIONREAD, bytes(4)) == bytes(4))
             _, told = child.communicate(b"\x8b\x08abc")
-        note = b"bufr-auto: standard input contains no message: it looks like gzip data (use zcat)\n"
+        note = b"bufr-auto: standard input contains no messages: it looks like gzip data (use zcat)\n"
         self.holds("gzip data in two reads", (child.returncode, told) == (0, note), told)
         done = self.auto(stream=b"")
-        self.holds("an empty input", done.stderr == b"bufr-auto: standard input contains no message: it is empty\n", done)
+        self.holds("an empty input", done.stderr == b"bufr-auto: standard input contains no messages: it is empty\n", done)
         done = self.auto("--encode", stream=b"")
-        self.holds("no text", done.stderr == b"bufr-auto: standard input contains no document: it is empty\n", done)
+        self.holds("no text", done.stderr == b"bufr-auto: standard input contains no documents: it is empty\n", done)
 
     def notes(self) -> None:
         """One for each kind, with a count and the first place, and only where such a descriptor is used."""
@@ -598,7 +598,7 @@ class Trial:
             done = self.auto(*words, stream=pathlib.Path(file).read_bytes())
             self.holds(f"standard input by {words}", done.stdout == (TOP / "examples/synop.txt").read_bytes(), done)
         done = self.auto("-", "-", stream=pathlib.Path(file).read_bytes())
-        told = b"bufr-auto: standard input contains no message: it is empty\n"
+        told = b"bufr-auto: standard input contains no messages: it is empty\n"
         wanted = ((TOP / "examples/synop.txt").read_bytes(), told, 0)
         self.same("standard input twice", (done.stdout, done.stderr, done.returncode), wanted)
         done = self.auto(file, BUFR_TABLES="")

@@ -253,7 +253,7 @@ def main() -> None:
         for name in ("wmo-12+98-102", "wmo-15+198-102", "xmo-15+98-102"):
             shutil.rmtree(tables / name)
         holds("nothing lacks", script("bufr-lacks", message), (0, "", ""))
-        told = "bufr-lacks: standard input contains no message: it looks like HTML\n"
+        told = "bufr-lacks: standard input contains no messages: it looks like HTML\n"
         holds("no message", script("bufr-lacks", b"<HTML>"), (0, "", told))
         holds("a fault alone", script("bufr-lacks", b"BUFR" + message), (1, "", "offset 0: 1 cut\n"))
         (place / "stream").write_bytes(b"BUFR" + message + b"".join(others))
@@ -269,7 +269,7 @@ def main() -> None:
             stream.seek(len(message))
             words = [sys.executable, TOP / "scripts/bufr-lacks"]
             done = subprocess.run(words, stdin=stream, capture_output=True, env=environment)
-        told = b"bufr-lacks: standard input contains no message: it looks like text\n"
+        told = b"bufr-lacks: standard input contains no messages: it looks like text\n"
         holds("bufr-lacks after a message", (done.returncode, done.stdout, done.stderr), (0, b"", told))
         nearest_own_set(place / "tables", script, message_9, holds)
         versions_and_editions(script, holds)

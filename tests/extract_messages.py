@@ -249,7 +249,7 @@ def tells_that_there_is_no_message(path: pathlib.Path) -> None:
         for words in ([], ["category=9"], ["--awk", "0"]):
             for name, done in ((path, run([*words, path])), ("standard input", run(words, input=octets))):
                 lines = done.stderr.decode().splitlines()
-                wanted = [] if told is None else [f"bufr-extract: {name} contains no message{told}"]
+                wanted = [] if told is None else [f"bufr-extract: {name} contains no messages{told}"]
                 want((done.returncode, lines[status:]) == (status, wanted), f"{words} of {octets[:9]}: {done}")
 
 
@@ -259,7 +259,7 @@ def begins_after_a_message(path: pathlib.Path) -> None:
     with path.open("rb", buffering=0) as stream:
         stream.seek(len(made(1)))
         done = run([], stdin=stream)
-    told = b"bufr-extract: standard input contains no message: it looks like text\n"
+    told = b"bufr-extract: standard input contains no messages: it looks like text\n"
     want((done.returncode, done.stdout, done.stderr) == (0, b"", told), f"after a message: {done}")
 
 

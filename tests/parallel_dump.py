@@ -88,14 +88,14 @@ def same_as_one_run(program: str, folder: pathlib.Path) -> None:
         subprocess.run([*PARALLEL, "dump", *TABLES, path], stdout=text, stderr=subprocess.DEVNULL)
     want((folder / "text").read_bytes() == one[1], "onto the end of a file something else is written")
     empty = run([*PARALLEL, "dump", *TABLES], stdin=subprocess.DEVNULL)
-    told = b"bufr-parallel: standard input contains no message: it is empty\n"
+    told = b"bufr-parallel: standard input contains no messages: it is empty\n"
     want(empty == (0, b"", told), f"of nothing comes {empty}")
     small.write_bytes(b"\x1f\x8bBUFR\0\0\0\4")
     status, output, errors = run([*PARALLEL, "dump", *TABLES, small])
-    told = f"offset 2: 2 short length\nbufr-parallel: {small} contains no message: it looks like gzip data (use zcat)\n"
+    told = f"offset 2: 2 short length\nbufr-parallel: {small} contains no messages: it looks like gzip data (use zcat)\n"
     want((status, output, errors.decode()) == (1, b"", told), f"of a wrong file it is told {errors}")
     both = run([*PARALLEL, "dump", *TABLES, os.devnull, "-"], stdin=subprocess.DEVNULL)
-    told = b"bufr-parallel: /dev/null standard input contains no message: it is empty\n"
+    told = b"bufr-parallel: /dev/null standard input contains no messages: it is empty\n"
     want(both == (0, b"", told), f"of two empty files comes {both}")
     # A fault of a part comes before the dump of the next one.
     octets = STRAY + lib.message(bytes(70_000)) * 2

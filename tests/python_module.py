@@ -699,12 +699,12 @@ class Runs(unittest.TestCase):
             for call, words in ((bufr_text.dump, TABLES), (bufr_text.dump, []), (bufr_text.listing, [])):
                 with self.assertWarns(bufr_text.DumpWarning) as warned:
                     self.assertEqual(list(call(self.stream, *words)), [])
-                self.assertEqual(str(warned.warning), f"{self.stream}: the file contains no message{told}")
+                self.assertEqual(str(warned.warning), f"{self.stream}: the file contains no messages{told}")
         self.stream.write_bytes(web)
         with warnings.catch_warnings(record=True) as told, contextlib.redirect_stderr(io.StringIO()):
             warnings.simplefilter("always")
             list(bufr_text.dump(self.stream))
-        wanted = ["the file contains no message: it looks like HTML", "skipped 20 strays (the word BUFR outside any complete message, for example at the start of an incomplete one)"]
+        wanted = ["the file contains no messages: it looks like HTML", "skipped 20 strays (the word BUFR outside any complete message, for example at the start of an incomplete one)"]
         self.assertEqual([str(one.message).partition("; ")[0] for one in told], [f"{self.stream}: {text}" for text in wanted])
 
     def test_failures_are_told(self):
