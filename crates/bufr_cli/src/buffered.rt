@@ -129,6 +129,8 @@ impl<S: Sink> Buffered<S> {
         ensures failures { self.new.failures ≡ self.old.failures }
         ensures flushes { flushes_by self.new ≡ flushes_by self.old }
         ensures calls { CallsAtMost S.Sink 2 0 self.old.sink self.new.sink }
+        ensures full { IfOk result (λ n. n < length buf.now
+            → CallsAtMost S.Sink 1 0 self.old.sink self.new.sink) }
     {
         self.hand_on()?;
         if buf.len() <= self.capacity && self.held.extend_from_slice(buf).is_ok() {
@@ -173,6 +175,8 @@ impl<S: Sink> Buffered<S> {
         ensures again { 0 < self.old.failures → IsErr result × (self.new.sink ≡ self.old.sink)
             × (self.new.held ≡ self.old.held) }
         ensures calls { CallsAtMost S.Sink 2 0 self.old.sink self.new.sink }
+        ensures full { IfOk result (λ n. n < length buf.now
+            → CallsAtMost S.Sink 1 0 self.old.sink self.new.sink) }
     {
         if self.failures == 0
             && let Ok(n) = self.write_through(buf)
@@ -207,8 +211,11 @@ impl<S: Sink> Sink for Buffered<S> {
             → vec_len self.old.held + length buf.now
             ≤ min self.old.capacity (vec_capacity self.old.held)
             → (result ≡ Ok (length buf.now)) × (self.new.sink ≡ self.old.sink) }
-        // Other octets make at most one write of those that are held, and one of their own.
+        // Other octets make at most one write of those that are held, and one of their own. If it
+        // does not take all of them, the sink was given all of them.
         ensures calls { CallsAtMost S.Sink 2 0 self.old.sink self.new.sink }
+        ensures full { IfOk result (λ n. n < length buf.now
+            → CallsAtMost S.Sink 1 0 self.old.sink self.new.sink) }
         ensures empty { 0 ≡ empty_writes_after 0 buf.now result }
         ensures flushed { flushes_by self.new ≡ flushes_by self.old }
         ensures handed { flushed_by S.all_flushed self.new
