@@ -38,9 +38,10 @@ impl Model for BitWriter {
 }
 
 impl BitWriter {
-    /// A writer of no bits yet. It takes no memory.
+    /// Returns a writer of no bits yet. It allocates no memory.
     pub fn new(alloc: Global) -> BitWriter
-        ensures { result.bits ≡ [] }
+        ensures bits { result.bits ≡ [] }
+        ensures room { result.room ≡ 0 }
     {
         BitWriter {
             octets: Vec::new(alloc),
