@@ -160,9 +160,9 @@ def _divided(stream: _Stream, size: int, are_pieces: bool = False) -> Iterator[T
 def pieces(files: Union[Path, Iterable[Path]], size: int = 1 << 26, *, faults: Faults = "warn") -> List[Piece]:
     """Divides files into pieces of about `size` bytes. Returns the pieces in order; together, they cover every byte.
 
-    A piece begins and ends between messages. If a file contains strays, a piece can be up to 16 MB longer. A file without
-    messages is reported here, because a piece may be without messages: with `faults="raise"`, it raises `BufrError`. Pass
-    each piece to a function of this module, for example in another process:
+    A piece begins and ends between messages. If a file contains strays, a piece can be up to 16 MB longer. If a file contains
+    no messages, `pieces` itself warns about this or, with `faults="raise"`, raises `BufrError`. Pass each piece to a function
+    of this module, for example in another process:
 
         >>> from concurrent.futures import ProcessPoolExecutor
         >>> from functools import partial
@@ -213,7 +213,7 @@ class Reader:
         faults: Faults = "warn",
     ) -> None:
         if tables is not None and (isinstance(tables, (str, os.PathLike)) or len(tables) != 2):
-            raise TypeError(f"expected tables=(B, D), the names of Table B and Table D, found {tables!r}")
+            raise TypeError(f"expected tables=(B, D), the file names of Table B and Table D, found {tables!r}")
         self.source, self.conditions, self.faults = source, bufr_conditions.Conditions(where), checked_faults(faults)
         self.is_whole = True
         self.wanted, self.size = bufr_calls.words(columns), _PART_OF_ALL if columns is None else _PART
@@ -294,7 +294,7 @@ class Reader:
         self.is_bare = self.is_bare and len(found) == len(every) and not messages["edition"].any()
         self.report(found, messages["fault"], groups)
         for index, reasons in notes.items():
-            if str(messages["fault"][index])[0] != "1":  # otherwise it is not a message
+            if str(messages["fault"][index])[0] != "1":  # otherwise, it is not a message
                 for reason in reasons:
                     reason.count += 1
                     reason.first = reason.first or f"at offset {found[index].offset}"
@@ -322,7 +322,7 @@ class Reader:
         return self.sets[chosen], reasons
 
     def report(self, found: List[_Found], numbers: Array, groups: Dict[Tables, List[int]]) -> None:
-        """Reports refused messages and strays. Looks up the text of a fault only if it is needed."""
+        """Reports rejected messages and strays. Looks up the text of a fault only if it is needed."""
         refused = numpy.flatnonzero(numbers).tolist()
         if self.faults == "ignore" or not refused:
             return
@@ -335,14 +335,14 @@ class Reader:
             fault = Fault(found[index].offset, int(numbers[index]), texts[index].partition(" ")[2], self.name)
             self.counts.add(fault)
             if self.faults == "raise":
-                what = "refused a message" if fault.number >= 10 else f"found a stray ({STRAY})"
+                what = "rejected a message" if fault.number >= 10 else f"found a stray ({STRAY})"
                 raise BufrError(f"{self.name}: {what} at {fault.line()}; to continue after a fault, pass faults='warn'", *fault)
             if not isinstance(self.faults, str):
                 self.faults.append(fault)
 
 
 def guarded(call: Callable[[], Any]) -> Any:
-    """Returns the result of a call. Raises `BufrError` if there are no table sets."""
+    """Returns the result of a call. If the call raises `Failed`, for lack of table sets, raises `BufrError` instead."""
     try:
         return call()
     except bufr_guard.Failed as failed:

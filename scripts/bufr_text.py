@@ -106,7 +106,7 @@ _CAUSES = [
 
 
 class TextError(ValueError):
-    """Reports an invalid line in a dump: its number, what was expected, and the likely cause.
+    """Raised for an invalid line in a dump. The text gives the line number, what was expected and, if known, the cause.
 
     `line` is the number of the line, counted from 1.
     """
@@ -121,7 +121,7 @@ class TextError(ValueError):
 
 
 class RunError(RuntimeError):
-    """Reports that a program failed or refused a dump.
+    """Raised if a program fails or rejects a dump.
 
     `status` is the exit status of the program or, if a signal killed it, the negative signal number.
     """
@@ -135,7 +135,7 @@ class RunError(RuntimeError):
 
 
 class BufrError(RuntimeError):
-    """Reports a refused message, a stray, a file without messages, or an invalid table. Only the module `bufr` raises it.
+    """Raised by the module `bufr` for a rejected message, a stray, a file without messages, or an invalid table.
 
     `file`, `offset`, `number` and `text` have the same meaning as in `Fault`. For a file without messages, only `file` is
     set; for an invalid table, all four are `None`.
@@ -154,7 +154,7 @@ class BufrError(RuntimeError):
 
 
 class DumpWarning(UserWarning):
-    """Warns, for example, that a file has no messages, that messages were refused or left out, or that a column is empty."""
+    """Warns, for example, that a file has no messages, that messages were rejected or left out, or that a column is empty."""
 
 
 def warn(text: str) -> None:
@@ -168,7 +168,7 @@ def warn(text: str) -> None:
 class Fault(NamedTuple):
     """A fault that `bufr` reported: the byte offset of the message or stray, the fault number and the description.
 
-    `file` is the name of the file. The number is below 10 for a stray, and 10 or more for a refused message.
+    `file` is the name of the file. The number is below 10 for a stray, and 10 or more for a rejected message.
     """
 
     offset: int
@@ -188,7 +188,7 @@ STRAY = "the word BUFR outside any complete message, for example at the start of
 
 
 class FaultCounts:
-    """The numbers of refused messages and strays in a file, and the first fault."""
+    """The numbers of rejected messages and strays in a file, and the first fault."""
 
     def __init__(self) -> None:
         self.refused = self.strays = 0
@@ -205,12 +205,12 @@ class FaultCounts:
             return []
         kinds = []
         if self.refused:
-            kinds.append("refused 1 message" if self.refused == 1 else f"refused {self.refused} messages")
+            kinds.append("rejected 1 message" if self.refused == 1 else f"rejected {self.refused} messages")
         if self.strays:
             strays = "1 stray" if self.strays == 1 else f"{self.strays} strays"
             kinds.append(f"skipped {strays} ({STRAY})")
         where = " " if self.refused + self.strays == 1 else "; the first fault is "
-        advice = "to get all faults, pass an empty list as the argument faults; 'Faults and remedies' in the guide explains them"
+        advice = "to get all faults, pass an empty list as faults=; for explanations, see 'Faults and remedies' in the guide"
         return [f"{' and '.join(kinds)}{where}at {self.first.line()}; {advice}"]
 
 
@@ -299,7 +299,7 @@ class _Lines:
         return None
 
     def inside(self, expected: str) -> bytes:
-        """Returns the next line. Raises `TextError` at the end of the input, because the message is incomplete."""
+        """Returns the next line. Raises `TextError` at the end of the input, because the message is then incomplete."""
         line = self.take()
         if line is None:
             raise self.refused(expected)
@@ -324,8 +324,8 @@ def read(stream: Iterable[bytes]) -> Iterator[Message]:
     """Yields the messages in a dump. `stream` yields the lines of the dump as bytes, like a file opened in mode "rb".
 
     Raises `TextError` at the first invalid line. `read` does not check whether header values are in range or whether the
-    items match the descriptors; `bufr encode` does. A number such as `1.` raises `TextError` here, whereas `bufr encode`
-    reports it as fault 52.
+    items match the descriptors; `bufr encode` does. For a number such as `1.`, `read` raises `TextError`, whereas
+    `bufr encode` reports fault 52.
     """
     lines = _Lines(stream)
     line = lines.take()
@@ -439,7 +439,7 @@ def _escaped(found: re.Match[bytes]) -> bytes:
 
 
 def find(subset: List[Item], fxy: str, count: int = 1) -> Optional[Item]:
-    """Returns the `count`-th item with this descriptor in a subset, or `None` if there are fewer than `count`.
+    """Returns the `count`-th item with this descriptor in a subset, or `None` if there are fewer such items.
 
     New reference values (items whose `reference` is true) are not counted.
     """
@@ -463,7 +463,7 @@ def rows(
     The tuples can be passed to `csv.writer` or a DataFrame.
 
     `messages` is the name of a file, or messages from `dump` or `read`. For a file, `faults` and `where` have the same
-    meaning as for `dump`. A column is a descriptor such as `"012101"`, or `"012101:2"` for the second item with that
+    meaning as in `dump`. A column is a descriptor such as `"012101"`, or `"012101:2"` for the second item with that
     descriptor in the subset. `header` can contain keys from `HEADER`, `"optional"`, `"subsets"`, `"offset"`, `"length"`,
     and `"message"` and `"subset"` for the numbers of the message and the subset (counted from 1).
 
@@ -732,7 +732,7 @@ class Gaps:
                     self.with_value.add(at)
 
     def look(self, words: Sequence[_Word], found: Sequence[Tuple[int, int]], columns: Sequence[_Word]) -> None:
-        """Records which columns occur in a subset, and whether in its levels: the passes that `passes` found in `words`."""
+        """Records which columns occur in a subset, and which of them in its levels (the passes `found` in `words`)."""
         for at, word in enumerate(columns, self.kept):
             if at not in self.inside and word in words:
                 is_inside = any(word in words[begin:end] for begin, end in found)
@@ -771,7 +771,7 @@ class Gaps:
 
 
 class Ambiguous(ValueError):
-    """Reports ambiguous levels in a subset: a descriptor that begins a level occurs again in that level."""
+    """Raised if the levels of a subset are ambiguous: a descriptor that begins a level occurs again in that level."""
 
 
 #: The descriptors of the factors of delayed replications.
@@ -783,11 +783,10 @@ def passes(words: Sequence[_Word], counts: Sequence[int], factors: Container[_Wo
 
     `words` contains the descriptor of each item, without new reference values. `counts` contains the value of each factor,
     at the index of the factor. Raises `Ambiguous` if the passes are ambiguous.
-
-    `left` passes of the replication have yet to begin. Each pass begins with the descriptor `opener`. The current pass begins
-    at `begin`, which is -1 outside a pass, and has `inner` factors so far. The previous pass had `pass_items` items and
-    `pass_inner` factors.
     """
+    # `left` passes of the replication have yet to begin. Each pass begins with the descriptor `opener`. The current pass
+    # begins at `begin`, which is -1 outside a pass, and has `inner` factors so far. The previous pass had `pass_items` items
+    # and `pass_inner` factors.
     found: List[Tuple[int, int]] = []
     left = opened = inner = pass_items = pass_inner = 0
     begin = -1
@@ -827,7 +826,7 @@ def listing(file: _Path, faults: Optional[List[Fault]] = None) -> Iterator[Liste
 
 
 def parts(places: Iterable[Listed], octets: int = 1 << 19) -> Iterator[List[Listed]]:
-    """Splits results of `listing` into lists. Except in the last list, the messages have at least `octets` bytes in total."""
+    """Splits the results of `listing` into lists. The messages in each list, except the last, total at least `octets` bytes."""
     part: List[Listed] = []
     held = 0
     for place in places:
@@ -875,7 +874,7 @@ def dump(
 
 def _dumped(words: List[str], told: _Told, places: Optional[Iterable[Listed]]) -> Iterator[Message]:
     with _opened(told.file) as stream, tempfile.TemporaryFile() as errors:
-        # a part must be dumped first, because only then is it known which of its messages are refused
+        # which messages of a part are rejected is known only after the whole part has been dumped
         for part in parts(_listed(stream, errors, told) if places is None else places):
             with tempfile.TemporaryFile() as octets, tempfile.TemporaryFile() as text:
                 for place in part:
@@ -898,7 +897,7 @@ def _dumped(words: List[str], told: _Told, places: Optional[Iterable[Listed]]) -
 
 
 class _Told:
-    """Reports the refused messages and strays in a file, in order, and then the notes."""
+    """Reports the rejected messages and strays in a file, in order, and then the notes."""
 
     def __init__(self, file: _Path, faults: Optional[List[Fault]]) -> None:
         self.file, self.name, self.faults, self.is_bare = file, os.fsdecode(file), faults, False
@@ -1015,7 +1014,7 @@ def encode(
     """Encodes messages in BUFR. Runs `bufr encode` with these two tables, or `bufr-auto --encode` if you do not pass tables.
 
     `form` is "plain" or "compressed". Without `form`, each message is encoded in the form that its header specifies.
-    Raises `RunError` with the fault line if a message is refused.
+    Raises `RunError` with the fault line if a message is rejected.
     """
     if form is not None:
         compressed = ["plain", "compressed"].index(form)
@@ -1053,7 +1052,8 @@ def _run(words: List[str], source: IO[bytes], target: IO[bytes]) -> subprocess.C
 def _failure(status: int, words: List[str], errors: Iterable[bytes]) -> RunError:
     """Returns the error for a failed program.
 
-    The error contains what the program printed, or else the exit status. It also reports if the disk is full.
+    The text of the error is what the program printed or, if it printed nothing, the exit status. If the disk is full, the
+    text says so.
     """
     told = b"".join(line for line in errors if not _FAULT.match(line)).decode(errors="replace").strip()
     told = told or f"{words[0]} " + (f"was killed (signal {-status})" if status < 0 else f"exited with status {status}")

@@ -737,13 +737,13 @@ class Faults(WithFolder):
             with self.assertWarns(bufr.DumpWarning) as warned:
                 call(self.stream)
             stray, first = f"({bufr_text.STRAY})", "the first fault is at offset 0: 2 short length"
-            wanted = f"refused 2 messages and skipped 2 strays {stray}; {first}; to get all faults, pass an empty list as the argument faults; "
+            wanted = f"rejected 2 messages and skipped 2 strays {stray}; {first}; to get all faults, pass an empty list as faults=; "
             self.assertTrue(str(warned.warning).startswith(f"{self.stream}: {wanted}"), warned.warning)
             self.assertEqual(warned.filename, __file__)
         refused = lib.message(b"\x14", b"\x3f\xff")
         _, told = told_by(lambda: bufr.messages([self.stream, SYNOP, b"BUFR" + SYNOP.read_bytes(), refused, refused * 2]))
         wanted = [wanted.partition("; ")[0], f"skipped 1 stray {stray} at offset 0: 1 cut"]
-        wanted += ["refused 1 message at offset 0: 20 unknown element 063255", "refused 2 messages"]
+        wanted += ["rejected 1 message at offset 0: 20 unknown element 063255", "rejected 2 messages"]
         self.assertEqual([text.partition(": ")[2].partition("; ")[0] for text in told], wanted)
 
     def test_raise(self):
@@ -754,7 +754,7 @@ class Faults(WithFolder):
         self.assertEqual(str(error.exception), f"{self.stream}: {stray} at offset 0: 2 short length; {advice}")
         with self.assertRaises(bufr.BufrError) as error:
             bufr.frame(self.stream.read_bytes()[7:], ["012101"], faults="raise")
-        self.assertEqual(str(error.exception), f"bytes: refused a message at offset 0: 20 unknown element 063255; {advice}")
+        self.assertEqual(str(error.exception), f"bytes: rejected a message at offset 0: 20 unknown element 063255; {advice}")
         for one in (error.exception, pickle.loads(pickle.dumps(error.exception))):
             self.assertEqual((one.file, one.offset, one.number, one.text), ("bytes", 0, 20, "unknown element 063255"))
         self.assertEqual(len(bufr.frame(SYNOP, ["012101"], faults="raise")), 3)
@@ -847,7 +847,7 @@ class Faults(WithFolder):
             done = subprocess.run(f"'{lib.program()}' {words}", shell=True, stderr=subprocess.PIPE)
             self.assertRegex(done.stderr.decode(), f"^table [BD]: {fault}$")
         for tables in ((TABLES[0],), "tables/wmo-39", TOP / "tables/wmo-39", "BD"):
-            with self.assertRaisesRegex(TypeError, r"^expected tables=.B, D., the names of Table B and Table D, found "):
+            with self.assertRaisesRegex(TypeError, r"^expected tables=.B, D., the file names of Table B and Table D, found "):
                 bufr.frame(SYNOP, ["012101"], tables=tables)
         with self.assertRaises(FileNotFoundError):
             bufr.frame(SYNOP, ["012101"], tables=(TABLES[0], "none"))

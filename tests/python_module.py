@@ -638,7 +638,7 @@ class Runs(unittest.TestCase):
                 messages = list(bufr_text.dump(self.stream, *tables))
             lines = told.getvalue().splitlines()
             refused = [line for line in lines if re.match(r"offset \d+: \d\d", line)]
-            text = f"{self.stream}: refused {len(refused)} message{'s' * (len(refused) > 1)} and skipped {len(lines) - len(refused)} strays "
+            text = f"{self.stream}: rejected {len(refused)} message{'s' * (len(refused) > 1)} and skipped {len(lines) - len(refused)} strays "
             text += f"(the word BUFR outside any complete message, for example at the start of an incomplete one); the first fault is at {lines[0]}; to get all faults, "
             self.assertEqual(str(warned.warning)[: len(text)], text)
             self.assertEqual(warned.filename, __file__)
