@@ -48,7 +48,7 @@ CHANGED_SINCE_6 = set(
 
 
 class Unread(Exception):
-    """Explains why a file could not be opened or read to the end."""
+    """Raised if a file cannot be opened or read to the end. The text explains why."""
 
 
 class Feed:
@@ -102,7 +102,7 @@ class Finder:
 
     def __init__(self, longest: Optional[int] = None) -> None:
         self.longest = 1 << 24 if longest is None else longest
-        # The buffered bytes end at `end`, the search continues at `at`, and held[0] is at offset `passed` of the stream.
+        # The buffered bytes end at `end`, the search continues at `at`, and held[0] is the byte at offset `passed`.
         # The buffer never shrinks: freeing and allocating it again would fragment the heap.
         self.held, self.at, self.end, self.passed, self.has_ended = bytearray(), 0, 0, 0, False
 
@@ -119,7 +119,7 @@ class Finder:
     def find(self) -> Optional[Tuple[int, int, bytes]]:
         """Returns where the next message or stray begins and ends, and its fault. Returns None if more bytes are needed.
 
-        A stray is an occurrence of `BUFR` that is not the start of a complete message. Complete messages have an empty fault.
+        A stray is an occurrence of `BUFR` that is not the start of a complete message. A complete message has an empty fault.
         """
         at = self.held.find(b"BUFR", self.at, self.end)
         if at < 0:
@@ -154,9 +154,9 @@ def stray_line(offset: int, fault: bytes, prefix: bytes = b"") -> bytes:
 
 
 class Masker:
-    """Hides messages from the program that reads the stream if they declare more than `longest` bytes, and reports them.
+    """Hides messages that declare more than `longest` bytes from the program that reads the stream, and reports them.
 
-    To keep the offsets of other messages unchanged, it replaces the first four bytes of each hidden message with zeros.
+    The first four bytes of each hidden message are replaced with zeros, so the offsets of other messages do not change.
     """
 
     def __init__(self, longest: int) -> None:
@@ -229,12 +229,12 @@ class Documents(Source):
         self.feed, self.held, self.has_ended = feed, bytearray(b"\n"), False
 
     def __iter__(self) -> Iterator[Optional[Piece]]:
-        # The line feed before a document ends the previous document.
+        # held[0] is the line feed before the next document.
         held, number, at = self.held, 1, 0
         while True:
             begin = begin_of(held)
             if begin > BLOCK:
-                # Drops most comments before a document, so that its first HEADER bytes contain the descriptors.
+                # Drop most of the comments before a document, so that its first HEADER bytes contain the descriptors.
                 number += held.count(b"\n", 1, begin)
                 del held[1:begin]
                 at = 0
@@ -267,7 +267,7 @@ class Documents(Source):
         held, self.lines, found = self.held, 0, -1
         while found < 0:
             found = held.find(END)
-            # Until the end line is found, the buffer keeps the bytes that may begin it, and the byte before them.
+            # Until the end line is found, keep the bytes that may be its beginning, and the byte before them.
             kept = 0 if found >= 0 or self.has_ended else len(END) - 1
             end = found + len(END) if found >= 0 else max(1, len(held) - kept)
             text = bytes(held[1:end])
@@ -290,7 +290,7 @@ def begin_of(text: bytearray) -> int:
 
 
 def may_begin(text: bytearray) -> bool:
-    """Returns whether `text` can be the beginning of a dump. BUFR data, for example, cannot."""
+    """Returns whether `text` can be the beginning of a dump, rather than of BUFR data, for example."""
     at = begin_of(text)
     end = text.find(b"\n", at)
     return len(text) - at <= LINE if end < 0 else text[at:end] == b"message"
@@ -325,7 +325,7 @@ class Store:
 class Reason:
     """A reason why a table set may not match a message exactly.
 
-    It includes the affected descriptors, and advice on how to get the right set.
+    `concerns` returns whether a descriptor is affected, and `advice` returns advice on how to get the right set.
     """
 
     def __init__(self, text: str, concerns: Callable[[str], bool], advice: Callable[[], str] = str) -> None:
@@ -394,7 +394,7 @@ class Run:
             self.read, self.at = b"", 0
 
     def take_fault(self) -> None:
-        """Reads the next fault line, and sets `place` and `told` (the fault text). At the end, sets `place` to `NOWHERE`."""
+        """Reads the next fault line, and sets `place` and `told` (the fault text). If there is none, `place` is `NOWHERE`."""
         for line in self.errors:
             word, _, self.told = line.partition(b": ")
             if word.startswith(self.PLACE) and word[len(self.PLACE) :].isdigit():
@@ -404,7 +404,7 @@ class Run:
         self.place = bufr_guard.NOWHERE
 
     def fault(self, place: int, size: int) -> bytes:
-        """Returns the fault line for the next piece. The line is empty if the piece has no fault."""
+        """Returns the fault line for the next piece, which is empty if the piece has no fault."""
         begin, self.passed = self.passed, self.passed + size
         if self.place >= self.passed:
             return b""
@@ -530,7 +530,7 @@ class Part:
 
 
 class Notes:
-    """The reasons why no table set matches exactly. Each records the number of affected pieces and the place of the first."""
+    """The reasons why no table set matches exactly, each with the number of affected pieces and the place of the first."""
 
     def __init__(self) -> None:
         self.reasons: Dict[str, Reason] = {}
@@ -642,7 +642,7 @@ class Work:
         bufr_guard.say(b"".join(self.last))
 
     def report(self) -> None:
-        """Prints the notes on the messages that have arrived from a feed so far."""
+        """Prints the notes on the messages that a feed has delivered so far."""
         self.say_notes(" so far")
         bufr_guard.say(self.more_notes())
         bufr_guard.output(2).flush()
@@ -689,7 +689,7 @@ class Work:
         feed.close()
 
     def parts(self, feed: Feed) -> Iterator[Optional[Part]]:
-        """Yields the parts of a file, and None whenever they must be written: before a read that may block, and at the end.
+        """Yields the parts of a file, and yields None when they must be written: before a read that may block, and at the end.
 
         This function must be short: to leave a `try` block that ends more than 256 instructions into a function, Python
         3.11 must allocate an integer, which fails if memory has run out.
@@ -751,13 +751,13 @@ class Work:
                 bufr_guard.write_all(pipe, octets)
                 self.progress.at(self.done + feed.taken)
         except BrokenPipeError:
-            pass  # the program has refused the piece and reported the fault
+            pass  # the program has rejected the piece and reported the fault
         finally:
             os.close(pipe)
         part.pieces.append((place, source.lines, run, notes, b""))
 
     def selected(self, part: Part) -> Part:
-        """Returns a part with the candidates that either meet the conditions or are refused by `bufr ls`."""
+        """Returns a part with the candidates that meet the conditions, and those that `bufr ls` rejects."""
         if part.candidates is None:
             return part
         candidates, chosen, begin = part.candidates.descriptor(), Part(), 0
@@ -811,7 +811,7 @@ class Work:
                 self.status = max(self.status, 1)
                 continue
             fault = one.fault(place, size)
-            if fault.partition(b": ")[2][:1] != b"1":  # otherwise the piece is not a message
+            if fault.partition(b": ")[2][:1] != b"1":  # otherwise, the piece is not a message
                 for reason in notes:
                     reason.count += 1
                     reason.first = reason.first or f"{within}at {one.PLACE.decode()}{place}"
@@ -857,10 +857,10 @@ def dump(
     has_places: bool = False,
     more_notes: Callable[[], bytes] = bytes,
 ) -> int:
-    """Dumps these files to a descriptor, and returns the exit status. None stands for standard input.
+    """Dumps files to a descriptor, and returns the exit status. None stands for standard input.
 
-    Fault lines, notes and progress go to standard error, as in bufr-auto. Messages are skipped if they declare more than
-    `longest` bytes or do not meet the conditions. With `has_places`, a comment before each document gives the place of
+    Fault lines, notes and progress go to standard error, as in bufr-auto. A message is skipped if it declares more than
+    `longest` bytes or does not meet the conditions. With `has_places`, a comment before each document gives the place of
     its message: `# offset=595 length=422 file=NAME`. `more_notes` is called whenever notes on a feed are printed, and
     returns additional lines to print.
     """

@@ -67,7 +67,7 @@ KINDS_OF_FILES = {
 
 
 class Failed(Exception):
-    """Explains why the script stops with status 2."""
+    """Raised if the script cannot continue and must exit with status 2. The text explains why."""
 
 
 class Question(Exception):
@@ -187,7 +187,7 @@ def build() -> str:
         if digest == known["program"]:
             return f"commit {known['commit'][:12]}, {known['proof']}"
     except (OSError, ValueError, KeyError):
-        pass  # install.sh did not install this program
+        pass  # the program was not installed with install.sh
     return "unknown build"
 
 
@@ -314,7 +314,7 @@ class Progress:
             self.next = time.monotonic() + 1
             total = f" of {self.total / 1e6:.0f}" if self.total else ""
             Progress.is_shown = True
-            # If a program writes a fault line over this line, it covers all of it, because fault lines are longer.
+            # A fault line that a program writes over this line covers it completely, because fault lines are longer.
             self.put(f"\r\x1b[K{octets / 1e6:.0f}{total} MB\r".encode())
 
     @staticmethod
@@ -341,7 +341,7 @@ def program() -> str:
         return named
     here = os.path.dirname(os.path.realpath(__file__))
     beside = os.path.join(os.path.dirname(os.path.realpath(sys.argv[0])), "bufr")
-    # An installed script runs only the program that was installed with it, even if that program is now missing.
+    # An installed script never runs any program but the one that was installed with it, even if that one is now missing.
     if is_program(beside) or beside == os.path.normpath(f"{here}/../../bin/bufr"):
         return beside
     built = os.path.join(here, "../crates/bufr/out/bufr")
@@ -404,7 +404,7 @@ def lines_from(
 
 
 def checked(status: int, has_told: bool = True, what: str = "bufr") -> int:
-    """Returns the exit status of a program. Raises `Failed` if it is over 2, or if it is 2 and no reason was reported."""
+    """Returns the exit status of a program. Raises `Failed` if the status is over 2, or is 2 without a reported reason."""
     if status > 128:
         raise Failed(f"{what} was killed (signal {status - 128}); output is incomplete")
     if status not in (0, 1, 2) or (status == 2 and not has_told):

@@ -60,7 +60,7 @@ class TableSet:
         return sequences
 
     def cached(self) -> None:
-        """Records that the set is cached. If there are now too many cached sets, drops the tables of the oldest set."""
+        """Records that the set is cached. If too many sets are now cached, drops the tables of the one cached first."""
         if self not in cache:
             cache.append(self)
         if len(cache) > CACHED:
@@ -89,7 +89,7 @@ cache: List[TableSet] = []
 
 
 def rows_of(file: str, *columns: str) -> Iterator[List[str]]:
-    """Yields the values in these columns for each row of a table. Skips rows that are too short: `bufr` reports them."""
+    """Yields the values in these columns for each row of a table. Skips rows that are too short, which `bufr` reports."""
     import csv
 
     csv.field_size_limit(1 << 30)

@@ -284,7 +284,7 @@ def main() -> None:
         holds("an incomplete set", script("bufr-lacks", synop), (0, "", told))
         shutil.copytree(TOP / "tables/wmo-39", tables / "wmo-40", dirs_exist_ok=True)
         (tables / "wmo-40/D.csv").write_text("no table\n")
-        told = f"table D: 40 header\nbufr-lacks: cannot use the table set {shown}/wmo-40, because bufr refused it (see above)\n"
+        told = f"table D: 40 header\nbufr-lacks: cannot use the table set {shown}/wmo-40, because bufr rejected it (see above)\n"
         holds("an invalid set", script("bufr-lacks", made(40, 0, 98, "001191", b"\1")), (2, "", told))
         shutil.rmtree(tables / "wmo-40")
         # A byte order mark, which `bufr` skips too.
