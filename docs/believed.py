@@ -1,16 +1,19 @@
 #!/usr/bin/env python3
-"""Prints what one has to believe of `run`: its contract, and each definition that the contract reaches, in reading order.
+"""Prints what you have to believe about `run`: its contract, and every definition that the contract uses, in reading order.
 
-    docs/believed.py [NAME..]        NAME is a function or a law of a crate, `run` by default: `run`, `held`, or, if several
-                                     have that name, `Finder::held`, `finder::held` or `bufr_frame::held`
+    docs/believed.py [NAME..]        NAME is a function or a law of a crate (default: `run`), such as `run` or `held`; if
+                                     several have the same name, write `Finder::held`, `finder::held` or `bufr_frame::held`
 
-A few lines on the notation and the contracts come first. The definitions follow under headings: first what the format is,
-then how a run uses its devices, and last what the kit's csv and clap promise. Most definitions come after those that they
-use. Imports, tags and derives are left out, and so is an enum of faults if its report is printed, which lists each fault
-with its number and text. The first lines of a file of definitions stand below its name. A law that justifies a file is
-printed after it, and what the law alone needs comes at the end. The types and traits of a signature are printed with their
-ghost items. Not followed are the names of std, and those that the checker itself makes from a contract (specs.contracts).
-Any other name that is imported and not found is reported, and the status is 1. The counts go to standard error.
+The output begins with an explanation of the notation. The contracts come next, followed by the definitions under headings:
+first those of the format, then those of how a run uses its devices, and last what the kit's crates csv and clap guarantee.
+Most definitions come after those that they use. The name of each file of definitions is followed by its first lines. A law
+that justifies a file is printed after the file, and definitions that only the laws need come at the end. Types and traits
+in a signature are printed with their ghost items. Imports, tags and derives are left out. An enum of faults is also left
+out if its report, which lists the number and the text of each fault, is printed.
+
+Names from std, and names that the checker itself derives from a contract (specs.contracts), are not followed. If any other
+imported name is not found, believed.py prints an error instead and exits with status 1. The numbers of definitions, lines
+and files are printed on standard error.
 """
 import functools
 import pathlib
@@ -25,37 +28,38 @@ HEADINGS = {
     "Messages in a stream": "frame: fault Octets finder Scan",
     "The sections of a message": "frame: section1 Section1 Sections Numbers",
     "Tables B and D": "tables: fxy Fxy fault Records table_b TableB TableD FaultNumber",
-    "A list of descriptors, expanded": "tables: Tree Expansion",
+    "Expanding a descriptor list": "tables: Tree Expansion",
     "Fields and operators": "walk: spec Content Rules",
-    "The data of a message, read": "walk: fault walker Course Reading Pass",
-    "The lines of a text": "fill: Draft; text: line Line",
-    "The text of a listing and of a dump": "fill: RoundTrip; text: Dump",
-    "A message built of a text": "text: document Documents Reader; fill: fault Encoding; frame: Layout; text: encode fault Encoding",
-    "Fault lines, and the pieces that a run writes": "text: Writing; cli: outcome FaultLine Pieces",
+    "Reading the data of a message": "walk: fault walker Course Reading Pass",
+    "The lines of a dump": "fill: Draft; text: line Line",
+    "Writing a listing and a dump": "fill: RoundTrip; text: Dump",
+    "Building a message from a dump": "text: document Documents Reader; fill: fault Encoding; frame: Layout; text: encode fault Encoding",
+    "Fault lines, and the pieces of output that a run writes": "text: Writing; cli: outcome FaultLine Pieces",
     "Round trips": "text: Spelling RoundTrip; cli: RoundTrip laws",
     "The command line": "cli: job Line",
-    "How a run reads and writes (relations between the states of devices before and after; you need to know Agda's ≡, × and →)":
+    "How a run reads and writes (relations between device states before and after; requires knowledge of Agda's ≡, × and →)":
         "bits: Device device Script script; frame: Input; cli: Running Ending Program program",
-    "What csv promises of the records of a table (definitions of the kit)": "csv: parser Machine Records Reading",
-    "What clap promises of a command line (definitions of the kit)":
+    "What the kit's crate csv guarantees about the records of a table": "csv: parser Machine Records Reading",
+    "What the kit's crate clap guarantees about a command line":
         "clap: error/kind builder/action builder/possible_value builder/range builder/value_parser parser/matches"
         " Lexer Values ValueTests Takes Kinds Facts Matches Walk Simple Faults",
-    "What the laws need beside these": "walk: KnownRows",
+    "Definitions that only the laws need": "walk: KnownRows",
     "Other definitions": "",
 }
 PRIMER = """\
 == The notation
 
-`f : A → B` gives the type of f. Equations follow, and the first that fits applies. `f x y` applies f to x and y. Each
-definition has a value for all arguments. `abbrev`, `unfoldable` and `rec` say when the checker unfolds it, no more.
-A `record` has named parts, and a `data` type has the forms listed below it. A `Bool` is computed; a `Type 0` is a type, or
-a statement: `×` is "and" or a pair, `⊎` "or", `→` "implies" or a function, `≡` "equals", `(x : A) →` "for each x", and
-`(x : A) ×` "for some x". `λ x. e` is a function, `x ∷ xs` a list by its first member, and `++` joins lists. In `do`, a line
-`x ← e` stops at the first fault or `None`, as `>>=` does. `x.now`, `x.old` and `x.new` are in docs/proof.md. Names that
-stand nowhere below, such as `take` and `codes`, are std's (rattle/std and rattle/core in the kit, and rattle/ANTT.md).
-The first lines of each file say which part of FM 94 it states. `(own)` marks a rule that is a choice of this project.
+`f : A → B` gives the type of f. Equations follow, and the first one that matches applies. `f x y` applies f to x and y.
+Every definition has a value for all arguments. `abbrev`, `unfoldable` and `rec` only tell the checker when to unfold it.
+A `record` has named fields, and a `data` type has the constructors that are listed below it. A `Bool` is computed. A
+`Type 0` is a type or a statement: `×` means "and" or a pair, `⊎` "or", `→` "implies" or a function, `≡` "equals",
+`(x : A) →` "for each x", and `(x : A) ×` "for some x". `λ x. e` is a function, `x ∷ xs` is the list xs with x in front, and
+`++` joins lists. In `do`, a line `x ← e` stops at the first fault or `None`, as `>>=` does. docs/proof.md explains `x.now`,
+`x.old` and `x.new`. Names that are not defined below, such as `take` and `codes`, come from std (rattle/std and rattle/core
+in the kit, and rattle/ANTT.md). The first lines of each file cite the part of FM 94 that it defines. `(own)` marks a rule
+that is our choice.
 """
-# The laws that a reader leans on, by the file that they justify.
+# The laws that justify definitions, by the file that contains the definitions.
 LAWS = {
     "walk/specs/Rules.antt": ["elements_have_their_rows"],
     "walk/specs/Pass.antt": ["data_are_read_item_by_item"],
@@ -69,29 +73,29 @@ TOKEN = re.compile(r"[^\s()\[\]{};,:]+")
 
 
 class Item:
-    """A definition, a declared type or a call: its file, its name, its lines, and what it may name."""
+    """A definition, a declared type or a function: its file, line number, name and text, and the names in its scope."""
 
     def __init__(self, path, line, name, lines, scope):
         self.path, self.line, self.name, self.lines, self.scope = path, line, name, lines, scope
 
     def code(self):
-        """Its text without comments and attributes."""
+        """Returns the text without comments and attributes."""
         return "\n".join(one for one in self.lines if not re.match(r"\s*(?:--|//|#\[)", one))
 
 
 @functools.cache
 def kit():
-    """The folder of the kit's crates."""
+    """Returns the directory of the kit's crates."""
     try:
         page = subprocess.run(["rt", "doc"], stdout=subprocess.PIPE, text=True, check=True).stdout.strip()
     except (OSError, subprocess.CalledProcessError) as fault:
-        sys.exit(f"{sys.argv[0]}: cannot print what the kit's crates promise without the kit: {fault}")
+        sys.exit(f"{sys.argv[0]}: cannot find the kit, whose crates contain some of the definitions: {fault}")
     return pathlib.Path(page).parent / "rattle"
 
 
 @functools.cache
 def sources(crate):
-    """The folder of a crate of this repository or of the kit."""
+    """Returns the directory of a crate in this repository or in the kit."""
     own = TOP / "crates" / crate
     return own if own.is_dir() else kit() / crate
 
@@ -102,26 +106,26 @@ def read(path):
 
 
 def comment_before(lines, at):
-    """Where the comment and attributes above a line begin, and the precedence of an operator."""
+    """Returns the index at which the lines that belong to a line begin: comments, attributes and an operator's precedence."""
     while at and re.match(r"\s*(?:--(?! ----)|//(?!!)|#\[|infix)", lines[at - 1]):
         at -= 1
     return at
 
 
 def own_lines(lines):
-    """The lines of a definition, without blank ones, and without a heading of what comes after it."""
+    """Returns the lines of a definition, without blank lines and without the heading of the next definitions."""
     text = re.sub(r"(?m)^(?:-- ----.*\n(?:--.*\n)*|(?:--.*\n)+(?=\n|\Z))", "", "\n".join(lines) + "\n")
     return [one for one in text.split("\n") if one.strip()]
 
 
 def block(lines, at):
-    """The line of a file of src/ after the item that begins at a line."""
+    """Returns the index of the line after the item in a file of src/ that begins at a line."""
     indent = re.match(" *", lines[at])[0]
     return next(n for n in range(at, len(lines)) if re.match(indent + r"(?:\}|\S.*(?:;|\{\})$)", lines[n])) + 1
 
 
 def imported(lines):
-    """What lines `use` bring into scope: where each name is to be found, and the modules that have another name here."""
+    """Returns the scope that `use` lines create: where each name is defined, and which module each alias stands for."""
     scope = {}
     for crate, module, names, alias in (use.groups() for use in map(USE.match, lines) if use):
         scope.update({name: (crate, module, name) for name in (re.split(r",\s*", names) if names else [])})
@@ -131,18 +135,18 @@ def imported(lines):
 
 
 def ghost_scope(lines, own):
-    """What the clauses of a file of src/ may name, and those of an item in it."""
+    """Returns the scope of the clauses of an item: what the file and the item itself import."""
     return imported([line for line in lines if line.startswith("ghost use")] + [line for line in own if "ghost use" in line])
 
 
 class House:
-    """The definitions that were read so far, by file, and types by file and name."""
+    """The definitions that have been read, by file, and the types that have been read, by file and name."""
 
     def __init__(self):
         self.files, self.lost = {}, set()
 
     def specs(self, path):
-        """What a file of specs/ defines, by name; the forms of a `data` type are names of it."""
+        """Returns the definitions in a file of specs/, by name. The name of a constructor refers to its `data` type."""
         if path in self.files:
             return self.files[path]
         items = self.files[path] = {}
@@ -168,7 +172,7 @@ class House:
 
     @functools.cache
     def find(self, crate, module, name):
-        """The definition or type that has this name in a module of specs."""
+        """Returns the definition or type that has this name in a module of specs."""
         declared = re.match(r"declared\.([\w.]+?)(?:\.The\w+)?$", module)
         if declared:
             return self.declared(crate, declared[1].split("."))
@@ -179,7 +183,7 @@ class House:
         return self.find(*passed[name]) if name in passed else self.specs(path).get(name)
 
     def declared(self, crate, parts):
-        """A struct, enum or trait of src/, with the ghost items of its impls, by which clauses speak of it."""
+        """Returns a struct, enum or trait of src/, with the ghost items of its impls, through which clauses refer to it."""
         path = sources(crate) / "src" / ("/".join(parts[:-1]) + ".rt")
         key = path, parts[-1]
         if key in self.files or not path.is_file():
@@ -201,7 +205,7 @@ class House:
 
     @functools.cache
     def rust(self, path, name):
-        """The struct, enum or trait that a file of src/ calls so."""
+        """Returns the struct, enum or trait that has this name in a file of src/."""
         folder = next(folder for folder in path.parents if folder.name == "src")
         found = self.declared(folder.parent.name, [*path.relative_to(folder).with_suffix("").parts, name])
         if found:
@@ -220,7 +224,7 @@ class House:
 
     @functools.cache
     def uses(self, item):
-        """The items that an item names."""
+        """Returns the items that an item names."""
         text, items = item.code(), []
         for token in TOKEN.findall(text):
             first, _, rest = token.partition(".")
@@ -241,12 +245,12 @@ class House:
 
 
 def ghost_end(lines, at):
-    """The line after a ghost item of an impl."""
+    """Returns the index of the line after a ghost item of an impl."""
     return next(n for n in range(at, len(lines)) if lines[n].endswith(";") and (n == at or lines[n].endswith("};"))) + 1
 
 
 def signature(lines, at):
-    """The lines of a function from its name to its last clause."""
+    """Returns the lines of a function from its name to its last clause."""
     indent, is_clause = re.match(" *", lines[at])[0], False
     for n in range(at, len(lines)):
         is_clause |= bool(re.match(r"\s*(?:ensures|requires)\b", lines[n]))
@@ -261,7 +265,7 @@ def signature(lines, at):
 
 @functools.cache
 def functions():
-    """The functions that have clauses or are a trait's, each with the words that may stand before `::`."""
+    """Returns the functions that have clauses or belong to a trait, each with the words that can precede `::`."""
     found = []
     for path in sorted((TOP / "crates").glob("*/src/**/*.rt")):
         lines, around = read(path), 0
@@ -281,7 +285,7 @@ def functions():
 
 
 def contract(name):
-    """The clauses of a function or law, as an item. Without `::` before its name a free function comes first."""
+    """Returns the contract of a function or law, as an item. Without `::`, a free function takes precedence."""
     before, _, last = name.rpartition("::")
     found = [call for call, owners in functions() if call.name == last and (not before or before in owners)]
     free = [call for call in found if not before and re.match(VISIBLE + "(?:const )?fn ", call.code())]
@@ -290,12 +294,12 @@ def contract(name):
         sys.exit(f"{sys.argv[0]}: no crate has a function {name} with a contract")
     if len(found) > 1:
         places = "\n".join(f"  {call.path.relative_to(TOP)}:{call.line}: {call.code().splitlines()[0]}" for call in found)
-        sys.exit(f"{sys.argv[0]}: several functions have the name {name}; put the type, the file or the crate before it:\n{places}")
+        sys.exit(f"{sys.argv[0]}: several functions are called {name}; put the type, the file or the crate before the name:\n{places}")
     return found[0]
 
 
 def reach(item, seen, house):
-    """Adds an item, and those that it reaches, to a list."""
+    """Adds an item to a list, and all items that it uses, directly or indirectly."""
     if item in seen:
         return
     seen.append(item)
@@ -304,7 +308,7 @@ def reach(item, seen, house):
 
 
 def headed():
-    """The number of each file's heading and of the file below it."""
+    """Returns a dictionary with the number of each file's heading, and the position of the file."""
     order = {}
     for number, files in enumerate(HEADINGS.values()):
         for part in filter(None, files.split("; ")):
@@ -316,18 +320,18 @@ def headed():
 
 
 def about(path):
-    """The first lines of a file of specs/: what it defines, and the part of FM 94 that it states, or that it is our own."""
+    """Returns the first lines of a file of specs/. They say what it defines, and cite FM 94 or mark the rules as our own."""
     first = re.match(r"(?:--.*\n)*", "\n".join(read(path)))[0]
     return [line for line in re.sub(r"\s*(?:--)? ?Cited by [a-z ]+\.", "", first).split("\n") if line] if path.suffix == ".antt" else []
 
 
 def text(item):
-    """The lines of a definition, without what is beside its meaning."""
+    """Returns the lines of a definition, without those that do not affect its meaning."""
     return "\n".join(line for line in item.lines if not BESIDE.match(line))
 
 
 def reached(calls, house):
-    """The definitions that calls reach, without the calls."""
+    """Returns the definitions that calls use, directly or indirectly, without the calls themselves."""
     seen = []
     for call in calls:
         reach(call, seen, house)
@@ -335,20 +339,20 @@ def reached(calls, house):
 
 
 def reported(items):
-    """The enums of faults among items of which a report lists each fault with its number and text."""
+    """Returns those enums of faults for which another item, a report, lists each fault with its number and text."""
     report = re.compile(r": (\w+) → ℕ × List \(List ℕ\)$")
     names = {found[1] for item in items for found in [report.search(item.code().split("\n")[0])] if found}
     return [item for item in items if item.path.suffix == ".rt" and item.name in names]
 
 
 def size(items):
-    """How many definitions there are, and how many lines they have."""
+    """Returns a phrase with the numbers of definitions and lines."""
     return f"{len(items)} definitions, {sum(text(item).count(chr(10)) + 1 for item in items)} lines"
 
 
 def main():
     if not (TOP / "crates").is_dir():
-        sys.exit(f"{sys.argv[0]}: a release has no sources; run this in a clone, at the commit that BUILD names")
+        sys.exit(f"{sys.argv[0]}: a release has no sources; run this script in a clone, at the commit that BUILD names")
     sys.setrecursionlimit(10_000)
     house, order, titles = House(), headed(), list(HEADINGS)
     calls = [contract(call) for call in sys.argv[1:] or ["run"]]
@@ -372,7 +376,7 @@ def main():
     for item in [*sorted(place, key=key.get), None]:
         if path and (item is None or item.path != path):
             for law in laws.pop(path, []):
-                print(f"\n-- a law that justifies these definitions, proved\n{text(law)}")
+                print(f"\n-- a proved law that justifies these definitions\n{text(law)}")
         if item is None:
             break
         if place[item] != number:
@@ -385,11 +389,11 @@ def main():
         print(f"\n{text(item)}")
     own = calls + [item for item in definitions if TOP in item.path.parents]
     print(f"{size(own)}, {len({item.path for item in own})} files", file=sys.stderr)
-    print(f"of the kit's crates: {size([item for item in definitions if item not in own])}", file=sys.stderr)
-    print(f"of laws that justify them: {size(justifying + beside)}", file=sys.stderr)
+    print(f"from the kit's crates: {size([item for item in definitions if item not in own])}", file=sys.stderr)
+    print(f"laws that justify them, and definitions that only these laws need: {size(justifying + beside)}", file=sys.stderr)
 
 
 if __name__ == "__main__":
-    # `docs/believed.py | head` ends without a traceback.
+    # Exit without a traceback if the output is closed early, as in `docs/believed.py | head`.
     signal.signal(signal.SIGPIPE, signal.SIG_DFL)
     main()
