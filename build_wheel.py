@@ -1,7 +1,7 @@
 """Builds the wheels for `pip install .` and `pip install -e .`, which call `build_wheel` and `build_editable`.
 
-If there is a library for C, the wheel contains it, so that `import bufr` works. It is lib/libbufr.so.0, or the file in the
-setting `library`: `pip install . --config-settings library=FILE`. If that setting is empty, the wheel has no library.
+If lib/libbufr.so.0 exists, the wheel contains this library for C, so that `import bufr` works. To use another file, run
+`pip install . --config-settings library=FILE`. If FILE is empty, the wheel does not contain the library.
 """
 import base64
 import hashlib
@@ -50,7 +50,7 @@ def linked_files():
 
 
 def write_wheel(folder: str, contents) -> str:
-    """Writes a wheel with these files to a directory, and returns its name. Identical files make identical wheels."""
+    """Writes a wheel with these files to a directory, and returns its name. The same files always make the same wheel."""
     contents = [*contents]
     is_pure = all(path != "libbufr.so.0" for path, _ in contents)
     tag = PURE if is_pure else WITH_LIBRARY

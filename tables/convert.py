@@ -17,7 +17,7 @@ reads the D*.txt file whose name is the same after the first letter.
 If several sources define the same descriptor, the last one takes precedence, so pass master tables before local tables. The
 new tables are OUT/B.csv and OUT/D.csv, sorted by descriptor.
 
-convert.py leaves out elements and sequences that `bufr` would refuse, and prints the reason for each on standard error. If
+convert.py leaves out elements and sequences that `bufr` would reject, and prints the reason for each on standard error. If
 one member of a sequence is invalid, the whole sequence is left out. If an earlier SOURCE also defines a descriptor that was
 left out, the rows from that SOURCE are used instead.
 
@@ -129,7 +129,7 @@ def of_wreport_b(path: pathlib.Path):
         for short, whole in WREPORT_UNITS.items():
             if unit.startswith(short):
                 unit = one_line(whole + unit[len(short) :])
-        # `- 4000` is -4000.
+        # `- 4000` means -4000.
         yield [fxy, name, unit, *(text.replace(" ", "") for text in numbers)]
 
 
@@ -203,14 +203,14 @@ def no_descriptor(fxy: str, first: str) -> str:
 
 
 def no_text(what: str, text: str) -> str:
-    """Returns why `bufr` refuses this name or unit, or an empty string if `bufr` accepts it."""
+    """Returns why `bufr` rejects this name or unit, or an empty string if `bufr` accepts it."""
     if len(octets(text)) > 512:
         return f"the {what} is longer than 512 bytes"
     return f"the {what} contains a control character" if re.search(r"[\0-\x1f\x7f]", text) else ""
 
 
 def no_numbers(is_text: bool, scale: str, reference: str, width: str) -> str:
-    """Returns why `bufr` refuses the numbers in a row of Table B, or an empty string if `bufr` accepts them."""
+    """Returns why `bufr` rejects the numbers in a row of Table B, or an empty string if `bufr` accepts them."""
     if not width:
         return "no width"
     if not is_whole(scale, -127, 127):
@@ -223,7 +223,7 @@ def no_numbers(is_text: bool, scale: str, reference: str, width: str) -> str:
 
 
 def no_element(row: list) -> str:
-    """Returns why `bufr` refuses this row of Table B, or an empty string if `bufr` accepts it."""
+    """Returns why `bufr` rejects this row of Table B, or an empty string if `bufr` accepts it."""
     fxy, name, unit, *numbers = row
     is_text = octets(unit).upper() == b"CCITT IA5"
     reason = no_descriptor(fxy, "0") or no_text("name", name) or no_text("unit", unit) or no_numbers(is_text, *numbers)
@@ -233,7 +233,7 @@ def no_element(row: list) -> str:
 
 
 def no_sequence(sequence: list) -> str:
-    """Returns why `bufr` refuses this sequence, or an empty string if `bufr` accepts it."""
+    """Returns why `bufr` rejects this sequence, or an empty string if `bufr` accepts it."""
     fxy, *members = sequence
     if no_descriptor(fxy, "3") or not members:
         return no_descriptor(fxy, "3") or "no members"
@@ -248,7 +248,7 @@ def shown(words: list) -> str:
 
 
 def taken(folder: pathlib.Path, entries, refused) -> tuple:
-    """Reports the entries that `bufr` refuses. Returns the other entries, by descriptor, and the number of refused entries."""
+    """Returns the valid entries, by descriptor, and the number of entries that were left out. Reports each of the latter."""
     found, left_out = {}, 0
     for entry in entries:
         found.setdefault(entry[0], []).append(entry)

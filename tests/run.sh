@@ -1,18 +1,20 @@
 #!/usr/bin/env bash
-# Runs all tests of this folder on the program that was built.
+# Runs all tests in this directory.
 #
-#     tests/run.sh [PROGRAM]        crates/bufr/out/bufr by default
+#     tests/run.sh [PROGRAM]        PROGRAM: the program to test (default: crates/bufr/out/bufr)
 #
-# A test is a file with an ending beside this one, but for lib.sh and lib.py. Its argument is the program.
-# It ends with status 0, or says which file is wrong, and how. What it cannot try here it says, and skips.
-# At last the instructions of each command are counted. The longer trials of hostile/ and eccodes/ are run by hand.
-# A test that takes longer than an hour is stopped, and has failed.
+# Each .py or .sh file in this directory, except lib.py, lib.sh and this script, is a test. Its argument is the program to
+# test. A test that passes exits with status 0; a test that fails prints what is wrong. A test that cannot run on this
+# machine, or only in part, prints what it skips. A test that takes longer than an hour is stopped, and counts as failed.
+#
+# The last two tests run the cases in vectors/ and count the instructions of each command. Run the longer trials in hostile/
+# and eccodes/ by hand.
 set -eu
 program=$(realpath -m "${1:-"$(dirname "$0")/../crates/bufr/out/bufr"}")
 cd "$(dirname "$0")/.."
-[ -x "$program" ] || { echo "$0: there is no $program; build it first (README.md)" >&2 && exit 2; }
+[ -x "$program" ] || { echo "$0: there is no program $program; build it first (see README.md)" >&2 && exit 2; }
 count=0 failed=()
-# Building the library for C takes minutes, so the tests share one.
+# Building the library for C takes minutes, so the tests share one copy.
 if [ -z "${BUFR_LIBRARY-}" ] && command -v rt > /dev/null && command -v "${CC:-cc}" > /dev/null; then
     library=$(mktemp -d)
     trap 'rm -r "$library"' EXIT
@@ -22,7 +24,7 @@ fi
 for test in tests/*.py tests/*.sh tests/vectors/run.py bench/count_instructions.py; do
     case $test in tests/lib.* | tests/run.sh) continue ;; esac
     count=$((count + 1))
-    # Some tests send themselves signals, which a script in the background would ignore.
+    # Some tests send signals to themselves, which they would ignore if this script runs in the background.
     status=0
     env --default-signal=INT,HUP,QUIT timeout --foreground -k 10 1h "$test" "$program" || status=$?
     case $status in

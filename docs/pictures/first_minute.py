@@ -1,9 +1,10 @@
 #!/usr/bin/env python3
-"""Draws first_minute.svg, the picture in the README: the listing and the faults of a damaged archive, and a dump.
+"""Draws first_minute.svg, the picture in the README: the listing and the faults of a damaged archive, and part of a dump.
 
     docs/pictures/first_minute.py PROGRAM
 
-Runs the commands that the picture shows, in examples/, and writes the picture to standard output.
+PROGRAM is the path to `bufr`. The script runs the commands that the picture shows, in examples/, and writes the picture to
+standard output.
 """
 import html
 import os
@@ -15,7 +16,7 @@ import tempfile
 TOP = pathlib.Path(__file__).resolve().parent.parent.parent
 COMMANDS = (
     ("# An archive with headings, junk and broken messages.", None),
-    ("# Orange is standard error, which is written after the listing.", None),
+    ("# Orange lines are from standard error, shown after the listing.", None),
     ("bufr ls bulletins.bufr | cut -d ' ' -f 1-5", "offset "),
     ("# The air temperature of each station in a report.", None),
     ("bufr-auto synop.bufr | grep -E '^(001015|012101) '", None),
@@ -52,7 +53,7 @@ def main() -> None:
     rows = list(lines(pathlib.Path(sys.argv[1]).resolve()))[:-1]
     height = TOP_MARGIN + LINE * len(rows) + 8
     print(f'<svg xmlns="http://www.w3.org/2000/svg" viewBox="0 0 {WIDTH} {height}" width="{WIDTH}" height="{height}">')
-    print("<title>A damaged archive listed to its end, then a dump</title>")
+    print("<title>The listing of a damaged archive, and part of a dump</title>")
     print(f'<rect width="{WIDTH}" height="{height}" rx="8" fill="#1b232b"/>')
     print('<g font-family="ui-monospace, Menlo, Consolas, \'DejaVu Sans Mono\', monospace" font-size="15" xml:space="preserve">')
     for number, (kind, text) in enumerate(rows):
