@@ -1,11 +1,12 @@
 #!/usr/bin/env python3
-"""Compares the module `bufr` with bufr_text, which reads the texts of the program, and tries what `bufr` alone can do.
+"""Compares the module `bufr` with bufr_text, which parses the program's output, and tests what only `bufr` offers.
 
     tests/arrays.py [PROGRAM [TEST..]]        TEST: the name of a class or a method, such as Same.test_examples
 
-The streams are those of examples/ and of the vectors, and random hostile ones. Also tried are the kinds of sources, exact
-values, times, faults, several processes with a worker that is killed, memory, and the examples in docstrings. The test needs
-the library for C, which the variable BUFR_LIBRARY names, NumPy, pandas and, for one part, Dask. What is not there is skipped.
+The comparison uses the streams in examples/ and vectors/, and random hostile streams. Other tests cover the kinds of
+sources, exact values, times, faults, several processes (one of which is killed), memory use, and the examples in
+docstrings. The tests need NumPy, pandas and the library for C, which the variable BUFR_LIBRARY names; one test needs Dask.
+Tests whose requirements are missing are skipped.
 """
 import concurrent.futures
 import contextlib

@@ -1,9 +1,11 @@
 #!/usr/bin/env python3
-"""Tests scripts/table.awk with each awk that is installed: it makes the same tables of the examples, and a row of seven
-fields for each item. It makes the same JSON of texts with every byte and every escape. Of a feed the rows of a message are
-written at its end.
+"""Tests scripts/table.awk with each installed awk.
 
     tests/awk_scripts.py [PROGRAM]
+
+Every awk must make the same tables from the examples, with a row of seven fields for each item, and the same JSON from
+strings that contain every byte and every escape. In a live feed, the rows of a message must be written at the end of the
+message.
 """
 import csv
 import json

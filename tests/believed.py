@@ -1,8 +1,10 @@
 #!/usr/bin/env python3
-"""Runs docs/believed.py: each of its headings has definitions, those that docs/proof.md cites are among them, nothing that
-a contract names is left out but names of std, and a file of definitions that `run` does not need says so.
+"""Tests docs/believed.py.
 
     tests/believed.py
+
+The output must contain definitions below every heading, the definitions that docs/proof.md cites, and every name in a
+contract except names from std. A file of definitions that `run` does not need must say so in its first line.
 """
 import pathlib
 import re

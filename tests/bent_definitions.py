@@ -1,14 +1,14 @@
 #!/usr/bin/env python3
-"""Makes rules of the definitions wrong, one at a time, and checks that an example, a vector, a test or a law fails.
+"""Makes one rule in the definitions wrong at a time, and checks that an example, a vector, a test or a law then fails.
 
     tests/bent_definitions.py [PROGRAM]                      try a sample of the entries
     tests/bent_definitions.py --all [PROGRAM]                try every entry, and fail if a comparison has none
     tests/bent_definitions.py --crate NAME | --only WORD     try the entries of a crate, or those that contain WORD
     tests/bent_definitions.py --list [--crate NAME]          try nothing, and list each comparison with its entries
 
-The program is proved equal to its definitions. A rule that is wrong in both therefore goes unnoticed unless an example
-that was computed by hand has the case. The file bent_definitions/CRATE.txt lists wrong rules for a crate. Blank lines
-separate its entries:
+The program is proved to agree with its definitions, so a rule that is wrong in both goes unnoticed unless an example that
+was computed by hand covers it. The file bent_definitions/CRATE.txt lists wrong rules for a crate. Blank lines separate its
+entries:
 
     # 33 groups and sequences may be open together.
     specs: Expansion.antt
@@ -16,30 +16,31 @@ separate its entries:
     new: max_open = 33
     fails: example TemplateExamples.measures
 
-The comment states the wrong rule. `specs:` names a file of the crate's specs/, or CRATE/FILE, and the pairs below it
-change that file. The old text must occur exactly once. Consecutive `old:` lines are one text of several lines, and so are
-consecutive `new:` lines. `fails:` names what must fail:
+The comment states the wrong rule. `specs:` names a file in the crate's specs/ (or, as CRATE/FILE, in another crate's), and
+the pairs of `old:` and `new:` below it change that file. The old text must occur exactly once. Consecutive `old:` lines are
+one text of several lines, and so are consecutive `new:` lines. `fails:` names what must fail:
 
-    example MODULE.NAME    a worked example of proofs/, or CRATE/MODULE.NAME: one of its `refl` is refused
-    law MODULE::NAME       a law of src/ about definitions alone, or CRATE/MODULE::NAME: it is no longer proved
-    vector NAME            a case of vectors/cases.tsv, run by a program with the same change
-    test FILE::NAME        a test of bufr_tests, run on code with the same change
+    example MODULE.NAME    a worked example in proofs/ (or CRATE/MODULE.NAME): the checker must reject one of its `refl`
+    law MODULE::NAME       a law in src/ that is only about definitions (or CRATE/MODULE::NAME): its proof must fail
+    vector NAME            a case in vectors/cases.tsv, which runs a program with the same change
+    test FILE::NAME        a test in bufr_tests, which runs code with the same change
 
-An entry for a vector or a test contains that change of the code too: pairs below `code:`, which names a file of the
-crate's src/. `order: DEFINITION` says that the change reverses two checks of a definition, if that is not visible from
-the words. `free: FILE: NAME, NAME` and ``free: FILE: `TEXT` `` need no entry, for the reason in the comment above them:
-these definitions, or the comparison in this text.
+An entry for a vector or a test also contains this change to the code: pairs below `code:`, which names a file in the
+crate's src/. `order: DEFINITION` says that the change reverses two checks in a definition, if the texts do not show this.
+`free: FILE: NAME, NAME` lists definitions, and ``free: FILE: `TEXT` `` a comparison, that need no entry; the comment above
+gives the reason.
 
-How examples are tried: a scratch copy of the crate gets, for each entry, a copy of every module between the changed
-definition and the example, reduced to what the example needs, and the same modules without the change. One check judges
-all entries of a crate. An entry is caught only if the checker refuses nothing in the unchanged copy, and in the changed
-copy nothing but a `refl` of the example, whose two sides are different values. If the change does not compile, or the
-example no longer computes, the entry is invalid, which is an error. The entries of controls.txt state their verdicts.
+How examples are tried: for each entry, a scratch copy of the crate gets two copies of every module between the changed
+definition and the example, reduced to what the example needs. One copy contains the change, and the other does not. A single
+check judges all entries for a crate. An entry is caught only if the checker rejects nothing in the unchanged copy and, in the
+changed copy, nothing but a `refl` of the example whose two sides are different values. If the change does not compile, or
+the example can no longer be computed, the entry is invalid, which is an error. The entries in controls.txt state the
+verdicts that they must get.
 
-What needs an entry: each comparison in a computed definition (two entries, one a step to either side, if it compares
-sizes), each number in a rule that refuses, and each two checks of which the first that fails is reported. An entry
-counts for the comparison whose words it changes, and for an order that it reverses. Propositions need none: they state
-what is proved, and refuse no input.
+What needs an entry: each comparison in a computed definition, each number in a rule that rejects input, and each pair of
+checks of which the first to fail is reported. A comparison of sizes needs two entries, one for a step in each direction. An
+entry counts for the comparison whose text it changes, and for an order that it reverses. Propositions need no entries,
+because they state what is proved, and reject no input.
 """
 import argparse
 import collections

@@ -1,9 +1,11 @@
 #!/usr/bin/env python3
-"""What scripts/bufr-auto writes is what the program writes message by message, as soon as a read has completed it.
+"""Tests scripts/bufr-auto.
 
     tests/bufr_auto.py [PROGRAM]
 
-It encodes by the same rule, is quick, and leaves nothing behind. How it fails failures_of_scripts.py has too.
+bufr-auto must write what the program writes for each message alone with the right table set, and as soon as the whole
+message has arrived. Other tests check that --encode chooses table sets in the same way, that bufr-auto is fast, and that it
+leaves no files or processes behind. failures_of_scripts.py tests how bufr-auto fails.
 """
 import contextlib
 import fcntl

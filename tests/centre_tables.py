@@ -1,10 +1,10 @@
 #!/usr/bin/env python3
-"""A centre's rows in wreport's layout become a set, by which bufr-auto dumps, and which bufr-lacks asks for before.
+"""Tests table sets with local rows: bufr-lacks advises to make the set, convert.py makes it, and bufr-auto uses it.
 
     tests/centre_tables.py [PROGRAM]
 
-The messages are of centre 98 and ask for tables=0/13/102. The rows are made up. Where wreport is installed, its rows
-become a set too.
+The messages come from centre 98 and need tables=0/13/102. The rows are made up, in wreport's layout. If wreport is
+installed, its rows are converted, too.
 """
 import os
 import pathlib

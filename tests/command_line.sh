@@ -1,5 +1,6 @@
 #!/usr/bin/env bash
-# Help and usage texts, word for word; each word of a line matters; files that are not there or not what they are named for.
+# Tests the command line: the exact help and usage messages, the effect of every argument, and files that are missing or are
+# not what their option requires.
 # rule: argument-not-utf-8
 set -eu
 . "$(dirname "$0")/lib.sh"

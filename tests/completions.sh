@@ -1,5 +1,5 @@
 #!/usr/bin/env bash
-# What the completions offer: behind --form, in bash and, where it is installed, in zsh; and for the scripts, in bash.
+# Tests the completions: what bash and, if it is installed, zsh offer after --form, and what bash offers for the scripts.
 set -eu
 . "$(dirname "$0")/lib.sh"
 

@@ -1,8 +1,9 @@
 #!/usr/bin/env python3
-"""Tests the rows of scripts/table.awk for subsets and levels, with each awk that is installed: columns that are noted or
-refused, rows joined to a listing, and the time.
+"""Tests the rows that scripts/table.awk makes for subsets and levels, with each installed awk.
 
     tests/csv_by_awk.py [PROGRAM]
+
+The test also covers notes about columns, invalid columns, rows that are joined with a listing, and the running time.
 """
 import csv
 import itertools

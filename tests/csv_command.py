@@ -1,8 +1,11 @@
 #!/usr/bin/env python3
-"""Tests scripts/bufr-csv: its rows in CSV and JSON against bufr_text on random messages, with each awk that is installed;
-its options; several files with faults in the middle one; live feeds; what it refuses; and how it fails.
+"""Tests scripts/bufr-csv.
 
     tests/csv_command.py [PROGRAM]
+
+For random messages, the rows in CSV and JSON must contain the values that bufr_text returns, with each installed awk. Other
+tests cover the options, several files with faults in the middle one, live feeds, arguments that must be rejected, and
+failures.
 """
 import csv
 import functools

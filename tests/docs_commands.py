@@ -1,14 +1,16 @@
 #!/usr/bin/env python3
-"""Runs the commands that stand in the docs, and compares what they write with what stands below them.
+"""Runs the commands in the documentation, and compares their output with what the pages show.
 
     tests/docs_commands.py [PROGRAM [DOC..]]
 
-A fenced block whose first line begins with `$ ` has commands: each line that begins so, with the lines after it that
-begin with `> `. Below a command stands what it writes, both outputs as one. There a line `...` stands for any lines,
-and a line `(status N)` at the end for a status other than 0. All commands of a document run one after another in one
-shell. They begin in an empty folder, with `bufr` and the scripts on the path and links to examples/, scripts/ and
-tables/: those of the repository, or of the installation that has the document. A block whose fence ends in `if=WORD` is skipped where neither
-a program nor a module of python3 or of scripts/ has that name. There may be several words, with commas between them.
+A fenced block contains commands if its first line begins with `$ `. Each line that begins with `$ ` is a command, and lines
+after it that begin with `> ` continue the command. The lines below a command are its output (standard output and standard
+error together). There, a line `...` stands for any lines, and `(status N)` at the end gives an exit status other than 0.
+
+All commands in a page run in the same shell, which starts in an empty directory. `bufr` and the scripts are on PATH, and
+the directory contains links to examples/, scripts/ and tables/: those of the repository, or of the installation to which
+the page belongs. A block whose fence ends in `if=WORD` is skipped if there is no program, Python module or module in
+scripts/ with that name. WORD can be several names, separated by commas.
 """
 import os
 import pathlib

@@ -1,15 +1,14 @@
 #!/usr/bin/env python3
-"""Compares what the docs name with what is there.
+"""Checks that the files, commands, options and values that the documentation mentions exist.
 
     tests/docs_names.py [PROGRAM]
 
-- of all pages: links and paths;
-- of docs/guide.md: octets and items of the example files, and the differences from ecCodes;
-- of docs/proof.md: calls, their clauses, laws, fields of records, and a contract;
-- of tables/README.md: the counts of the tables;
-- of the man pages: the faults of that of `bufr`, and, where they are there, that `mandoc` and `groff` do not complain;
-- of the man pages and the completions: commands and options, of the scripts too;
-- of all pages: which Python the scripts need.
+- all pages: links and paths, and the Python version that the scripts need;
+- docs/guide.md: octets and items in the example files, and the differences from ecCodes;
+- docs/proof.md: functions, their clauses, laws, fields of records, and a contract;
+- tables/README.md: the numbers of rows in the tables;
+- the man pages: the faults in the page for `bufr`, and, if they are installed, that `mandoc` and `groff` print no warnings;
+- the man pages and the completions: commands and options, including those of the scripts.
 """
 import csv
 import os

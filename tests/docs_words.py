@@ -1,9 +1,9 @@
 #!/usr/bin/env python3
-"""Prints the words of each page and its longest sentences, and refuses a README with more words than its bound.
+"""Prints the number of words in each page and the longest sentences, and fails if the README has too many words.
 
-    tests/docs_words.py [-v]        -v prints the sentences of each page that have over 25 words
+    tests/docs_words.py [-v]        -v: print all sentences with more than 25 words
 
-Code blocks count as words, not as sentences. A cell of a table and an item of a list are sentences of their own.
+Words in code blocks count as words of the page, but not of a sentence. Each table cell and list item is a sentence.
 """
 import re
 import sys

@@ -1,10 +1,10 @@
 #!/usr/bin/env python3
-"""Encodes documents that are written by hand, and looks for each in a dump's spelling.
+"""Encodes documents that were written by hand, and compares the dumps of the results with the expected dumps.
 
     tests/documents_by_hand.py [PROGRAM]
 
-A row has the lines of a document from `compressed` on: as a person may write them, and as the dump of its message has
-them. That spelling is encoded to the same octets, and dumped again it stays.
+Each row contains the lines of a document from `compressed` on, first as a person might write them, and then as in a dump.
+Both forms must be encoded to the same octets, and a dump of these must contain the lines in the second form.
 """
 import subprocess
 

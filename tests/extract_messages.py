@@ -1,13 +1,15 @@
 #!/usr/bin/env python3
-"""Tries scripts/bufr-extract: which messages of a made stream it takes, what it refuses, and how long it takes.
+"""Tests scripts/bufr-extract: which messages it selects from a generated stream, what it rejects, and how fast it is.
 
     tests/extract_messages.py [PROGRAM]
 
-Each condition is given over a file, over standard input as a file, and over a pipe: the same messages must come, with the
-fault lines and the status of `bufr ls`. Of a feed each message is there at once. Of 100,000 messages of 10 KB it takes
-at most three times the processor time of `bufr ls`, a Python that does nothing, and a copy of what it takes together. On
-an idle machine it is one and a half. The commands take turns, and the least seconds of each count: of ten rounds, or of
-fewer where these do.
+Each condition is tried with a file, with standard input redirected from a file, and with a pipe. The same messages must be
+selected each time, with the fault lines and the exit status of `bufr ls`. From a live feed, each message must be copied
+immediately.
+
+For 100,000 messages of 10 KB, bufr-extract may use at most three times as much processor time as `bufr ls`, a Python
+process that does nothing, and a copy of the selected messages use together. On an idle machine, the factor is 1.5. The
+commands take turns for up to ten rounds, and the fastest run of each command counts.
 """
 import gzip
 import os

@@ -1,10 +1,10 @@
 #!/usr/bin/env python3
-"""Fails the scripts on purpose: each says so in one line, ends with 2, and never with 0 or 1 where its output is not whole.
+"""Makes the scripts fail. Each must report the failure in one line, and exit with status 2 if its output is incomplete.
 
     tests/failures_of_scripts.py [PROGRAM [SCRIPT..]]
 
-Descriptors are closed or full, memory and room are wanting, files become shorter while they are read, tables are at
-fault, and programs are killed. Then come the options that all scripts have, and the line of progress.
+Descriptors are closed, devices are full, memory and disk space run out, files are truncated while they are being read,
+tables are invalid, and programs are killed. The test also covers the options that all scripts share, and the progress line.
 """
 import contextlib
 import functools

@@ -1,12 +1,12 @@
 #!/usr/bin/env python3
-"""Types the commands of README in their order, as somebody does who has just cloned the repository or unpacked a release.
+"""Runs the commands in the README in order, like a user who has just cloned the repository or unpacked a release.
 
     tests/first_steps.py [PROGRAM]
 
-A fenced block `sh` or one that begins with `$ ` has commands. They run in one shell with a home of its own, at the top of
-a clone of the files as they are, and each has to end with status 0; what stands below a command that begins with `$ ` is
-what it prints. Commands that prove take up to two hours, so they are named and not run: `.ci/run` is what runs this
-test, and install.sh is given PROGRAM in the place of the one that it would prove or that a proved release contains.
+A fenced block contains commands if it is marked `sh` or begins with `$ `. The commands run in one shell, with a separate
+home directory, at the top of a clone of the current files. Each command must exit with status 0, and the lines below a
+command that begins with `$ ` must be its output. `.ci/run` is not run, because it takes up to two hours and runs this test
+itself. install.sh installs PROGRAM instead of the program that it would prove, or that a proved release would contain.
 """
 import os
 import pathlib

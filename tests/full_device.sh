@@ -1,5 +1,6 @@
 #!/usr/bin/env bash
-# Outputs that are full or closed: 71 and status 2, after all that was certain before the next read.
+# Tests outputs that are full or closed: after writing everything that was certain before the next read, the program must
+# report fault 71 and exit with status 2.
 # rule: fault-line-not-written
 set -eu
 . "$(dirname "$0")/lib.sh"

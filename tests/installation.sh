@@ -1,5 +1,6 @@
 #!/usr/bin/env bash
-# What install.sh installs is whole: it runs without the repository, and the docs lead to what is there.
+# Tests install.sh: the installation must work without the repository, and the links in the documentation must lead to
+# installed files.
 set -eu
 . "$(dirname "$0")/lib.sh"
 # The caller's files are nobody else's, and `cd` looks elsewhere first.

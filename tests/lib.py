@@ -1,4 +1,4 @@
-"""What the tests in Python share: the program, tables, how a test ends, and messages that are put together by hand."""
+"""Code that the Python tests share: the program, tables, how a test ends, and messages that are built by hand."""
 import os
 import pathlib
 import subprocess

@@ -1,6 +1,6 @@
 # shellcheck shell=bash
-# What the tests in shell share. A test sources this file with its own arguments: the program is the first of them.
-# It goes to the top of the repository, and makes a folder $work that goes with the test.
+# Code that the shell tests share. A test sources this file, which uses the test's first argument as the program, changes to
+# the top of the repository, and creates a directory $work that is removed when the test ends.
 set -eu -o pipefail
 bufr=$(realpath "${1:-"$(dirname "${BASH_SOURCE[0]}")/../crates/bufr/out/bufr"}")
 cd "$(dirname "${BASH_SOURCE[0]}")/.."

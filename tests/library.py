@@ -1,12 +1,13 @@
 #!/usr/bin/env python3
-"""Compares the library for C with the program, on examples/, tests/vectors and random hostile streams.
+"""Compares the library for C with the program on examples/, tests/vectors and random hostile streams.
 
-    tests/library.py [PROGRAM [FOLDER]]        FOLDER: the library that library/build.sh made. If it is left out, it is
-                                               the one of the variable BUFR_LIBRARY, or else it is built.
+    tests/library.py [PROGRAM [FOLDER]]        FOLDER: the directory that library/build.sh filled (default: the library
+                                               that the variable BUFR_LIBRARY names or, if it is not set, a new build)
 
-The outputs must be the same, with large and with small rooms, and from several threads at once. The rows of items must
-say what `bufr dump` says, and those of messages what `bufr ls` says. The structures and numbers of bufr_library.py must
-be those of bufr.h. Then the examples in C and Fortran are compiled, compared, and run under valgrind.
+The outputs must be the same, with large and small buffers, and in several threads at once. The rows for items must agree
+with the output of `bufr dump`, and the rows for messages with that of `bufr ls`. The structures and numbers in
+bufr_library.py must be those in bufr.h. Finally, the examples in C and Fortran are compiled, compared, and run under
+valgrind.
 """
 import ctypes
 import fcntl

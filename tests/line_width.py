@@ -1,12 +1,12 @@
 #!/usr/bin/env python3
-"""Tells the lines of the crates' code and definitions that are longer than 100 characters, and of proofs than 200.
+"""Reports lines of more than 100 characters in the crates' code and definitions, and of more than 200 in proofs.
 
-    tests/line_width.py [--write [FILE..]]        --write breaks the long lines of all proofs, or of these
+    tests/line_width.py [--write [FILE..]]        --write: break the long lines in these proofs (default: in all proofs)
 
-It reads each .rt file of src/, and each .antt file of specs/ and proofs/. Imports and attributes, which `rt fmt` keeps on
-one line each, and texts in quotes, which no line feed may break, are passed over. A line that is too long is told with its
-file and number. A proof breaks before an arrow, after a comma, before an operator, or between two arguments, wherever the
-fewest brackets are open. What comes after is four places further in than the line was; then `rt fmt` lays it out.
+The test reads each .rt file in src/, and each .antt file in specs/ and proofs/. It skips imports and attributes, which `rt
+fmt` keeps on one line, and quoted strings, which cannot contain line feeds. For each line that is too long, it prints the
+file and the line number. --write breaks a line before an arrow, after a comma, before an operator or between two arguments,
+wherever the fewest brackets are open, and indents the second part by four more spaces. `rt fmt` then formats both.
 """
 import pathlib
 import re

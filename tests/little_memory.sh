@@ -1,6 +1,6 @@
 #!/usr/bin/env bash
-# Each command in little memory: from too little for the loader up to enough, in steps of 16 KiB.
-# Once the program is loaded its answer is whole, or it ends with 73 and status 2 after a prefix of both outputs.
+# Runs each command with limited memory, from too little for the loader up to enough, in steps of 16 KiB. As soon as the
+# program can be loaded, its output must either be complete, or be a prefix followed by fault 73 and exit status 2.
 set -eu
 . "$(dirname "$0")/lib.sh"
 

@@ -1,8 +1,9 @@
 #!/usr/bin/env python3
-"""A live feed: each text and fault line is there before the next octets are sent, for the three commands.
+"""Tests live feeds with all three commands: each text and fault line must be written before the next octets are sent.
 
-The output goes to a pipe and to a terminal, with half a message pending too, and all of it comes before a read that fails.
-A stray word that states 16 MB takes no memory. A file is still written in large blocks.
+The output goes to a pipe or to a terminal, sometimes while half a message is pending. If a read fails, all earlier output
+must already have been written. A stray that declares 16 MB must not use any memory. Output for a file must still be written
+in large blocks.
 """
 # rule: output-held-back, input-not-read, fault-70
 import os

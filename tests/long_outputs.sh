@@ -1,5 +1,6 @@
 #!/usr/bin/env bash
-# Outputs that are longer than a pipe and than what is held back: their reader goes, they share a file, a signal comes.
+# Tests outputs that are longer than a pipe and than the program's buffers: their reader exits early, they go to the same
+# file, or a signal arrives.
 # rule: output-held-back, signals, reader-gone
 set -eu
 . "$(dirname "$0")/lib.sh"

@@ -1,16 +1,19 @@
 #!/usr/bin/env python3
-"""Compares docs/map.md with the tags in the sources, docs/names.md with the definitions, and names in other pages with both.
+"""Compares docs/map.md with the tags in the sources, docs/names.md with the definitions, and names in other pages with
+both.
 
-    tests/map.py [--update]        --update writes docs/map.md and docs/names.md anew
+    tests/map.py [--update]        --update: update docs/map.md and docs/names.md
 
-A rule of docs/map.md has a tag. In the sources a comment `rule: TAG, TAG` is on the line above what has these rules: a
-definition of specs/, an example of proofs/, a function, a test of bufr_tests; or among the first lines of a file of
-tests/. The last column of tests/vectors/cases.tsv has the rules of a vector. The first two cells of a row are written by hand, the others are made from the tags. Each heading of
-docs/format.md and docs/texts.md has its part, and each fault of docs/texts.md a row. In docs/design.md the part of a
-crate names each of its modules. A name of the code in a page is somewhere in the crates.
-The last cell of a row has how many comparisons, numbers and orders the rule's definitions have, and how many of them an
-entry of tests/bent_definitions bends; the others have a reason for having none. A rule where one has neither is not covered.
-docs/names.md has each name that a `specs/Prelude` passes on, with its file and its comment.
+Each rule in docs/map.md has a tag. In the sources, a comment `rule: TAG, TAG` precedes each item to which these rules
+apply: a definition in specs/, an example in proofs/, a function, or a test in bufr_tests. A file in tests/ has such a
+comment near its beginning. The last column of tests/vectors/cases.tsv lists the rules for each vector. The first two cells
+of a row in docs/map.md are written by hand; the other cells are generated from the tags. The last cell says how many
+comparisons, numbers and orders the rule's definitions contain, and how many of them an entry of tests/bent_definitions
+bends. The others must have a reason for having no entry; otherwise, the rule is not covered.
+
+Each heading in docs/format.md and docs/texts.md must have a section in docs/map.md, and each fault in docs/texts.md a row.
+The section of docs/design.md on a crate must name each of its modules. Code that a page names must occur in the crates.
+docs/names.md lists each name that a `specs/Prelude` re-exports, with its file and its comment.
 """
 import csv
 import pathlib

@@ -1,10 +1,11 @@
 #!/usr/bin/env python3
-"""Measures the memory of the calls of scripts/bufr_text.py, which the dump of the longest message bounds.
+"""Measures how much memory the functions in scripts/bufr_text.py use, which must depend only on the longest message.
 
     tests/memory_of_module.py [PROGRAM]
 
-A call may take 48 MB, 1 KB for each item of the longest message, and twice the text of that message; `encode` also
-what it returns. The streams have many messages, long ones, some whose dump is 7,000 times as long, and faults.
+A function may use 48 MB, plus 1 KB for each item in the longest message, plus twice the length of that message's dump;
+`encode` may also use memory for its result. The streams contain many messages, long messages, messages whose dumps are
+7,000 times as long, and faults.
 """
 import os
 import pathlib

@@ -1,10 +1,11 @@
 #!/usr/bin/env python3
-"""Each command works in the memory that docs/operations.md allows it, on the worst messages that fit into 16 MB.
+"""Checks that each command needs no more memory than docs/operations.md states, for the worst messages of up to 16 MB.
 
     tests/memory_of_program.py [PROGRAM]
 
-The limit is on the address space. A message of nothing but data is the worst for `ls`; one of compressed data in which
-each item has a bit and takes seven is the worst for `dump`, and its dump for `encode`, as is a document of long texts.
+The test limits the address space. The worst message for `ls` consists almost entirely of data. The worst message for `dump`
+contains compressed items that are one bit wide but take seven bits each. The worst inputs for `encode` are the dump of that
+message, and a document with long strings.
 """
 import re
 import resource

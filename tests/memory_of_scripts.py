@@ -1,12 +1,12 @@
 #!/usr/bin/env python3
-"""Measures the memory of the scripts: it stays below the bound that --help states, for any stream.
+"""Checks that the scripts need no more memory than --help states, whatever the stream contains.
 
     tests/memory_of_scripts.py [PROGRAM [SCRIPT..]]
 
-The bound is a number of megabytes for each process, plus the longest message or document if --help says so. The streams
-have 300,000 words `BUFR` that begin no message, 300,000 small messages with bytes between them, 30,000 kinds of messages
-whose tables are missing, 200,000 kinds that lack no rows, or messages of 16 MB; a text has no end. Of the first two a
-third takes almost as much memory.
+The limit for each process is a number of megabytes, plus the length of the longest message or document if --help says so.
+The streams contain 300,000 strays, 300,000 small messages with bytes between them, 30,000 kinds of messages for which
+tables are missing, 200,000 kinds for which no rows are missing, or messages of 16 MB; one document never ends. With the
+first two streams, a script must not need much more memory than with a third of the stream.
 """
 import os
 import pathlib

@@ -1,22 +1,26 @@
 #!/usr/bin/env python3
-"""Refuses the program each of its calls for memory in turn, and looks at what it leaves.
+"""Makes each of the program's memory allocations fail in turn, and checks what the program writes.
 
     tests/memory_refused.py [PROGRAM]
 
-Each run is made with all memory first. Then its Nth call is refused, for each N up to one more than it makes: that
-last run gives the whole answer. Each other one has status 2 and a prefix of the output. Its errors are a prefix of the
-fault lines and then `bufr: 73 out of memory`. One call may be refused and the answer be whole, for another is made in
-its place: std's `collect` of the words first asks for much room.
+Each command first runs without failures. Then its Nth allocation fails, for each N up to one more than the number of
+allocations, so that the last run produces the complete output. Every other run must exit with status 2. Its output must be
+a prefix of the complete output, and its errors must be a prefix of the fault lines, followed by `bufr: 73 out of memory`. A
+run may also succeed although one allocation fails, if the program then tries a smaller one: std's `collect` does so when it
+first requests a large buffer for the arguments.
 
-The output is made of pieces: the lines of `ls`, the texts of `dump`, the messages of `encode`. A prefix of them is left,
-whole, and never fewer than an earlier refusal left. `dump` also leaves the whole lines of the text that it was at. Of
-several pieces a late refusal leaves some: what was written before it is handed on. `dump` takes no memory for plain
-data that redefine no reference, where the descriptors are those of the message before. Where it has no memory for the
-lines that all subsets of compressed data have alike, it makes each as it comes.
+The output consists of pieces: the lines of `ls`, the texts of `dump`, or the messages of `encode`. The program must write
+whole pieces, and at least as many as when an earlier allocation failed. `dump` may also write whole lines of an incomplete
+text. If there are several pieces and a late allocation fails, the first of them must have been written, because the program
+flushes its output before it exits. `dump` must not allocate memory for plain data that redefine no reference values if the
+descriptors are the same as in the previous message. If `dump` cannot allocate memory for lines that are the same in every
+subset of compressed data, it must generate each line as it is needed.
 
-Then the tests of `growth_tests.rt`, one call of a library each, are run in the same way: each passes at each refusal.
+Finally, the tests in `growth_tests.rt`, each of which calls one library function, run in the same way. Each test must pass
+whichever allocation fails.
 
-refuse_memory.c refuses. It is compiled by a C compiler ($CC or cc), or else by the toolchain's.
+refuse_memory.c makes the allocations fail. It is compiled by a C compiler ($CC or cc) or, if there is none, by the
+toolchain's.
 """
 import concurrent.futures
 import os

@@ -1,8 +1,8 @@
 #!/usr/bin/env python3
-"""Breaks the scripts on purpose, one change at a time: the test that is named beside each change must fail.
+"""Breaks the scripts on purpose, one change at a time: for each change, the test that is listed with it must fail.
 
-Each change is made in a copy of this tree. Without an option, only the first one is tried. In any case, the text that a
-change replaces must still be in its file.
+Each change is made in a copy of this repository. Without an option, only the first change is tried. In any case, the text
+that each change replaces must still occur in its file.
 """
 import argparse
 import os

@@ -1,10 +1,10 @@
 #!/usr/bin/env python3
-"""Finds public types and definitions whose name another crate has for another idea.
+"""Finds names of public types and definitions that mean something else in another crate.
 
     tests/names.py
 
-It looks at `pub struct`, `pub enum` and `pub trait` of src/, and at what is public in specs/. A type and its own
-definition in one crate share a name. No relation's name ends in `So`.
+The test reads each `pub struct`, `pub enum` and `pub trait` in src/, and each public definition in specs/. Within a crate,
+a type and its definition share a name. The name of a relation must not end in `So`.
 """
 import collections
 import re

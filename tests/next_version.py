@@ -1,11 +1,10 @@
 #!/usr/bin/env python3
-"""The commands of tables/README.md for next year's version make a set of a version 99 that is made up.
-
-They also tell what differs from the latest set.
+"""Tests the commands in tables/README.md that add next year's version of the tables.
 
     tests/next_version.py [PROGRAM]
 
-The version is that of wmo-39, in WMO's layout, with an element and a sequence more, and a width that changed.
+The commands must make a table set from a made-up version 99, and list its differences from the latest set. Version 99
+consists of the tables in wmo-39 in WMO's layout, with an additional element, an additional sequence and a changed width.
 """
 import csv
 import os

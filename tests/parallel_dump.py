@@ -1,11 +1,12 @@
 #!/usr/bin/env python3
-"""Tries scripts/bufr-parallel: the same text, fault lines and status as by one `bufr dump` of the same stream.
+"""Tests scripts/bufr-parallel: its output, fault lines and exit status must be those of a single `bufr dump`.
 
     tests/parallel_dump.py [PROGRAM]
 
-The made stream has headings, strays, and messages that are refused for their sections or their data. A word in it states
-more octets than its part has. It is given as one file, as three files cut inside a message, and over a pipe, to one
-to five processes. As many dumps run at once as are asked for, and no octet is dumped twice.
+The generated stream contains headings, strays, and messages with faults in their sections or data. One stray declares more
+octets than its part contains. bufr-parallel reads the stream from one file, from three files that are split in the middle
+of a message, and from a pipe, with one to five processes. It must run as many dumps at once as requested, and must not dump
+any octet twice.
 """
 import os
 import pathlib

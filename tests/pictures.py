@@ -1,10 +1,11 @@
 #!/usr/bin/env python3
-"""Tries scripts/bufr-plot: a map with strange places and texts, a sounding, what it tells where there is nothing to draw
-or no matplotlib, and that a picture that fails leaves nothing.
+"""Tests scripts/bufr-plot: maps with unusual positions and strings, soundings, the messages if there is nothing to draw or
+matplotlib is missing, and that failures leave no files behind.
 
     tests/pictures.py [PROGRAM]
 
-The pictures are drawn where a python3 of the path, or /usr/bin/python3, has matplotlib; otherwise that is skipped.
+The test draws with the first python3 that has matplotlib: its own, the one on PATH, or /usr/bin/python3. If none has it,
+drawing is skipped.
 """
 import os
 import pathlib

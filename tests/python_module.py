@@ -1,6 +1,6 @@
 #!/usr/bin/env python3
-"""Tries scripts/bufr_text.py: texts read and written, what is refused, at which line and why, rows and levels, and the
-program run by it: faults, offsets, what is told of failures.
+"""Tests scripts/bufr_text.py: reading and writing dumps, the errors for invalid dumps (with line numbers and causes), rows
+and levels, and running the program (with faults, offsets and failures).
 
     tests/python_module.py [PROGRAM]
 """

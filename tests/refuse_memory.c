@@ -1,9 +1,9 @@
-// A library that is preloaded into a program and refuses one of its calls for memory, so that a script can try
-// what the program does at each of them. REFUSE_COUNT names a file of eight octets: it is mapped, and the calls are
-// counted in it, since a program may end at any time and without a word. REFUSE_AT is the number of the call
-// that is refused, from 1; at 0 none is.
+// A library that is preloaded into a program and makes one of its memory allocations fail, so that a test can check how
+// the program handles the failure of each. REFUSE_COUNT names a file of eight octets, which is mapped into memory and
+// in which the allocations are counted, because a program can end at any time without notice. REFUSE_AT is the number
+// of the allocation that fails (counted from 1), or 0 if none fails.
 //
-// It declares what it calls, so that a compiler without the headers of the C library serves.
+// This file declares the functions that it calls, so that it can be compiled without the headers of the C library.
 typedef __SIZE_TYPE__ size_t;
 typedef __UINT64_TYPE__ uint64_t;
 #define NULL ((void *)0)

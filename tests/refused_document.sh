@@ -1,5 +1,5 @@
 #!/usr/bin/env bash
-# The second of three documents is refused for its first value: the first one is built, and none after it.
+# Tests `bufr encode` on three documents, the second of which has an invalid first value: only the first one is encoded.
 set -eu
 . "$(dirname "$0")/lib.sh"
 text=examples/synop.txt

@@ -1,7 +1,7 @@
 #!/usr/bin/env bash
-# A release: the same commit gives the same bytes in two folders, and the archive installs, runs and is removed again on
-# a clean machine without compilers, toolchain or network. What is packed is the program that the test is given, so the
-# release says that it is unproved; by hand, `release.sh` does the same after it proved everything.
+# Tests release.sh: the same commit must give the same bytes in two directories, and the archive must install, run and
+# uninstall on a clean machine without compilers, toolchain or network. The release contains the program that the test is
+# given, so it says that the program is unproved. Without --unproved, release.sh does the same after proving everything.
 . "$(dirname "$0")/lib.sh"
 
 # A clone of the files as they are, not of the last commit.

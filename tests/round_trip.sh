@@ -1,6 +1,6 @@
 #!/usr/bin/env bash
-# Each example comes back: its text is encoded to the same octets, and those have the same text.
-# In the form that it does not have its text differs by the lines `compressed` alone, and changed back it is as it was.
+# Tests that each example round-trips: its dump is encoded to the same octets, and these have the same dump. In the other
+# form (plain or compressed), its dump differs only in the `compressed` lines, and converting it back restores the original.
 set -eu
 . "$(dirname "$0")/lib.sh"
 

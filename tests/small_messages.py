@@ -1,5 +1,5 @@
 #!/usr/bin/env python3
-"""Runs the program on small messages that ask for much, that are cut, and that are as it writes them.
+"""Runs the program on small messages: some declare large amounts of data, some are truncated, and some round-trip exactly.
 
     tests/small_messages.py [PROGRAM]
 """

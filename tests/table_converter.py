@@ -1,10 +1,11 @@
 #!/usr/bin/env python3
-"""Tries rows of tables on tables/convert.py and on the program: convert.py leaves out, and reports, what the program refuses.
+"""Tests rows of tables with tables/convert.py and with the program: convert.py must leave out, and report, what the program
+rejects.
 
     tests/table_converter.py [PROGRAM]
 
-Each row is in a table of its own. Beside it stands the reason for which the converter leaves it out, or nothing where
-it is kept. Then come sources whose rows are not alike, and files that are not laid out as they should be.
+Each row is tested in a table of its own. Next to it is the reason for leaving it out, or nothing if it is kept. Other tests
+cover sources with conflicting rows, and files with an invalid layout.
 """
 import functools
 import pathlib

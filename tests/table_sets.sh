@@ -1,5 +1,5 @@
 #!/usr/bin/env bash
-# Each set of tables is read without a fault.
+# Checks that `bufr` accepts the tables in every table set.
 set -eu
 . "$(dirname "$0")/lib.sh"
 for set in tables/wmo-*; do

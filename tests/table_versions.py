@@ -1,11 +1,13 @@
 #!/usr/bin/env python3
-"""The sets of tables/ serve each version from 7 to 39 exactly, by the rule of tables/README.md, and none can be spared.
+"""Checks that the sets in tables/ match every version from 7 to 39 exactly, by the rule in tables/README.md, and that all
+sets are needed.
 
     tests/table_versions.py
 
-A version's set is that of its number, or else the next later one. Each row of the version must be read by its set as
-the version has it; rows that were added since do no harm. The versions are those of ecCodes, and of wreport with the
-differences that stand below. What is not installed is skipped, and told.
+The set for a version is the one with that number or, if there is none, the one with the next higher number. It must read
+each row of the version as the version defines it; rows that were added later do no harm. The versions come from ecCodes,
+and from wreport with the differences that are listed below. If either is not installed, the test says so and skips its
+versions.
 """
 import pathlib
 import re

@@ -1,11 +1,11 @@
 #!/usr/bin/env python3
-"""Compares four ways from a dump to its values: table.awk by item and by subset, bufr_text.dump and bufr_text.rows.
+"""Compares four ways to get the values in a dump: table.awk by item and by subset, bufr_text.dump, and bufr_text.rows.
 
     tests/tables_agree.py [PROGRAM]
 
-All four must give the same values, with each awk that is installed. There are random messages over WMO's tables, and
-messages over a table made here with numbers of every scale from -127 to 127: zero, one digit, the ends of a field's
-range, missing. Numbers up to the limits of 128 bits, which no field holds, are read from a text.
+All four must return the same values, with each installed awk. Some messages are random and use WMO's tables. Others use a
+table that the test generates, with numbers of every scale from -127 to 127: zero, one digit, the limits of a field's range,
+and missing. Numbers up to the limits of 128 bits, which do not fit in a field, are read from a generated dump.
 """
 import itertools
 import os

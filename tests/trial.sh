@@ -1,6 +1,6 @@
 #!/usr/bin/env bash
-# try.sh with a toolchain that only runs the program of the test: it dumps a file of any name, from any folder, and says
-# what it needs.
+# Tests try.sh with a stand-in for the toolchain that runs only the program under test: try.sh must dump a file of any name,
+# from any directory, and say what it needs if something is missing.
 . "$(dirname "$0")/lib.sh"
 top=$PWD
 mkdir "$work/bin" "$work/empty"

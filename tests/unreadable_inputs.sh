@@ -1,5 +1,5 @@
 #!/usr/bin/env bash
-# Inputs that end in a message or in a text, and inputs and tables that cannot be read.
+# Tests inputs that end in the middle of a message or document, and inputs and tables that cannot be read.
 # rule: input-ends-early, input-not-read
 set -eu
 . "$(dirname "$0")/lib.sh"

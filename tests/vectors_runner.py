@@ -1,5 +1,5 @@
 #!/usr/bin/env python3
-"""Tries tests/vectors/run.py: the cases that it chooses, its status, and a program that does not end.
+"""Tests tests/vectors/run.py: the cases that it selects, its exit status, and a program that does not exit.
 
     tests/vectors_runner.py [PROGRAM]
 """
@@ -20,7 +20,7 @@ def main() -> None:
         (["--only", "no such case", program()], 2, "0 of 0 vectors"),
         (["/nosuch"], 2, "cannot run /nosuch: No such file or directory"),
         (["--only", "delayed_twice"], 2, "name the program"),
-        (["--help"], 0, "--only tries the cases"),
+        (["--help"], 0, "--only runs only the cases"),
     ):
         done = subprocess.run([sys.executable, RUNNER, *words], stdout=subprocess.PIPE, stderr=subprocess.STDOUT)
         if done.returncode != status or told not in done.stdout.decode():

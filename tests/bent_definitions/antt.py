@@ -1,4 +1,4 @@
-"""The antt files of the crates as text: modules, their declarations, and what each imports."""
+"""Reads the crates' antt files: modules, their declarations, and what each of them imports."""
 import functools
 import re
 

@@ -1,4 +1,4 @@
-"""The sites of the definitions that need an entry, which are comparisons, numbers and orders, and their entries."""
+"""Finds the places in the definitions that need entries (comparisons, numbers and orders), and the entries for each place."""
 import difflib
 import functools
 import re

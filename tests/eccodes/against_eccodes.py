@@ -1,17 +1,17 @@
 #!/usr/bin/env python3
 """Compares `bufr dump` and `bufr encode` with ecCodes, value by value.
 
-    tests/eccodes/against_eccodes.py [COUNT [FIRST]]    random messages: COUNT (1,000 by default) from number FIRST on
-    tests/eccodes/against_eccodes.py FILE..             the messages of these files
-    tests/eccodes/against_eccodes.py --differences      small messages that the two are known to read differently
+    tests/eccodes/against_eccodes.py [COUNT [FIRST]]    COUNT random messages (default: 1,000), starting with number FIRST
+    tests/eccodes/against_eccodes.py FILE..             the messages in these files
+    tests/eccodes/against_eccodes.py --differences      small messages that are known to be read differently
 
-random_messages.py writes a message and the lines that its dump should have. With those lines two readings are
-compared: what `bufr dump` writes, and what ecCodes writes. Of ecCodes `bufr_dump -jf` gives descriptors, texts and
-scales, `bufr_filter` the sections and numbers in all digits of a double. Then `bufr encode` writes the dump as a
-message again, and ecCodes has to read the same in it. Of files there are no lines to expect; the rest is the same.
+random_messages.py generates each message, along with the lines that its dump should contain. These lines are compared with
+the output of `bufr dump` and with what ecCodes reads: `bufr_dump -jf` provides descriptors, strings and scales, and
+`bufr_filter` provides the sections, and numbers with all digits of a double. `bufr encode` then converts the dump back to a
+message, in which ecCodes must read the same values. For files, there are no expected lines; everything else is the same.
 
-A message that differs is kept in tests/out/eccodes, its first difference is told, and the status is 1. PROGRAM=FILE is
-another program than the one that was built. Outside the gate: it wants ecCodes.
+If a message differs, it is saved in tests/out/eccodes, the first difference is printed, and the exit status is 1. To test a
+program other than the one that was built, set PROGRAM to its path. This test needs ecCodes, and is not part of the gate.
 """
 import collections
 import json

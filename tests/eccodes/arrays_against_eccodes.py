@@ -1,10 +1,11 @@
 #!/usr/bin/env python3
-"""Compares the values that the module `bufr` returns with those of ecCodes.
+"""Compares the values that the module `bufr` returns with those that ecCodes returns.
 
-    tests/eccodes/arrays_against_eccodes.py [FILE..]    FILE: examples/*.bufr by default
+    tests/eccodes/arrays_against_eccodes.py [FILE..]    FILE: a BUFR file (default: all files in examples/)
 
-For each accepted message, the header and all items of `bufr.items` are compared. If one differs, the status is 1. The
-variable BUFR_LIBRARY names the library for C. Outside the gate: it wants NumPy and ecCodes.
+For each accepted message, the test compares the header and all items in the result of `bufr.items`. If any of them differ,
+the exit status is 1. The variable BUFR_LIBRARY names the library for C. This test needs NumPy and ecCodes, and is not part
+of the gate.
 """
 import collections
 import json

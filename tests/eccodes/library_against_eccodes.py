@@ -1,11 +1,11 @@
 #!/usr/bin/env python3
-"""Compares the values that the library for C returns with those of ecCodes.
+"""Compares the values that the library for C returns with those that ecCodes returns.
 
-    tests/eccodes/library_against_eccodes.py FOLDER [FILE..]    FOLDER: what library/build.sh made
-                                                                FILE: examples/*.bufr by default
+    tests/eccodes/library_against_eccodes.py FOLDER [FILE..]    FOLDER: the directory that library/build.sh filled
+                                                                FILE: a BUFR file (default: all files in examples/)
 
-For each accepted message, the header of its row and all of its items are compared. If one differs, the status is 1.
-Outside the gate: it wants ecCodes.
+For each accepted message, the test compares the header in its row, and all of its items. If any of them differ, the exit
+status is 1. This test needs ecCodes, and is not part of the gate.
 """
 import collections
 import json

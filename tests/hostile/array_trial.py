@@ -1,12 +1,13 @@
 #!/usr/bin/env python3
 """Compares the module `bufr` with bufr_text on random hostile streams.
 
-    tests/hostile/array_trial.py FOLDER [COUNT [FIRST [PROGRAM]]]    FOLDER: what library/build.sh made
-                                                                     COUNT streams (1,000 by default) from FIRST on
+    tests/hostile/array_trial.py FOLDER [COUNT [FIRST [PROGRAM]]]    FOLDER: the directory that library/build.sh filled
+                                                                     COUNT: the number of streams (default: 1,000)
+                                                                     FIRST: the number of the first stream
 
-A stream is drawn from its number alone, as those of random_trial.py are. Most are read by WMO's tables, and every tenth by
-those that each message asks for. What is compared is in `differences` of tests/arrays.py. Two streams are tried at a time.
-The status is 1 if one differs. Outside the gate. It needs NumPy and pandas.
+Each stream depends only on its number, as in random_trial.py. Every tenth stream is read with the tables that each message
+needs, and the others with WMO's tables. `differences` in tests/arrays.py makes the comparison. Two streams are tried at a
+time. If a stream differs, the exit status is 1. This trial needs NumPy and pandas, and is not part of the gate.
 """
 import multiprocessing
 import os

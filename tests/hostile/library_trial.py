@@ -1,12 +1,13 @@
 #!/usr/bin/env python3
-"""Compares the library for C with the program on random hostile streams, texts and tables.
+"""Compares the library for C with the program on random hostile streams, dumps and tables.
 
-    tests/hostile/library_trial.py FOLDER [COUNT [FIRST [PROGRAM]]]    FOLDER: what library/build.sh made
-                                                                       COUNT cases (1,000 by default) from FIRST on
+    tests/hostile/library_trial.py FOLDER [COUNT [FIRST [PROGRAM]]]    FOLDER: the directory that library/build.sh filled
+                                                                       COUNT: the number of cases (default: 1,000)
+                                                                       FIRST: the number of the first case
 
-A case is drawn from its number alone, as those of random_trial.py are. Streams are listed, dumped, read as items, and
-their text is encoded in each form; texts are encoded in each form. Rooms are large or small. Two cases are tried at a
-time. The status is 1 if a case is wrong. Outside the gate.
+Each case depends only on its number, as in random_trial.py. Streams are listed, dumped and read as items, and their dumps
+are encoded in each form. Other dumps are encoded in each form. Buffers are large or small. Two cases are tried at a time.
+If a case fails, the exit status is 1. This trial is not part of the gate.
 """
 import multiprocessing
 import pathlib

@@ -1,8 +1,8 @@
-"""Random messages for against_eccodes.py: templates, data, and the lines that a dump of them should have.
+"""Generates random messages for against_eccodes.py: templates, data, and the lines that their dumps should contain.
 
-The encoder here is its own: it shares nothing with the program but the tables. A message is drawn from its number
-alone, so one that differs can be drawn again. Templates that `bufr` and ecCodes are known to read differently are not
-drawn: each such case is one of the DIFFERENCES of against_eccodes.py.
+This file has its own encoder, which shares nothing with the program except the tables. Each message depends only on its
+number, so a message that differs can be generated again. Templates that `bufr` and ecCodes are known to read differently
+are not generated; each of them is one of the DIFFERENCES in against_eccodes.py.
 """
 import collections
 import copy

@@ -1,25 +1,27 @@
 #!/usr/bin/env python3
-"""Runs the program on hostile streams, texts and tables, and tells what it should not do.
+"""Runs the program on hostile streams, dumps and tables, and reports incorrect behaviour.
 
-    tests/hostile/random_trial.py [COUNT [FIRST [PROGRAM]]]    COUNT cases (1,000 by default) from number FIRST on
+    tests/hostile/random_trial.py [COUNT [FIRST [PROGRAM]]]    COUNT: the number of cases (default: 1,000)
+                                                               FIRST: the number of the first case
 
-A case is drawn from its number alone. Streams and texts are of messages of examples/ and of random_messages.py, one or
-a few; tables are WMO's. Octets are cut, doubled and turned, lines dropped and swapped, values, lengths and counts made
-wrong. Then each is listed and dumped, or encoded, and what is accepted goes round once more:
+Each case depends only on its number. A stream or dump contains one or a few messages from examples/ or random_messages.py;
+the tables are WMO's. The trial removes, duplicates and changes octets, drops and swaps lines, and changes values, lengths
+and counts. The program then lists and dumps the stream, or encodes the dump, and must convert the result back:
 
-- `ls` and `dump` tell one line or text for each message, or one fault;
-- the text of a stream is encoded without a refusal, and dumped again it is the same text;
-- its messages are together no longer than the stream by more than two octets for each of edition 3;
-- in another form, if it is not refused by 58, 59 or 60, its text differs by the lines `compressed` alone;
-- what a text is encoded to is dumped without a refusal, and that text is encoded to the same octets.
+- `ls` and `dump` print one line or text for each message, or one fault;
+- the dump of a stream is encoded without a fault, and dumping the result gives the same dump;
+- the encoded messages are no longer than the stream, apart from two octets for each edition 3 message;
+- in the other form, unless fault 58, 59 or 60 is reported, the dump differs only in the `compressed` lines;
+- the result of encoding a dump is dumped without a fault, and that dump is encoded to the same octets.
 
-Told are:
+The trial reports:
 
-- an end by a signal, or a status but 0 and 1 (2 only where a table is told to be at fault);
-- errors that are no fault lines, and a text or message that does not come back;
-- a run that takes more processor time than 0.1 s and a microsecond for each octet that it reads and writes, four times.
+- a signal, or an exit status other than 0 and 1 (or 2, if a fault in a table is reported);
+- lines on standard error that are not fault lines, and dumps and messages that do not round-trip;
+- a command that takes more processor time than 0.1 s plus a microsecond for each octet read or written, four times in a row.
 
-Each wrong case stays in tests/out/hostile; the status is then 1. Two cases are tried at a time. Outside the gate.
+Each case that fails is saved in tests/out/hostile, and the exit status is then 1. Two cases are tried at a time. This trial
+is not part of the gate.
 """
 import collections
 import functools

@@ -1,10 +1,10 @@
 #!/usr/bin/env python3
-"""Runs every case of cases.tsv on a program with the command line of `bufr`, and tells those that it answers otherwise.
+"""Runs every case in cases.tsv on a program that has the command line of `bufr`, and reports the cases with wrong results.
 
-    tests/vectors/run.py [--only TEXT] PROGRAM [WORD..]        as PROGRAM, or as ./run.py python3 my_bufr.py
+    tests/vectors/run.py [--only TEXT] PROGRAM [WORD..]        for example: ./run.py python3 my_bufr.py
 
---only tries the cases with this text in their name, rules or words. A program has 20 seconds for each case. README.md
-beside it says what the files are. The status is 1 where a case is answered otherwise, and 2 where none can be tried.
+--only runs only the cases with TEXT in their name, rules or arguments. Each case must finish within 20 seconds. README.md
+in this directory describes the files. The exit status is 1 if a result is wrong, and 2 if no case can be run.
 """
 import argparse
 import csv
