@@ -3,7 +3,7 @@
 
     tests/vectors/run.py [--only TEXT] PROGRAM [WORD..]        for example: ./run.py python3 my_bufr.py
 
---only runs only the cases with TEXT in their name, rules or arguments. Each case must finish within 20 seconds. README.md
+--only limits the run to cases with TEXT in their name, rules or arguments. Each case must finish within 20 seconds. README.md
 in this directory describes the files. The exit status is 1 if a result is wrong, and 2 if no case can be run.
 """
 import argparse
