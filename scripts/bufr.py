@@ -390,7 +390,7 @@ def frame(
     """
     import pandas
 
-    columns, header, keep = bufr_text.checked(columns, header, keep, not levels, _KEYS_OF_FILES)
+    columns, header, keep = bufr_text.checked(columns, header, keep, not levels, _KEYS_OF_FILES, levels)
     if keep and not levels:
         raise TypeError("keep= needs levels=True")
     reader = Reader(source, None if levels else columns, where, tables, faults)
@@ -456,7 +456,7 @@ def levels(
         >>> next(bufr.levels("sounding.bufr", ["007004", "012101"], keep=["001002"]))
         (836, 98520, 258.55)
     """
-    columns, header, keep = bufr_text.checked(columns, header, keep, False, _KEYS_OF_FILES)
+    columns, header, keep = bufr_text.checked(columns, header, keep, False, _KEYS_OF_FILES, has_levels=True)
     return _tuples(_tables(Reader(source, None, where, tables, faults), columns, keep, has_levels=True), header)
 
 
@@ -503,6 +503,9 @@ class Items(NamedTuple):
     def frame(self) -> Any:
         """Returns a pandas data frame with a row for each item, including its descriptor and any text as strings.
 
+        `message_row` is the index of the message in `messages`, as in `items`. To add columns from `messages`, such as the
+        centre, pass `on="message_row"` to the method `join` of the data frame.
+
         The name and unit come from the Table B with which the item was read. New reference values, which are defined in the
         data, have the name REFERENCE. Strings are the same as in `bufr.frame`.
 
@@ -521,7 +524,8 @@ class Items(NamedTuple):
         names = [self.names[row] for row in self.items["message_row"][firsts].tolist()]
         elements = [known.get(word, ("", "")) for known, word in zip(names, words)]
         rows = self.messages[self.items["message_row"]]
-        columns = {key: rows[key] for key in ("file", "offset", "time")}
+        columns = {"message_row": self.items["message_row"].astype("i8")}
+        columns.update((key, rows[key]) for key in ("file", "offset", "time"))
         columns.update(subset=self.items["subset"].astype("i8"), fxy=numpy.array(words, object)[codes])
         for at, key in enumerate(("name", "unit")):
             columns[key] = numpy.array([element[at] for element in elements], object)[codes]

@@ -495,7 +495,7 @@ def levels(
     A subset is skipped if it has no levels, or if its levels are ambiguous because the descriptor that begins a level
     occurs again in the same level. A `DumpWarning` at the end says how many subsets were skipped for each of these reasons.
     """
-    columns, header, keep = checked(columns, header, keep)
+    columns, header, keep = checked(columns, header, keep, has_levels=True)
     found = _by_library("levels", messages, faults, where, columns, header, keep)
     if found is not None:
         return found
@@ -534,11 +534,17 @@ def _reported(told: _Told, found: Iterator[Tuple[Cell, ...]]) -> Iterator[Tuple[
 
 
 def checked(
-    columns: Iterable[str], header: Iterable[str], keep: Iterable[str] = (), has_counts: bool = False, more: Sequence[str] = ()
+    columns: Iterable[str],
+    header: Iterable[str],
+    keep: Iterable[str] = (),
+    has_counts: bool = False,
+    more: Sequence[str] = (),
+    has_levels: bool = False,
 ) -> List[List[str]]:
     """Returns the arguments as lists. Raises `ValueError` if a word is not a column or a header key.
 
-    If `has_counts` is true, a column can end with a count, such as `:2`. `more` contains additional header keys.
+    If `has_counts` is true, a column can end with a count, such as `:2`. `more` contains additional header keys. If
+    `has_levels` is true, there must be at least one column.
     """
     keys = (*HEADER, "optional", "subsets", "offset", "length", "message", "subset", *more)
     for words, example in ((columns, "012101"), (header, "time" if "time" in more else "year"), (keep, "001002")):
@@ -547,6 +553,8 @@ def checked(
         if not isinstance(words, Iterable):
             raise TypeError(f"expected a list such as ['{example}'], found {words}")
     columns, header, keep = list(columns), list(header), list(keep)
+    if has_levels and not columns:
+        raise ValueError("expected a list such as ['012101'], found an empty list; a level needs at least one column")
     form = _COLUMN if has_counts else re.compile(_FXY.decode())
     for word in (*columns, *keep):
         if not isinstance(word, str) or not form.fullmatch(word):

@@ -559,6 +559,10 @@ class Values(WithFolder):
             for word in ("012999", "064001", "401001", 912101):
                 with self.assertRaisesRegex(ValueError, f"^no table defines {word}, because in a descriptor FXXYYY, "):
                     call(SYNOP, ["001015", word])
+        for call in (bufr.levels, bufr_text.levels, lambda *words: bufr.frame(*words, levels=True)):
+            for columns in ([], (), iter([])):
+                with self.assertRaisesRegex(ValueError, "^expected a list such as .'012101'., found an empty list; "):
+                    call(SYNOP, columns)
         with self.assertRaisesRegex(ValueError, "'001002'"):
             bufr.levels(SYNOP, ["012101"], keep="001002")
         with self.assertRaisesRegex(ValueError, "found 'time', which is a header key; pass header=.'time'.$"):
@@ -593,12 +597,20 @@ class Values(WithFolder):
     def test_items_as_a_frame(self):
         found = bufr.items([SYNOP, SYNOP], ["001015", "012101"])
         frame = found.frame()
-        self.assertEqual([*frame.columns], "file offset time subset fxy name unit value text".split())
+        self.assertEqual([*frame.columns], "message_row file offset time subset fxy name unit value text".split())
         rows = frame.fillna("none").to_numpy().tolist()
-        self.assertEqual(rows[9][3:], [2, "012101", "TEMPERATURE/AIR TEMPERATURE", "K", 282.55, "none"])
-        self.assertEqual(rows[8][3:], [2, "001015", "STATION OR SITE NAME", "CCITT IA5", "none", "HEATHROW"])
+        self.assertEqual(rows[9][4:], [2, "012101", "TEMPERATURE/AIR TEMPERATURE", "K", 282.55, "none"])
+        self.assertEqual(rows[8][4:], [2, "001015", "STATION OR SITE NAME", "CCITT IA5", "none", "HEATHROW"])
         self.assertEqual((frame["file"][8], str(frame["time"][8])), (str(SYNOP), "2023-03-14 18:00:00"))
         self.assertEqual(found.elements["012101"], {"name": "TEMPERATURE/AIR TEMPERATURE", "unit": "K"})
+        # two messages with the same offset, which only the row of `messages` tells apart
+        octets = SYNOP.read_bytes()
+        found = bufr.items([octets, octets], ["012101"])
+        self.assertEqual(found.frame()["message_row"].tolist(), [0] * 3 + [1] * 3)
+        self.assertEqual((found.frame()["message_row"] - 2).min(), -2)
+        messages = pandas.DataFrame(found.messages)
+        joined = found.frame().join(messages[["centre"]], on="message_row")
+        self.assertEqual(joined["centre"].tolist(), [78] * 6)
         self.assertEqual(len(bufr.items([]).frame()), 0)
         # a new reference value, and tables of one's own
         octets = (VECTORS / "messages/redefined_reference.bufr").read_bytes()
