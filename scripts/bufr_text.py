@@ -565,9 +565,7 @@ def checked(
                 limits = "in a descriptor FXXYYY, F is at most 3, XX at most 63, and YYY at most 255"
                 raise ValueError(f"no table defines {word}, because {limits}")
             raise ValueError(f"expected a descriptor such as 012101, found {word!r}{_meant(str(word), keys)}")
-        # The characters that 2 05 Y inserts are the only items whose descriptor is not that of an element.
-        if word[0] in "123" and word[:3] != "205":
-            raise ValueError(f"'{word}' is not an element{_instead(word)}")
+        _refuse_valueless(word)
     for word in header:
         if word not in keys:
             raise ValueError(f"the header has no key '{word}'; the keys are {', '.join(keys)}")
@@ -590,15 +588,12 @@ def _meant(word: str, keys: Sequence[str]) -> str:
     return f", which occurs in the {where} of {', '.join(fxy for _, fxy in found)}" if word and found else ""
 
 
-def _instead(word: str) -> str:
-    """Returns the part of an error message that explains a descriptor and, if it is a sequence, lists its elements."""
-    if word[0] != "3":
-        return f" but {'a replication' if word[0] == '1' else 'an operator'}, which has no value"
-    tables = _latest()
-    members = tables.used((word[:6],)) if tables else iter(())
-    found = [fxy for fxy in members if fxy[0] == "0"]
-    elements = ", ".join(found[:10] + ["and others"] * (len(found) > 10))
-    return f" but a sequence; pass the descriptors of its elements{elements and ': '}{elements}"
+def _refuse_valueless(word: str) -> None:
+    """Raises `ValueError` if no item can have the descriptor in a column, because it is not that of an element."""
+    import bufr_sets
+
+    if not bufr_sets.can_have_value(word):
+        raise ValueError(f"'{word}' is not an element{bufr_sets.instead(word, _latest())}")
 
 
 def _latest() -> Optional[TableSet]:
