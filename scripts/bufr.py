@@ -35,6 +35,7 @@ there is no library, importing this module raises `ImportError`.
 """
 from __future__ import annotations
 
+import operator
 import pathlib
 import re
 from decimal import Decimal
@@ -228,7 +229,8 @@ def _table_of_subsets(part: Part, columns: Sequence[str]) -> _Table:
         # Where the items of each subset begin and end in `places`.
         begins = numpy.flatnonzero(numpy.diff(row[places], prepend=-1))
         ends = numpy.append(begins[1:], len(places))[: len(begins)]
-        chosen = begins + int(column[7:] or 1) - 1
+        # No subset contains more items than `places`, and a greater number could overflow.
+        chosen = begins + min(int(column[7:] or 1) - 1, len(places))
         chosen = places[chosen[chosen < ends]]
         indices = numpy.full(len(message), -1, "i8")
         indices[row[chosen]] = chosen
@@ -487,13 +489,24 @@ class Items(NamedTuple):
     elements: Dict[str, Dict[str, str]]
     names: List[Dict[str, Tuple[str, str]]]
 
+    def __repr__(self) -> str:
+        counts = ((len(self.items), "item"), (len(self.messages), "message"))
+        items, messages = (f"{count} {word}" + "s" * (count != 1) for count, word in counts)
+        return f"<bufr.Items: {items} in {messages}>"
+
     def exact(self, index: int) -> Value:
         """Returns the value of an item: a `Decimal`, a string as bytes, or `None` if it is missing.
+
+        `index` is the index of the item in `items`.
 
         >>> bufr.items("synop.bufr", ["012101"]).exact(0)
         Decimal('259.35')
         """
-        kind, value, scale, length = self.items[index][["kind", "integer", "scale", "length"]].tolist()
+        try:
+            row = self.items[operator.index(index)]
+        except TypeError:
+            raise TypeError(f"expected the index of an item in items, found {index!r}") from None
+        kind, value, scale, length = row[["kind", "integer", "scale", "length"]].tolist()
         if kind == MISSING:
             return None
         if kind == TEXT:

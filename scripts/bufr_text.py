@@ -59,7 +59,8 @@ HEADER = (
 # The contents of a quoted string: plain bytes and escapes.
 _QUOTED = rb'[ !#-\[\]-~]*(?:\\(?:["\\]|x[0-9A-F]{2})[ !#-\[\]-~]*)*'
 _FXY = rb"[0-3](?:[0-5]\d|6[0-3])(?:[01]\d\d|2[0-4]\d|25[0-5])"
-_COLUMN = re.compile(_FXY.decode() + r"(?::[1-9]\d*)?")
+_ELEMENT = re.compile(_FXY.decode(), re.ASCII)
+_COLUMN = re.compile(_FXY.decode() + r"(?::[1-9]\d*)?", re.ASCII)
 _DESCRIPTORS = re.compile(rb"descriptors(?: " + _FXY + rb"){1,8}")
 _HEX = re.compile(rb"(?:[0-9A-Fa-f]{2}){1,32}")
 _VALUE = rb'(?:(-?\d+(?:\.\d+)?)|"(' + _QUOTED + rb')"|MISSING)'
@@ -550,18 +551,20 @@ def checked(
     for words, example in ((columns, "012101"), (header, "time" if "time" in more else "year"), (keep, "001002")):
         if isinstance(words, str):
             raise ValueError(f"expected a list such as ['{words}'], found the string '{words}'")
+        if isinstance(words, bytes):
+            raise ValueError(f"expected a list such as ['{example}'], found {words!r}")
         if not isinstance(words, Iterable):
             raise TypeError(f"expected a list such as ['{example}'], found {words}")
     columns, header, keep = list(columns), list(header), list(keep)
     if has_levels and not columns:
         raise ValueError("expected a list such as ['012101'], found an empty list; a level needs at least one column")
-    form = _COLUMN if has_counts else re.compile(_FXY.decode())
+    form = _COLUMN if has_counts else _ELEMENT
     for word in (*columns, *keep):
         if not isinstance(word, str) or not form.fullmatch(word):
             if isinstance(word, str) and _COLUMN.fullmatch(word):
                 allowed = "counts are allowed only in columns that apply to a whole subset"
                 raise ValueError(f"'{word}' has a count, but {allowed}; pass '{word[:6]}'")
-            if re.fullmatch(r"\d{6}", str(word)):
+            if re.fullmatch("[0-9]{6}", str(word)):
                 limits = "in a descriptor FXXYYY, F is at most 3, XX at most 63, and YYY at most 255"
                 raise ValueError(f"no table defines {word}, because {limits}")
             raise ValueError(f"expected a descriptor such as 012101, found {word!r}{_meant(str(word), keys)}")
@@ -577,8 +580,11 @@ def _meant(word: str, keys: Sequence[str]) -> str:
 
     If the word occurs in the names of elements, the part lists their descriptors, starting with exact matches.
     """
-    if re.fullmatch(r"\d{4,5}", word):
+    if re.fullmatch("[0-9]{4,5}", word):
         return f"; write '0{word:0>5}'"
+    parts = re.split("[ ,]+", word.strip(" ,"))
+    if all(map(_COLUMN.fullmatch, parts)):
+        return f"; write {', '.join(map(repr, parts))}"
     if word in keys:
         return f", which is a header key; pass header=['{word}']"
     asked = word.upper()
