@@ -124,7 +124,8 @@ def _opened(source: Source) -> Iterator[_Stream]:
     elif isinstance(source, io.TextIOBase):
         raise TypeError(_TEXT)
     elif callable(getattr(source, "read", None)):
-        yield _Stream(str(getattr(source, "name", "stream")), cast(IO[bytes], source))
+        name = getattr(source, "name", None)  # the name of a temporary file is a number
+        yield _Stream(os.fsdecode(name) if isinstance(name, (str, bytes)) else "stream", cast(IO[bytes], source))
     elif not hasattr(source, "__iter__"):
         raise TypeError(f"{_SOURCES}, found {source}")
     else:

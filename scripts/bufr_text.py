@@ -72,6 +72,7 @@ _LISTED = re.compile(
 )
 _FAULT = re.compile(rb"offset (\d+): (\d+) (.*)\n?")
 _NOTE = re.compile(rb"bufr-auto: (\d+) messages?(?: so far)?,(?: the first)? at offset (\d+): (.*)")
+_MESSAGES = "expected the name of a file, or messages from dump or read"
 _UNPRINTED = re.compile(rb'["\\]|[^ -~]')
 
 
@@ -289,6 +290,8 @@ class _Lines:
 
     def take(self) -> Optional[bytes]:
         for self.line in self.rest:
+            if not isinstance(self.line, bytes):
+                raise TypeError("expected lines as bytes; open the dump with mode 'rb'")
             self.number += 1
             self.line = self.line[:-1] if self.line.endswith(b"\n") else self.line
             if len(self.line) > 4096:
@@ -512,7 +515,8 @@ def _by_library(
 
     Returns `None` if the module is not available, or if the environment variable `BUFR` names a program.
     """
-    if not isinstance(file, (str, os.PathLike)) or os.environ.get("BUFR"):
+    # the module would read standard input if the name is -
+    if not isinstance(file, (str, os.PathLike)) or file == "-" or os.environ.get("BUFR"):
         return None
     try:
         import bufr
@@ -638,12 +642,16 @@ def _messages(
         return dump(messages, faults=faults, where=where)
     if faults is not None or where:
         raise TypeError("faults= and where= can be used only with a file name; for messages, pass them to dump() instead")
-    return messages
+    if isinstance(messages, Iterable) and not isinstance(messages, str):
+        return messages
+    raise TypeError(f"{_MESSAGES}, found {messages!r}")
 
 
 def _subsets(messages: Iterable[Message], header: Sequence[str]) -> Iterator[Tuple[List[Cell], List[Item]]]:
     """Yields a pair for each subset: the values of the header keys, and the items."""
     for number, message in enumerate(messages, 1):
+        if not isinstance(message, Message):
+            raise TypeError(f"{_MESSAGES}, found {message!r}")
         known: Dict[str, Cell] = {**message.header, "offset": message.offset, "length": message.length}
         known.update(message=number, subsets=len(message.subsets), optional=int(message.section2 is not None))
         for count, subset in enumerate(message.subsets, 1):
@@ -910,6 +918,8 @@ class _Told:
     """Reports the refused messages and strays in a file, in order, and then the notes."""
 
     def __init__(self, file: _Path, faults: Optional[List[Fault]]) -> None:
+        if faults is not None and not hasattr(faults, "append"):
+            raise TypeError(f"faults must be a list or None, not {faults!r}")
         self.file, self.name, self.faults, self.is_bare = file, os.fsdecode(file), faults, False
         self.counts = FaultCounts()
         self.strays: Iterator[Fault] = iter(())
@@ -1026,6 +1036,8 @@ def encode(
     `form` is "plain" or "compressed". Without `form`, each message is encoded in the form that its header specifies.
     Raises `RunError` with the fault line if a message is refused.
     """
+    if form not in (None, "plain", "compressed"):
+        raise ValueError(f"form must be 'plain' or 'compressed', not {form!r}")
     if form is not None:
         compressed = ["plain", "compressed"].index(form)
         messages = (replace(one, header={**one.header, "compressed": compressed}) for one in messages)

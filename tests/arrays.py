@@ -266,6 +266,7 @@ class Same(WithFolder):
             lambda faults: list(bufr_text.rows(self.stream, ["012101"], [], faults, ["time=2006"])),
             lambda faults: list(bufr_text.rows(self.folder / "empty", ["012101"], [], faults)),
             lambda faults: list(bufr_text.rows(self.folder / "none", ["012101"], [], faults)),
+            lambda faults: list(bufr_text.rows("-", ["012101"], [], faults)),  # the name of a file
             lambda faults: bufr_text.rows(self.stream, ["012101"], [], faults, ["categori=0"]),
             lambda faults: bufr_text.levels(self.stream, "012101", [], faults=faults),
         ]
@@ -314,6 +315,12 @@ class Sources(WithFolder):
         for source in (pandas.Series([], dtype=object), numpy.array([]), iter([])):
             self.assertEqual(bufr.frame(source, ["012101"], ["time"]).shape, (0, 2))
         self.assertEqual(len(bufr.pieces(pandas.Series(paths))), 2)
+        with tempfile.TemporaryFile() as file:  # its name is a number
+            file.write(octets)
+            file.seek(0)
+            self.assertEqual(next(bufr.rows(file, [], ["file"])), ("stream",))
+        with open(os.fsencode(SYNOP), "rb") as file:
+            self.assertEqual(next(bufr.rows(file, [], ["file"])), (str(SYNOP),))
 
     def test_standard_input(self):
         code = "import sys; sys.path.insert(0, sys.argv[1]); import bufr; print(len(bufr.frame('-', ['012101'])))"
