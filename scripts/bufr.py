@@ -14,16 +14,16 @@ divides files into pieces that several processes can read at the same time.
 
 Each function takes a source: the name of a file, `"-"` for standard input, bytes, an open binary file, a `Piece`, or a list
 of these. A source is read in parts of a few MB, so it can be larger than the available memory. Each message is read with the
-table set that bufr-auto would choose, unless you pass the names of two tables as `tables=(B, D)`. To select messages, set
-`where` to a list of conditions of the form `KEY=VALUE` or `KEY!=VALUE`, as in bufr-extract.
+table set that bufr-auto would choose, unless you pass the file names of Table B and Table D as `tables=(B, D)`. To select
+messages, set `where` to a list of conditions of the form `KEY=VALUE` or `KEY!=VALUE`, as in bufr-extract.
 
-A fault is a refused message or a stray (the word `BUFR` outside any complete message, for example at the start of a message
-that is cut off). `faults` determines what happens:
+A fault is a rejected message or a stray (the word `BUFR` outside any complete message, for example at the start of a message
+that is cut off). `faults` determines how faults are reported:
 
 - `"warn"` (default): at the end of each file, a `DumpWarning` says how many faults there were.
-- `"raise"`: the first fault, or a file without messages, raises `BufrError`. A piece may be without messages.
+- `"raise"`: the first fault, or a file without messages, raises `BufrError`. A `Piece` without messages does not.
 - `"ignore"`: faults and files without messages are not reported, but `messages` still returns a row for each fault.
-- a list: a `Fault` with the members `offset`, `number`, `text` and `file` is appended to the list for each fault.
+- a list: for each fault, a `Fault` with the members `offset`, `number`, `text` and `file` is appended to the list.
 
 A `DumpWarning` also reports files without messages, messages whose tables are missing, columns without items or values,
 conditions that no message meets, subsets without levels, and elements whose unit depends on the table set. If the source
@@ -56,10 +56,10 @@ __all__ = (
 
 __version__ = "0.1.0"
 
-# The header keys that a dump does not have.
+# The header keys that do not occur in a dump.
 _KEYS_OF_FILES = "file", "time"
 _FACTORS = frozenset(map(bufr_calls.word, bufr_text.FACTORS))
-# The units of elements whose values are numbers in a table.
+# Matches the units of elements whose values are codes or flags.
 _is_table = re.compile("(common )?(code|flag) table", re.IGNORECASE).match
 
 
@@ -70,7 +70,7 @@ def _floats(part: Part, items: Array) -> Array:
     """Returns the number in each item as the nearest float, or NaN if the item has no number."""
     value, scale, kind = items["value"], items["scale"].astype("i4"), items["kind"]
     is_number = (kind == NUMBER) | (kind == REFERENCE)
-    # If the integer and the power of ten are both exact floats, only their quotient or product is rounded.
+    # If floats represent both the integer and the power of ten exactly, only their quotient or product is rounded.
     is_exact = is_number & (value <= 1 << 53) & (value >= -(1 << 53)) & (abs(scale) <= 22)
     power = 10.0 ** numpy.minimum(abs(scale), 22)
     found = numpy.full(len(items), numpy.nan)
@@ -101,7 +101,7 @@ def _decimal(integer: int, scale: int) -> Decimal:
 
 
 def _decoded(octets: bytes) -> str:
-    """Returns a string without trailing spaces. It has a character for each byte, as in `bufr-csv --json`."""
+    """Returns a string with one character for each byte, as in `bufr-csv --json`, and without trailing spaces."""
     return octets.rstrip(b" ").decode("latin-1")
 
 
@@ -136,7 +136,7 @@ def _times(messages: Array) -> Array:
     day = month.astype("M8[M]").astype("M8[D]") + (messages["day"].astype("i8") - 1)
     seconds = (messages["hour"].astype("i8") * 60 + messages["minute"]) * 60 + messages["second"]
     is_time = (year > 1677) & (year < 2262) & (messages["month"] >= 1) & (messages["month"] <= 12)
-    is_time &= day.astype("M8[M]").astype("i8") == month  # the month has such a day
+    is_time &= day.astype("M8[M]").astype("i8") == month  # the month has that many days
     is_time &= (messages["hour"] < 24) & (messages["minute"] < 60) & (messages["second"] < 60)
     return numpy.where(is_time, day.astype("M8[s]") + seconds, numpy.datetime64("NaT"))
 
@@ -158,13 +158,13 @@ class _Elements:
         self.found: Dict[str, Dict[str, Tuple[str, str]]] = {}
 
     def add(self, fxy: str, used: Iterable[Optional[Tables]]) -> List[str]:
-        """Adds the tables with which items of a descriptor were read. Returns the units in these tables."""
+        """Records the tables with which items with this descriptor were read. Returns the units in these tables."""
         defined = {tables.files[0]: tables.elements[fxy] for tables in used if tables and fxy in tables.elements}
         self.found.setdefault(fxy, {}).update(defined)
         return [unit for _, unit in defined.values()]
 
     def element(self, word: str, table_b: Optional[Path]) -> Dict[str, str]:
-        """Returns the name and the unit of an element. If it does not occur, they come from `table_b` or the latest set."""
+        """Returns the name and unit of an element. If no item has it, they come from `table_b` or else the latest set."""
         found = [*self.found.get(word[:6], {}).values()] or [bufr_text.names(table_b)[1].get(word[:6], ("", ""))]
         return {"name": found[0][0], "unit": " or ".join(dict.fromkeys(unit for _, unit in found))}
 
@@ -229,7 +229,7 @@ def _table_of_subsets(part: Part, columns: Sequence[str]) -> _Table:
         # Where the items of each subset begin and end in `places`.
         begins = numpy.flatnonzero(numpy.diff(row[places], prepend=-1))
         ends = numpy.append(begins[1:], len(places))[: len(begins)]
-        # No subset contains more items than `places`, and a greater number could overflow.
+        # No subset contains more items than `places`, and a larger number could overflow.
         chosen = begins + min(int(column[7:] or 1) - 1, len(places))
         chosen = places[chosen[chosen < ends]]
         indices = numpy.full(len(message), -1, "i8")
@@ -333,11 +333,11 @@ def _column(part: Part, indices: Array, elements: _Elements, fxy: str, is_exact:
 
 
 def _joined(parts: List[Any], unit: str, is_exact: bool) -> Any:
-    """Returns a column of a data frame from its parts. A part without items is the number of its rows."""
+    """Joins the parts of a data frame column. A part without items is given as its number of rows."""
     import pandas
 
     kinds = {str(part.dtype) for part in parts if not isinstance(part, int)} or {_kind_of([unit], is_exact)}
-    # Values whose kind depends on the table set become floats, or strings and numbers as objects.
+    # If the kind of the values depends on the table set, they become floats or, if some of them are strings, objects.
     kind = kinds.pop() if len(kinds) == 1 else "object" if "object" in kinds else "float64"
     parts = [numpy.full(part, None, object) if isinstance(part, int) else part for part in parts]
     return pandas.concat([pandas.Series(part).astype(kind) for part in parts], ignore_index=True)
@@ -359,12 +359,12 @@ def frame(
 
     Numbers are rounded to the nearest float, and missing numbers are NaN. Values from code tables and flag tables are `Int64`,
     strings are `str` or `None`, and the values of the header key `"time"` are `datetime64`. `frame.attrs` contains the name
-    and unit of each column, from the Table B with which its values were read. If these tables have different units, `attrs`
+    and unit of each column, from the Table B with which its values were read. If these tables give different units, `attrs`
     contains all of them, and a `DumpWarning` says which table sets they come from.
 
-    A string has a character for each byte, as in ISO 8859-1: unlike those of `rows`, it has no escapes. The time of a message
-    is NaT if it does not exist. In edition 3, years have two digits: 69 to 99 stand for 1969 to 1999, and 0 to 68 for 2000 to
-    2068.
+    Strings have one character for each byte, as in ISO 8859-1. Unlike the strings from `rows`, they contain no escapes. If the
+    time of a message does not exist, it is NaT. In edition 3, years have two digits: 69 to 99 stand for 1969 to 1999, and 0 to
+    68 for 2000 to 2068.
 
         >>> frame = bufr.frame("synop.bufr", ["001015", "001001", "012101"], header=["time"])
         >>> frame.attrs["012101"]
@@ -377,11 +377,11 @@ def frame(
         [836.0, 98520.0, 258.55]
 
     With `levels=True`, a level has a row only if it contains the first column and, if there are other columns, at least one
-    of them. If an element occurs once in a subset, such as the station number 001002, pass it in `keep`.
+    of them. To add an element that occurs once in a subset, such as the station number 001002, pass it in `keep`.
 
-    With `exact=True`, all numbers except those of header keys are `Decimal` or `None`, in columns of type `object`, even codes.
-    Calculations with these columns are slow, and some pandas methods, such as `std`, `round` and `plot`, fail. `<` and `>`
-    work with floats, but `==` is true only for the exact value, and adding a float is an error. To get floats, use
+    With `exact=True`, all numbers, even codes, are `Decimal` or `None`, and their columns have the type `object`. Header values
+    do not change. Calculations with these columns are slow, and some pandas methods, such as `std`, `round` and `plot`, fail.
+    `<` and `>` work with floats, but `==` is true only for the exact value, and adding a float is an error. To get floats, use
     `astype(float)`.
 
         >>> air = bufr.frame("synop.bufr", ["012101"], exact=True)["012101"]
@@ -394,7 +394,7 @@ def frame(
 
     columns, header, keep = bufr_text.checked(columns, header, keep, not levels, _KEYS_OF_FILES, levels)
     if keep and not levels:
-        raise TypeError("keep= needs levels=True")
+        raise TypeError("keep= requires levels=True")
     reader = Reader(source, None if levels else columns, where, tables, faults)
     asked, elements, count = [*keep, *columns], _Elements(), 0
     heads: List[List[Array]] = [[] for _ in header]
@@ -429,9 +429,9 @@ def rows(
     A column is a descriptor such as `"012101"`, or `"012101:2"` for the second item with that descriptor in the subset.
     `header` can contain the header keys of a dump, such as `"year"`, and also `"file"`, `"offset"`, `"length"`, `"time"`,
     `"message"` and `"subset"`. `"message"` is the number of the message among the accepted messages in the source, and
-    `"subset"` is the number of the subset in the message. Both are counted from 1. A number is an `int` if its scale does not
-    allow decimal places, and otherwise the nearest `float`. A value is `None` if it is missing or if the subset does not
-    contain the item.
+    `"subset"` is the number of the subset in the message. Both are counted from 1. A number is an `int` if its scale allows no
+    decimal places, and otherwise the nearest `float`. A value is `None` if it is missing or if the subset does not contain the
+    item.
 
         >>> next(bufr.rows("synop.bufr", ["001015", "012101"], ["year", "subset"]))
         (2023, 1, 'SODANKYLA', 259.35)
@@ -466,14 +466,14 @@ class Items(NamedTuple):
     """The items and messages in a source.
 
     `items` is a structured array with a row for each item. Its main columns are `message_row` (the index of the message in
-    `messages`), `subset` (from 1), `fxy` (the descriptor as a number: 12101 for 012101), `kind` (`bufr.NUMBER`, `bufr.TEXT`
-    and so on), and `value` (a float, or NaN if the item is missing or a string). If the kind is `NUMBER`, the columns
-    `integer` and `scale` give the exact value, `integer / 10**scale`. The method `exact` returns the exact value of any item,
-    and `frame` returns a data frame of all items, with names and strings.
+    `messages`), `subset` (counted from 1), `fxy` (the descriptor as a number: 12101 for 012101), `kind` (`bufr.NUMBER`,
+    `bufr.TEXT` and so on), and `value` (a float, or NaN if the item is missing or a string). If the kind is `NUMBER`, the
+    columns `integer` and `scale` give the exact value, `integer / 10**scale`. The method `exact` returns the exact value of any
+    item, and `frame` returns a data frame of all items, with names and strings.
 
-    `messages` is the result of `bufr.messages`. It also has rows for refused messages, which have no items. `elements`
-    contains the name and the unit of each descriptor that occurs, as in `frame.attrs`. `names` contains, for each row of
-    `messages`, a dictionary with the name and the unit of each element in the Table B with which the message was read.
+    `messages` is the result of `bufr.messages`. It also has rows for rejected messages and strays, which have no items.
+    `elements` contains the name and unit of each descriptor that occurs, as in `frame.attrs`. `names` contains a dictionary
+    for each row of `messages`, with the name and unit of each element in the Table B with which the message was read.
 
         >>> found = bufr.items("synop.bufr")
         >>> air = found.items[found.items["fxy"] == 12101]
@@ -514,13 +514,13 @@ class Items(NamedTuple):
         return _decimal(_wide(self.texts, value) if kind == WIDE else value, scale)
 
     def frame(self) -> Any:
-        """Returns a pandas data frame with a row for each item, including its descriptor and any text as strings.
+        """Returns a pandas data frame with a row for each item. Descriptors, names, units and texts are strings.
 
         `message_row` is the index of the message in `messages`, as in `items`. To add columns from `messages`, such as the
-        centre, pass `on="message_row"` to the method `join` of the data frame.
+        centre, use the data frame's method `join` with `on="message_row"`.
 
         The name and unit come from the Table B with which the item was read. New reference values, which are defined in the
-        data, have the name REFERENCE. Strings are the same as in `bufr.frame`.
+        data, have the name REFERENCE. Texts are the same as in `bufr.frame`.
 
         >>> bufr.items("synop.bufr", ["001015", "012101"]).frame().query("subset == 2")[["fxy", "value", "text", "unit"]]
               fxy   value      text       unit
@@ -529,7 +529,7 @@ class Items(NamedTuple):
         """
         import pandas
 
-        # A pair is a Table B and a descriptor.
+        # A pair consists of a Table B and a descriptor.
         tables = numpy.unique([id(names) for names in self.names], return_inverse=True)[1]
         pairs = tables[self.items["message_row"]] * 1000000 + self.items["fxy"]
         _, firsts, codes = numpy.unique(pairs, return_index=True, return_inverse=True)
@@ -564,7 +564,7 @@ def items(
     tables: TwoTables = None,
     faults: Faults = "warn",
 ) -> Items:
-    """Returns the messages in a source and all their items, or only the items with the descriptors in `columns`.
+    """Returns the messages in a source, and all of their items or, with `columns`, only those with these descriptors.
 
         >>> found = bufr.items("synop.bufr", ["012101"])
         >>> found.items["value"].max()

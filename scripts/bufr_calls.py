@@ -37,10 +37,10 @@ ITEM = numpy.dtype(
     [("value", "i8"), ("message", "u4"), ("length", "u4"), ("subset", "u2"), ("fxy", "u2"), ("scale", "i2")]
     + [("kind", "u1"), ("reserved", "u1")]
 )
-# The number of rows, and of bytes, that fit into the outputs at first.
+# The initial size of the outputs, in rows or in bytes.
 ROOM = 1 << 20
 OUT_OF_MEMORY, NO_ROOM = 73, 74
-# The faults of tables. For Table D, the status is greater by 100.
+# The faults in tables. For a fault in Table D, 100 is added to the status.
 FAULTS = {40: "header", 41: "row", 42: "duplicate", 43: "cycle", 44: "table size", 45: "csv"}
 
 
@@ -136,7 +136,7 @@ class Tables:
             found.append((items, messages))
             texts += rooms[1][: counts.octets].tobytes()
             count += len(messages)
-            # If a single message needs more room, the next call gets arrays that are large enough.
+            # If a single message does not fit into the arrays, the next call gets larger ones.
             if counts.items_needed > len(rooms[0]):
                 rooms[0] = numpy.empty(counts.items_needed, ITEM)
             if counts.octets_needed > len(rooms[1]):
@@ -145,7 +145,7 @@ class Tables:
         return all_items, all_messages, bytes(texts)
 
     def faults(self, messages: Sequence[bytes]) -> List[str]:
-        """Returns the number and the text of the fault in each of these refused messages, as in a fault line."""
+        """Returns the number and the text of the fault in each of these rejected messages, as in a fault line."""
         texts, room = Texts(), 256 * len(messages)
         text, faults = ctypes.create_string_buffer(1), ctypes.create_string_buffer(room)
         given, outputs = self._input(b"".join(messages), words([])), (text, 1, faults, ctypes.c_size_t(room))
@@ -158,7 +158,7 @@ class Tables:
         return Input(octets, len(octets), table_b, len(table_b), table_d, len(table_d), *pointer)
 
     def _checked(self, status: int) -> int:
-        """Returns the status of a call. Raises an exception if a table is invalid or memory runs out."""
+        """Returns the status of a call. Raises `BufrError` if a table is invalid, and `MemoryError` if memory runs out."""
         if status % 100 in FAULTS:
             table_b, table_d = map(shlex.quote, self.files)
             command = f"bufr dump -B {table_b} -D {table_d} /dev/null"
@@ -175,7 +175,7 @@ def word(fxy: str) -> int:
 def words(columns: Optional[Sequence[str]]) -> Array:
     """Converts the descriptors of columns to the form that `Tables.items` expects. `None` stands for all items."""
     found = [] if columns is None else sorted({*map(word, columns)}) or [NOTHING]
-    # An array with room for one more descriptor has an address even if it is empty.
+    # The array is created with one additional descriptor, so that it has an address even if it is empty.
     return numpy.array([*found, 0], "u2")[: len(found)]
 
 

@@ -4,7 +4,7 @@
     for line in listing:        # a line as bytes
         if conditions.are_met(line):
             ...
-    note = conditions.note()    # says how many edition 3 messages were left out; empty if none were
+    note = conditions.note()    # says how many edition 3 messages were left out; empty if there were none
 
 A condition has the form KEY=VALUE or KEY!=VALUE. KEY is the name of a field. VALUE must match the whole field, or the
 beginning of the field up to a separator (/, -, T or :). For example, category=0 matches 0/2/0, and time=2024-01-02 matches
@@ -19,7 +19,7 @@ from typing import Iterable, List, Tuple
 KEYS = (
     "offset length edition centre update category tables time subsets observed compressed optional descriptors".split()
 )
-# How to write the keys with several numbers.
+# Examples of the values for keys with several numbers.
 EXAMPLES = {"centre": "98/0", "category": "0/2/0", "tables": "0/39/0"}
 # For header keys that are not fields in the output of `bufr ls`, the fields that contain them.
 FIELDS = {
@@ -46,7 +46,7 @@ class Conditions:
         self.asked = ""
         self.of_century: List[str] = []
         self.left_out, self.is_told = 0, False
-        # The number of lines, and of those that meet the conditions or are left out.
+        # The numbers of lines that were checked, and of lines that meet the conditions, including those that are left out.
         self.seen = self.met = 0
         if isinstance(words, str) or not isinstance(words, Iterable):
             error = ValueError if isinstance(words, str) else TypeError
@@ -88,7 +88,7 @@ class Conditions:
     def pattern_of_left_out(self) -> str:
         """Returns a pattern, without capturing groups, for lines that meet the conditions but are left out.
 
-        If no message can be left out, the pattern never matches.
+        If no messages can be left out, the pattern never matches.
         """
         return f" edition=3 .* time=(?:{'|'.join(self.of_century)})[ T:-]" if self.of_century else "(?!)"
 
@@ -104,7 +104,7 @@ class Conditions:
         return not is_left_out
 
     def unmet(self) -> str:
-        """Returns a warning that no line met the conditions. It is empty if one did, or if there was no line."""
+        """Returns a warning if there were lines but none of them met the conditions, and otherwise an empty string."""
         return "no message meets the conditions in where" if self.seen and not self.met else ""
 
     def note(self, so_far: str = "") -> str:

@@ -9,8 +9,8 @@
     bufr_guard.run(work, __doc__)
 
 `-c VALUE` means the same as `-cVALUE`, and `--name VALUE` means the same as `--name=VALUE`. Options can follow operands.
-After `--`, every word is an operand. A function in `values` converts a word to a value, or raises a `ValueError` that
-says what was expected.
+After `--`, every word is an operand. `values` contains a function for each option that takes a value. The function converts
+the word to a value, or raises a `ValueError` that says what it expected.
 
 An invalid command line raises `bufr_guard.Failed`, with a message that refers to --help. The options --help and --version
 raise `bufr_guard.Question`, which `run` handles.
@@ -124,7 +124,10 @@ def misused(why: str) -> bufr_guard.Failed:
 
 
 def number_from(least: int) -> Callable[[str], int]:
-    """Returns a function that converts a word to a whole number of at least `least`, or raises a `ValueError`."""
+    """Returns a function that converts a word to a whole number.
+
+    The function raises a `ValueError` if the word is not a whole number of at least `least`.
+    """
 
     def number(word: str) -> int:
         if not (word.isascii() and word.isdigit() and len(word) < 19) or int(word) < least:
@@ -134,5 +137,5 @@ def number_from(least: int) -> Callable[[str], int]:
     return number
 
 
-# For --max-length: the shortest possible message has twelve bytes.
+# For --max-length: the shortest possible message is twelve bytes long.
 from_12 = number_from(12)

@@ -183,14 +183,14 @@ def descriptors(words: bytes) -> Tuple[str, ...]:
 
 
 def can_have_value(fxy: str) -> bool:
-    """Returns whether an item can have this descriptor: that of an element, or 2 05 Y, which inserts characters."""
+    """Returns whether an item can have this descriptor. If so, it is an element, or 2 05 Y, which inserts characters."""
     return fxy[:1] == "0" or fxy[:3] == "205"
 
 
 def instead(fxy: str, tables: Optional[TableSet]) -> str:
-    """Returns the part of an error message that explains a descriptor that no item can have.
+    """Returns the part of an error message that says what kind of descriptor this is, if no item can have it.
 
-    If it is the descriptor of a sequence, the part lists its elements in a table set.
+    For a sequence, the part lists the elements of the sequence in a table set.
     """
     if fxy[0] != "3":
         return f" but {'a replication' if fxy[0] == '1' else 'an operator'}, which has no value"

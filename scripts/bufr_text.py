@@ -599,7 +599,7 @@ def _meant(word: str, keys: Sequence[str]) -> str:
 
 
 def _refuse_valueless(word: str) -> None:
-    """Raises `ValueError` if no item can have the descriptor in a column, because it is not that of an element."""
+    """Raises `ValueError` if the descriptor in a column is not that of an element, so that no item can have it."""
     import bufr_sets
 
     if not bufr_sets.can_have_value(word):
@@ -717,7 +717,7 @@ def _passes(items: List[Item]) -> List[Tuple[int, int]]:
 
 
 # Why subsets have no levels.
-AMBIGUOUS, BARE = "with ambiguous levels", "without a level"
+AMBIGUOUS, BARE = "with ambiguous levels", "without levels"
 
 
 class Gaps:
@@ -758,7 +758,7 @@ class Gaps:
     def skip(self, kind: str, message: Cell, subset: Cell, file: str, fxy: object = None) -> None:
         why = f" of {file}" if file else ""
         why += "" if fxy is None else f" ({fxy} begins a level and occurs again in it)"
-        count, first = self.skipped.get(kind, (0, f"message {message} subset {subset}{why}"))
+        count, first = self.skipped.get(kind, (0, f"message {message}, subset {subset}{why}"))
         self.skipped[kind] = count + 1, first
 
     def warn(self, is_whole: bool = True, text: str = "column {} is empty, because no row has an item for it") -> None:

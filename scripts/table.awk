@@ -33,11 +33,10 @@
 #     bufr dump -B B.csv -D D.csv FILE 2> faults |
 #       awk -v columns=offset,012101 -v listing=listing -v faults=faults -f scripts/table.awk
 #
-# Notes on standard error name the columns for which there are no items, and say which columns of levels occur only outside
-# the levels. They also give the number of skipped subsets. The exit
-# status is 1 if a subset was skipped because its levels were ambiguous. It is 2 if a column is neither a header key nor the
-# descriptor of an element, if the dump ends inside a message, or if the listing and the fault lines do not match the dump.
-# The script works with any awk.
+# Notes on standard error report columns for which there are no items, columns for levels whose items occur only outside the
+# levels, and the number of skipped subsets. The exit status is 1 if a subset was skipped because its levels were ambiguous.
+# It is 2 if a column is neither a header key nor the descriptor of an element, if the dump ends inside a message, or if the
+# listing and the fault lines do not match the dump. The script works with any awk.
 #
 # bufr-csv sets three more variables. Each note begins with `name`. With placed=1, a comment before each message gives the
 # message's offset, length and file, which can then be used as columns. With feed=0, rows are not flushed after each
@@ -48,7 +47,7 @@ function fail(text) {
     exit failed = 2
 }
 
-# Prints a note about skipped subsets. In a feed, it is printed for the first subset only, with 0 as the count.
+# Prints a note about skipped subsets. In a feed, a note is printed only for the first of them, with the count 0.
 function tell_skipped(count, kind, where) {
     kind = count > 1 ? count " subsets " kind "; the first is" : "a subset " kind ":"
     print name ": skipped " kind " message " where (count ? "" : "; others will not be reported") | "cat >&2"
@@ -124,14 +123,14 @@ function next_listed(   line, words, is_read) {
     return 1
 }
 
-# Returns whether a word is a six-digit descriptor. If it is for the whole subset, a colon and a count may follow.
+# Returns whether a word is a six-digit descriptor. With `of_subset`, a colon and a count can follow.
 function is_descriptor(word, of_subset) {
     if (of_subset)
         sub(/:[1-9][0-9]*$/, "", word)
     return word ~ /^[0-3][0-9][0-9][0-9][0-9][0-9]$/ && substr(word, 2, 2) < 64 && substr(word, 4, 3) < 256
 }
 
-# Splits a list of columns. Returns the number of columns. `keys` lists the words that are allowed besides descriptors.
+# Splits a list of columns, and returns their number. `keys` lists the words that are allowed in addition to descriptors.
 function split_columns(words, list, keys,   count, column, word) {
     count = split(words, list, /[ ,]+/)
     for (column = 1; column <= count; column++) {
@@ -219,9 +218,9 @@ function end_subset(   row, column, line) {
             split("", place)
         }
         if (levels && !row_count && !twice && !bare++) {
-            first_bare = message " subset " subset
+            first_bare = message ", subset " subset
             if (feed == 1)
-                tell_skipped(0, "without a level", first_bare)
+                tell_skipped(0, "without levels", first_bare)
         }
         if (!levels || row_count)
             line = begin_row()
@@ -248,7 +247,7 @@ function begin_row(   line, column) {
 # Skips a subset in which the descriptor that begins a pass also occurs inside a pass.
 function skip_subset(fxy) {
     if (!unclear++) {
-        first_unclear = message " subset " subset " (" fxy " begins a level and occurs again in it)"
+        first_unclear = message ", subset " subset " (" fxy " begins a level and occurs again in it)"
         if (feed == 1)
             tell_skipped(0, "with ambiguous levels", first_unclear)
     }
@@ -424,7 +423,7 @@ END {
     for (column = 1; column <= kept_count; column++)
         if (!(item_of[column] in had) && (has_rows || !levels))
             tell_empty(kept[column], "no row has an item for it")
-    # Without rows, a column that occurs in levels is not reported.
+    # If there are no rows, columns that occur in levels are not reported.
     for (column = 1; column <= level_count; column++) {
         word = level[column]
         if (place_of[word] == 1)
@@ -433,7 +432,7 @@ END {
             tell_empty(word, "no row has an item for it")
     }
     if (bare && feed != 1)
-        tell_skipped(bare, "without a level", first_bare)
+        tell_skipped(bare, "without levels", first_bare)
     if (unclear && feed != 1)
         tell_skipped(unclear, "with ambiguous levels", first_unclear)
     if (unclear)

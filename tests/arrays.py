@@ -225,7 +225,7 @@ class Same(WithFolder):
             bits.put(number, width)
         octets = lib.message(bits.octets(), lib.words("103000 031001 008002 020011 008002"))
         self.alike("ambiguous levels", octets, TABLES)
-        said = "^skipped 2 subsets with ambiguous levels; the first is message 1 subset 1 of {} .008002 begins a level"
+        said = "^skipped 2 subsets with ambiguous levels; the first is message 1, subset 1 of {} .008002 begins a level"
         self.stream.write_bytes(octets)
         # of pieces too, because soundings are lost
         for source, name in (([octets, octets], "bytes"), (bufr.pieces([self.stream] * 2), self.stream)):
@@ -615,7 +615,7 @@ class Values(WithFolder):
                 bufr.frame(SYNOP, *words)
         with self.assertRaisesRegex(TypeError, "expected a list such as .'001002'., found 5$"):
             bufr.frame(SYNOP, ["012101"], keep=5, levels=True)
-        with self.assertRaisesRegex(TypeError, "keep= needs levels=True"):
+        with self.assertRaisesRegex(TypeError, "keep= requires levels=True"):
             bufr.frame(SYNOP, ["012101"], keep=["001002"])
 
     def test_great_counts(self):
@@ -881,8 +881,8 @@ class Faults(WithFolder):
         sounding = TOP / "examples/sounding.bufr"
         empty = "column {} is empty, because no row has an item for it"
         outside = "column {0} is empty, because {0} occurs only outside the levels; pass keep=['{0}'] instead"
-        one = f"skipped a subset without a level: message 1 subset 1 of {sounding}"
-        three = "skipped 3 subsets without a level; the first is message {} subset 1 of {}"
+        one = f"skipped a subset without levels: message 1, subset 1 of {sounding}"
+        three = "skipped 3 subsets without levels; the first is message {}, subset 1 of {}"
         for call in (bufr.levels, bufr_text.levels, lambda *words: bufr.frame(*words[:2], keep=words[3], levels=True)):
             for source, columns, keep, wanted in [
                 # without a row, nothing is known of what applies to the whole subset

@@ -228,7 +228,7 @@ def tries_levels(awk: list, sounding: bytes, synop: bytes) -> None:
     wanted = "message,subset,year,001015,020012,020011\n"
     wanted += "".join(f"1,{row}\n" for row in ['2,2023,"HEATHROW",7,2', '2,2023,"HEATHROW",8,5', '2,2023,"HEATHROW",5,8'])
     wanted += '1,3,2023,"SAENTIS",3,1\n1,3,2023,"SAENTIS",6,8\n'
-    told = "table.awk: skipped a subset without a level: message 1 subset 1\n"
+    told = "table.awk: skipped a subset without levels: message 1, subset 1\n"
     want((status, output, errors) == (0, wanted, told), f"{awk}: the clouds are {output}: {errors}")
     # an item behind a group of two passes or more belongs to none of them
     rows = "message,subset,012101,007004,012101,011001\n1,1,1.0,100,5.0,1\n1,1,1.0,200,,\n1,1,1.0,300,7.0,\n"
@@ -243,15 +243,15 @@ def tries_levels(awk: list, sounding: bytes, synop: bytes) -> None:
     want(first == (0, "message,subset,011001,007004\n1,1,1,100\n", ""), f"{awk}: levels by an inner descriptor are {first}")
     behind = run(awk, NESTED, levels="1", columns="007004,012103")
     told = "table.awk: column 007004 is empty, because no row has an item for it\ntable.awk: column 012103 is empty, because no row has an item for it\n"
-    told += "table.awk: skipped a subset without a level: message 1 subset 1\n"
+    told += "table.awk: skipped a subset without levels: message 1, subset 1\n"
     wanted = (0, "message,subset,007004,012103\n", told)
     want(behind == wanted, f"{awk}: an item behind all passes is in a row: {behind}")
     behind = run(awk, BEHIND, levels="1", columns="007004,012101,012103")
     wanted = (0, "message,subset,007004,012101,012103\n1,1,1,1.0,\n1,1,2,,2.0\n", "")
     want(behind == wanted, f"{awk}: an item behind two passes is in a row: {behind}")
     # items of a subset without a level do not count, and no item may follow a factor
-    bare = "table.awk: skipped {} message 1 subset 1\n"
-    one, two = "a subset without a level:", "2 subsets without a level; the first is"
+    bare = "table.awk: skipped {} message 1, subset 1\n"
+    one, two = "a subset without levels:", "2 subsets without levels; the first is"
     status, _, errors = run(awk, ODD + BEHIND, levels="1", keep="001015", columns="007004,012101")
     told = "table.awk: column 001015 is empty, because no row has an item for it\n" + bare.format(one)
     want((status, errors) == (0, told), f"{awk}: a column of a subset without a level is told as {errors}")
@@ -264,15 +264,15 @@ def tries_levels(awk: list, sounding: bytes, synop: bytes) -> None:
     # the descriptor that begins a pass comes twice before an inner group
     again = b"message\nsubset 1\n031001 3\n" + b"007004 1\n007004 2\n031001 1\n011001 3\n" * 3 + b"end\n"
     status, output, errors = run(awk, again, levels="1", columns="007004")
-    is_so = (status, output.count("\n")) == (1, 1) and "ambiguous levels: message 1 subset 1 (007004 begins a level and occurs again in it)\n" in errors
+    is_so = (status, output.count("\n")) == (1, 1) and "ambiguous levels: message 1, subset 1 (007004 begins a level and occurs again in it)\n" in errors
     want(is_so, f"{awk}: a descriptor that comes again gives {status}, {output}, {errors}")
     # ambiguous passes between others: the rest is given
     good = BEHIND.splitlines(True)
     both = b"".join([*good[:-1], *(ENCLOSED % 3).splitlines(True)[2:-1], *good[2:]])
     between = both + NESTED + ENCLOSED % 2 + ODD + NESTED
     status, output, errors = run(awk, between, levels="1", columns="007004,012101")
-    told = "table.awk: skipped a subset without a level: message 4 subset 1\n"
-    told += "table.awk: skipped 2 subsets with ambiguous levels; the first is message 1 subset 1 (008002 begins a level and occurs again in it)\n"
+    told = "table.awk: skipped a subset without levels: message 4, subset 1\n"
+    told += "table.awk: skipped 2 subsets with ambiguous levels; the first is message 1, subset 1 (008002 begins a level and occurs again in it)\n"
     want((status, errors) == (1, told), f"{awk}: ambiguous passes give {status}, {errors}")
     rows = [line.split(",")[0] for line in output.splitlines()[1:]]
     want(rows == ["2"] * 5 + ["5"] * 5, f"{awk}: beside ambiguous passes there are {output}")

@@ -355,12 +355,12 @@ def notes(folder: pathlib.Path) -> None:
     done = run("-c", "012101,012104", SYNOP)
     holds("an empty column", (done.returncode, done.stderr) == (0, b"bufr-csv: column 012104 is empty, because no row has an item for it\n"), done)
     done = run("--levels", "-c", "020013,020011", SYNOP)
-    told = b"bufr-csv: skipped a subset without a level: message 1 subset 1\n"
+    told = b"bufr-csv: skipped a subset without levels: message 1, subset 1\n"
     holds("a subset without levels", (done.returncode, done.stderr) == (0, told), done)
     # Columns that occur only outside the levels, and columns without rows, as bufr.levels warns of them.
     outside = "bufr-csv: column {0} is empty, because {0} occurs only outside the levels; pass --keep {0} instead\n"
     empty = "bufr-csv: column {} is empty, because no row has an item for it\n"
-    one = "bufr-csv: skipped a subset without a level: message 1 subset 1\n"
+    one = "bufr-csv: skipped a subset without levels: message 1, subset 1\n"
     for columns, keep, wanted in [
         ("001002,007004,012101", "", outside.format("001002") + one),
         ("007004,001002", "", outside.format("001002") + one),
@@ -380,7 +380,7 @@ def notes(folder: pathlib.Path) -> None:
     twice = lib.message(bits.octets(), lib.words("103000 031001 008002 020011 008002"))
     done = run("--levels", "-c", "020011", input=twice)
     (folder / "twice").write_bytes(twice)
-    told = b"bufr-csv: skipped a subset with ambiguous levels: message 1 subset 1 (008002 begins a level and occurs again in it)%s\n"
+    told = b"bufr-csv: skipped a subset with ambiguous levels: message 1, subset 1 (008002 begins a level and occurs again in it)%s\n"
     of_file = run("--levels", "-c", "020011", folder / "twice")
     for what, done, rest in (("a file", of_file, b""), ("a pipe", done, b"; others will not be reported")):
         holds(f"ambiguous levels of {what}", (done.returncode, done.stderr) == (1, told % rest), done)
@@ -553,7 +553,7 @@ def feed(awk: list, _folder: pathlib.Path) -> None:
         while told.count(b"\n") < 2 and select.select([process.stderr], [], [], 20)[0]:
             told += os.read(process.stderr.fileno(), 1 << 16)
         is_right = told.startswith(b"bufr-csv: 1 message so far, at offset 0: table version 45 ") and told.endswith(
-            b"\nbufr-csv: skipped a subset without a level: message 1 subset 1; others will not be reported\n"
+            b"\nbufr-csv: skipped a subset without levels: message 1, subset 1; others will not be reported\n"
         )
         holds(f"{awk}: the notes of a live feed", is_right, told)
         process.stdin.close()

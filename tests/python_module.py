@@ -437,7 +437,7 @@ class Tables(unittest.TestCase):
             unclear += done.returncode
         self.assertGreater(count, 100)
         self.assertGreater(unclear, 0)
-        said = r"^skipped a subset with ambiguous levels: message 1 subset 1 \(008002 begins a level and occurs again in it\)$"
+        said = r"^skipped a subset with ambiguous levels: message 1, subset 1 \(008002 begins a level and occurs again in it\)$"
         with self.assertWarnsRegex(bufr_text.DumpWarning, said):
             list(bufr_text.levels(bufr_text.read(io.BytesIO(texts[-5])), ["020011"]))
         with warnings.catch_warnings():
@@ -588,7 +588,7 @@ class Runs(unittest.TestCase):
         faults = []
         levels = list(bufr_text.levels(self.stream, ["007004"], ["offset"], faults=faults, where=["category=2"]))
         self.assertEqual((len(levels), {offset for offset, _ in levels}, faults), (29, {0}, strays))
-        with self.assertWarnsRegex(bufr_text.DumpWarning, "^skipped 25 subsets without a level; the first is message 2 subset 1$"):
+        with self.assertWarnsRegex(bufr_text.DumpWarning, "^skipped 25 subsets without levels; the first is message 2, subset 1$"):
             self.assertEqual(levels, list(bufr_text.levels(bufr_text.dump(self.stream, faults=[]), ["007004"], ["offset"])))
         for call in (bufr_text.rows, bufr_text.levels):
             for given in ({"faults": []}, {"where": ["category=0"]}):
