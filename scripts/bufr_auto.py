@@ -117,7 +117,7 @@ class Finder:
         self.has_ended = not octets
 
     def find(self) -> Optional[Tuple[int, int, bytes]]:
-        """Returns where the next message or stray begins and ends, and its fault. Returns None if more bytes are needed.
+        """Returns the start, the end and the fault of the next message or stray, or None if more bytes are needed.
 
         A stray is an occurrence of `BUFR` that is not the start of a complete message. A complete message has an empty fault.
         """
@@ -404,7 +404,7 @@ class Run:
         self.place = bufr_guard.NOWHERE
 
     def fault(self, place: int, size: int) -> bytes:
-        """Returns the fault line for the next piece, which is empty if the piece has no fault."""
+        """Returns the fault line for the next piece, or empty bytes if the piece has no fault."""
         begin, self.passed = self.passed, self.passed + size
         if self.place >= self.passed:
             return b""

@@ -113,7 +113,7 @@ def take_descriptors() -> None:
 
 
 def guarded(work: Callable[[List[str]], int], text: str) -> int:
-    """Runs the work and returns its exit status. If it raises an exception, reports the exception and returns 2."""
+    """Calls `work` and returns the exit status. If `work` raises an exception, reports it and returns 2."""
     try:
         if sys.version_info < (3, 9):
             raise Failed(f"{sys.executable} is too old; Python 3.9 or later is required")
@@ -219,7 +219,7 @@ def name() -> str:
 
 
 def shown(text: str) -> str:
-    r"""Returns `text` with each unprintable byte replaced with \xHH."""
+    r"""Returns `text` with each unprintable byte replaced by \xHH."""
     if text.isprintable():
         return text
     hidden = (sign if sign.isprintable() else "".join(f"\\x{octet:02X}" for octet in os.fsencode(sign)) for sign in text)

@@ -60,7 +60,7 @@ class TableSet:
         return sequences
 
     def cached(self) -> None:
-        """Records that the set is cached. If too many sets are now cached, drops the tables of the one cached first."""
+        """Records that the set is cached. If too many sets are now cached, drops the tables of the oldest one."""
         if self not in cache:
             cache.append(self)
         if len(cache) > CACHED:
@@ -183,7 +183,7 @@ def descriptors(words: bytes) -> Tuple[str, ...]:
 
 
 def can_have_value(fxy: str) -> bool:
-    """Returns whether an item can have this descriptor. If so, it is an element, or 2 05 Y, which inserts characters."""
+    """Returns whether items can have this descriptor. Only elements and 2 05 Y, which inserts characters, have values."""
     return fxy[:1] == "0" or fxy[:3] == "205"
 
 

@@ -179,7 +179,7 @@ class Fault(NamedTuple):
     file: str = ""
 
     def line(self) -> str:
-        """Returns the line with which `bufr` reports the fault. It does not name the file."""
+        """Returns the fault line that `bufr` prints, which does not contain the name of the file."""
         return f"offset {self.offset}: {self.number} {self.text}"
 
     def __str__(self) -> str:
@@ -711,7 +711,7 @@ def _levels(
 
 
 def _passes(items: List[Item]) -> List[Tuple[int, int]]:
-    """Returns where each pass of each delayed replication begins and ends. Raises `Ambiguous` if the passes are ambiguous."""
+    """Returns the start and end of each pass of each delayed replication. Raises `Ambiguous` if the passes are ambiguous."""
     counts = [int(item.value) if item.fxy in FACTORS and isinstance(item.value, Decimal) else 0 for item in items]
     return passes([item.fxy for item in items], counts, FACTORS)
 
@@ -762,7 +762,7 @@ class Gaps:
         self.skipped[kind] = count + 1, first
 
     def warn(self, is_whole: bool = True, text: str = "column {} is empty, because no row has an item for it") -> None:
-        """Issues a warning for each gap. If only a piece of a file was read, nothing is known about its columns.
+        """Issues a warning for each gap. If `is_whole` is false, other pieces may contain columns, so they are not reported.
 
         `text` is the warning for a column without items; `{}` stands for the column.
         """
@@ -796,7 +796,7 @@ FACTORS = ("031000", "031001", "031002")
 
 
 def passes(words: Sequence[_Word], counts: Sequence[int], factors: Container[_Word]) -> List[Tuple[int, int]]:
-    """Returns where each pass of each delayed replication begins and ends, as indices of items.
+    """Returns the start and end of each pass of each delayed replication, as indices of items.
 
     `words` contains the descriptor of each item, without new reference values. `counts` contains the value of each factor,
     at the index of the factor. Raises `Ambiguous` if the passes are ambiguous.
@@ -1030,7 +1030,7 @@ def encode(
     table_d: Optional[_Path] = None,
     form: Optional[str] = None,
 ) -> bytes:
-    """Encodes messages in BUFR. Runs `bufr encode` with these two tables, or `bufr-auto --encode` if you do not pass tables.
+    """Converts messages to BUFR. Runs `bufr encode` with these two tables, or `bufr-auto --encode` if you do not pass tables.
 
     `form` is "plain" or "compressed". Without `form`, each message is encoded in the form that its header specifies.
     Raises `RunError` with the fault line if a message is rejected.
