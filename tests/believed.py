@@ -3,8 +3,8 @@
 
     tests/believed.py
 
-The output must contain definitions below every heading, the definitions that docs/proof.md cites, and every name in a
-contract except names from std. A file of definitions that `run` does not need must say so in its first line.
+The output must contain definitions below every heading, the definitions that docs/proof.md cites, and everything that a
+contract names, except names from std. A file of definitions that `run` does not need must say so in its first line.
 """
 import pathlib
 import re

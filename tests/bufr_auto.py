@@ -3,9 +3,9 @@
 
     tests/bufr_auto.py [PROGRAM]
 
-bufr-auto must write what the program writes for each message alone with the right table set, and as soon as the whole
-message has arrived. Other tests check that --encode chooses table sets in the same way, that bufr-auto is fast, and that it
-leaves no files or processes behind. failures_of_scripts.py tests how bufr-auto fails.
+For each message, bufr-auto must write what the program writes for that message alone with the right table set, and must do
+so as soon as the whole message has arrived. Other tests check that --encode chooses table sets in the same way, that
+bufr-auto is fast, and that it leaves no files or processes behind. failures_of_scripts.py tests how bufr-auto fails.
 """
 import contextlib
 import fcntl

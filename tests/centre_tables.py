@@ -1,5 +1,5 @@
 #!/usr/bin/env python3
-"""Tests table sets with local rows: bufr-lacks advises to make the set, convert.py makes it, and bufr-auto uses it.
+"""Tests table sets with local rows: bufr-lacks says how to make such a set, convert.py makes it, and bufr-auto uses it.
 
     tests/centre_tables.py [PROGRAM]
 

@@ -1,5 +1,5 @@
 #!/usr/bin/env python3
-"""Checks that the files, commands, options and values that the documentation mentions exist.
+"""Checks that the documentation agrees with the files, the program and the scripts.
 
     tests/docs_names.py [PROGRAM]
 

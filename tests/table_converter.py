@@ -1,6 +1,5 @@
 #!/usr/bin/env python3
-"""Tests rows of tables with tables/convert.py and with the program: convert.py must leave out, and report, what the program
-rejects.
+"""Tests tables/convert.py against the program: convert.py must leave out, and report, the rows that the program rejects.
 
     tests/table_converter.py [PROGRAM]
 
