@@ -193,15 +193,17 @@ function end_pass(   column, line, others, value) {
         if (level[column] in values) {
             value = values[level[column]]
             others += column > 1
-            place[level[column]] = 2
         }
         line = line cell(before[kept_count + column], value)
     }
     if (level[1] in values && (others || level_count == 1)) {
         rows[++row_count] = line
         for (column in values)
-            had[column] = 1
-    }
+            place[column] = 3
+    } else
+        for (column in values)
+            if (place[column] < 2)
+                place[column] = 2
     open = 0
     split("", values)
 }
@@ -211,7 +213,7 @@ function end_subset(   row, column, line) {
     if (subset && !by_item) {
         end_pass()
         if (levels) {
-            # 1 if a column has occurred only outside the levels, and 2 if it has occurred in a level
+            # 1 for a column that has occurred only outside the levels, 2 for one in a level without a row, 3 for one in a row
             for (column in place)
                 if (!twice && place_of[column] < place[column])
                     place_of[column] = place[column]
@@ -256,12 +258,6 @@ function skip_subset(fxy) {
     split("", values)
 }
 
-# Records that an item occurs outside the levels.
-function look_outside(fxy) {
-    if (fxy in in_levels && !(fxy in place))
-        place[fxy] = 1
-}
-
 # Processes an item in or before the passes of a replication. `left` passes have yet to begin. Each pass begins with the
 # descriptor `opener`. So far, the open pass has `items` items and `inner` factors; the previous pass had `pass_items` and
 # `pass_inner`.
@@ -295,15 +291,18 @@ function item(fxy) {
             left = field() + 0
             opener = ""
             opened = inner = 0
-            look_outside(fxy)
+            if (fxy in in_levels && !(fxy in place))
+                place[fxy] = 1
             return
         }
     }
     items++
-    if (!open)
-        look_outside(fxy)
-    else if (fxy in in_levels && !(fxy in values))
-        values[fxy] = field()
+    if (fxy in in_levels) {
+        if (open && !(fxy in values))
+            values[fxy] = field()
+        if (!open && !(fxy in place))
+            place[fxy] = 1
+    }
 }
 
 BEGIN {
@@ -428,7 +427,7 @@ END {
         word = level[column]
         if (place_of[word] == 1)
             tell_empty(word, word " occurs only outside the levels; pass " kept_by word " instead")
-        else if (!(word in had) && (has_rows || !place_of[word]))
+        else if (place_of[word] < 3 && (has_rows || !place_of[word]))
             tell_empty(word, "no row has an item for it")
     }
     if (bare && feed != 1)
