@@ -3,9 +3,9 @@
 
     tests/line_width.py [--write [FILE..]]        --write: break the long lines in these proofs (default: in all proofs)
 
-The test reads each .rt file in src/, and each .antt file in specs/ and proofs/. It skips imports and attributes, which `rt
-fmt` keeps on one line, and quoted strings, which cannot contain line feeds. For each line that is too long, it prints the
-file and the line number. --write breaks a line before an arrow, after a comma, before an operator or between two arguments,
+The test reads each .rt file in src/, and each .antt file in specs/ and proofs/. It skips imports and attributes, which
+`rt fmt` keeps on one line, and quoted strings, which cannot contain line feeds. For each line that is too long, it prints
+the file and the line number. --write breaks a line before an arrow, after a comma, before an operator or between two arguments,
 wherever the fewest brackets are open, and indents the second part by four more spaces. `rt fmt` then formats both.
 """
 import pathlib

@@ -1,6 +1,5 @@
 #!/usr/bin/env python3
-"""Compares docs/map.md with the tags in the sources, docs/names.md with the definitions, and names in other pages with
-both.
+"""Compares docs/map.md with the tags in the sources, docs/names.md with the definitions, and names in other pages with both.
 
     tests/map.py [--update]        --update: update docs/map.md and docs/names.md
 

@@ -16,9 +16,9 @@ and counts. The program then lists and dumps the stream, or encodes the dump, an
 
 The trial reports:
 
-- a signal, or an exit status other than 0 and 1 (or 2, if a fault in a table is reported);
+- a command that is killed by a signal, or whose exit status is not 0 or 1 (or 2, if a fault in a table is reported);
 - lines on standard error that are not fault lines, and dumps and messages that do not round-trip;
-- a command that takes more processor time than 0.1 s plus a microsecond for each octet read or written, four times in a row.
+- a command that, four times in a row, uses more processor time than 0.1 s plus 1 µs for each octet read or written.
 
 Each case that fails is saved in tests/out/hostile, and the exit status is then 1. Two cases are tried at a time. This trial
 is not part of the gate.
