@@ -1,7 +1,7 @@
 #!/usr/bin/env python3
-"""Compares docs/map.md with the tags in the sources, docs/names.md with the definitions, and names in other pages with both.
+"""Compares docs/map.md with the tags in the sources, and names in other pages with the sources.
 
-    tests/map.py [--update]        --update: update docs/map.md and docs/names.md
+    tests/map.py [--update]        --update: update docs/map.md
 
 Each rule in docs/map.md has a tag. In the sources, a comment `rule: TAG, TAG` precedes each item to which these rules
 apply: a definition in specs/, an example in proofs/, a function, or a test in bufr_tests. A file in tests/ has such a
@@ -12,7 +12,6 @@ bends. The others must have a reason for having no entry; otherwise, the rule is
 
 Each heading in docs/format.md and docs/texts.md must have a section in docs/map.md, and each fault in docs/texts.md a row.
 The section of docs/design.md on a crate must name each of its modules. Code that a page names must occur in the crates.
-docs/names.md lists each name that a `specs/Prelude` re-exports, with its file and its comment.
 """
 import csv
 import pathlib
@@ -32,7 +31,6 @@ OF_DOCS = "DECISIONS design format proof proving texts".split()
 PAGES = ["CONTRIBUTING.md", *(f"docs/{page}.md" for page in OF_DOCS)]
 COLUMNS = ["definition", "function", "example", "test"]
 MAP = TOP / "docs/map.md"
-NAMES = TOP / "docs/names.md"
 VECTORS = TOP / "tests/vectors/cases.tsv"
 TAG = re.compile(r"^ *(?://|--|#) rule: (.+)$")
 NAMED = {
@@ -213,72 +211,6 @@ def pages() -> None:
                     complain(page, line, f"{word} is nowhere in the crates")
 
 
-# ---------------------------------------------------------------- the names of specs/Prelude
-
-HEAD_OF_NAMES = """# Names of the definitions
-
-Where the names come from that clauses and proofs take from `specs/Prelude`: of each its file, and its comment. `tests/map.py --update` makes this page.
-"""
-PASSED = re.compile(r"pub use Rattle\.(bufr_\w+)\.specs\.([\w.]+)\.\{([^}]*)\}")
-
-
-def comment_above(lines: list, at: int) -> str:
-    """The comment above a line in one piece, without tags, doc tests and what has no line feed before it."""
-    told = []
-    while at and re.match(r"\s*(?:--|///|//|#\[|infix)", lines[at - 1]):
-        at -= 1
-        told.insert(0, lines[at].strip())
-    told = [line for line in told if not re.match(r"(?:--|//) rule:|#\[|infix|-- ----|//[^/]", line)]
-    whole = " ".join(re.sub(r"^(?:--|///) ?", "", line) for line in told if line != "///")
-    return re.split(r"(?<=\.) ", whole)[0].replace("|", "\\|")
-
-
-def meaning(lines: list, name: str) -> str:
-    """The comment of a definition or type; of a constructor that of its type."""
-    head = re.compile(rf"(?:(?:abbrev|unfoldable|rec) )*pub(?:\(crate\))? (?:(?:abbrev|unfoldable|rec|data|record|struct|enum|trait) )*{re.escape(name)}(?![\w-])")
-    for at, line in enumerate(lines):
-        if head.match(line):
-            return comment_above(lines, at)
-    inside = re.compile(rf"  {re.escape(name)}(?: :|[,({{]|$)|    {re.escape(name)}[,({{]")
-    at = next((at for at, line in enumerate(lines) if inside.match(line)), 0)
-    top = next((n for n in range(at, -1, -1) if re.match(r"\S.*\b(?:data|enum)\b", lines[n])), 0)
-    named = re.search(r"\b(?:data|enum) (\w+)", lines[top])
-    return f"of `{named[1]}`: {comment_above(lines, top)}" if at and named else ""
-
-
-def file_of(crate: str, module: str, name: str) -> str:
-    """The file that has a name of a module of specs/, which may pass it on from another one."""
-    parts = module.split(".")
-    if parts[0] == "declared":
-        return f"crates/{crate}/src/{parts[1]}.rt"
-    file = f"crates/{crate}/specs/{'/'.join(parts)}.antt"
-    for of, inner, passed in PASSED.findall(read(TOP / file)):
-        if name in re.split(r",\s*", passed):
-            return file_of(of, inner, name)
-    return file
-
-
-def names() -> None:
-    """Makes docs/names.md of the lines of each specs/Prelude."""
-    made = [HEAD_OF_NAMES]
-    for crate in CRATES:
-        rows = {}
-        for of, module, passed in PASSED.findall(read(TOP / f"crates/{crate}/specs/Prelude.antt")):
-            for name in re.split(r",\s*", passed):
-                file = file_of(of, module, name)
-                rows[name] = f"| `{name}` | `{file}` | {meaning(read(TOP / file).splitlines(), name) or '-'} |"
-        if rows:
-            made.append(f"## {crate}\n\n| name | file | what |\n|---|---|---|")
-            made.append("\n".join(rows[name] for name in sorted(rows, key=str.lower)) + "\n")
-    text = "\n".join(made)
-    if "--update" in sys.argv:
-        NAMES.write_text(text, encoding="utf-8")
-    there, wanted = read(NAMES).splitlines(), text.splitlines()
-    if there != wanted:
-        line = next((n for n, (old, new) in enumerate(zip(there, wanted), 1) if old != new), min(len(there), len(wanted)))
-        complain("docs/names.md", line, "is not as the definitions have it: run tests/map.py --update")
-
-
 try:
     cover(every_entry())
 except Bad as wrong:
@@ -286,5 +218,4 @@ except Bad as wrong:
 rules()
 house()
 pages()
-names()
 finish(complaints)
