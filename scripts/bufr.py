@@ -151,7 +151,7 @@ def _optional(part: Part) -> Array:
 
 
 class _Elements:
-    """The names and units of the elements of items, from the Table B with which each item was read."""
+    """The names and units of elements, from the Table B with which each item was read."""
 
     def __init__(self) -> None:
         # For each descriptor, the name and unit in each table that defines it.

@@ -404,7 +404,7 @@ def lines_from(
 
 
 def checked(status: int, has_told: bool = True, what: str = "bufr") -> int:
-    """Returns the exit status of a program. Raises `Failed` if the status is over 2, or is 2 without a reported reason."""
+    """Returns the exit status of a program. Raises `Failed` if it is over 2, or if it is 2 but no reason was reported."""
     if status > 128:
         raise Failed(f"{what} was killed (signal {status - 128}); output is incomplete")
     if status not in (0, 1, 2) or (status == 2 and not has_told):
