@@ -1,5 +1,6 @@
--- The numbers of the faults, and their texts in parts. (a choice of this project)
--- Want of memory ends a run, whose line reports it. Cited by public contracts.
+-- The number of each fault and its text, as parts that are joined. (own) `Memory` has a number, but
+-- no text: it stops a run, and the last line of the run (`run_line`) reports it.
+-- Cited by public contracts.
 use Rattle.std.specs.Prelude.{ℕ, List, [], ◌∷◌, codes, decimal}
 use Rattle.bufr_tables.specs.Fxy.{fxy_text}
 use Rattle.bufr_tables.specs.declared.fault.TableFault.{TableFault}
@@ -7,7 +8,9 @@ use Rattle.bufr_tables.specs.declared.fault.TableFault.TheVariants as table
 use Rattle.bufr_tables.specs.declared.fault.TemplateFault.{TemplateFault}
 use Rattle.bufr_tables.specs.declared.fault.TemplateFault.TheVariants as template
 
--- a fault of a table
+-- A fault of a table: the header is not the expected one; record n has an invalid field; an element
+-- has two rows, or the rows of a sequence are apart; a sequence contains itself; there are too many
+-- rows; or a record does not have as many fields as the header.
 abbrev pub table_report : TableFault → ℕ × List (List ℕ)
 table_report table.Header = (40, codes "header" ∷ [])
 table_report (table.Row n) = (41, codes "row " ∷ decimal n ∷ [])
@@ -17,7 +20,11 @@ table_report table.TableSize = (44, codes "table size" ∷ [])
 table_report table.Csv = (45, codes "csv" ∷ [])
 table_report table.Memory = (73, [])
 
--- a fault of a template
+-- A fault of a descriptor list, and the descriptor at which it is: an element or sequence that the
+-- tables lack; an operator or operand that is not supported; a replication of no descriptors, or of
+-- more than follow it; a delayed replication without a factor; a body that takes no bits of the
+-- data; more than 32 nested groups and sequences; more than 65,535 places; 2 06 Y without an
+-- element after it.
 -- rule: fault-20, fault-21, fault-22, fault-23, fault-24, fault-25, fault-26, fault-27, fault-28
 abbrev pub template_report : TemplateFault → ℕ × List (List ℕ)
 template_report (template.UnknownElement fxy) = (20, codes "unknown element " ∷ fxy_text fxy ∷ [])
