@@ -1,6 +1,5 @@
--- The reading of data by a template, each item as what comes next specifies; why data cannot be
--- read; and the calls of a visitor that show a reading. (WMO-No. 306, Volume I.2, FM 94: sections 3
--- and 4; the order of the faults at one item is a choice of this project)
+-- The data of a message: their items, and why they cannot be read. (WMO-No. 306, Volume I.2, FM 94:
+-- sections 3 and 4)
 -- Cited by public contracts.
 use Rattle.std.specs.Prelude.{ℕ, zero, suc, ◌≡◌, ◌+◌, ◌*◌, ◌≤◌, Bool, true, false, List, [], ◌∷◌, length, drop, take, ◌<◌, Result, Ok, ◌⊎◌, nat_lt, Option, None, Err, codes, decimal, if◌then◌else◌, ◌++◌, option_map}
 use Rattle.bufr_walk.specs.Content.{Taken, FieldSpec, Content, answer_of, FieldFault, FieldRead, found, plain_field, data_end, increment, unequal_factor, packed_field, answer_first, ShownValue, shown, missing, shown_number, shown_text, shown_missing, shown_reference}
@@ -21,21 +20,23 @@ use Rattle.bufr_walk.specs.declared.visitor.ItemView.{ItemView}
 use Rattle.bufr_walk.specs.declared.fault.ShowFault.TheVariants as show_fault
 use Rattle.bufr_walk.specs.declared.visitor.Value.TheVariants as item_value
 
--- an item: its specification, and its content for one subset or for all
+-- an item: its specification, and its content in one subset, or its contents in all
 pub record Item (C : Type 0) : Type 0 where
   pub spec : FieldSpec
   pub content : C
 
--- how a field is read, and what its content returns to the walk
+-- How data are coded: plain with C = Content, or compressed with C = List Content.
 pub record DataCoding (C : Type 0) : Type 0 where
+  -- reads the item at the beginning of bits
   pub field : FieldSpec → List Bool → Result (FieldRead C) FieldFault
+  -- the part of an item's content that affects the walk
   pub gives : FieldSpec → C → Taken
 
--- the coding of one subset
+-- the coding of plain data
 abbrev pub plain : DataCoding Content
 plain = record { field = plain_field; gives = answer_of }
 
--- the coding of n compressed subsets
+-- the coding of compressed data of n subsets
 abbrev pub packed : ℕ → DataCoding (List Content)
 packed n = record { field = packed_field n; gives = answer_first }
 
@@ -85,7 +86,7 @@ ReadsSubsets course (items ∷ subsets) bits suffix =
     (mid : List Bool) × ReadsPass plain course items bits mid
     × ReadsSubsets course subsets mid suffix
 
--- the most values of a compressed message (own)
+-- the most values of a compressed message: 2^27 (own)
 -- rule: too-many-values
 abbrev pub max_values : ℕ
 max_values = 134217728
@@ -108,18 +109,19 @@ abbrev pub IsPlainReading : (subsets : ℕ) → Course → List (List (Item Cont
 IsPlainReading n course subsets bits suffix =
     ReadsSubsets course subsets bits suffix × (length subsets ≡ n)
 
--- the data: the number of subsets, whether they are compressed, and their bits
+-- the data of a message: whether they are compressed, their number of subsets, and their bits
 pub record Data : Type 0 where
   pub compressed : Bool
   pub subsets : ℕ
   pub bits : List Bool
 
--- the items of the data: those of each subset, or of all together where they are compressed
+-- the items of the data: those of each subset, or in compressed data those of all subsets together
 pub data Values : Type 0 where
   apart : (subsets : List (List (Item Content))) → Values
   together : (items : List (Item (List Content))) → Values
 
--- the content of one subset, counted from 0
+-- the content of one subset, from 0; each list has one for each subset, so the first equation is
+-- never used
 abbrev pub content_at : (subset : ℕ) → List Content → Content
 content_at j [] = missing
 content_at zero (c ∷ cs) = c
@@ -131,13 +133,13 @@ items_of_subset j [] = []
 items_of_subset j (i ∷ items) =
     record { spec = i.spec; content = content_at j i.content } ∷ items_of_subset j items
 
--- the items of `left` subsets of compressed data, each by itself, from one on, counted from 0
+-- the items of the next `left` subsets of compressed data, the first of which is `subset`, from 0
 abbrev pub subsets_from : (left subset : ℕ) → List (Item (List Content))
     → List (List (Item Content))
 subsets_from zero j items = []
 subsets_from (suc left) j items = items_of_subset j items ∷ subsets_from left (suc j) items
 
--- the items of each subset, whatever the form in which they were read
+-- the items of each subset, whether the data were plain or compressed
 abbrev pub each_subset : (subsets : ℕ) → Values → List (List (Item Content))
 each_subset n (apart subsets) = subsets
 each_subset n (together items) = subsets_from n 0 items
@@ -157,28 +159,28 @@ IsReading course d (together items) used =
     (d.compressed ≡ true) × (used ≤ length d.bits)
     × IsPackedReading d.subsets course items d.bits (drop used d.bits)
 
--- why a reading stops: the walk is refused, or a field is at fault
+-- why a reading stops: the walk refuses a step, or a field cannot be read
 abbrev pub Stop : Type 0
 Stop = WalkStop DataFault
 
--- the fault of a field with this descriptor
+-- the fault of the field with this descriptor
 abbrev pub wrong_of : (fxy : ℕ) → FieldFault → DataFault
 wrong_of fxy data_end = wrong.DataEnd fxy
 wrong_of fxy increment = wrong.Increment fxy
 wrong_of fxy unequal_factor = wrong.UnequalFactor fxy
 
--- whether the values would be too many with one item more
+-- whether one more item would make too many values
 -- rule: too-many-values
 abbrev pub would_be_many : (subsets items_before : ℕ) → Bool
 would_be_many subsets items_before = nat_lt max_values ((items_before + 1) * subsets)
 
 -- ---- The faults of the data, by what stops a reading. (The numbers are a choice of this project.)
 
--- the location of an item: the subset, the descriptor, and the bits before it
+-- a location
 abbrev pub spot : (subset fxy bit : ℕ) → Spot
 spot subset fxy bit = record { subset = subset; fxy = fxy; bit = bit }
 
--- the fault of a stop, in a subset, after `bit` bits
+-- the fault of a message whose reading stopped in this subset, after `bit` bits
 -- rule: stream-fault-place
 abbrev pub fault_at : WalkStop DataFault → (subset bit : ℕ) → WalkFault
 fault_at (stops.Width fxy) subset bit = fault.Width (spot subset fxy bit)
@@ -200,14 +202,17 @@ bits_before (fault.Increment s) all = s.bit
 bits_before (fault.TooManyValues s) all = s.bit
 bits_before fault.Memory all = all
 
--- a text, and where in the data an item is: the subset, the descriptor, and the bits before it
+-- the text of a fault: its name, and the location of the item
 -- rule: stream-fault-place
 abbrev pub spot_text : List ℕ → Spot → List (List ℕ)
 spot_text name s =
     name ∷ codes " at subset " ∷ decimal s.subset ∷ codes " descriptor " ∷ fxy_text s.fxy
     ∷ codes " bit " ∷ decimal s.bit ∷ []
 
--- the number of a fault, and its text in parts; want of memory ends a run, whose line reports it
+-- A fault of the data: the data end inside an item; a field that is not text has an invalid width;
+-- a descriptor is not allowed while references are being defined; the factors of subsets differ; an
+-- increment is invalid; or compressed data have too many values. `Memory` has no text: it stops a
+-- run, and the last line of the run reports it.
 -- rule: fault-30, fault-31, fault-32, fault-33, fault-34, fault-35
 abbrev pub data_report : WalkFault → ℕ × List (List ℕ)
 data_report (fault.DataEnd s) = (30, spot_text (codes "data end") s)
@@ -248,7 +253,8 @@ course_of r = next_item r.table r.template
 
 -- ---- The calls of a visitor that show a reading, in order, up to its first fault.
 
--- an item as it is shown: its descriptor, the row of Table B by which it was read, and its value
+-- an item as it is shown: its descriptor, the row of Table B by which it was read (if it was), and
+-- its value
 pub record View : Type 0 where
   pub fxy : ℕ
   pub entry : Option Row
@@ -259,11 +265,11 @@ pub data Call : Type 0 where
   subset_call : (number : ℕ) → Call
   item_call : (item : View) → Call
 
--- a view from its parts
+-- a view of these parts
 abbrev pub view : (fxy : ℕ) → Option Row → ShownValue → View
 view fxy entry value = record { fxy = fxy; entry = entry; value = value }
 
--- the view of one field: the row of Table B only where the field was read by it
+-- an item as it is shown
 abbrev pub view_of : List Row → FieldSpec → Content → View
 view_of table spec c =
     view spec.fxy (if spec.listed then entry_of table spec.fxy else None) (shown spec c)
