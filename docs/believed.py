@@ -22,20 +22,20 @@ import sys
 TOP = pathlib.Path(__file__).resolve().parent.parent
 HEADINGS = {
     "Bits and decimals": "bits: Bits decimal Decimal",
-    "Messages in a stream": "frame: fault Octets finder Scan",
-    "The sections of a message": "frame: section1 Section1 Sections Numbers",
-    "Tables B and D": "tables: fxy Fxy fault Records table_b TableB TableD FaultNumber",
+    "Messages in a stream": "frame: fault Octets Numbers finder Scan",
+    "The sections of a message": "frame: section1 Section1 Sections",
+    "Tables B and D": "tables: fxy Fxy fault FaultNumber Records table_b TableB TableD",
     "A list of descriptors, expanded": "tables: Tree Expansion",
     "Fields and operators": "walk: spec Content Rules",
     "The data of a message, read": "walk: fault walker Course Reading Pass",
-    "The lines of a text": "fill: Draft; text: line Line",
+    "The lines of a text": "fill: fault Draft; text: line Line",
     "The text of a listing and of a dump": "fill: RoundTrip; text: Dump",
-    "A message built of a text": "text: document Documents Reader; fill: fault Encoding; frame: Layout; text: encode fault Encoding",
-    "Fault lines, and the pieces that a run writes": "text: Writing; cli: outcome FaultLine Pieces",
+    "A message built of a text": "text: fault document Documents Reader; fill: Encoding; frame: Layout; text: encode Encoding",
+    "Fault lines, and the pieces that a run writes": "cli: FaultLine Pieces",
     "Round trips": "text: Spelling RoundTrip; cli: RoundTrip laws",
     "The command line": "cli: job Line",
     "How a run reads and writes (relations between the states of devices before and after; you need to know Agda's ≡, × and →)":
-        "bits: Device device Script script; frame: Input; cli: Running Ending Program program",
+        "bits: Device device Script script; frame: Input; text: Writing; cli: outcome Running Ending Program program",
     "What csv promises of the records of a table (definitions of the kit)": "csv: parser Machine Records Reading",
     "What clap promises of a command line (definitions of the kit)":
         "clap: error/kind builder/action builder/possible_value builder/range builder/value_parser parser/matches"
@@ -47,13 +47,33 @@ PRIMER = """\
 == The notation
 
 `f : A → B` gives the type of f. Equations follow, and the first that fits applies. `f x y` applies f to x and y. Each
-definition has a value for all arguments. `abbrev`, `unfoldable` and `rec` say when the checker unfolds it, no more.
-A `record` has named parts, and a `data` type has the forms listed below it. A `Bool` is computed; a `Type 0` is a type, or
-a statement: `×` is "and" or a pair, `⊎` "or", `→` "implies" or a function, `≡` "equals", `(x : A) →` "for each x", and
-`(x : A) ×` "for some x". `λ x. e` is a function, `x ∷ xs` a list by its first member, and `++` joins lists. In `do`, a line
-`x ← e` stops at the first fault or `None`, as `>>=` does. `x.now`, `x.old` and `x.new` are in docs/proof.md. Names that
-stand nowhere below, such as `take` and `codes`, are std's (rattle/std and rattle/core in the kit, and rattle/ANTT.md).
-The first lines of each file say which part of FM 94 it states. `(own)` marks a rule that is a choice of this project.
+definition has a value for all arguments, even for those that never occur. `abbrev`, `unfoldable`, `rec` and `infixl` only
+matter to the checker. Under `module _ (how : T) where`, all definitions that are indented have the argument `how` as well.
+A `record` has named parts, and a `data` type has the forms listed below it. `record s { x = 1 }` is s with another part x.
+A `Bool` is computed; a `Type 0` is a type or a statement: `×` is "and" or a pair, whose parts are `.0` and `.1`, `⊎` "or",
+`→` "implies" or a function, `≡` "equals", `¬` "not", `(x : A) →` "for each x", and `(x : A) ×` "for some x". `Unit` and `⊤`
+always hold, `⊥` never. An argument in braces, as in `{X = T}`, may be left out. `λ x. e` is a function, `x ∷ xs` a list by
+its first member, and `++` joins lists. In `do`, a line `x ← e` stops at the first fault or `None`, as `>>=` does.
+
+A word before a form, as in `fault.Width`, only tells that form from others with its name: the signature has its type.
+Types of faults are not printed. Instead, a report lists each fault of its type with its number and text: `cause_report` lists
+those of `Cause`.
+
+Rust types are printed, too. Their `ghost` items exist only in proofs: a `Model` is the value by which clauses refer to a
+type, and `source.Ghosts R` are the ghost items that the type R has as a `Source`. A `Bor` is a reference. `x.now` is the
+value behind a reference x, and `x.old` and `x.new` are that value before and after a call (see docs/proof.md).
+
+What is known of the octets of a device is a list, or `None` if nothing is known, and then these relations hold:
+  `Appends old new octets`     `new` is `old` and then these octets
+  `Consumes old new octets`    `old` is these octets and then `new`
+  `Keeps old new`              `new` is `old`
+  `IsAtEnd known`              no octet is left
+`ReadConsumes` and `WriteAppends` are `Consumes` and `Appends` for a call that returned a count, and `Keeps` for one that
+failed. `IfSome`, `IfOk` and `IfErr` apply a statement to the value of an option or a result, if there is one.
+
+Names that are not defined below, such as `take` and `codes`, are std's (rattle/std and rattle/core in the kit, and
+rattle/ANTT.md). Those that only the two laws use are defined in the section before the last or the last one.
+The first lines of each file say which part of FM 94 it states. `(own)` marks what is our choice.
 """
 # The laws that a reader leans on, by the file that they justify.
 LAWS = {
@@ -335,10 +355,25 @@ def reached(calls, house):
 
 
 def reported(items):
-    """The enums of faults among items of which a report lists each fault with its number and text."""
+    """The enums of faults among items, each with the report that lists its faults with their numbers and texts."""
     report = re.compile(r": (\w+) → ℕ × List \(List ℕ\)$")
-    names = {found[1] for item in items for found in [report.search(item.code().split("\n")[0])] if found}
-    return [item for item in items if item.path.suffix == ".rt" and item.name in names]
+    reports = {found[1]: item for item in items for found in [report.search(item.code().split("\n")[0])] if found}
+    return {item: reports[item.name] for item in items if item.path.suffix == ".rt" and item.name in reports}
+
+
+def put_reports_first(enums, key, house):
+    """Changes the keys of reports, so that each comes before the first definition that names a fault of its type."""
+    for enum, report in enums.items():
+        users = [item for item in key if item is not report and item.path.suffix == ".antt" and enum in house.uses(item)]
+        first = min(users, key=key.get, default=report)
+        if key[first] < key[report]:
+            before, order, path, *_ = key[first]
+            moved = []
+            reach(report, moved, house)
+            for item in moved:
+                if item.path == report.path and key[first] < key[item]:
+                    at = (path, first.line, 0) if item.path == first.path else ("",)
+                    key[item] = (before, order, *at, item.line)
 
 
 def size(items):
@@ -359,7 +394,7 @@ def main():
     laws = {TOP / "crates" / f"bufr_{file}": [contract(law) for law in names] for file, names in LAWS.items()}
     laws = {path: [law for law in ones if law.name not in [call.name for call in calls]] for path, ones in laws.items() if path in paths}
     justifying = sum(laws.values(), [])
-    beside = [item for item in reached(justifying, house) if item not in definitions + calls + enums]
+    beside = [item for item in reached(justifying, house) if item not in [*definitions, *calls, *enums]]
     if house.lost:
         sys.exit("\n".join(f"{sys.argv[0]}: {one}" for one in sorted(house.lost)))
     print(PRIMER)
@@ -367,7 +402,8 @@ def main():
         print(f"== The contract of {call.name}\n\n{text(call)}\n")
     other = len(titles) - 1
     place = {item: order.get(item.path, (other, 0))[0] for item in definitions} | {item: other - 1 for item in beside}
-    key = {item: (place[item], order.get(item.path, (other, 0)), str(item.path), item.line) for item in place}
+    key = {item: (place[item], order.get(item.path, (other, 0)), str(item.path), item.line, 1) for item in place}
+    put_reports_first(enums, key, house)
     number, path, count = -1, None, 0
     for item in [*sorted(place, key=key.get), None]:
         if path and (item is None or item.path != path):
@@ -375,8 +411,8 @@ def main():
                 print(f"\n-- a law that justifies these definitions, proved\n{text(law)}")
         if item is None:
             break
-        if place[item] != number:
-            number, path = place[item], None
+        if key[item][0] != number:
+            number, path = key[item][0], None
             count += 1
             print(f"\n== {count}. {titles[number]}")
         if item.path != path:
