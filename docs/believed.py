@@ -6,11 +6,12 @@
 
 A few lines on the notation and the contracts come first. The definitions follow under headings: first what the format is,
 then how a run uses its devices, and last what the kit's csv and clap promise. Most definitions come after those that they
-use. Imports, tags and derives are left out, and so is an enum of faults if its report is printed, which lists each fault
-with its number and text. The first lines of a file of definitions stand below its name. A law that justifies a file is
-printed after it, and what the law alone needs comes at the end. The types and traits of a signature are printed with their
-ghost items. Not followed are the names of std, and those that the checker itself makes from a contract (specs.contracts).
-Any other name that is imported and not found is reported, and the status is 1. The counts go to standard error.
+use. An enum of faults is left out if its report is printed, which lists each fault with its number and text; the report is
+printed before the first definition that names one of the faults. Imports, tags and derives are left out, too. The first
+lines of a file of definitions stand below its name. A law that justifies a file is printed after it, and what the law alone
+needs comes at the end. The types and traits of a signature are printed with their ghost items. Not followed are the names of
+std, and those that the checker itself makes from a contract (specs.contracts). Any other name that is imported and not found
+is reported, and the status is 1. The counts go to standard error.
 """
 import functools
 import pathlib
@@ -25,55 +26,59 @@ HEADINGS = {
     "Messages in a stream": "frame: fault Octets Numbers finder Scan",
     "The sections of a message": "frame: section1 Section1 Sections",
     "Tables B and D": "tables: fxy Fxy fault FaultNumber Records table_b TableB TableD",
-    "A list of descriptors, expanded": "tables: Tree Expansion",
+    "The expansion of a descriptor list": "tables: Tree Expansion",
     "Fields and operators": "walk: spec Content Rules",
-    "The data of a message, read": "walk: fault walker Course Reading Pass",
-    "The lines of a text": "fill: fault Draft; text: line Line",
-    "The text of a listing and of a dump": "fill: RoundTrip; text: Dump",
-    "A message built of a text": "text: fault document Documents Reader; fill: Encoding; frame: Layout; text: encode Encoding",
+    "Reading the data of a message": "walk: fault walker Course Reading Pass",
+    "The items and lines of a dump text": "fill: fault Draft; text: line Line",
+    "Writing listings and dumps": "fill: RoundTrip; text: Dump",
+    "Encoding a document": "text: fault document Documents Reader; fill: Encoding; frame: Layout; text: encode Encoding",
     "Fault lines, and the pieces that a run writes": "cli: FaultLine Pieces",
     "Round trips": "text: Spelling RoundTrip; cli: RoundTrip laws",
     "The command line": "cli: job Line",
-    "How a run reads and writes (relations between the states of devices before and after; you need to know Agda's ≡, × and →)":
+    "How a run reads and writes (relations between the states of devices before and after it)":
         "bits: Device device Script script; frame: Input; text: Writing; cli: outcome Running Ending Program program",
     "What csv promises of the records of a table (definitions of the kit)": "csv: parser Machine Records Reading",
     "What clap promises of a command line (definitions of the kit)":
         "clap: error/kind builder/action builder/possible_value builder/range builder/value_parser parser/matches"
         " Lexer Values ValueTests Takes Kinds Facts Matches Walk Simple Faults",
-    "What the laws need beside these": "walk: KnownRows",
+    "What only the laws use": "walk: KnownRows",
     "Other definitions": "",
 }
 PRIMER = """\
 == The notation
 
 `f : A → B` gives the type of f. Equations follow, and the first that fits applies. `f x y` applies f to x and y. Each
-definition has a value for all arguments, even for those that never occur. `abbrev`, `unfoldable`, `rec` and `infixl` only
-matter to the checker. Under `module _ (how : T) where`, all definitions that are indented have the argument `how` as well.
+definition has a value for all arguments, including those that never occur. `abbrev`, `unfoldable`, `rec` and `infixl` only
+matter to the checker. Under `module _ (how : T) where`, each definition that is indented also has the argument `how`.
 A `record` has named parts, and a `data` type has the forms listed below it. `record s { x = 1 }` is s with another part x.
 A `Bool` is computed; a `Type 0` is a type or a statement: `×` is "and" or a pair, whose parts are `.0` and `.1`, `⊎` "or",
 `→` "implies" or a function, `≡` "equals", `¬` "not", `(x : A) →` "for each x", and `(x : A) ×` "for some x". `Unit` and `⊤`
 always hold, `⊥` never. An argument in braces, as in `{X = T}`, may be left out. `λ x. e` is a function, `x ∷ xs` a list by
 its first member, and `++` joins lists. In `do`, a line `x ← e` stops at the first fault or `None`, as `>>=` does.
 
-A word before a form, as in `fault.Width`, only tells that form from others with its name: the signature has its type.
-Types of faults are not printed. Instead, a report lists each fault of its type with its number and text: `cause_report` lists
-those of `Cause`.
+A number of ℕ is `zero` or `suc n` (n + 1), and one of ℤ is `pos n` (n) or `negsuc n` (-n - 1). A text is a list of octets:
+10 is a line feed, 32 a space, 34 `"`, 35 `#`, 45 `-`, 46 `.`, 48 to 57 are digits, and 92 is `\\`.
 
-Rust types are printed, too. Their `ghost` items exist only in proofs: a `Model` is the value by which clauses refer to a
-type, and `source.Ghosts R` are the ghost items that the type R has as a `Source`. A `Bor` is a reference. `x.now` is the
-value behind a reference x, and `x.old` and `x.new` are that value before and after a call (see docs/proof.md).
+A word before a form, as in `fault.Width`, only distinguishes forms with the same name; the signature tells of which type
+the form is. Most types of faults are not printed. Instead, a report lists each fault of the type with its number and text:
+`cause_report` lists those of `Cause`.
 
-What is known of the octets of a device is a list, or `None` if nothing is known, and then these relations hold:
-  `Appends old new octets`     `new` is `old` and then these octets
-  `Consumes old new octets`    `old` is these octets and then `new`
-  `Keeps old new`              `new` is `old`
-  `IsAtEnd known`              no octet is left
-`ReadConsumes` and `WriteAppends` are `Consumes` and `Appends` for a call that returned a count, and `Keeps` for one that
-failed. `IfSome`, `IfOk` and `IfErr` apply a statement to the value of an option or a result, if there is one.
+Types and traits of Rust are printed, too. Their `ghost` items exist only in proofs: a `Model` is the value by which clauses
+refer to a type, and `source.Ghosts R` are the ghost items that the type R has as a `Source`. A `Bor` is a reference.
+`x.now` is the value behind a reference x, and `x.old` and `x.new` are that value before and after a call.
+
+What is known of the octets of a device is a list, or `None` if nothing is known. Between two such states, old and new:
+  `Appends old new octets`     new is old and then these octets
+  `Consumes old new octets`    old is these octets and then new
+  `Keeps old new`              new is old
+  `IsAtEnd new`                no octet is left
+They hold if old is `None`. `ReadConsumes` and `WriteAppends` are `Consumes` and `Appends` after a call that returned a
+count, and `Keeps` after one that failed. `IfSome`, `IfOk` and `IfErr` apply a statement to the value of an option or of a
+result, if it has one.
 
 Names that are not defined below, such as `take` and `codes`, are std's (rattle/std and rattle/core in the kit, and
-rattle/ANTT.md). Those that only the two laws use are defined in the section before the last or the last one.
-The first lines of each file say which part of FM 94 it states. `(own)` marks what is our choice.
+rattle/ANTT.md). Some are defined later than they are used: those of the kit's csv and clap, and those that only laws use.
+The first lines of each file say which part of FM 94 it states. `(own)` marks a rule that is our choice.
 """
 # The laws that a reader leans on, by the file that they justify.
 LAWS = {

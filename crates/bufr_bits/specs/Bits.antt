@@ -16,13 +16,12 @@ unfoldable pub bits_of : List ℕ → List Bool
 bits_of [] = []
 bits_of (octet ∷ more) = bits_of_octet octet ++ bits_of more
 
--- the number that bits write after other bits, which wrote n: each bit doubles the number and is
--- added
+-- the number that n becomes when bits follow it: each bit doubles it and is added
 abbrev pub number_after_bits : ℕ → List Bool → ℕ
 number_after_bits n [] = n
 number_after_bits n (bit ∷ bits) = number_after_bits (2 * n + (if bit then 1 else 0)) bits
 
--- the unsigned number that bits write
+-- the unsigned number that bits represent
 -- rule: field-number
 abbrev pub number_of : List Bool → ℕ
 number_of bits = number_after_bits 0 bits

@@ -80,7 +80,7 @@ negative_scale (negsuc n) = n + 1
 abbrev pub whole_quotient : (n d : ℕ) → Result ℕ NumberFault
 whole_quotient n d = if n % d == 0 then Ok (n / d) else Err Inexact
 
--- the number times 10^scale that digits write, if the last `decimals` of them are after the point
+-- the number with these digits, the last `decimals` of which are after the point, times 10^scale
 abbrev pub scaled : (digits : List ℕ) (decimals : ℕ) (scale : ℤ) → Result ℕ NumberFault
 scaled digits decimals scale =
     whole_quotient (digits_value 10 digits * 10 ^ positive_scale scale)
@@ -102,8 +102,8 @@ abbrev pub map_err : {E F A : Type 0} → (E → F) → Result A E → Result A 
 map_err form (Ok x) = Ok x
 map_err form (Err fault) = Err (form fault)
 
--- the number that a text writes, times 10^scale, or the first fault: first the syntax is checked,
--- then that the number is whole, then its size
+-- the number that a text represents, times 10^scale, or the first fault: the syntax is checked
+-- first, then whether the result is whole, and then its size
 -- rule: inexact-before-too-large
 unfoldable pub decimal_value_of : (text : List ℕ) (scale : ℤ) → Result ℤ NumberFault
 decimal_value_of text scale =

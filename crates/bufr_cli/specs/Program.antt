@@ -106,7 +106,9 @@ pub data RunOutcome {Standard File : Type 0} (pieces : RunPieces) (inputs : Know
 pub record FailsToRead (fault : RunFault) (from to : Input) : Type 0 where
   pub octets : List ℕ
   pub read : Consumes from.left to.left octets
+  -- a file is only read
   pub none : fault ≢ ended.Write
+  -- a fault `Read` is counted by the file; X does not matter, since the result is a fault
   pub failures : to.failures ≡ read_failures_after {X = Unit {0}} from.failures (Err fault)
   pub reads : ReadsAtMost {X = Unit {0}} from.reads to.reads (Err fault)
   pub fewer : fault ≡ ended.Memory → ReadsFewer from.reads to.reads

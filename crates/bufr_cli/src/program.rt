@@ -51,7 +51,8 @@ pub trait Inputs {
     /// What was opened so far, in order, if it is known. Calls that failed are included.
     ghost opened: { Self → Option (List InputName) } = { λ _. None };
 
-    /// Standard input.
+    /// Standard input. It is opened after all files, so no clause says what is known of files after
+    /// that.
     ///
     /// # Errors
     ///

@@ -129,7 +129,8 @@ abbrev pub is_marked : DraftValue → Bool
 is_marked (reference_token digits) = true
 is_marked _ = false
 
--- the fault of digits that write no number at the field's scale
+-- the fault of digits that represent no number at the field's scale: `Large` means that they are
+-- out of range
 -- rule: fault-52
 abbrev pub number_fault : NumberFault → ItemFault
 number_fault Large = wrong.OutOfRange
@@ -189,7 +190,7 @@ is_of spec d =
     (d.fxy == spec.fxy)
     && (if is_reference spec.role then is_marked d.form else not (is_marked d.form))
 
--- the fault if another item is there than that of the field
+-- the fault if an item is not that of the field
 abbrev pub wrong_for : FieldSpec → ItemFault
 wrong_for spec = wrong.WrongDescriptor
     (if is_reference spec.role then expected.Reference spec.fxy else expected.Item spec.fxy)

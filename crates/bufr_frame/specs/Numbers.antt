@@ -18,8 +18,9 @@ cause_report cause.Cut = (1, codes "cut" ∷ [])
 cause_report cause.ShortLength = (2, codes "short length" ∷ [])
 cause_report cause.NoEnd = (3, codes "no end" ∷ [])
 
--- A fault in the sections of a message: an edition other than 3 and 4; section k is too short, or
--- runs past the place of section 5; section 4 ends before that place; or `is_long_edition_3`.
+-- A fault in the sections of a message: the edition is not 3 or 4; section k is too short; section
+-- k extends past the beginning of section 5; section 4 ends before that; or a message of edition 3
+-- is too long (`is_long_edition_3`).
 -- rule: fault-10, fault-11, fault-12, fault-13, fault-14
 abbrev pub section_report : SectionFault → ℕ × List (List ℕ)
 section_report (section.Edition edition) = (10, codes "edition " ∷ decimal edition ∷ [])

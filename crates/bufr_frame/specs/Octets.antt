@@ -12,8 +12,8 @@ u24_at m p = 65536 * slice_index m p + 256 * slice_index m (p + 1) + slice_index
 abbrev pub u16_at : List ℕ → ℕ → ℕ
 u16_at m p = 256 * slice_index m p + slice_index m (p + 1)
 
--- numbers of two octets each, as section 3 has its descriptors; a single octet after them is
--- ignored (own)
+-- the numbers in octets, two octets each, as section 3 stores descriptors; a single octet left at
+-- the end is ignored (own)
 -- rule: descriptors-of-section-3
 abbrev pub words : List ℕ → List ℕ
 words [] = []

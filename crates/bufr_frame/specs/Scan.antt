@@ -24,10 +24,10 @@ has_word_at word p m = bytes_eq (take 4 (drop p m)) word
 abbrev pub stated_length : List ℕ → ℕ
 stated_length m = u24_at m 4
 
--- What begins at the first octet of a stream or of the rest of one: nothing if it is no `BUFR`, and
--- otherwise the first case that applies. 8 is the size of section 0, and 12 that of sections 0 and
--- 5 together. A message that the end of the stream cuts is `Cut`, even if its declared length is
--- below 12.
+-- What begins at the first of the remaining octets of a stream: nothing if they do not begin with
+-- `BUFR`; otherwise the first case that applies. 8 is the length of section 0, and 12 that of
+-- sections 0 and 5 together. A message that the end of the stream cuts off is `Cut`, even if its
+-- declared length is below 12.
 -- rule: stray-cut, stray-short-length, stray-no-end, input-ends-early, order-of-causes
 abbrev pub classify : List ℕ → Option Candidate
 classify m =

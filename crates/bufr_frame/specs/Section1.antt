@@ -38,10 +38,10 @@ pub data HeadOctets : Type 0 where
   TwoOctets : (n : ℕ) → HeadOctets
   NoOctets : HeadOctets
 
--- The head that has the edition and, as each value, what `value` makes of three things: the value's
--- key (its index among the header lines of a dump), its octets in edition 4, and its octets in
--- edition 3. So one table serves to read a head, to bound its values, and to find them by key. The
--- year of edition 3 is that of the century; it is not converted (own).
+-- The head with this edition whose other values `value` gives. It depends on the value's key (its
+-- index among the header lines of a dump), its octets in edition 4 and its octets in edition 3. So
+-- one table serves to read a head, to find the greatest value of each key, and to take a head from
+-- a document. In edition 3, the year is that of the century, as in the message (own).
 -- rule: section-1-of-edition-3, section-1-of-edition-4, year-of-the-century, edition-3-lacks
 -- rule: listing-of-edition-3, odd-values-kept
 abbrev pub head_by : (edition : ℕ) → (value : (key : ℕ) → (in_4 in_3 : HeadOctets) → ℕ) → Head
@@ -81,16 +81,16 @@ abbrev pub head_of : List ℕ → Head
 head_of m = head_by (edition_of m)
     (λ key in_4 in_3. value_at m (if edition_of m == 3 then in_3 else in_4))
 
--- section 1 of edition 3 from octet 4 to the last octet before local use; its octets are those of
--- `head_by`
+-- section 1 of edition 3 from octet 4 to the last octet before local use: `head_by` lists the place
+-- of each value
 -- rule: section-1-of-edition-3, year-of-the-century
 abbrev pub octets_3 : Head → (flags : ℕ) → List ℕ
 octets_3 h flags =
     h.master ∷ h.subcentre ∷ h.centre ∷ h.update ∷ flags ∷ h.category ∷ h.subcategory
     ∷ h.master_version ∷ h.local_version ∷ h.year ∷ h.month ∷ h.day ∷ h.hour ∷ h.minute ∷ []
 
--- section 1 of edition 4 from octet 4 to the last octet before local use; its octets are those of
--- `head_by`
+-- section 1 of edition 4 from octet 4 to the last octet before local use: `head_by` lists the place
+-- of each value
 -- rule: section-1-of-edition-4
 abbrev pub octets_4 : Head → (flags : ℕ) → List ℕ
 octets_4 h flags =

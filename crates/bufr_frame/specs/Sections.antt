@@ -18,7 +18,7 @@ pub record Sections : Type 0 where
   pub local1 : List ℕ
   -- section 2 from octet 5 on, if there is a section 2
   pub section2 : Option (List ℕ)
-  -- the descriptors of section 3, two octets each
+  -- the descriptors of section 3, as numbers of two octets
   pub descriptors : List ℕ
   pub subsets : ℕ
   pub observed : Bool
@@ -40,8 +40,9 @@ section_end m k least p =
     else if nat_lt (length m - 4) (p + u24_at m p) then Err (SectionPast k)
     else Ok (p + u24_at m p)
 
--- Whether a section 3 or 4 of this size gets a zero octet more when a message is written: edition 3
--- wants even lengths. Sections 1 and 2 get none (own), since it would be read as local use.
+-- Whether a section 3 or 4 of this length gets a padding octet (zero) when a message is written: in
+-- edition 3, FM 94 requires even lengths. Sections 1 and 2 get none (own), since it would be read
+-- back as an octet for local use.
 abbrev pub is_padded : (edition size : ℕ) → Bool
 is_padded edition size = (edition == 3) && (size % 2 == 1)
 
@@ -65,9 +66,9 @@ parts m p1 p2 p3 p4 = record {
   size = length m;
 }
 
--- Whether a message of edition 3 is refused (own) since encoding its dump may give a message that
--- is too long: 2^24 - 1 octets at most, and each odd section 3 or 4 gets one more. 16,777,213 is
--- 2^24 - 1 - 2; one odd section is treated like two.
+-- Whether a message of edition 3 is refused (own), because encoding its dump might give a message
+-- that is too long: each odd section 3 or 4 gets a padding octet, and a message has at most 2^24 -
+-- 1 octets. 16,777,213 is 2^24 - 1 - 2; the limit is the same if only one section is odd.
 -- rule: edition-3-length
 abbrev pub is_long_edition_3 : List ℕ → (p2 p3 p4 : ℕ) → Bool
 is_long_edition_3 m p2 p3 p4 =

@@ -33,8 +33,8 @@ abbrev pub with_places : (places more d : ℕ) → Result (Unit {0}) TemplateFau
 with_places places more d = unless (nat_le (places + more) 65535) (fault.TemplateSize d)
 
 -- How a descriptor list is expanded if `places` places of the template come before it. In what
--- follows, `Option Expansion` is how to expand the inner list of a group or sequence; it is `None`
--- if as many are nested as may be (`inner_of` defines it).
+-- follows, an argument `Option Expansion` says how to expand the list inside a group or sequence;
+-- it is `None` if no more of them may be nested. `inner_of` defines it.
 abbrev pub Expansion : Type 0
 Expansion = (places : ℕ) → List ℕ → Result Tree TemplateFault
 
@@ -76,9 +76,9 @@ operator_part places d after = do
   _ ← with_places places 1 d
   Ok (part (operator d bare) 0)
 
--- The body of group d, of which X descriptors must be left in the list (own). `after` begins with
--- them, and `own` is the number of places that the group itself takes. Some node of the body must
--- take bits of the data (own).
+-- The body of group d: the first X descriptors of `after`, which must all be in the same list
+-- (own). `own` is the number of places that the group itself takes. Some node of the body must take
+-- bits of the data (own).
 -- rule: replication-before-expansion, replication-nested, replication-in-one-list, fault-23
 -- rule: order-at-a-replication
 abbrev pub body_of : Option Expansion → (places own d : ℕ) → List ℕ → Result Tree TemplateFault

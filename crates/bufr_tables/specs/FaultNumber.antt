@@ -20,11 +20,10 @@ table_report table.TableSize = (44, codes "table size" ∷ [])
 table_report table.Csv = (45, codes "csv" ∷ [])
 table_report table.Memory = (73, [])
 
--- A fault of a descriptor list, and the descriptor at which it is: an element or sequence that the
--- tables lack; an operator or operand that is not supported; a replication of no descriptors, or of
--- more than follow it; a delayed replication without a factor; a body that takes no bits of the
--- data; more than 32 nested groups and sequences; more than 65,535 places; 2 06 Y without an
--- element after it.
+-- A fault of a descriptor list, with its descriptor: Table B or D lacks it; an operator or its
+-- operand is not supported; a replication repeats no descriptors, or more than follow it; a delayed
+-- replication has no factor; a body takes no bits of the data; more than 32 groups and sequences
+-- are nested; the template has more than 65,535 places; no element follows 2 06 Y.
 -- rule: fault-20, fault-21, fault-22, fault-23, fault-24, fault-25, fault-26, fault-27, fault-28
 abbrev pub template_report : TemplateFault → ℕ × List (List ℕ)
 template_report (template.UnknownElement fxy) = (20, codes "unknown element " ∷ fxy_text fxy ∷ [])

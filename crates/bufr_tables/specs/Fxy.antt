@@ -57,7 +57,7 @@ is_fxy text =
     (length text == 6) && list_all is_ascii_digit text && nat_le (f_in text) 3
     && nat_le (x_in text) 63 && nat_le (y_in text) 255
 
--- the descriptor that a text writes, if it writes one
+-- the descriptor that a text represents, if any
 -- rule: descriptor-fxy
 abbrev pub fxy_of : List ℕ → Option ℕ
 fxy_of text = if is_fxy text then Some (16384 * f_in text + 256 * x_in text + y_in text) else None

@@ -1,6 +1,6 @@
--- The records of the text of a table, and numbers in their fields. `records` is the definition of
--- CSV of the crate `csv`: a record has any number of fields, and spaces stay. The header is record
--- 1. (own)
+-- The records of the text of a table, and the numbers in their fields. `records` is the definition
+-- of CSV in the crate `csv`: a record has any number of fields, and spaces are not removed. The
+-- header is record 1. (own)
 -- Cited by public contracts.
 use Rattle.std.specs.Prelude.{ℕ, ◌+◌, ◌-◌, ◌*◌, ◌^◌, ◌==◌, ◌&&◌, Bool, nat_lt, if◌then◌else◌, ℤ, pos, negsuc, neg_ℤ, List, [], ◌∷◌, length, drop, slice_index, Option, Some, None, option_and_then, option_map, unwrap_or, ◌≡◌, ◌≢◌, Result, Ok, Err, true, false, ◌<◌, map, IsSome}
 use Rattle.std.specs.Char.{is_ascii_digit}
@@ -21,12 +21,12 @@ use Rattle.csv.specs.declared.reader.Trim.TheVariants as trim
 
 -- ---- Whole numbers: an optional `-` and one or more digits. (a choice of this project)
 
--- the number that a text of one or more digits writes
+-- the number that a text of one or more digits represents
 unfoldable pub natural_of : List ℕ → Option ℕ
 natural_of text =
     only_if (nat_lt 0 (length text) && list_all is_ascii_digit text) (digits_value 10 text)
 
--- the number that a text writes: an optional `-` and one or more digits
+-- the number that a text represents: an optional `-` and one or more digits
 unfoldable pub integer_of : List ℕ → Option ℤ
 integer_of text =
     if slice_index text 0 == 45 then option_map (λ n. neg_ℤ (pos n)) (natural_of (drop 1 text))
@@ -37,7 +37,7 @@ abbrev pub fits_i64 : ℤ → Bool
 fits_i64 (pos n) = nat_lt n (2 ^ 63)
 fits_i64 (negsuc n) = nat_lt n (2 ^ 63)
 
--- the number that a text writes, if it fits into `i64`
+-- the number that a text represents, if it fits into `i64`
 unfoldable pub i64_of : List ℕ → Option ℤ
 i64_of text = option_and_then (λ z. only_if (fits_i64 z) z) (integer_of text)
 

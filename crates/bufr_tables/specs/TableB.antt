@@ -55,7 +55,7 @@ columns_b =
     codes "fxy" ∷ codes "name" ∷ codes "unit" ∷ codes "scale" ∷ codes "reference"
     ∷ codes "width" ∷ []
 
--- the descriptor of an element that a text writes
+-- the descriptor of an element that a text represents
 unfoldable pub element_of : List ℕ → Option ℕ
 element_of text = fxy_of text >>= λ fxy. only_if (f_of fxy == 0) fxy
 
@@ -71,7 +71,7 @@ is_name text = nat_le (length text) 512 && list_all is_printed text
 unfoldable pub plain_of : List ℕ → Option (List ℕ)
 plain_of text = only_if (is_name text) text
 
--- the scale that a text writes, from -127 to 127
+-- the scale that a text represents, from -127 to 127
 unfoldable pub scale_of : List ℕ → Option ℤ
 scale_of text = i64_of text >>= λ scale. only_if (nat_le (unsigned_abs scale) 127) scale
 
@@ -86,7 +86,7 @@ abbrev pub natural_part : ℤ → Option ℕ
 natural_part (pos n) = Some n
 natural_part (negsuc n) = None
 
--- the width that a text writes, if the kind allows it
+-- the width that a text represents, if the kind allows it
 unfoldable pub width_of : Kind → List ℕ → Option ℕ
 width_of kind text =
     i64_of text >>= λ z. natural_part z >>= λ width. only_if (allows_width kind width) width
@@ -103,8 +103,9 @@ abbrev pub is_character : Kind → Bool
 is_character Character = true
 is_character _ = false
 
--- Whether a row is valid as a factor, if its element is one, which has this width: it has the
--- width, scale 0 and reference 0, and is not text. The rows of other elements (`None`) are valid.
+-- Whether a row is valid for its element. If the element is a replication factor, which needs this
+-- width, the row must have the width, scale 0 and reference 0, and must not be text. For other
+-- elements (`None`), each row is valid.
 abbrev pub is_valid_factor : Option ℕ → Row → Bool
 is_valid_factor None row = true
 is_valid_factor (Some width) row =

@@ -25,7 +25,7 @@ pub record Member : Type 0 where
 abbrev pub columns_d : List (List ℕ)
 columns_d = codes "fxy" ∷ codes "member" ∷ []
 
--- the descriptor of a sequence that a text writes
+-- the descriptor of a sequence that a text represents
 unfoldable pub sequence_of : List ℕ → Option ℕ
 sequence_of text = fxy_of text >>= λ fxy. only_if (f_of fxy == 3) fxy
 

@@ -4,9 +4,9 @@
 use Rattle.std.specs.Prelude.{ℕ, ◌+◌, ◌==◌, Bool, true, false, ◌||◌, max, nat_le, ◌&&◌, if◌then◌else◌}
 use Rattle.bufr_tables.specs.Fxy.{x_of, f_of, y_of}
 
--- A list of nodes: `bare` is the empty list, and every other form is the first node with the list
--- of the nodes after it (`rest`). `body` is what a replication repeats: `count` times, or as often
--- as the value of `factor` in the data says.
+-- A list of nodes: `bare` is the empty list, and each other form is its first node and the list of
+-- the nodes after that (`rest`). A `body` is what a replication repeats: `count` times, or as many
+-- times as the value of `factor` in the data.
 pub data Tree : Type 0 where
   bare : Tree
   element : (fxy : ℕ) → (rest : Tree) → Tree
@@ -60,10 +60,11 @@ consumes (delayed factor body rest) = true
 -- ---- Which operators a template may hold, and with which operands (WMO-No. 306, Volume I.2,
 -- FM 94: Table C; these seven and the bounds are a choice of this project)
 
--- Whether the operator 2 X Y is supported. (own: all others of Table C, 2 04 and 2 21 to 2 43, are
--- refused, and so is 2 07 Y above 18, where 2 07 019 would add 64 bits to a width of at most 63.)
+-- Whether the operator 2 X Y is supported. The others of Table C (2 04 and 2 21 to 2 43) are
+-- refused (own), and so is 2 07 Y above 18 (own): 2 07 019 would add 64 bits, and a quantity has at
+-- most 63.
 --   X = 1, 2, 8  any Y
---   X = 3        Y is 0 to 63, or 255: a width of at most 63 bits (0 cancels, 255 ends)
+--   X = 3        Y is 1 to 63 (the width of new references), 255 (end) or 0 (cancel)
 --   X = 5, 6     Y is at least 1
 --   X = 7        Y is at most 18
 -- rule: operators-known

@@ -216,8 +216,8 @@ lines_of (c ∷ more) = if c == 10 then [] ∷ lines_of more else onto_first c (
 abbrev pub documents_of : List ℕ → List ParseResult
 documents_of text = parse_lines 1 between (lines_of text)
 
--- The documents in lines of a text that may still grow. `rest` is the last line, which is not
--- complete; its fault is certain if it is too long already.
+-- The documents in the lines of a text that may still grow. `rest` is the last line, which is not
+-- complete; if it is too long already, its fault is certain.
 unfoldable pub parse_open_lines : (at : ℕ) → Parsing → List (List ℕ) → (rest : List ℕ)
     → List ParseResult
 parse_open_lines at p [] rest =

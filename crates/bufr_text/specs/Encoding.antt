@@ -42,8 +42,9 @@ abbrev pub document_fault : DraftFault → DocumentFault
 document_fault (draft_fault.Item line why) = fault.Item line why
 document_fault draft_fault.Memory = fault.Memory
 
--- A fault of a document: of an item; of the template, whose own number is part of the text; or a
--- message of over 16,777,215 octets. `Memory` stops a run, whose last line reports it.
+-- A fault of a document: of an item (`item_report`), of its template (56, then the number and the
+-- text of `template_report`), or the message would have more than 16,777,215 octets. `Memory` has
+-- no text: it stops a run, and the last line of the run reports it.
 abbrev pub document_report : DocumentFault → ℕ × List (List ℕ)
 document_report (fault.Item line why) = item_report why
 document_report (fault.Template line why) =
@@ -93,8 +94,8 @@ message_of line head parts =
     if nat_lt max_octets (message_size head.edition parts) then Err (fault.TooLong line)
     else Ok (message_octets head parts)
 
--- The message of a document, or the first fault: of the template, at the line `message`; of the
--- items; or of the length of the message, at the line `message`, too.
+-- The message of a document, or the first fault: of the template, which is reported at the line
+-- `message`; then of the items; then of the length of the message, which is reported there, too.
 -- rule: fault-56, fault-56-first-60-last
 unfoldable pub encoding_in : Form → List Row → List Sequence → Document
     → Result (List ℕ) DocumentFault

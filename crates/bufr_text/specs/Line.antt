@@ -57,7 +57,7 @@ upper_value c = if is_ascii_digit c then Some (c - 48) else if nat_le 65 c && na
 abbrev pub either_value : ℕ → Option ℕ
 either_value c = if nat_le 97 c && nat_le c 102 then Some (c - 87) else upper_value c
 
--- the octet that two hexadecimal digits write, by their values
+-- the octet that two hexadecimal digits represent, given their values
 abbrev pub pair_value : Option ℕ → Option ℕ → Option ℕ
 pair_value high low = option_map (λ both. 16 * both.0 + both.1) (option_zip high low)
 
@@ -75,7 +75,7 @@ hex_text (octet ∷ more) = hex_pair octet ++ hex_text more
 abbrev pub onto_read : {X : Type 0} → Option X → Option (List X) → Option (List X)
 onto_read x xs = option_map (λ both. both.0 ∷ both.1) (option_zip x xs)
 
--- the octets that hexadecimal digits write, two for each octet, in upper or lower case
+-- the octets that hexadecimal digits represent, two for each octet, in upper or lower case
 unfoldable pub hex_read : List ℕ → Option (List ℕ)
 hex_read [] = Some []
 hex_read (high ∷ []) = None
@@ -101,8 +101,8 @@ descriptors_read (s ∷ a ∷ b ∷ c ∷ d ∷ e ∷ g ∷ more) = if s == 32
     then onto_read (fxy_of (a ∷ b ∷ c ∷ d ∷ e ∷ g ∷ [])) (descriptors_read more) else None
 descriptors_read text = None
 
--- The unsigned number that a text writes. Numbers above 65,535 are all read as 65,536, which is too
--- large for every header line and every subset.
+-- The unsigned number that a text represents. Numbers above 65,535 are all read as 65,536, which is
+-- too large for every header line and every subset.
 -- rule: reading-header-number
 abbrev pub number_read : List ℕ → Option ℕ
 number_read text = if nat_lt 0 (length text) && list_all is_ascii_digit text
@@ -125,7 +125,7 @@ unfoldable pub quoted : List ℕ → List ℕ
 quoted [] = 34 ∷ []
 quoted (octet ∷ more) = escaped octet ++ quoted more
 
--- the token of `\xHH`, which takes 4 octets, if HH are hexadecimal digits
+-- the token of `\xHH`, which is 4 octets long, if HH are hexadecimal digits in upper case
 abbrev pub says_pair : Option ℕ → QuotedToken
 says_pair (Some octet) = Octet octet 4
 says_pair None = Nothing
@@ -179,8 +179,9 @@ is_passed_after (c ∷ more) = (c == 32) && is_hashed more
 
 -- ---- What a line says, apart from where it is.
 
--- What a line says: nothing (`Passed`: an empty line or a comment), a header line with the index of
--- its key, and so on. `Wrong` is not a line of a document.
+-- What a line says. `Passed` is an empty line or a comment; `Opens`, `Begins` and `Closes` are
+-- `message`, `subset` and `end`; `Header` has the index of its key in `keys`; and `Wrong` is not a
+-- line of a document.
 pub data Line : Type 0 where
   Passed : Line
   Opens : Line
@@ -203,12 +204,13 @@ keys =
     ∷ codes "minute" ∷ codes "second" ∷ codes "observed" ∷ codes "compressed"
     ∷ codes "optional" ∷ codes "subsets" ∷ []
 
--- the least value of each key
+-- the least value of each key: 3 for the edition, and 0 for the others
 -- rule: reading-header-ranges
 unfoldable pub leasts : List ℕ
 leasts = 3 ∷ replicate 19 0
 
--- the greatest value of each key, in an edition
+-- the greatest value of each key in an edition: 4 for the edition, what the octets of section 1 can
+-- store, 1 for each flag, and 65,535 subsets
 unfoldable pub mosts : (edition : ℕ) → List ℕ
 mosts edition = 4 ∷ greatest_values edition ++ 1 ∷ 1 ∷ 1 ∷ 65535 ∷ []
 
@@ -217,13 +219,13 @@ abbrev pub made : {X : Type 0} → (X → Line) → Option X → Line
 made line (Some x) = line x
 made line None = Wrong
 
--- a line of a list that has 1 to `most` elements
+-- a line with a list, which must have 1 to `most` elements
 -- rule: reading-long-lists
 abbrev pub with_one_to : (most : ℕ) → (List ℕ → Line) → List ℕ → Line
 with_one_to most line xs =
     if nat_lt 0 (length xs) && nat_le (length xs) most then line xs else Wrong
 
--- an item, if only a comment may follow its value
+-- an item line, if nothing but a comment follows the value
 abbrev pub item_if_comment : (fxy : ℕ) → DraftValue × List ℕ → Line
 item_if_comment fxy (form, rest) = if is_passed_after rest then ItemLine fxy form else Wrong
 
@@ -235,7 +237,8 @@ number_value form (c ∷ more) = if is_number_octet c then Some (
   suffix_while is_number_octet (c ∷ more),
 ) else None
 
--- the value at the beginning of a text, and the text after it
+-- the value at the beginning of a text (a quoted text, a number or `MISSING`), and the text after
+-- it
 unfoldable pub value_read : List ℕ → Option (DraftValue × List ℕ)
 value_read [] = None
 value_read (c ∷ more) =
@@ -251,7 +254,8 @@ valued read (fxy, rest) = made (λ text. made (item_if_comment fxy) (read text))
 abbrev pub item_line : (List ℕ → Option (DraftValue × List ℕ)) → List ℕ → Line
 item_line read text = made (valued read) (fxy_read text)
 
--- a line by its first word and the text after this word
+-- A line by its first word and the text after this word. It is `Wrong` if that text is not what the
+-- word needs. The last case is a header line, whose first word is a key.
 -- rule: reading-reference
 unfoldable pub worded : (word rest : List ℕ) → Line
 worded word rest =

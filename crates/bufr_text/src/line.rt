@@ -299,7 +299,7 @@ pub(crate) fn reference<'a>(text: &'a [u8]) -> Option<ParsedLine<'a>>
 pub(crate) enum QuotedToken {
     /// The quote that ends the text.
     Closed,
-    /// An octet of the text, and how many octets of the line write it.
+    /// An octet of the text, and the number of octets of the line that represent it.
     Octet { octet: u8, written: usize },
     /// Something that is not allowed in a text.
     Nothing,

@@ -327,7 +327,7 @@ if_equal role.Factor (c ∷ cs) =
 if_equal _ cs = Ok cs
 
 -- The item at the beginning of bits, in compressed data of n subsets: a base, 6 bits for k, and n
--- increments if k is not 0. The first fault counts: the data end (30), an increment is invalid
+-- increments if k is not 0. Faults come in this order: the data end (30), an increment is invalid
 -- (34), the factors differ (33).
 -- rule: compressed-item, compressed-increments-there, fault-30-before-34, fault-34-before-33
 abbrev pub packed_field : (subsets : ℕ) → FieldSpec → List Bool
@@ -344,8 +344,8 @@ packed_field n spec bits =
       equal ← if_equal spec.role contents
       Ok (found equal (drop used suffix))
 
--- The part of an item's contents that affects the walk. The first content will do: factors and new
--- references are the same in all subsets.
+-- the part of an item's contents that affects the walk: that of the first subset, since factors and
+-- new references are the same in all subsets
 abbrev pub answer_first : FieldSpec → List Content → Taken
 answer_first spec [] = taken.Plain
 answer_first spec (c ∷ cs) = answer_of spec c

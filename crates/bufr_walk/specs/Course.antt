@@ -36,8 +36,8 @@ passes zero body rest counts = rest counts
 passes (suc n) body rest counts = body (λ later. pass_end (passes n body rest later)) counts
 
 -- The turns of nodes, and then those of `rest`, given the counts of all factors that were read so
--- far. The count of a factor is only known once the walk has read it: where the counts run out, its
--- factor is the last turn, which is the field that comes next.
+-- far. Turns need the counts, and a count is read at a turn; so where the counts run out, the last
+-- turn is the factor that is read next.
 abbrev pub unroll : Tree → Rest → Rest
 unroll bare rest counts = rest counts
 unroll (element fxy more) rest counts = element_turn fxy (unroll more rest counts)
@@ -70,8 +70,8 @@ pub data Next : Type 0 where
   astray : Next
   refused : (why : TurnRefusal) → Next
 
--- what comes next, and the number of turns up to and including it, which only bounds on the work
--- use
+-- what comes next, and the number of turns up to it, itself included (only bounds on the number of
+-- steps use it)
 pub record NextTurn : Type 0 where
   pub turns : ℕ
   pub next : Next

@@ -74,9 +74,10 @@ module _ {S C E : Type 0} (how : Passing S C E) where
   EndsPass (refused why) s stop = stop ≡ Some (how.refuses why s)
   EndsPass astray s stop = ⊥
 
-  -- The pass along a course. The step at a field returns an answer, and the course after the field
-  -- is the course with this answer before all later ones. `most` bounds the recursion: it is
-  -- greater than the number of bits (or of items to write), and each field uses at least one.
+  -- The pass along a course, on which `course []` comes next. If that is a field, its step returns
+  -- an answer, and the pass continues along the course after this answer. `most` bounds the
+  -- recursion: it is greater than the number of bits (or of items to write), and each field uses at
+  -- least one of them.
   abbrev pub pass : (most : ℕ) → Course → S → Pass S C E
   pass zero course s = last_turn (course []).turns s (Some how.lost)
   pass (suc more) course s = pass_next (course []).turns (course []).next s

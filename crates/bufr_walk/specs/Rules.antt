@@ -20,8 +20,8 @@ pub record Redefined : Type 0 where
   pub fxy : ℕ
   pub reference : ℤ
 
--- The operators in effect: the operand Y of each, and the new references. Y = 0 cancels each of
--- these operators, so 0 also means that it is not in effect.
+-- The operators in effect: the operand Y of each, and the new references. 0 means that the operator
+-- is not in effect: Y = 0 cancels 2 01, 2 02, 2 07 and 2 08, and is no width for 2 03 and 2 06.
 pub record OperatorModel : Type 0 where
   -- 2 01 Y: Y - 128 is added to the width of a quantity
   pub width_change : ℕ
@@ -85,8 +85,8 @@ after_operator s fxy =
     if is_defining s && not (x_of fxy == 3 && y_of fxy == 255) then Err (refusal.Defining fxy)
     else Ok (with_operator (x_of fxy) (y_of fxy) s)
 
--- The new references with one more. It replaces an earlier one of the same element (own), and the
--- order of the descriptors is preserved.
+-- The new references with one more. It replaces an earlier one of the same element (own). They are
+-- sorted by descriptor, as the code stores them.
 -- rule: last-reference-counts
 abbrev pub with_reference : (fxy : ℕ) → (reference : ℤ) → List Redefined → List Redefined
 with_reference fxy reference [] = record { fxy = fxy; reference = reference } ∷ []
@@ -153,9 +153,9 @@ coded_spec s row = record (unsigned_field row.fxy row.width) {
   listed = true;
 }
 
--- A quantity, to which all operators apply: other fields than these four are those of `coded_spec`.
--- Our choice is that 2 07 may be combined with 2 01 and 2 02, and that 2 07 also multiplies a new
--- reference.
+-- A quantity: 2 01, 2 02, 2 03 and 2 07 apply, and what is not given here is as in `coded_spec`.
+-- How they combine is our choice: 2 07 may be used together with 2 01 and 2 02, and also multiplies
+-- a new reference.
 -- rule: 2-07-y, 2-01-2-02-2-07-add-up, 2-07-y-of-a-new-reference, new-reference-of-quantities
 abbrev pub numeric_spec : OperatorModel → Row → FieldSpec
 numeric_spec s row = record (coded_spec s row) {
@@ -166,7 +166,7 @@ numeric_spec s row = record (coded_spec s row) {
       (10 ^ s.precision_increase);
 }
 
--- A text of `width` bits, which may be missing.
+-- a text of `width` bits, which may be missing; the last argument is `listed`
 abbrev pub text_spec : Role → (fxy width : ℕ) → Bool → FieldSpec
 text_spec r fxy width listed = record (unsigned_field fxy width)
     { role = r; kind = kind.Character; may_be_missing = true; listed = listed }
@@ -183,7 +183,8 @@ spec_by_kind kind.Coded s row = if_valid_width (coded_spec s row)
 spec_by_kind kind.Character s row = Ok
     (text_spec role.Element row.fxy (text_width s row.width) true)
 
--- a new reference of an element, which has the width of 2 03 Y
+-- a new reference of an element, whose width 2 03 Y gives; its kind is not used, since `coding_by`
+-- looks at the role first
 abbrev pub defined_field : OperatorModel → ℕ → FieldSpec
 defined_field s fxy = record (unsigned_field fxy s.new_reference_width)
     { role = role.Reference; may_be_missing = false }
@@ -195,9 +196,9 @@ abbrev pub new_reference_spec : Kind → OperatorModel → ℕ → Result FieldS
 new_reference_spec kind.Character s fxy = Err (refusal.Defining fxy)
 new_reference_spec _ s fxy = if_valid_width (defined_field s fxy)
 
--- An element after 2 06 Y: if its row has the width Y, it is read by the row, to which no operator
--- applies (`begin`); otherwise it is an unsigned number (own). So a local descriptor of 64 to 255
--- bits is refused (own), although 2 06 Y is meant to skip such data, too.
+-- An element after 2 06 Y. If its row has the width Y, the element is read by this row alone: no
+-- operator applies (`begin`). Otherwise, it is an unsigned number of Y bits. (own) A number of more
+-- than 63 bits is refused (own), so data of 64 to 255 bits cannot be skipped by 2 06 Y.
 -- rule: 2-06-y, 2-06-y-width-of-table-b, 2-06-y-other-width
 abbrev pub local_width_spec : Option Row → OperatorModel → ℕ → Result FieldSpec TurnRefusal
 local_width_spec None s fxy = if_valid_width (unsigned_field fxy s.local_width)
