@@ -176,8 +176,8 @@ abbrev pub is_element_first : Tree → Bool
 is_element_first (element fxy rest) = true
 is_element_first _ = false
 
--- Elements have F = 0, and factors are replication factors. Operators have F = 2 and are those that
--- a template may hold. One that gives a width comes before an element.
+-- Each node has a descriptor of its kind: an element, a factor of a delayed replication, or a
+-- supported operator. An element follows 2 06 Y.
 abbrev pub IsLegal : Tree → Type 0
 IsLegal bare = Unit {0}
 IsLegal (element fxy rest) = (f_of fxy ≡ 0) × IsLegal rest
@@ -226,7 +226,8 @@ IsSound tree = EveryGroupConsumes tree × (consumes tree ≡ true)
 
 -- That a table knows what a template asks of it (WMO-No. 306, Volume I.2, FM 94: Tables B and C).
 
--- every factor is known, and every element but one whose width the operator before it gives
+-- Table B has each factor, and each element except for one whose width 2 06 Y gives; `width_given`
+-- means that 2 06 Y comes directly before the nodes.
 abbrev pub IsKnownAfter : (known : ℕ → Bool) → (width_given : Bool) → Tree → Type 0
 IsKnownAfter known width_given bare = Unit {0}
 IsKnownAfter known width_given (element fxy rest) =
@@ -237,6 +238,7 @@ IsKnownAfter known width_given (fixed count body rest) =
 IsKnownAfter known width_given (delayed factor body rest) =
     (known factor ≡ true) × (IsKnownAfter known false body × IsKnownAfter known false rest)
 
+-- Table B has each factor and element of the template, except for elements after 2 06 Y.
 abbrev pub IsKnown : (known : ℕ → Bool) → Tree → Type 0
 IsKnown known tree = IsKnownAfter known false tree
 

@@ -165,7 +165,8 @@ with_record_b n rows r = if length r == 6 then with_row n rows (row_of r) else E
 abbrev pub table_b_of : List Record → Result (List Row) TableFault
 table_b_of records = table_of columns_b with_record_b [] records
 
--- the rows are those that the records under the header write, in order, no descriptor twice
+-- These are the rows of a Table B: those of the records after the header, in order, without a
+-- second row of an element.
 pub record AreRows (records : List Record) (table : List Row) : Type 0 where
   pub first : Record
   pub rest : List Record

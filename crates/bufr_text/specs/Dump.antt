@@ -45,7 +45,7 @@ section2_line octets = codes "section2 " ++ hex_text octets
 abbrev pub descriptors_line : List ℕ → List ℕ
 descriptors_line words = codes "descriptors" ++ descriptors_text words
 
--- a value as its line writes it
+-- the value of an item, as it appears in its line
 -- rule: text-number
 abbrev pub dump_value_of : ShownValue → DraftValue
 dump_value_of (shown_number v scale) = number_token (decimal_text_of v scale)
@@ -60,7 +60,7 @@ abbrev pub comment_text : Option Row → List ℕ
 comment_text None = []
 comment_text (Some row) = concat (codes "  # " ∷ row.name ∷ codes " [" ∷ row.unit ∷ codes "]" ∷ [])
 
--- a descriptor and its value, as a line writes them
+-- a descriptor and its value, as they appear in a line
 -- rule: text-quoted, text-missing, text-reference, text-inserted
 abbrev pub form_text : (fxy : ℕ) → DraftValue → List ℕ
 form_text fxy (number_token token) = fxy_text fxy ++ 32 ∷ token

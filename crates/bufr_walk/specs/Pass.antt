@@ -66,7 +66,7 @@ module _ {S C E : Type 0} (how : Passing S C E) where
   -- this never happens, since each factor returns its count
   pass_next turn astray s rest = last_turn turn s (Some how.lost)
 
-  -- what comes next stops the pass, or ends it
+  -- What comes next ends the pass, or stops it for this reason.
   abbrev pub EndsPass : Next → S → Option E → Type 0
   EndsPass (take_next spec) s None = ⊥
   EndsPass (take_next spec) s (Some why) = how.step spec s ≡ Err why
@@ -229,7 +229,7 @@ pub record IsPackedOf (p : PackedValues) (r : Read) : Type 0 where
 
 -- ---- The same item by item: each is what comes next, read where the one before ended.
 
--- a pass reads its items from a place, and then it ends
+-- A pass reads its items from a place on and then ends.
 pub record ReadsTo {C : Type 0} (form : DataCoding C) (many : ℕ → Bool) (course : Course)
     (from : Place) (p : DataPass C) : Type 0 where
   pub reads : ReadsItems form course p.items from.left p.state.left

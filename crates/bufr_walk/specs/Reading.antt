@@ -40,15 +40,16 @@ plain = record { field = plain_field; gives = answer_of }
 abbrev pub packed : ℕ → DataCoding (List Content)
 packed n = record { field = packed_field n; gives = answer_first }
 
--- what an item returns to the walk
+-- the part of an item's content that affects the walk
 abbrev pub item_answer : {C : Type 0} → DataCoding C → Item C → Taken
 item_answer form i = form.gives i.spec i.content
 
--- a course after one more item
+-- the course after one more item
 abbrev pub after : {C : Type 0} → DataCoding C → Course → Item C → Course
 after form course i answer_of = course (item_answer form i ∷ answer_of)
 
--- each item is the content of the field that comes next, at the bits after the one before
+-- Each item is the content of the field that comes next, and is read where the item before it
+-- ended; `suffix` is the bits after the last one.
 abbrev pub ReadsItems : {C : Type 0} → DataCoding C → Course → List (Item C)
     → (bits suffix : List Bool) → Type 0
 ReadsItems form course [] bits suffix = bits ≡ suffix
@@ -62,13 +63,13 @@ abbrev pub next_after : {C : Type 0} → DataCoding C → Course → List (Item 
 next_after form course [] = (course []).next
 next_after form course (i ∷ items) = next_after form (after form course i) items
 
--- one pass over a template, to its end
+-- The items are those of one pass to the end of the template.
 abbrev pub ReadsPass : {C : Type 0} → DataCoding C → Course → List (Item C)
     → (bits suffix : List Bool) → Type 0
 ReadsPass form course items bits suffix =
     ReadsItems form course items bits suffix × (next_after form course items ≡ at_end)
 
--- the turns of a pass with these items, up to what comes after them
+-- the number of turns of a pass with these items, up to what comes next after them
 abbrev pub turns_after : {C : Type 0} → DataCoding C → Course → List (Item C) → ℕ
 turns_after form course [] = (course []).turns
 turns_after form course (i ∷ items) = turns_after form (after form course i) items
@@ -78,7 +79,7 @@ abbrev pub turns_in : Course → List (List (Item Content)) → ℕ
 turns_in course [] = 0
 turns_in course (items ∷ subsets) = turns_after plain course items + turns_in course subsets
 
--- subsets one after another, each from the beginning of the template
+-- The subsets follow one another, each from the beginning of the template.
 -- rule: operators-end-with-subset, subsets-without-padding
 abbrev pub ReadsSubsets : Course → List (List (Item Content)) → (bits suffix : List Bool) → Type 0
 ReadsSubsets course [] bits suffix = bits ≡ suffix
@@ -95,7 +96,8 @@ max_values = 134217728
 abbrev pub items_at_once : ℕ
 items_at_once = 64
 
--- compressed data: one pass for all subsets; with no subset nothing is read
+-- The items are those of one pass for all subsets, and do not have too many values; without
+-- subsets, no items are read.
 -- rule: no-subsets
 abbrev pub IsPackedReading : (subsets : ℕ) → Course → List (Item (List Content))
     → (bits suffix : List Bool) → Type 0
@@ -103,7 +105,7 @@ IsPackedReading zero course items bits suffix = (items ≡ []) × (bits ≡ suff
 IsPackedReading (suc n) course items bits suffix =
     ReadsPass (packed (suc n)) course items bits suffix × (length items * suc n ≤ max_values)
 
--- data that are not compressed: the subsets, n of them
+-- The subsets follow one another, and there are n of them.
 abbrev pub IsPlainReading : (subsets : ℕ) → Course → List (List (Item Content))
     → (bits suffix : List Bool) → Type 0
 IsPlainReading n course subsets bits suffix =
@@ -149,7 +151,7 @@ abbrev pub items_kept : Values → ℕ
 items_kept (apart subsets) = 0
 items_kept (together items) = length items
 
--- the items of the data, and how many bits they take
+-- These are the items of the data, and they take the first `used` bits.
 -- rule: bits-left-over
 abbrev pub IsReading : Course → Data → Values → (used : ℕ) → Type 0
 IsReading course d (apart subsets) used =
