@@ -62,12 +62,12 @@ reads 1 in a one-bit field as a number | 1 | 80 | 012101 201113 012101 | 3:16 1:
 reads all ones as missing in class 31 | 1 | 80 | 012101 031012 | 3:16 65535:16
 reads R0 plus an increment as a number if the sum is all ones | 2 | C0 | 001001 | 126:7 2:6 0:2 1:2
 adds increments to R0 if R0 is all ones | 2 | C0 | 001001 | 127:7 2:6 0:2 1:2
-refuses a compressed replication factor with equal increments | 2 | C0 | 101000 031001 001001 | 1:8 1:6 0:1 0:1 5:7 0:6
+rejects a compressed replication factor with equal increments | 2 | C0 | 101000 031001 001001 | 1:8 1:6 0:1 0:1 5:7 0:6
 returns nothing for a message without subsets | 0 | 80 | 012101 | 0:8
 stops early after an empty delayed replication inside two others | 1 | 80 | 105000 031001 103000 031001 101000 031001 001001 | 2:8 1:8 0:8 0:8
 cancels operators at the end of each repetition | 1 | 80 | 103000 031001 012101 201130 012101 | 2:8 2:16 3:18 4:18 5:18
 applies operators inside a replication with factor 0 | 1 | 80 | 102000 031001 201130 012101 012101 012101 | 0:8 1:16 2:16
-refuses a delayed replication of 100 elements | 1 | 80 | 102000 031001 101100 001001 001001 | 0:8 1:7
+rejects a delayed replication of 100 elements | 1 | 80 | 102000 031001 101100 001001 001001 | 0:8 1:7
 uses 32-bit arithmetic for sums in compressed data | 2 | C0 | 201144 012101 | 3000000000:32 2:6 0:2 1:2
 uses 32-bit arithmetic for reference values | 1 | 80 | 207003 005001 | 1:35
 truncates some numbers longer than 57 bits | 1 | 80 | 001001 201170 012101 | 1:7 288230376151711743:58
