@@ -29,7 +29,7 @@ use Rattle.bufr_fill.specs.declared.draft.DraftValue.TheVariants as item_value
 use Rattle.bufr_fill.specs.declared.draft.DraftItem.{DraftItem}
 
 -- the value of an item, as it appears in its line: the digits of a number, a text, `MISSING`, or
--- the digits of a new reference
+-- the digits of a redefined reference
 pub data DraftValue : Type 0 where
   number_token : (digits : List ℕ) → DraftValue
   text_form : (octets : List ℕ) → DraftValue
@@ -124,7 +124,7 @@ number_of_draft_fault (draft_fault.Item line (wrong.Walk why)) = (refusal_parts 
 number_of_draft_fault (draft_fault.Item line fault) = (item_report fault).0
 number_of_draft_fault draft_fault.Memory = 73
 
--- whether a value has the mark `R` of a new reference
+-- whether a value has the mark `R` of a redefined reference
 abbrev pub is_marked : DraftValue → Bool
 is_marked (reference_token digits) = true
 is_marked _ = false
@@ -153,7 +153,7 @@ abbrev pub raw_of : FieldSpec → Result ℤ NumberFault → Result Content Item
 raw_of spec (Ok value) = raw_within spec.may_be_missing spec.width (value -ℤ spec.reference)
 raw_of spec (Err why) = Err (number_fault why)
 
--- a new reference whose magnitude fits into the bits after the sign bit
+-- a redefined reference whose magnitude fits into the bits after the sign bit
 abbrev pub reference_of : FieldSpec → Result ℤ NumberFault → Result Content ItemFault
 reference_of spec (Ok value) =
     if nat_lt (nat_abs value) (2 ^ (spec.width - 1)) then Ok (reference value)
@@ -182,8 +182,8 @@ content_by_form missing_form spec =
     if spec.may_be_missing then Ok missing else Err wrong.MissingForbidden
 content_by_form (reference_token digits) spec = reference_of spec (decimal_value_of digits (pos 0))
 
--- whether an item has the descriptor of a field, and the mark `R` exactly if the field is a new
--- reference
+-- whether an item has the descriptor of a field, and the mark `R` exactly if the field is a
+-- redefined reference
 -- rule: fault-51
 abbrev pub is_of : FieldSpec → Draft → Bool
 is_of spec d =

@@ -15,7 +15,7 @@ use thiserror::Error;
 pub enum Expected {
     /// An item with this descriptor.
     Item(Fxy),
-    /// A new reference (`R`) with this descriptor.
+    /// A redefined reference (`R`) with this descriptor.
     Reference(Fxy),
     /// No further item.
     EndOfSubset,
@@ -37,7 +37,7 @@ impl fmt::Display for Expected {
 pub enum WalkRefusal {
     /// A field that is not text would be under 1 or over 63 bits wide.
     Width(Fxy),
-    /// A descriptor that is not allowed while 2 03 Y defines references.
+    /// A descriptor that is not allowed while 2 03 Y redefines references.
     Defining(Fxy),
     /// Compressed data would have more than 134,217,728 values with this item.
     TooManyValues(Fxy),

@@ -64,7 +64,7 @@ consumes (delayed factor body rest) = true
 -- refused (own), and so is 2 07 Y above 18 (own): 2 07 019 would add 64 bits, and a quantity has at
 -- most 63.
 --   X = 1, 2, 8  any Y
---   X = 3        Y is 1 to 63 (the width of new references), 255 (end) or 0 (cancel)
+--   X = 3        Y is 1 to 63 (the width of redefined references), 255 (end) or 0 (cancel)
 --   X = 5, 6     Y is at least 1
 --   X = 7        Y is at most 18
 -- rule: operators-known

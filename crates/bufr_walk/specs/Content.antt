@@ -86,7 +86,7 @@ IsForRole _ _ = ⊥
 abbrev pub IsFor : FieldSpec → Taken → Type 0
 IsFor spec t = IsForRole spec.role t
 
--- whether a field is a new reference of an element
+-- whether a field is a redefined reference of an element
 abbrev pub is_reference : Role → Bool
 is_reference role.Reference = Bool.true
 is_reference _ = Bool.false
@@ -131,7 +131,7 @@ pub record IsSpecWith (plain : Bool) (a : FieldSpec) : Type 0 where
   pub same : is_plain a ≡ plain
 
 -- the content of a field: a number to which the reference is not added yet, a text, missing, or a
--- new reference
+-- redefined reference
 pub data Content : Type 0 where
   number : (raw : ℕ) → Content
   text : (octets : List ℕ) → Content
@@ -149,7 +149,8 @@ abbrev pub signed_by : List Bool → ℤ
 signed_by [] = pos 0
 signed_by (sign ∷ bits) = if sign then neg_ℤ (pos (number_of bits)) else pos (number_of bits)
 
--- how a field is coded: as an unsigned number, as a text of `octets` octets, or as a new reference
+-- how a field is coded: as an unsigned number, as a text of `octets` octets, or as a redefined
+-- reference
 pub data Coding : Type 0 where
   numbers : (width : ℕ) → (may_be_missing : Bool) → Coding
   texts : (octets : ℕ) → Coding
@@ -211,7 +212,8 @@ answer_by_role _ c = taken.Plain
 abbrev pub answer_of : FieldSpec → Content → Taken
 answer_of spec c = answer_by_role spec.role c
 
--- the value that an item shows: the number value / 10^scale, a text, missing, or a new reference
+-- the value that an item shows: the number value / 10^scale, a text, missing, or a redefined
+-- reference
 pub data ShownValue : Type 0 where
   shown_number : (value scale : ℤ) → ShownValue
   shown_text : (octets : List ℕ) → ShownValue
@@ -262,8 +264,8 @@ abbrev pub increments : (count k : ℕ) → List Bool → List (List Bool)
 increments zero k bits = []
 increments (suc n) k bits = take k bits ∷ increments n k (drop k bits)
 
--- the number of bits of an increment: k for a number; 8 k for a text, whose k counts octets; a new
--- reference has none
+-- the number of bits of an increment: k for a number; 8 k for a text, whose k counts octets; a
+-- redefined reference has none
 -- rule: compressed-references
 abbrev pub step_of : Coding → ℕ → ℕ
 step_of (numbers width m) k = k
@@ -281,8 +283,8 @@ sum_within width m sum =
 -- The content of one subset if k is not 0, or `None` (fault 34). A number is missing if its base or
 -- its increment is all ones, and otherwise their sum. A text ignores its base: it is the k octets
 -- of the increment and then spaces, or missing if all k octets are 255; k must not exceed its
--- length. A new reference has no increments. (own, except for increments of numbers and the meaning
--- of k)
+-- length. A redefined reference has no increments. (own, except for increments of numbers and the
+-- meaning of k)
 -- rule: compressed-all-missing, compressed-missing-increment, compressed-text
 -- rule: compressed-text-missing, compressed-text-past-width, compressed-text-base
 -- rule: compressed-references
@@ -345,7 +347,7 @@ packed_field n spec bits =
       Ok (found equal (drop used suffix))
 
 -- the part of an item's contents that affects the walk: that of the first subset, since factors and
--- new references are the same in all subsets
+-- redefined references are the same in all subsets
 abbrev pub answer_first : FieldSpec → List Content → Taken
 answer_first spec [] = taken.Plain
 answer_first spec (c ∷ cs) = answer_of spec c

@@ -212,9 +212,9 @@ spot_text name s =
     ∷ codes " bit " ∷ decimal s.bit ∷ []
 
 -- A fault of the data: the data end inside an item; a field that is not text has an invalid width;
--- a descriptor is not allowed while references are being defined; the factors of subsets differ; an
--- increment is invalid; or compressed data have too many values. `Memory` has no text: it stops a
--- run, and the last line of the run reports it.
+-- a descriptor is not allowed while references are being redefined; the factors of subsets differ;
+-- an increment is invalid; or compressed data have too many values. `Memory` has no text: it stops
+-- a run, and the last line of the run reports it.
 -- rule: fault-30, fault-31, fault-32, fault-33, fault-34, fault-35
 abbrev pub data_report : WalkFault → ℕ × List (List ℕ)
 data_report (fault.DataEnd s) = (30, spot_text (codes "data end") s)

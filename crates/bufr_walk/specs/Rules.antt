@@ -15,13 +15,14 @@ use Rattle.bufr_walk.specs.declared.operators.TableField.TheVariants as field
 
 -- ---- The operators in force, in one subset. (WMO-No. 306, Volume I.2, FM 94: Table C)
 
--- a new reference of an element, which the data defined after 2 03 Y
+-- a redefined reference of an element, which the data define after 2 03 Y
 pub record Redefined : Type 0 where
   pub fxy : ℕ
   pub reference : ℤ
 
--- The operators in effect: the operand Y of each, and the new references. 0 means that the operator
--- is not in effect: Y = 0 cancels 2 01, 2 02, 2 07 and 2 08, and is no width for 2 03 and 2 06.
+-- The operators in effect: the operand Y of each, and the redefined references. 0 means that the
+-- operator is not in effect: Y = 0 cancels 2 01, 2 02, 2 07 and 2 08, and is no width for 2 03 and
+-- 2 06.
 pub record OperatorModel : Type 0 where
   -- 2 01 Y: Y - 128 is added to the width of a quantity
   pub width_change : ℕ
@@ -35,7 +36,7 @@ pub record OperatorModel : Type 0 where
   pub character_octets : ℕ
   -- 2 06 Y: the next element has Y bits
   pub local_width : ℕ
-  -- the new references, one for each element that has one, in the order of the descriptors
+  -- the redefined references, one for each element that has one, in the order of the descriptors
   pub new_references : List Redefined
 
 -- no operator is in effect, as at the beginning of each subset
@@ -56,8 +57,8 @@ begin =
 abbrev pub is_defining : OperatorModel → Bool
 is_defining s = nat_lt 0 s.new_reference_width
 
--- the operators after 2 03 Y: 255 ends the definition of references, 0 cancels all new references,
--- and every other Y begins a definition
+-- the operators after 2 03 Y: 255 ends the definition of references, 0 cancels all redefined
+-- references, and every other Y begins a definition
 -- rule: 2-03-y, 2-03-000, 2-03-y-again, 2-03-255-alone
 abbrev pub with_references : ℕ → OperatorModel → OperatorModel
 with_references y s =
@@ -77,7 +78,7 @@ with_operator x y s =
     else if x == 8 then record s { character_octets = y }
     else s
 
--- the operators in effect after one more; while references are being defined, only 2 03 255 is
+-- the operators in effect after one more; while references are being redefined, only 2 03 255 is
 -- allowed (own)
 -- rule: defining-no-other-operator, fault-32-before-31
 abbrev pub after_operator : OperatorModel → ℕ → Result OperatorModel TurnRefusal
@@ -85,8 +86,8 @@ after_operator s fxy =
     if is_defining s && not (x_of fxy == 3 && y_of fxy == 255) then Err (refusal.Defining fxy)
     else Ok (with_operator (x_of fxy) (y_of fxy) s)
 
--- The new references with one more. It replaces an earlier one of the same element (own). They are
--- sorted by descriptor, as the code stores them.
+-- The redefined references with one more. It replaces an earlier one of the same element (own).
+-- They are sorted by descriptor, as the code stores them.
 -- rule: last-reference-counts
 abbrev pub with_reference : (fxy : ℕ) → (reference : ℤ) → List Redefined → List Redefined
 with_reference fxy reference [] = record { fxy = fxy; reference = reference } ∷ []
@@ -95,14 +96,14 @@ with_reference fxy reference (r ∷ more) =
     else if fxy == r.fxy then record r { reference = reference } ∷ more
     else r ∷ with_reference fxy reference more
 
--- the operators in effect after a field: 2 06 Y ends, and a new reference is added
+-- the operators in effect after a field: 2 06 Y ends, and a redefined reference is stored
 -- rule: 2-06-y-used-up
 abbrev pub after_field : OperatorModel → ℕ → Taken → OperatorModel
 after_field s fxy (taken.Reference r) =
     record s { local_width = 0; new_references = with_reference fxy r s.new_references }
 after_field s fxy _ = record s { local_width = 0 }
 
--- the reference of an element: the new one, or else `listed`, that of Table B
+-- the reference of an element: the redefined one, or else `listed`, that of Table B
 abbrev pub current_reference : List Redefined → ℕ → ℤ → ℤ
 current_reference [] fxy listed = listed
 current_reference (r ∷ more) fxy listed =
@@ -142,8 +143,8 @@ unsigned_field fxy width =
       listed = false;
     }
 
--- An element of a code or flag table: 2 01, 2 02 and 2 07 do not apply to it (Table C). A new
--- reference does (own).
+-- An element of a code or flag table: 2 01, 2 02 and 2 07 do not apply to it (Table C), but a
+-- redefined reference does (own).
 -- rule: new-reference-of-figures, figures-unchanged
 abbrev pub coded_spec : OperatorModel → Row → FieldSpec
 coded_spec s row = record (unsigned_field row.fxy row.width) {
@@ -155,7 +156,7 @@ coded_spec s row = record (unsigned_field row.fxy row.width) {
 
 -- A quantity: 2 01, 2 02, 2 03 and 2 07 apply, and what is not given here is as in `coded_spec`.
 -- How they combine is our choice: 2 07 may be used together with 2 01 and 2 02, and also multiplies
--- a new reference.
+-- a redefined reference.
 -- rule: 2-07-y, 2-01-2-02-2-07-add-up, 2-07-y-of-a-new-reference, new-reference-of-quantities
 abbrev pub numeric_spec : OperatorModel → Row → FieldSpec
 numeric_spec s row = record (coded_spec s row) {
@@ -183,13 +184,13 @@ spec_by_kind kind.Coded s row = if_valid_width (coded_spec s row)
 spec_by_kind kind.Character s row = Ok
     (text_spec role.Element row.fxy (text_width s row.width) true)
 
--- a new reference of an element, whose width 2 03 Y gives; its kind is not used, since `coding_by`
--- looks at the role first
+-- a redefined reference of an element, whose width 2 03 Y gives; its kind is not used, since
+-- `coding_by` looks at the role first
 abbrev pub defined_field : OperatorModel → ℕ → FieldSpec
 defined_field s fxy = record (unsigned_field fxy s.new_reference_width)
     { role = role.Reference; may_be_missing = false }
 
--- an element that is met while references are being defined: a new reference; a text is refused
+-- an element that is met while references are being redefined: its new reference; a text is refused
 -- (own)
 -- rule: defining-no-text
 abbrev pub new_reference_spec : Kind → OperatorModel → ℕ → Result FieldSpec TurnRefusal
@@ -206,8 +207,9 @@ local_width_spec (Some row) s fxy =
     if row.width == s.local_width then spec_by_kind row.kind begin row
     else if_valid_width (unsigned_field fxy s.local_width)
 
--- An element that no 2 06 Y precedes, by its row: a new reference or a value. It always has a row,
--- by the law below; the case `None` is there since each definition needs a value for all arguments.
+-- An element that no 2 06 Y precedes, by its row: a redefined reference or a value. It always has a
+-- row, by the law below; the case `None` is there since each definition needs a value for all
+-- arguments.
 -- rule: fault-32-before-31
 abbrev pub listed_by : Option Row → OperatorModel → ℕ → Result FieldSpec TurnRefusal
 listed_by None s fxy = Err (refusal.Width fxy)
@@ -231,13 +233,13 @@ abbrev pub factor_by : Option Row → ℕ → Result FieldSpec TurnRefusal
 factor_by None fxy = Err (refusal.Width fxy)
 factor_by (Some row) fxy = if_valid_width (factor_field row fxy)
 
--- the factor of a delayed replication; it is refused while references are being defined (own)
+-- the factor of a delayed replication; it is refused while references are being redefined (own)
 -- rule: factor-by-entry, defining-no-delayed-group
 abbrev pub factor_spec : List Row → OperatorModel → ℕ → Result FieldSpec TurnRefusal
 factor_spec table s fxy =
     if is_defining s then Err (refusal.Defining fxy) else factor_by (entry_of table fxy) fxy
 
--- the Y characters that 2 05 Y inserts; refused while references are being defined (own)
+-- the Y characters that 2 05 Y inserts; refused while references are being redefined (own)
 -- rule: 2-05-y, defining-no-inserted-text
 abbrev pub inserted_spec : OperatorModel → ℕ → Result FieldSpec TurnRefusal
 inserted_spec s fxy =

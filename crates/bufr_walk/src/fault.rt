@@ -88,7 +88,7 @@ pub enum DataFault {
     #[error("the data end inside an item")]
     DataEnd(Fxy),
     /// The sum of a base and an increment exceeds the width, k exceeds the length of a text, or a
-    /// new reference has increments.
+    /// redefined reference has increments.
     #[error("an increment that cannot be")]
     Increment(Fxy),
     /// The subsets have different factors of a replication.

@@ -16,7 +16,7 @@ pub enum Role {
     Inserted,
     /// The factor of a delayed replication.
     Factor,
-    /// A new reference of an element (after 2 03 Y).
+    /// A redefined reference of an element (after 2 03 Y).
     Reference,
 }
 
@@ -25,18 +25,18 @@ pub enum Role {
 pub enum TurnRefusal {
     /// A field that is not text is under 1 or over 63 bits wide, or Table B lacks its element.
     Width(Fxy),
-    /// The descriptor is not allowed while 2 03 Y defines references.
+    /// The descriptor is not allowed while 2 03 Y redefines references.
     Defining(Fxy),
 }
 
 /// The part of a field's value that affects the walk over the template.
 #[derive(Clone, Copy, Debug, PartialEq, Eq)]
 pub enum Taken {
-    /// Nothing: only factors and new references affect the walk.
+    /// Nothing: only factors and redefined references affect the walk.
     Plain,
     /// The number of passes of the group that follows.
     Count(u64),
-    /// The new reference of the element.
+    /// The redefined reference of the element.
     Reference(i64),
 }
 

@@ -18,11 +18,11 @@ use std::marker::Model;
 pub enum WalkStop<E> {
     /// A field that is not text is under 1 or over 63 bits wide, or Table B lacks its element.
     Width(Fxy),
-    /// The descriptor is not allowed while 2 03 Y defines references.
+    /// The descriptor is not allowed while 2 03 Y redefines references.
     Defining(Fxy),
     /// The field itself could not be read or written, for this reason.
     Field(E),
-    /// Memory ran out before a new reference was read.
+    /// Memory ran out before a redefined reference was read.
     Memory,
 }
 
