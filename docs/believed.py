@@ -1,17 +1,20 @@
 #!/usr/bin/env python3
-"""Prints what one has to believe of `run`: its contract, and each definition that the contract reaches, in reading order.
+"""Prints what you have to believe about `run`: its contract, and every definition that the contract uses, in reading order.
 
-    docs/believed.py [NAME..]        NAME is a function or a law of a crate, `run` by default: `run`, `held`, or, if several
-                                     have that name, `Finder::held`, `finder::held` or `bufr_frame::held`
+    docs/believed.py [NAME..]        NAME is a function or a law of a crate (default: `run`), such as `run` or `held`; if
+                                     several have the same name, write `Finder::held`, `finder::held` or `bufr_frame::held`
 
-A few lines on the notation and the contracts come first. The definitions follow under headings: first what the format is,
-then how a run uses its devices, and last what the kit's csv and clap promise. Most definitions come after those that they
-use. An enum of faults is left out if its report is printed, which lists each fault with its number and text; the report is
-printed before the first definition that names one of the faults. Imports, tags and derives are left out, too. The first
-lines of a file of definitions stand below its name. A law that justifies a file is printed after it, and what the law alone
-needs comes at the end. The types and traits of a signature are printed with their ghost items. Not followed are the names of
-std, and those that the checker itself makes from a contract (specs.contracts). Any other name that is imported and not found
-is reported, and the status is 1. The counts go to standard error.
+The output begins with an explanation of the notation. The contracts come next, followed by the definitions under headings:
+first those of the format, then those of how a run uses its devices, and last what the kit's crates csv and clap guarantee.
+Most definitions come after those that they use. The name of each file of definitions is followed by its first lines. A law
+that justifies a file is printed after the file, and definitions that only the laws need come at the end. Types and traits
+in a signature are printed with their ghost items. Imports, tags and derives are left out. An enum of faults is also left
+out if its report, which lists the number and the text of each fault, is printed. The report is printed before the first
+definition that names a fault of the enum.
+
+Names from std, and names that the checker itself derives from a contract (specs.contracts), are not followed. If any other
+imported name is not found, believed.py prints an error instead and exits with status 1. The numbers of definitions, lines
+and files are printed on standard error.
 """
 import functools
 import pathlib
@@ -26,61 +29,62 @@ HEADINGS = {
     "Messages in a stream": "frame: fault Octets Numbers finder Scan",
     "The sections of a message": "frame: section1 Section1 Sections",
     "Tables B and D": "tables: fxy Fxy fault FaultNumber Records table_b TableB TableD",
-    "The expansion of a descriptor list": "tables: Tree Expansion",
+    "Expanding a descriptor list": "tables: Tree Expansion",
     "Fields and operators": "walk: spec Content Rules",
     "Reading the data of a message": "walk: fault walker Course Reading Pass",
-    "The items and lines of a dump text": "fill: fault Draft; text: line Line",
-    "Writing listings and dumps": "fill: RoundTrip; text: Dump",
-    "Encoding a document": "text: fault document Documents Reader; fill: Encoding; frame: Layout; text: encode Encoding",
-    "Fault lines, and the pieces that a run writes": "cli: FaultLine Pieces",
+    "The lines of a dump": "fill: fault Draft; text: line Line",
+    "Writing a listing and a dump": "fill: RoundTrip; text: Dump",
+    "Building a message from a dump": "text: fault document Documents Reader; fill: Encoding; frame: Layout; text: encode Encoding",
+    "Fault lines, and the pieces of output that a run writes": "cli: FaultLine Pieces",
     "Round trips": "text: Spelling RoundTrip; cli: RoundTrip laws",
     "The command line": "cli: job Line",
-    "How a run reads and writes (relations between the states of devices before and after it)":
+    "How a run reads and writes (relations between device states before and after)":
         "bits: Device device Script script; frame: Input; text: Writing; cli: outcome Running Ending Program program",
-    "What csv promises of the records of a table (definitions of the kit)": "csv: parser Machine Records Reading",
-    "What clap promises of a command line (definitions of the kit)":
+    "What the kit's crate csv guarantees about the records of a table": "csv: parser Machine Records Reading",
+    "What the kit's crate clap guarantees about a command line":
         "clap: error/kind builder/action builder/possible_value builder/range builder/value_parser parser/matches"
         " Lexer Values ValueTests Takes Kinds Facts Matches Walk Simple Faults",
-    "What only the laws use": "walk: KnownRows",
+    "Definitions that only the laws need": "walk: KnownRows",
     "Other definitions": "",
 }
 PRIMER = """\
 == The notation
 
-`f : A → B` gives the type of f. Equations follow, and the first that fits applies. `f x y` applies f to x and y. Each
-definition has a value for all arguments, including those that never occur. `abbrev`, `unfoldable`, `rec` and `infixl` only
-matter to the checker. Under `module _ (how : T) where`, each definition that is indented also has the argument `how`.
-A `record` has named parts, and a `data` type has the forms listed below it. `record s { x = 1 }` is s with another part x.
-A `Bool` is computed; a `Type 0` is a type or a statement: `×` is "and" or a pair, whose parts are `.0` and `.1`, `⊎` "or",
-`→` "implies" or a function, `≡` "equals", `¬` "not", `(x : A) →` "for each x", and `(x : A) ×` "for some x". `Unit` and `⊤`
-always hold, `⊥` never. An argument in braces, as in `{X = T}`, may be left out. `λ x. e` is a function, `x ∷ xs` a list by
-its first member, and `++` joins lists. In `do`, a line `x ← e` stops at the first fault or `None`, as `>>=` does.
+`f : A → B` gives the type of f. Equations follow, and the first one that matches applies. `f x y` applies f to x and y.
+Every definition has a value for all arguments, even for arguments that never occur. `abbrev`, `unfoldable`, `rec` and
+`infixl` only matter to the checker. In a block `module _ (how : T) where`, every indented definition also takes the argument
+`how`. A `record` has named fields, and `record s { x = 1 }` is s with another field x. A `data` type has the constructors
+that are listed below it. A `Bool` is computed. A `Type 0` is a type or a statement: `×` means "and" or a pair, whose parts
+are `.0` and `.1`, `⊎` "or", `→` "implies" or a function, `≡` "equals", `¬` "not", `(x : A) →` "for each x", and `(x : A) ×`
+"for some x". `Unit` and `⊤` are always true, and `⊥` never. Arguments in braces, as in `{X = T}`, can be left out. `λ x. e`
+is a function, `x ∷ xs` is the list xs with x in front, and `++` joins lists. In `do`, a line `x ← e` stops at the first
+fault or `None`, as `>>=` does.
 
-A number of ℕ is `zero` or `suc n` (n + 1), and one of ℤ is `pos n` (n) or `negsuc n` (-n - 1). A text is a list of octets:
-10 is a line feed, 32 a space, 34 `"`, 35 `#`, 45 `-`, 46 `.`, 48 to 57 are digits, and 92 is `\\`.
+A number in ℕ is `zero` or `suc n` (n + 1), and one in ℤ is `pos n` (n) or `negsuc n` (-n - 1). A text is a list of octets:
+10 is a line feed, 32 a space, 34 `"`, 35 `#`, 45 `-`, 46 `.`, and 92 `\\`; 48 to 57 are the digits.
 
-A word before a form, as in `fault.Width`, only distinguishes forms with the same name; the signature tells of which type
-the form is. Most types of faults are not printed. Instead, a report lists each fault of the type with its number and text:
-`cause_report` lists those of `Cause`.
+A word before a constructor, as in `fault.Width`, only distinguishes constructors that have the same name; the signature
+shows their type. Most types of faults are not printed. Instead, a report lists the number and the text of each fault of a
+type: `cause_report` lists those of `Cause`.
 
-Types and traits of Rust are printed, too. Their `ghost` items exist only in proofs: a `Model` is the value by which clauses
-refer to a type, and `source.Ghosts R` are the ghost items that the type R has as a `Source`. A `Bor` is a reference.
-`x.now` is the value behind a reference x, and `x.old` and `x.new` are that value before and after a call.
+Rust types and traits are printed, too. Their `ghost` items exist only in proofs. A `Model` defines the value that clauses
+use in place of a Rust type, and `source.Ghosts R` contains the ghost items that the type R has as a `Source`. A `Bor` is a
+reference. `x.now` is the value behind a reference x, and `x.old` and `x.new` are that value before and after a call.
 
-What is known of the octets of a device is a list, or `None` if nothing is known. Between two such states, old and new:
-  `Appends old new octets`     new is old and then these octets
-  `Consumes old new octets`    old is these octets and then new
+What is known about the octets of a device is a list, or `None` if nothing is known. These relations hold between what is
+known before and after, and always hold if nothing is known before:
+  `Appends old new octets`     new is old, followed by these octets
+  `Consumes old new octets`    old is these octets, followed by new
   `Keeps old new`              new is old
   `IsAtEnd new`                no octet is left
-They hold if old is `None`. `ReadConsumes` and `WriteAppends` are `Consumes` and `Appends` after a call that returned a
-count, and `Keeps` after one that failed. `IfSome`, `IfOk` and `IfErr` apply a statement to the value of an option or of a
-result, if it has one.
+`ReadConsumes` and `WriteAppends` mean `Consumes` and `Appends` for a call that returns a count, and `Keeps` for a call that
+fails. `IfSome`, `IfOk` and `IfErr` apply a statement to the value in an option or a result, if there is one.
 
-Names that are not defined below, such as `take` and `codes`, are std's (rattle/std and rattle/core in the kit, and
-rattle/ANTT.md). Some are defined later than they are used: those of the kit's csv and clap, and those that only laws use.
-The first lines of each file say which part of FM 94 it states. `(own)` marks a rule that is our choice.
+Names that are not defined below, such as `take` and `codes`, come from std (rattle/std and rattle/core in the kit, and
+rattle/ANTT.md). Names from the kit's csv and clap, and names that only the laws need, are defined after they are used. The
+first lines of each file cite the part of FM 94 that it defines. `(own)` marks a rule that is our choice.
 """
-# The laws that a reader leans on, by the file that they justify.
+# The laws that justify definitions, by the file that contains the definitions.
 LAWS = {
     "walk/specs/Rules.antt": ["elements_have_their_rows"],
     "walk/specs/Pass.antt": ["data_are_read_item_by_item"],
@@ -94,29 +98,29 @@ TOKEN = re.compile(r"[^\s()\[\]{};,:]+")
 
 
 class Item:
-    """A definition, a declared type or a call: its file, its name, its lines, and what it may name."""
+    """A definition, a declared type or a function: its file, line number, name and text, and the names in its scope."""
 
     def __init__(self, path, line, name, lines, scope):
         self.path, self.line, self.name, self.lines, self.scope = path, line, name, lines, scope
 
     def code(self):
-        """Its text without comments and attributes."""
+        """Returns the text without comments and attributes."""
         return "\n".join(one for one in self.lines if not re.match(r"\s*(?:--|//|#\[)", one))
 
 
 @functools.cache
 def kit():
-    """The folder of the kit's crates."""
+    """Returns the directory of the kit's crates."""
     try:
         page = subprocess.run(["rt", "doc"], stdout=subprocess.PIPE, text=True, check=True).stdout.strip()
     except (OSError, subprocess.CalledProcessError) as fault:
-        sys.exit(f"{sys.argv[0]}: cannot print what the kit's crates promise without the kit: {fault}")
+        sys.exit(f"{sys.argv[0]}: cannot find the kit, whose crates contain some of the definitions: {fault}")
     return pathlib.Path(page).parent / "rattle"
 
 
 @functools.cache
 def sources(crate):
-    """The folder of a crate of this repository or of the kit."""
+    """Returns the directory of a crate in this repository or in the kit."""
     own = TOP / "crates" / crate
     return own if own.is_dir() else kit() / crate
 
@@ -127,26 +131,26 @@ def read(path):
 
 
 def comment_before(lines, at):
-    """Where the comment and attributes above a line begin, and the precedence of an operator."""
+    """Returns the index at which the lines that belong to a line begin: comments, attributes and an operator's precedence."""
     while at and re.match(r"\s*(?:--(?! ----)|//(?!!)|#\[|infix)", lines[at - 1]):
         at -= 1
     return at
 
 
 def own_lines(lines):
-    """The lines of a definition, without blank ones, and without a heading of what comes after it."""
+    """Returns the lines of a definition, without blank lines and without the heading of the next definitions."""
     text = re.sub(r"(?m)^(?:-- ----.*\n(?:--.*\n)*|(?:--.*\n)+(?=\n|\Z))", "", "\n".join(lines) + "\n")
     return [one for one in text.split("\n") if one.strip()]
 
 
 def block(lines, at):
-    """The line of a file of src/ after the item that begins at a line."""
+    """Returns the index of the line after the item in a file of src/ that begins at a line."""
     indent = re.match(" *", lines[at])[0]
     return next(n for n in range(at, len(lines)) if re.match(indent + r"(?:\}|\S.*(?:;|\{\})$)", lines[n])) + 1
 
 
 def imported(lines):
-    """What lines `use` bring into scope: where each name is to be found, and the modules that have another name here."""
+    """Returns the scope that `use` lines create: where each name is defined, and which module each alias stands for."""
     scope = {}
     for crate, module, names, alias in (use.groups() for use in map(USE.match, lines) if use):
         scope.update({name: (crate, module, name) for name in (re.split(r",\s*", names) if names else [])})
@@ -156,18 +160,18 @@ def imported(lines):
 
 
 def ghost_scope(lines, own):
-    """What the clauses of a file of src/ may name, and those of an item in it."""
+    """Returns the scope of the clauses of an item: what the file and the item itself import."""
     return imported([line for line in lines if line.startswith("ghost use")] + [line for line in own if "ghost use" in line])
 
 
 class House:
-    """The definitions that were read so far, by file, and types by file and name."""
+    """The definitions that have been read, by file, and the types that have been read, by file and name."""
 
     def __init__(self):
         self.files, self.lost = {}, set()
 
     def specs(self, path):
-        """What a file of specs/ defines, by name; the forms of a `data` type are names of it."""
+        """Returns the definitions in a file of specs/, by name. The name of a constructor refers to its `data` type."""
         if path in self.files:
             return self.files[path]
         items = self.files[path] = {}
@@ -193,7 +197,7 @@ class House:
 
     @functools.cache
     def find(self, crate, module, name):
-        """The definition or type that has this name in a module of specs."""
+        """Returns the definition or type that has this name in a module of specs."""
         declared = re.match(r"declared\.([\w.]+?)(?:\.The\w+)?$", module)
         if declared:
             return self.declared(crate, declared[1].split("."))
@@ -204,7 +208,7 @@ class House:
         return self.find(*passed[name]) if name in passed else self.specs(path).get(name)
 
     def declared(self, crate, parts):
-        """A struct, enum or trait of src/, with the ghost items of its impls, by which clauses speak of it."""
+        """Returns a struct, enum or trait of src/, with the ghost items of its impls, through which clauses refer to it."""
         path = sources(crate) / "src" / ("/".join(parts[:-1]) + ".rt")
         key = path, parts[-1]
         if key in self.files or not path.is_file():
@@ -226,7 +230,7 @@ class House:
 
     @functools.cache
     def rust(self, path, name):
-        """The struct, enum or trait that a file of src/ calls so."""
+        """Returns the struct, enum or trait that has this name in a file of src/."""
         folder = next(folder for folder in path.parents if folder.name == "src")
         found = self.declared(folder.parent.name, [*path.relative_to(folder).with_suffix("").parts, name])
         if found:
@@ -245,7 +249,7 @@ class House:
 
     @functools.cache
     def uses(self, item):
-        """The items that an item names."""
+        """Returns the items that an item names."""
         text, items = item.code(), []
         for token in TOKEN.findall(text):
             first, _, rest = token.partition(".")
@@ -266,12 +270,12 @@ class House:
 
 
 def ghost_end(lines, at):
-    """The line after a ghost item of an impl."""
+    """Returns the index of the line after a ghost item of an impl."""
     return next(n for n in range(at, len(lines)) if lines[n].endswith(";") and (n == at or lines[n].endswith("};"))) + 1
 
 
 def signature(lines, at):
-    """The lines of a function from its name to its last clause."""
+    """Returns the lines of a function from its name to its last clause."""
     indent, is_clause = re.match(" *", lines[at])[0], False
     for n in range(at, len(lines)):
         is_clause |= bool(re.match(r"\s*(?:ensures|requires)\b", lines[n]))
@@ -286,7 +290,7 @@ def signature(lines, at):
 
 @functools.cache
 def functions():
-    """The functions that have clauses or are a trait's, each with the words that may stand before `::`."""
+    """Returns the functions that have clauses or belong to a trait, each with the words that can precede `::`."""
     found = []
     for path in sorted((TOP / "crates").glob("*/src/**/*.rt")):
         lines, around = read(path), 0
@@ -306,7 +310,7 @@ def functions():
 
 
 def contract(name):
-    """The clauses of a function or law, as an item. Without `::` before its name a free function comes first."""
+    """Returns the contract of a function or law, as an item. Without `::`, a free function takes precedence."""
     before, _, last = name.rpartition("::")
     found = [call for call, owners in functions() if call.name == last and (not before or before in owners)]
     free = [call for call in found if not before and re.match(VISIBLE + "(?:const )?fn ", call.code())]
@@ -315,12 +319,12 @@ def contract(name):
         sys.exit(f"{sys.argv[0]}: no crate has a function {name} with a contract")
     if len(found) > 1:
         places = "\n".join(f"  {call.path.relative_to(TOP)}:{call.line}: {call.code().splitlines()[0]}" for call in found)
-        sys.exit(f"{sys.argv[0]}: several functions have the name {name}; put the type, the file or the crate before it:\n{places}")
+        sys.exit(f"{sys.argv[0]}: several functions are called {name}; put the type, the file or the crate before the name:\n{places}")
     return found[0]
 
 
 def reach(item, seen, house):
-    """Adds an item, and those that it reaches, to a list."""
+    """Adds an item to a list, and all items that it uses, directly or indirectly."""
     if item in seen:
         return
     seen.append(item)
@@ -329,7 +333,7 @@ def reach(item, seen, house):
 
 
 def headed():
-    """The number of each file's heading and of the file below it."""
+    """Returns a dictionary with the number of each file's heading, and the position of the file."""
     order = {}
     for number, files in enumerate(HEADINGS.values()):
         for part in filter(None, files.split("; ")):
@@ -341,18 +345,18 @@ def headed():
 
 
 def about(path):
-    """The first lines of a file of specs/: what it defines, and the part of FM 94 that it states, or that it is our own."""
+    """Returns the first lines of a file of specs/. They say what it defines, and cite FM 94 or mark the rules as our own."""
     first = re.match(r"(?:--.*\n)*", "\n".join(read(path)))[0]
     return [line for line in re.sub(r"\s*(?:--)? ?Cited by [a-z ]+\.", "", first).split("\n") if line] if path.suffix == ".antt" else []
 
 
 def text(item):
-    """The lines of a definition, without what is beside its meaning."""
+    """Returns the lines of a definition, without those that do not affect its meaning."""
     return "\n".join(line for line in item.lines if not BESIDE.match(line))
 
 
 def reached(calls, house):
-    """The definitions that calls reach, without the calls."""
+    """Returns the definitions that calls use, directly or indirectly, without the calls themselves."""
     seen = []
     for call in calls:
         reach(call, seen, house)
@@ -360,35 +364,35 @@ def reached(calls, house):
 
 
 def reported(items):
-    """The enums of faults among items, each with the report that lists its faults with their numbers and texts."""
+    """Returns the enums of faults that have a report, an item that lists each fault with its number and text, and the reports."""
     report = re.compile(r": (\w+) → ℕ × List \(List ℕ\)$")
     reports = {found[1]: item for item in items for found in [report.search(item.code().split("\n")[0])] if found}
     return {item: reports[item.name] for item in items if item.path.suffix == ".rt" and item.name in reports}
 
 
 def put_reports_first(enums, key, house):
-    """Changes the keys of reports, so that each comes before the first definition that names a fault of its type."""
+    """Changes the sorting keys so that each report comes before the first definition that names a fault of its enum."""
     for enum, report in enums.items():
         users = [item for item in key if item is not report and item.path.suffix == ".antt" and enum in house.uses(item)]
         first = min(users, key=key.get, default=report)
         if key[first] < key[report]:
-            before, order, path, *_ = key[first]
+            number, order, path, *_ = key[first]
             moved = []
             reach(report, moved, house)
             for item in moved:
                 if item.path == report.path and key[first] < key[item]:
                     at = (path, first.line, 0) if item.path == first.path else ("",)
-                    key[item] = (before, order, *at, item.line)
+                    key[item] = (number, order, *at, item.line)
 
 
 def size(items):
-    """How many definitions there are, and how many lines they have."""
+    """Returns a phrase with the numbers of definitions and lines."""
     return f"{len(items)} definitions, {sum(text(item).count(chr(10)) + 1 for item in items)} lines"
 
 
 def main():
     if not (TOP / "crates").is_dir():
-        sys.exit(f"{sys.argv[0]}: a release has no sources; run this in a clone, at the commit that BUILD names")
+        sys.exit(f"{sys.argv[0]}: a release has no sources; run this script in a clone, at the commit that BUILD names")
     sys.setrecursionlimit(10_000)
     house, order, titles = House(), headed(), list(HEADINGS)
     calls = [contract(call) for call in sys.argv[1:] or ["run"]]
@@ -413,7 +417,7 @@ def main():
     for item in [*sorted(place, key=key.get), None]:
         if path and (item is None or item.path != path):
             for law in laws.pop(path, []):
-                print(f"\n-- a law that justifies these definitions, proved\n{text(law)}")
+                print(f"\n-- a proved law that justifies these definitions\n{text(law)}")
         if item is None:
             break
         if key[item][0] != number:
@@ -426,11 +430,11 @@ def main():
         print(f"\n{text(item)}")
     own = calls + [item for item in definitions if TOP in item.path.parents]
     print(f"{size(own)}, {len({item.path for item in own})} files", file=sys.stderr)
-    print(f"of the kit's crates: {size([item for item in definitions if item not in own])}", file=sys.stderr)
-    print(f"of laws that justify them: {size(justifying + beside)}", file=sys.stderr)
+    print(f"from the kit's crates: {size([item for item in definitions if item not in own])}", file=sys.stderr)
+    print(f"laws that justify them, and definitions that only these laws need: {size(justifying + beside)}", file=sys.stderr)
 
 
 if __name__ == "__main__":
-    # `docs/believed.py | head` ends without a traceback.
+    # Exit without a traceback if the output is closed early, as in `docs/believed.py | head`.
     signal.signal(signal.SIGPIPE, signal.SIG_DFL)
     main()
