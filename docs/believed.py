@@ -67,9 +67,9 @@ A word before a constructor, as in `fault.Width`, only distinguishes constructor
 shows their type. Most types of faults are not printed. Instead, a report lists the number and the text of each fault of a
 type: `cause_report` lists those of `Cause`.
 
-Rust types and traits are printed, too. Their `ghost` items exist only in proofs. A `Model` defines the value that clauses
-use in place of a Rust type, and `source.Ghosts R` contains the ghost items that the type R has as a `Source`. A `Bor` is a
-reference. `x.now` is the value behind a reference x, and `x.old` and `x.new` are that value before and after a call.
+Rust types and traits are printed, too. Their `ghost` items exist only in proofs. A `Model` defines the value to which clauses
+refer instead of the Rust value, and `source.Ghosts R` contains the ghost items that the type R has as a `Source`. A `Bor` is
+a reference. `x.now` is the value behind a reference x, and `x.old` and `x.new` are that value before and after a call.
 
 What is known about the octets of a device is a list, or `None` if nothing is known. These relations hold between what is
 known before and after, and always hold if nothing is known before:
