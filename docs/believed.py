@@ -69,7 +69,8 @@ type: `cause_report` lists those of `Cause`.
 
 Rust types and traits are printed, too. Their `ghost` items exist only in proofs. A `Model` defines the value to which clauses
 refer instead of the Rust value, and `source.Ghosts R` contains the ghost items that the type R has as a `Source`. A `Bor` is
-a reference. `x.now` is the value behind a reference x, and `x.old` and `x.new` are that value before and after a call.
+a reference. `x.now` is the value behind a reference x, and `x.old` and `x.new` are that value before and after a call. In
+examples, `assert_eq!(rt; ..)` is checked when they run.
 
 What is known about the octets of a device is a list, or `None` if nothing is known. These relations hold between what is
 known before and after, and always hold if nothing is known before:

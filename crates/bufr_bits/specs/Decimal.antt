@@ -9,8 +9,8 @@ use Rattle.bufr_bits.specs.declared.decimal.NumberFault.{NumberFault}
 use Rattle.bufr_bits.specs.declared.decimal.NumberFault.TheVariants.{Syntax, Inexact, Large}
 use Rattle.bufr_bits.specs.declared.decimal.ShortDecimal.{ShortDecimal}
 
--- digits with a point before the last `decimals` of them, and with zeros before them if they are
--- needed for a digit before the point
+-- digits with a point before the last `decimals` of them; zeros are put in front if no digit would
+-- precede the point
 -- rule: decimal-point
 abbrev pub pointed : (decimals : ℕ) (digits : List ℕ) → List ℕ
 pointed decimals digits =
@@ -18,8 +18,8 @@ pointed decimals digits =
     let whole = length padded - decimals in
     take whole padded ++ 46 ∷ drop whole padded
 
--- the text of a number without its sign: at a positive scale it has a point, and at a negative
--- scale zeros follow a number that is not zero
+-- an unsigned number at a scale: a positive scale sets the point, and a negative scale appends
+-- zeros, but not to 0
 -- rule: decimal-zeros-after
 unfoldable pub unsigned_text : (n : ℕ) (scale : ℤ) → List ℕ
 unsigned_text n (pos zero) = decimal n

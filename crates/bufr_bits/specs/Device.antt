@@ -21,8 +21,8 @@ fresh_device inner =
 
 -- ---- The counts that a device keeps of its calls. (a choice of this project)
 
--- A count after `by` more, up to 2^64 - 1. Nothing bounds a count in a definition, so `max` says
--- that a count above 2^64 - 1 stays as it is.
+-- A count increased by `by`, but not beyond 2^64 - 1. `max` covers counts above that, which no code
+-- has: they stay the same.
 abbrev pub counted : (count by : ℕ) → ℕ
 counted count by = max count (min (count + by) (2 ^ 64 - 1))
 
@@ -31,15 +31,16 @@ abbrev pub failures_after : {A E : Type 0} → ℕ → Result A E → ℕ
 failures_after count (Ok x) = count
 failures_after count (Err e) = counted count 1
 
--- the count of empty writes after a write of these octets: it is empty if it took none, although
--- there were some
+-- the count of empty writes after a write of these octets; a write is empty if it took none of
+-- them, although there were some
 abbrev pub empty_writes_after : {E : Type 0} → ℕ → List ℕ → Result ℕ E → ℕ
 empty_writes_after count octets (Err e) = count
 empty_writes_after count octets (Ok (suc taken)) = count
 empty_writes_after count [] (Ok zero) = count
 empty_writes_after count (octet ∷ more) (Ok zero) = counted count 1
 
--- the count of whole writes after a write of these octets: it is whole if it took all of them
+-- the count of whole writes after a write of these octets; a write is whole if it took all of them
+-- (the definitions of a run do not use this count)
 abbrev pub whole_writes_after : {E : Type 0} → ℕ → List ℕ → Result ℕ E → ℕ
 whole_writes_after count octets (Err e) = count
 whole_writes_after count octets (Ok taken) =

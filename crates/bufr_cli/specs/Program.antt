@@ -207,6 +207,7 @@ AnswersFault Memory before after status =
 
 -- What a call of the program does. Either the command line is a job, and the last line and the
 -- status report its outcome; or it is not, the program writes why not, and no input is opened.
+-- (`fault_of` and `subcommand_of` are clap's.)
 -- rule: status-of-help
 pub data RunsProgram {Standard File : Type 0} (words : List Text) (inputs : Known Standard File)
     (opened opened' : Option (List InputName)) (before after : Writers) (status : ℕ) : Type 0 where

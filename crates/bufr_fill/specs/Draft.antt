@@ -101,11 +101,11 @@ expected_text (expected.Item fxy) = fxy_text fxy ∷ []
 expected_text (expected.Reference fxy) = codes "R " ∷ fxy_text fxy ∷ []
 expected_text expected.EndOfSubset = codes "end of subset" ∷ []
 
--- A fault of an item: another item is expected; the value is no decimal, not whole at the field's
--- scale, or of another kind than the field; the number does not fit, or the value would be read as
--- missing; the text is longer than the field; the field is never missing; the subsets have
--- different factors; they have different references, or texts that need more than 63 octets; or the
--- walk refuses the item.
+-- A fault of an item: another item is expected (51); the value is not a decimal, not whole at the
+-- field's scale, or not of the field's kind (52); the number does not fit, or the value would be
+-- read as missing (53); the text is longer than the field (54); the field cannot be missing (55); a
+-- factor differs between subsets (58); a redefined reference differs between subsets, or texts need
+-- more than 63 octets each (59); or the walk refuses the item (62).
 abbrev pub item_report : ItemFault → ℕ × List (List ℕ)
 item_report (wrong.WrongDescriptor e) = (51, codes "expected " ∷ expected_text e)
 item_report wrong.Number = (52, codes "number" ∷ [])

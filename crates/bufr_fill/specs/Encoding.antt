@@ -74,8 +74,7 @@ module _ {D C E : Type 0} (filler : Filler D C E) where
     lost = filler.lost;
   }
 
-  -- the pass that writes items; each field uses one, so it needs `suc (length drafts)` steps at
-  -- most
+  -- the pass that writes items; `suc (length drafts)` is enough, since each field uses one item
   abbrev pub fill_pass : Course → List D → Pass (List D) (WrittenItem C) E
   fill_pass course drafts = pass filling (suc (length drafts)) course drafts
 
@@ -93,7 +92,7 @@ pub record Writing (E : Type 0) : Type 0 where
 abbrev pub pass_writing : {S C E : Type 0} → Pass S (WrittenItem C) E → Writing E
 pass_writing p = record { bits = bits_written p.items; stop = p.stop; turns = p.turns }
 
--- what is written, and then `rest`; `w.stop` is given apart: if it is a fault, nothing follows
+-- what w writes and then, unless w stopped, what `rest` writes; the second argument is `w.stop`
 abbrev pub writing_then : {E : Type 0} → Writing E → Option E → Writing E → Writing E
 writing_then w (Some why) rest = w
 writing_then w None rest =
@@ -137,7 +136,7 @@ first_from p (suc fuel) k = if p k then k else first_from p fuel (k + 1)
 abbrev pub least_k : (ℕ → Content → Bool) → List Content → ℕ
 least_k passes cs = first_from (λ k. list_all (passes k) cs) 63 1
 
--- the increment of a content; all ones if it is missing
+-- the increment of a content; all ones if it is missing, which is the only other case
 abbrev pub increment_for : Coding → (base k : ℕ) → Content → List Bool
 increment_for (numbers width m) base k (number n) = bits_in (n - base) k
 increment_for (texts count) base k (text octets) = bits_of (take k octets)
@@ -188,8 +187,8 @@ pub record HasLeastK (n : ℕ) (spec : FieldSpec) (contents : List Content) : Ty
   pub short : (bits suffix : List Bool) → packed_field n spec bits ≡ Ok (found contents suffix)
       → length out + length suffix ≤ length bits
 
--- how the items of one subset of plain data are written; `end_line` is the line that ends the
--- subset
+-- How the items of one subset of plain data are written; `end_line` is the line that ends the
+-- subset. (`result_map_both` applies its first function to `Ok`, and its second one to `Err`.)
 -- rule: fault-51, fault-62
 abbrev pub plain_filler : (end_line : ℕ) → Filler Draft Content DraftFault
 plain_filler end_line = record {

@@ -123,8 +123,8 @@ section2_octets (Some octets) = section4_octets octets
 abbrev pub data_flags : (observed compressed : Bool) → ℕ
 data_flags observed compressed = (if observed then 128 else 0) + (if compressed then 64 else 0)
 
--- section 3: its length, a reserved octet, the number of subsets, the flags, and `content`, which
--- is the descriptors and their padding
+-- section 3: its length, a reserved octet, the number of subsets, the flags, and `content` (the
+-- descriptors and their padding)
 -- rule: section-3, reserved-zero, writes-no-pad-octet
 abbrev pub section3_octets : List ℕ → (subsets flags : ℕ) → List ℕ
 section3_octets content subsets flags =

@@ -28,9 +28,9 @@ pub record Sections : Type 0 where
   -- the length of the message in octets
   pub size : ℕ
 
--- The index after section k, which begins at index p. Checked in this order: its three length
--- octets come before section 5 (the last four octets), its length is at least `least`, and the
--- section ends before section 5.
+-- The index after section k, which begins at index p. The checks come in this order: its three
+-- length octets precede section 5 (the last four octets), its length is at least `least`, and it
+-- ends before section 5.
 -- rule: odd-sections-read, length-past-end, length-under-least, section-past-end
 -- rule: order-of-sections
 unfoldable pub section_end : List ℕ → (k least p : ℕ) → Result ℕ SectionFault

@@ -27,7 +27,7 @@ abbrev pub unless : Bool → TemplateFault → Result (Unit {0}) TemplateFault
 unless true why = Ok tt
 unless false why = Err why
 
--- the fault of descriptor d, if `more` places after `places` are over 65,535
+-- the fault of descriptor d if `more` places after the first `places` would make more than 65,535
 -- rule: fault-27
 abbrev pub with_places : (places more d : ℕ) → Result (Unit {0}) TemplateFault
 with_places places more d = unless (nat_le (places + more) 65535) (fault.TemplateSize d)

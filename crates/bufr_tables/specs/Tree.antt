@@ -23,7 +23,7 @@ join (fixed count body rest) more = fixed count body (join rest more)
 join (delayed factor body rest) more = delayed factor body (join rest more)
 
 -- The number of places that nodes take in a stored template: one for each element and operator, two
--- for the begin and the end of a group, and one for a factor.
+-- for the beginning and the end of a group, and one for a factor.
 abbrev pub size : Tree → ℕ
 size bare = 0
 size (element fxy rest) = 1 + size rest
@@ -47,8 +47,8 @@ depth (delayed factor body rest) = max (1 + depth body) (depth rest)
 abbrev pub is_inserted_text : ℕ → Bool
 is_inserted_text fxy = x_of fxy == 5
 
--- Whether a node takes bits of the data: an element, inserted text, a delayed group (its factor
--- does, whatever is in its body), or a fixed group with such a node in its body.
+-- Whether some node takes bits of the data: an element, inserted text, a delayed group (its factor
+-- does, whatever its body contains), or a fixed group whose body contains such a node.
 -- rule: groups-take-bits
 abbrev pub consumes : Tree → Bool
 consumes bare = false

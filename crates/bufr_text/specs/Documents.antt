@@ -190,8 +190,8 @@ reported_at at (Continues state, d) = []
 reported_at at (Completes, d) = Complete d ∷ []
 reported_at at (Refuses fault, d) = Refused at fault ∷ []
 
--- what is reported at the end of the text: if it is inside a document, a fault at the line after
--- the last one
+-- what is reported at the end of the text: if the end is inside a document, a fault at the line
+-- after the last one
 -- rule: fault-50, input-ends-early
 abbrev pub reported_at_end : (at : ℕ) → ParserState → List ParseResult
 reported_at_end at Between = []
@@ -206,7 +206,8 @@ parse_lines at p (line ∷ more) =
     let here = line_step at p (read_line line) in reported_at at here
     ++ parse_lines (at + 1) (parsing_after here) more
 
--- the lines of a text without their line feeds; the last line may have none
+-- the lines of a text without their line feeds, which the last line may lack; `onto_first` puts an
+-- octet in front of the first line
 -- rule: reading-last-line
 unfoldable pub lines_of : List ℕ → List (List ℕ)
 lines_of [] = []

@@ -120,7 +120,7 @@ abbrev pub escaped : ℕ → List ℕ
 escaped octet = if is_unescaped octet then octet ∷ []
     else if (octet == 34) || (octet == 92) then 92 ∷ octet ∷ [] else 92 ∷ 120 ∷ hex_pair octet
 
--- octets as a text without its first quote
+-- octets as a quoted text, without its opening quote
 unfoldable pub quoted : List ℕ → List ℕ
 quoted [] = 34 ∷ []
 quoted (octet ∷ more) = escaped octet ++ quoted more

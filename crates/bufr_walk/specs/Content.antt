@@ -230,8 +230,8 @@ shown spec (reference value) = shown_reference value
 
 -- ---- One field of data that are not compressed.
 
--- why a field cannot be read: the data end inside it, an increment is invalid, or the subsets have
--- different factors
+-- why a field cannot be read: the data end inside it, an increment is invalid, or a factor differs
+-- between subsets
 pub data FieldFault : Type 0 where
   data_end : FieldFault
   increment : FieldFault

@@ -14,8 +14,9 @@ use Rattle.bufr_walk.specs.declared.spec.Role.TheVariants as role
 -- ---- The turns of a walk over a template. (WMO-No. 306, Volume I.2, FM 94: section 3)
 
 -- The turns (steps) of a walk, in order. Nothing happens at `group` (a group begins) and `pass_end`
--- (one of its passes ends), but each counts as a turn, so that turns bound the work. `finish` is
--- the end of the template; `open_end` comes after a factor whose count is not known yet.
+-- (one of its passes ends), but they count as turns, since the number of turns bounds the work.
+-- `finish` is the end of the template; `open_end` comes after a factor whose count is not known
+-- yet.
 pub data Turns : Type 0 where
   finish : Turns
   open_end : Turns

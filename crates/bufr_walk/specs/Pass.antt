@@ -31,7 +31,7 @@ pub record Passing (S C E : Type 0) : Type 0 where
   pub refuses : TurnRefusal → S → E
   -- the reason why the pass may not end here, if there is one (a draft may have items left)
   pub ends : S → Option E
-  -- the reason to stop if the walk has neither a next field nor an end: never
+  -- never used: the reason to stop if the walk is `astray`, or if the bound of `pass` is reached
   pub lost : E
 
 -- a pass: its items, the number of its turns, the state after it, and the reason why it stopped, if
@@ -104,9 +104,9 @@ read_field form spec items (Ok f) = Ok (record {
   state = place_at (items + 1) f.suffix;
 })
 
--- How data are read. At one item, the faults come in this order: the walk refuses it (32, 31),
--- there are too many values (35), the field cannot be read (30, 34, 33). `many` tells whether one
--- more item would be too many. `lost` is never used.
+-- How data are read. At one item, faults come in this order: the walk refuses it (32, 31), there
+-- are too many values (35), or the field cannot be read (30, 34, 33). `many` says whether one more
+-- item would be too many. `lost` is never used.
 -- rule: compressed-fault-order
 abbrev pub reading : {C : Type 0} → DataCoding C → (many : ℕ → Bool) → Passing Place C Stop
 reading form many = record {
@@ -117,7 +117,7 @@ reading form many = record {
   lost = stops.Field (wrong.TooManyValues 0);
 }
 
--- one pass over bits; `suc (length bits)` is enough for each field takes at least one bit
+-- one pass over bits; `suc (length bits)` is enough, since each field takes at least one bit
 abbrev pub read_pass : {C : Type 0} → DataCoding C → (many : ℕ → Bool) → Course → List Bool
     → Pass Place C Stop
 read_pass form many course bits =
@@ -155,7 +155,7 @@ abbrev pub left_after : {C : Type 0} → List Bool → List (DataPass C) → Lis
 left_after bits [] = bits
 left_after bits (p ∷ passes) = left_after p.state.left passes
 
--- total number of turns of several passes
+-- the total number of turns of several passes
 abbrev pub turns_in_all : {C : Type 0} → List (DataPass C) → ℕ
 turns_in_all [] = 0
 turns_in_all (p ∷ passes) = p.turns + turns_in_all passes

@@ -25,7 +25,8 @@ pub record Item (C : Type 0) : Type 0 where
   pub spec : FieldSpec
   pub content : C
 
--- How data are coded: plain with C = Content, or compressed with C = List Content.
+-- How data are coded: plain with C = Content, or compressed with C = List Content. (`Coding` is how
+-- a single field is coded.)
 pub record DataCoding (C : Type 0) : Type 0 where
   -- reads the item at the beginning of bits
   pub field : FieldSpec → List Bool → Result (FieldRead C) FieldFault
@@ -211,10 +212,10 @@ spot_text name s =
     name ∷ codes " at subset " ∷ decimal s.subset ∷ codes " descriptor " ∷ fxy_text s.fxy
     ∷ codes " bit " ∷ decimal s.bit ∷ []
 
--- A fault of the data: the data end inside an item; a field that is not text has an invalid width;
--- a descriptor is not allowed while references are being redefined; the factors of subsets differ;
--- an increment is invalid; or compressed data have too many values. `Memory` has no text: it stops
--- a run, and the last line of the run reports it.
+-- A fault of the data: they end inside an item (30); a field that is not text has an invalid width
+-- (31); a descriptor is not allowed while references are being redefined (32); a factor differs
+-- between subsets (33); an increment is invalid (34); compressed data have too many values (35).
+-- `Memory` has no text: it stops a run, and the last line of the run reports it.
 -- rule: fault-30, fault-31, fault-32, fault-33, fault-34, fault-35
 abbrev pub data_report : WalkFault → ℕ × List (List ℕ)
 data_report (fault.DataEnd s) = (30, spot_text (codes "data end") s)

@@ -91,7 +91,7 @@ pub enum DataFault {
     /// redefined reference has increments.
     #[error("an increment that cannot be")]
     Increment(Fxy),
-    /// The subsets have different factors of a replication.
+    /// A replication factor differs between subsets.
     #[error("a factor is not the same in all subsets")]
     UnequalFactor(Fxy),
     /// There are more than 134,217,728 values up to this item.
