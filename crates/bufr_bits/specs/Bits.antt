@@ -44,7 +44,7 @@ bits_in value (suc width) = (value / 2 ^ width % 2 == 1) ∷ bits_in value width
 abbrev pub padding : (length : ℕ) → List Bool
 padding length = replicate ((8 - length % 8) % 8) false
 
--- ---- Eight octets read as one number. (a choice of this project)
+-- ---- Eight octets read as one number. (own)
 
 -- the number that eight octets write, from a place on
 pub record IsWindow (window first : ℕ) (octets : List ℕ) : Type 0 where

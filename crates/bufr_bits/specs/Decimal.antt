@@ -37,7 +37,7 @@ sign_of (negsuc n) = 45 ∷ []
 unfoldable pub decimal_text_of : (v scale : ℤ) → List ℕ
 decimal_text_of v scale = sign_of v ++ unsigned_text (unsigned_abs v) scale
 
--- ---- The text of x at scale s is read as x * 10^s. (a choice of this project)
+-- ---- The text of x at scale s is read as x * 10^s. (own)
 
 -- the text after an optional minus sign
 abbrev pub unsigned_part : List ℕ → List ℕ
@@ -119,7 +119,7 @@ pub record IsParts (text whole fraction : List ℕ) : Type 0 where
   pub before : whole ≡ whole_part text
   pub after : fraction ≡ fraction_part text
 
--- ---- Short decimal texts as numbers of digits. (a choice of this project)
+-- ---- Short decimal texts as numbers of digits. (own)
 
 -- a number with its sign
 abbrev pub signed_number : (negative : Bool) → ℕ → ℤ

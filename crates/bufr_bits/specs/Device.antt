@@ -19,7 +19,7 @@ fresh_device inner =
       all_flushed = true;
     }
 
--- ---- The counts that a device keeps of its calls. (a choice of this project)
+-- ---- The counts that a device keeps of its calls. (own)
 
 -- A count increased by `by`, but not beyond 2^64 - 1. `max` covers counts above that, which no code
 -- has: they stay the same.
@@ -68,7 +68,7 @@ abbrev pub all_flushed_after_flush : {A E : Type 0} → Bool → Result A E → 
 all_flushed_after_flush before (Ok x) = true
 all_flushed_after_flush before (Err e) = before
 
--- ---- Numbers that stop at the greatest u128, while digits are read. (a choice of this project)
+-- ---- Numbers that stop at the greatest u128, while digits are read. (own)
 
 -- a number, or the greatest u128 where it is over that
 abbrev pub capped : ℕ → ℕ

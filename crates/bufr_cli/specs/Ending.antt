@@ -23,7 +23,7 @@ abbrev pub FlushesRest : {X : Type 0} → (before after : Writer) → Result X R
 FlushesRest before after (Ok x) = after ≡ before
 -- so has a run that failed to read (see `HandsOn`)
 FlushesRest before after (Err Read) = after ≡ before
--- after a write that failed, no other call is made
+-- after a failed write, the output is not used again
 FlushesRest before after (Err Write) = after ≡ before
 -- After `Memory` or `InputTooLong`, it is flushed at most once, and nothing more is written. Either
 -- no call failed and everything is flushed, or the flush failed.

@@ -19,17 +19,17 @@ stream_report (stream.Section fault) = section_report fault
 stream_report (stream.Template fault) = template_report fault.now
 stream_report (stream.Data fault) = data_report fault.now
 
--- the line that reports a fault: what has the fault, the number of the fault, and its text
+-- the line that reports a fault: its subject, its number and its text
 abbrev pub report_line : (subject : List (List ℕ)) → (report : ℕ × List (List ℕ)) → List ℕ
 report_line subject report =
     concat (subject ++ decimal report.0 ∷ codes " " ∷ (report.1 ++ codes "\n" ∷ []))
 
--- the line of a fault in a stream; the offset is that of `BUFR`
+-- the line that reports a fault in a stream, at the offset of `BUFR`
 -- rule: stream-fault-line
 abbrev pub fault_line : (offset : ℕ) → (report : ℕ × List (List ℕ)) → List ℕ
 fault_line offset = report_line (codes "offset " ∷ decimal offset ∷ codes ": " ∷ [])
 
--- the line of a fault in a text; its lines are counted from 1
+-- the line that reports a fault in a line of a text; lines are counted from 1
 -- rule: fault-lines-of-reading
 abbrev pub document_line : (line : ℕ) → (report : ℕ × List (List ℕ)) → List ℕ
 document_line line = report_line (codes "line " ∷ decimal line ∷ codes ": " ∷ [])
@@ -39,7 +39,7 @@ abbrev pub line_of_read_fault : ReadFault → List ℕ
 line_of_read_fault (read.Line line fault) = document_line line (line_report fault)
 line_of_read_fault (read.Run fault) = []
 
--- the line of a fault in a document; `Memory` has none here, since it stops the run
+-- the line that reports a fault in a document; empty for `Memory`, which stops the run
 -- rule: fault-lines-of-encoding
 abbrev pub refusal_line : DocumentFault → List ℕ
 refusal_line why =

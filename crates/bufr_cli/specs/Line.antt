@@ -76,7 +76,7 @@ HasTables rows (Dump tables) = AreNamed rows tables
 HasTables rows (Encode tables form) =
     AreNamed rows tables × (word_of form ≡ first_of (codes "form") rows)
 
--- The job has the subcommand of the command line, its tables and form, and as its file the value of
+-- The job consists of the subcommand on the command line, its tables and form, and the value of
 -- FILE, if any.
 abbrev pub IsJobOf : Option (Text × List Row) → Job → Type 0
 IsJobOf None job = ⊥
@@ -84,7 +84,7 @@ IsJobOf (Some subcommand) job =
     (subcommand.0 ≡ name_of job.command) × HasTables subcommand.1 job.command
     × (option_map (λ name. name.now) job.file ≡ first_of (codes "FILE") subcommand.1)
 
--- Why the subcommand of the command line, which has this name and these values, is not a job:
+-- Why the subcommand on the command line, which has this name and these values, is not a job:
 -- `bufr` has no such subcommand, a table is missing, or there is no such form.
 -- rule: form-words
 abbrev pub IsWhyNoJob : Text → List Row → NoJob → Type 0

@@ -74,22 +74,22 @@ abbrev pub ran_outcome : Result Tally RunFault → Outcome
 ran_outcome (Ok tally) = Ran tally
 ran_outcome (Err fault) = Run fault
 
--- An input of type R that consists of these octets is run over: its state goes from `from` to `to`,
--- and `run` says how.
+-- A run reads an input of type R that contains these octets. `counts` gives the state of the input,
+-- which changes from `from` to `to`, and `run` states how.
 abbrev pub RunsOver : {R : Type 0} → (counts : R → Input) → (octets : Option (List ℕ))
     → (run : (from to : Input) → Type 0) → Type 0
 RunsOver {R} counts octets run =
     (from to : R) × ((counts from).left ≡ octets) × run (counts from) (counts to)
 
--- The file with this name is run over, or standard input if there is no name.
+-- A run reads the file with this name, or standard input if there is no name.
 -- rule: dash-is-a-name
 abbrev pub RunsOverInput : {Standard File : Type 0} → Known Standard File
     → (file : Option (Bor (List ℕ))) → (run : (from to : Input) → Type 0) → Type 0
 RunsOverInput inputs None run = RunsOver inputs.of_standard inputs.standard run
 RunsOverInput inputs (Some name) run = RunsOver inputs.of_file (inputs.named name.now) run
 
--- The outcome of a run over the file with this name or standard input: the file cannot be opened,
--- or memory runs out before the run, and nothing is written; or the run ends.
+-- The outcome of a run that reads the file with this name, or standard input: the file cannot be
+-- opened, or memory runs out before the run, and nothing is written; or the run ends.
 pub data RunOutcome {Standard File : Type 0} (pieces : RunPieces) (inputs : Known Standard File)
     (file : Option (Bor (List ℕ))) (before after : Writers) (outcome : Outcome) : Type 0 where
   IsNotOpened : (name : Bor (List ℕ)) → file ≡ Some name → outcome ≡ CannotOpen name
@@ -108,7 +108,7 @@ pub record FailsToRead (fault : RunFault) (from to : Input) : Type 0 where
   pub read : Consumes from.left to.left octets
   -- a file is only read
   pub none : fault ≢ ended.Write
-  -- a fault `Read` is counted by the file; X does not matter, since the result is a fault
+  -- the file counts a `Read` fault; X does not matter, since the result is a fault
   pub failures : to.failures ≡ read_failures_after {X = Unit {0}} from.failures (Err fault)
   pub reads : ReadsAtMost {X = Unit {0}} from.reads to.reads (Err fault)
   pub fewer : fault ≡ ended.Memory → ReadsFewer from.reads to.reads

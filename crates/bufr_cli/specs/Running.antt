@@ -19,8 +19,7 @@ use Rattle.std.specs.Global.{Global}
 use Rattle.bufr_bits.specs.declared.device.Sink as sink
 use Rattle.bufr_bits.specs.declared.device.Source as source
 
--- ---- What an input and the writers have counted at one time, and which writer a fault is of. (a
--- choice of this project)
+-- ---- What an input and the writers have counted at one time, and which writer a fault is of. (own)
 
 -- The state of an input: the octets that are left (if they are known), the number of reads, and how
 -- many of these failed.
@@ -43,12 +42,12 @@ pub record Writers : Type 0 where
   pub output : Writer
   pub errors : Writer
 
--- the state of an input, by its ghost items
+-- the state of an input, taken from its ghost items
 abbrev pub input_of : {R : Type 0} → source.Ghosts R → R → Input
 input_of ghosts r =
     record { left = ghosts.left r; reads = ghosts.reads r; failures = ghosts.failures r }
 
--- the state of a writer, by its ghost items
+-- the state of a writer, taken from its ghost items
 abbrev pub writer_of : {W : Type 0} → sink.Ghosts W → W → Writer
 writer_of ghosts w =
     record {
@@ -59,7 +58,7 @@ writer_of ghosts w =
       all_flushed = ghosts.all_flushed w;
     }
 
--- the states of both writers, by their ghost items
+-- the states of both writers, taken from their ghost items
 abbrev pub writers_of : {W E : Type 0} → sink.Ghosts W → W → sink.Ghosts E → E → Writers
 writers_of output w errors e =
     record { output = writer_of output w; errors = writer_of errors e }
@@ -94,7 +93,7 @@ abbrev pub OnlyWrites : {X : Type 0} → (before after : Writer) → Result X Ru
 OnlyWrites before after result =
     CountsCalls before after result × (after.flushes ≡ before.flushes)
 
--- No call of the writer failed, and no write took nothing, between these states.
+-- Between these states, no call of the writer failed, and no write took nothing.
 abbrev pub IsSame : (before after : Writer) → Type 0
 IsSame before after =
     (after.failures ≡ before.failures) × (after.empty_writes ≡ before.empty_writes)
@@ -341,11 +340,11 @@ pub record LeavesDevices (pieces : RunPieces) (from to : Input) (before after : 
   pub order : after.errors.flushes.failed ≢ before.errors.flushes.failed
       → IsHandedOn before.output after.output
   pub flushed : HandsOn before after result
-  -- a fault `Read` is counted by the input
+  -- the input counts a `Read` fault
   pub failures : to.failures ≡ read_failures_after from.failures result
   pub reads : ReadsAtMost from.reads to.reads result
   pub flushes : FlushesByRead from.reads to.reads before after
-  -- a fault `Write` is counted by a writer
+  -- a writer counts a `Write` fault
   pub writers : BlamesWriter before after result
 
 -- the octets that were read, to the end; or a fault, never one of a write

@@ -136,7 +136,7 @@ abbrev pub number_fault : NumberFault → ItemFault
 number_fault Large = wrong.OutOfRange
 number_fault _ = wrong.Number
 
--- numbers below this limit fit into `width` bits; all ones are excluded if they mean missing
+-- the limit below which numbers fit into `width` bits; all ones are excluded if they mean missing
 -- rule: packs-class-31
 abbrev pub raw_limit : (may_be_missing : Bool) (width : ℕ) → ℕ
 raw_limit m width = if m then ones width else 2 ^ width
@@ -241,12 +241,12 @@ IsContentOf spec field_content.Missing =
 IsContentOf spec (field_content.Reference value) =
     (is_reference spec.role ≡ true) × (unsigned_abs value < 2 ^ (spec.width - 1))
 
--- minus zero: the sign bit alone; none is written (a choice of this project)
+-- minus zero: the sign bit alone; none is written (own)
 abbrev pub IsMinusZero : Role → List Bool → Type 0
 IsMinusZero role.Reference bits = bits ≡ true ∷ replicate (length bits - 1) false
 IsMinusZero _ bits = ⊥
 
--- ---- The one spelling that a dump has of an item. (a choice of this project)
+-- ---- The one spelling that a dump has of an item. (own)
 
 -- the text that a dump writes for a decimal at a scale; a text that is no decimal stays
 abbrev pub decimal_again : List ℕ → ℤ → Result ℤ NumberFault → List ℕ

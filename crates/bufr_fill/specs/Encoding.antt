@@ -157,7 +157,7 @@ packed_over spec cs =
     let increments = flat_map (increment_for c base k) cs in
     if nat_le k 63 then Ok (packed_bits (bits_in base spec.width) k increments) else Err increment
 
--- contents that differ, by the role of the field: factors and redefined references must be the same
+-- contents that differ: factors and redefined references must not
 -- rule: packs-factors-and-references, fault-59
 abbrev pub packed_unlike : Role → FieldSpec → List Content → Result (List Bool) FieldFault
 packed_unlike role.Factor spec cs = Err unequal_factor

@@ -6,14 +6,14 @@ use Rattle.bufr_frame.specs.declared.fault.RunFault.{RunFault}
 use Rattle.bufr_frame.specs.declared.fault.RunFault.TheVariants.{Read, Write, InputTooLong, Memory}
 use Rattle.std.specs.Io.KnownBytes.{Consumes, IsAtEnd}
 
--- ---- The counts of a reader after a call. (a choice of this project)
+-- ---- The counts of a reader after a call. (own)
 
 -- the count of failed reads after a call: `Err Read` adds one, and nothing else does
 abbrev pub read_failures_after : {X : Type 0} → ℕ → Result X RunFault → ℕ
 read_failures_after count (Err Read) = counted count 1
 read_failures_after count _ = count
 
--- the most reads of one input
+-- the maximum number of reads of one input
 abbrev pub max_reads : ℕ
 max_reads = 2 ^ 32
 

@@ -4,11 +4,11 @@
 use Rattle.std.specs.Prelude.{ℕ, ◌+◌, ◌*◌, ◌/◌, ◌%◌, List, [], ◌∷◌, ◌++◌, slice_index}
 use Rattle.bufr_frame.specs.declared.message.Words.{Words}
 
--- the number in the three octets from index p on
+-- the number in the three octets that begin at index p
 abbrev pub u24_at : List ℕ → ℕ → ℕ
 u24_at m p = 65536 * slice_index m p + 256 * slice_index m (p + 1) + slice_index m (p + 2)
 
--- the number in the two octets from index p on
+-- the number in the two octets that begin at index p
 abbrev pub u16_at : List ℕ → ℕ → ℕ
 u16_at m p = 256 * slice_index m p + slice_index m (p + 1)
 

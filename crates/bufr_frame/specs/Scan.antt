@@ -77,7 +77,7 @@ is_decided _ = true
 abbrev pub open_scan : List ℕ → List StreamEvent
 open_scan s = take_while is_decided (scan s)
 
--- ---- The greatest length that was stated. (a choice of this project)
+-- ---- The greatest length that was stated. (own)
 
 -- the length that octets 5 to 7 state, 0 where there are not eight octets
 abbrev pub length_here : List ℕ → ℕ
@@ -99,7 +99,7 @@ abbrev pub first_event : List StreamEvent → List StreamEvent
 first_event [] = []
 first_event (event ∷ more) = event ∷ []
 
--- ---- How a scan goes on after its first events. (a choice of this project)
+-- ---- How a scan goes on after its first events. (own)
 
 -- The scan of `rest` is `events` and then that of `rest'`, whatever comes after these octets.
 pub record Advances (ended : Bool) (at : ℕ) (rest : List ℕ) (events : List StreamEvent) (at' : ℕ)

@@ -5,7 +5,7 @@ use Rattle.std.specs.Prelude.{ℕ, ◌+◌, ◌==◌, ◌||◌, Bool, List, [], 
 use Rattle.bufr_frame.specs.Octets.{u16_at, two_octets}
 use Rattle.bufr_frame.specs.declared.section1.Head.{Head}
 
--- the editions that are read and written: 3 and 4
+-- whether an edition is supported: 3 and 4 are
 -- rule: edition-first
 abbrev pub is_edition : ℕ → Bool
 is_edition edition = (edition == 3) || (edition == 4)
@@ -105,7 +105,7 @@ values_of h =
     ∷ h.local_subcategory ∷ h.master_version ∷ h.local_version ∷ h.year ∷ h.month ∷ h.day
     ∷ h.hour ∷ h.minute ∷ h.second ∷ []
 
--- the greatest value of each, in an edition
+-- the greatest value of each key after the edition, in an edition
 -- rule: reading-header-ranges
 abbrev pub greatest_values : (edition : ℕ) → List ℕ
 greatest_values edition =

@@ -18,7 +18,7 @@ pub record Tables : Type 0 where
   pub known : ℕ → Bool
   pub members : ℕ → Option (List ℕ)
 
--- the most groups and sequences that may be nested
+-- the maximum number of nested groups and sequences
 abbrev pub max_open : ℕ
 max_open = 32
 
@@ -125,7 +125,8 @@ sequence_part tables inner places d = do
   tree ← expand places members
   Ok (part tree 0)
 
--- one descriptor, by its F; `width_given` means that 2 06 Y comes directly before it
+-- the nodes of one descriptor, which depend on its F; `width_given` means that 2 06 Y comes
+-- directly before it
 -- rule: descriptor-kinds
 unfoldable pub part_of : Tables → Option Expansion → Bool → ℕ → ℕ → List ℕ
     → Result ExpandedPart TemplateFault
@@ -208,7 +209,7 @@ pub data ListsLeaves (members : ℕ → Option (List ℕ)) : List ℕ → List �
       → ListsLeaves members inner inside → ListsLeaves members after said
       → ListsLeaves members (d ∷ after) (inside ++ said)
 
--- That every group of a template, and the whole, takes bits of the data (a choice of this project).
+-- That every group of a template, and the whole, takes bits of the data (own).
 
 -- some node of each group's body takes bits, and each fixed count is above 0
 abbrev pub EveryGroupConsumes : Tree → Type 0

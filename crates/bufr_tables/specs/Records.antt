@@ -19,7 +19,7 @@ use Rattle.csv.specs.declared.reader.Reader.{Reader}
 use Rattle.bufr_tables.specs.declared.rows.RecordReader.{RecordReader}
 use Rattle.csv.specs.declared.reader.Trim.TheVariants as trim
 
--- ---- Whole numbers: an optional `-` and one or more digits. (a choice of this project)
+-- ---- Whole numbers: an optional `-` and one or more digits. (own)
 
 -- the number that a text of one or more digits represents
 unfoldable pub natural_of : List ℕ → Option ℕ
@@ -66,7 +66,7 @@ abbrev pub ReturnsUnlessMemory : {A : Type 0} → Result A TableFault → Result
 ReturnsUnlessMemory expected (Ok x) = expected ≡ Ok x
 ReturnsUnlessMemory expected (Err fault) = fault ≢ Memory → expected ≡ Err fault
 
--- A table as the records of its text: a header, and under it a row each. (A choice of this project)
+-- A table as the records of its text: a header, and under it a row each. (own)
 
 -- whether the fields of a record are exactly these names
 abbrev pub has_fields : List (List ℕ) → Record → Bool

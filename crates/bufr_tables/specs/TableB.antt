@@ -15,14 +15,14 @@ use Rattle.bufr_tables.specs.declared.table_b.Stored.{Stored}
 use Rattle.bufr_tables.specs.declared.table_b.ParsedRow.{ParsedRow}
 use Rattle.bufr_tables.specs.declared.table_b.TableB.TheInside.{Inside}
 
--- ---- What a unit says of the values; ASCII case makes no difference. (a choice of this project)
+-- ---- What a unit says of the values; ASCII case makes no difference. (own)
 
 -- whether a text begins with these words, in upper or lower case
 unfoldable pub begins_with : List ℕ → List ℕ → Bool
 begins_with text words = str_eq_ignore_ascii_case (take (length words) text) words
 
--- the kind of an element, by its unit in upper or lower case: text, a code or flag table, or a
--- quantity
+-- the kind of an element, which its unit (in upper or lower case) determines: text, a code or flag
+-- table, or a quantity
 -- rule: kind-by-unit
 unfoldable pub kind_of : List ℕ → Kind
 kind_of unit =

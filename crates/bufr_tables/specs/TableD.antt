@@ -108,7 +108,7 @@ pub record AreSequences (records : List Record) (table : List Sequence) : Type 0
   pub members : (fxy : ℕ) → members_or_none table fxy ≡ members_in rows fxy
 
 -- ---- Chains of members: a sequence that holds itself by one cannot be expanded.
--- (WMO-No. 306, Volume I.2, FM 94: Table D; the fault is a choice of this project)
+-- (WMO-No. 306, Volume I.2, FM 94: Table D; the fault is our choice)
 
 -- Sequence `from` has the member `to`, which is also a sequence of the table.
 pub record Leads (table : List Sequence) (from to : ℕ) : Type 0 where

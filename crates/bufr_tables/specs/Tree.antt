@@ -58,7 +58,7 @@ consumes (fixed count body rest) = consumes body || consumes rest
 consumes (delayed factor body rest) = true
 
 -- ---- Which operators a template may hold, and with which operands (WMO-No. 306, Volume I.2,
--- FM 94: Table C; these seven and the bounds are a choice of this project)
+-- FM 94: Table C; these seven and the bounds are our choice)
 
 -- Whether the operator 2 X Y is supported. The others of Table C (2 04 and 2 21 to 2 43) are
 -- refused (own), and so is 2 07 Y above 18 (own): 2 07 019 would add 64 bits, and a quantity has at

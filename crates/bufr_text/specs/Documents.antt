@@ -16,7 +16,7 @@ use Rattle.bufr_text.specs.declared.document.LineGroup.{LineGroup}
 use Rattle.std.specs.List.{onto_first}
 use Rattle.bufr_text.specs.declared.document.LineGroup.TheVariants as group
 
--- ---- A message as its text gives it; no value is looked at yet. (a choice of this project)
+-- ---- A message as its text gives it; no value is looked at yet. (own)
 
 -- what the lines of a document say
 pub record Document : Type 0 where
@@ -101,7 +101,7 @@ abbrev pub beginning : (read : ℕ) → Document → (subset : ℕ) → LineEffe
 beginning read d subset = if (subset == read + 1) && nat_le subset (header_in d).subsets
     then Continues (Filling subset) else Refuses SubsetCount
 
--- the line `end` after `read` subsets: these must be all subsets
+-- the line `end` after `read` subsets: no subset may be missing
 -- rule: reading-subsets, fault-57
 abbrev pub closing : (read : ℕ) → Document → LineEffect
 closing read d = if read == (header_in d).subsets then Completes else Refuses SubsetCount
@@ -169,7 +169,7 @@ adds (Filling subset) (Begins next) = true
 adds (Filling subset) Closes = true
 adds state line = false
 
--- the most octets of a line, without its line feed
+-- the maximum number of octets in a line, without its line feed
 abbrev pub max_line : ℕ
 max_line = 4096
 

@@ -131,7 +131,7 @@ document_of at s subsets = record {
   entries = subset_entries (at + lines_before s) subsets;
 }
 
--- ---- The items that a reading gives to a dump text. (a choice of this project)
+-- ---- The items that a reading gives to a dump text. (own)
 
 -- the items of a subset as they are shown
 abbrev pub items_shown : List Row → List (Item Content) → List View

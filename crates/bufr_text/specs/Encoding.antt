@@ -23,7 +23,7 @@ use Rattle.bufr_fill.specs.declared.fault.DraftFault.TheVariants as draft_fault
 use Rattle.bufr_walk.specs.declared.walker.WalkStop.TheVariants as stops
 use Rattle.bufr_tables.specs.declared.fault.TemplateFault.TheVariants as template_fault
 
--- ---- The form in which the data of a document are written. (a choice of this project)
+-- ---- The form in which the data of a document are written. (own)
 
 -- whether data are compressed in a form; `written` is what the document says
 -- rule: writes-form
@@ -68,7 +68,7 @@ data_bits compressed course subsets = bits_of_writing (writing_of compressed cou
 abbrev pub octets_of_bits : List Bool → List ℕ
 octets_of_bits bits = octets_in ((length bits + 7) / 8) (bits ++ padding (length bits))
 
--- the parts of the message of a document, which has this payload
+-- the parts of a document's message with this payload
 -- rule: writes-local-use
 abbrev pub parts_as : (compressed : Bool) → Document → (payload : List ℕ) → MessageParts
 parts_as compressed d payload =

@@ -254,8 +254,8 @@ valued read (fxy, rest) = made (λ text. made (item_if_comment fxy) (read text))
 abbrev pub item_line : (List ℕ → Option (DraftValue × List ℕ)) → List ℕ → Line
 item_line read text = made (valued read) (fxy_read text)
 
--- A line by its first word and the text after this word. It is `Wrong` if that text is not what the
--- word needs. The last case is a header line, whose first word is a key.
+-- A line, given its first word and the text after this word. It is `Wrong` if that text is not what
+-- the word needs. The last case is a header line, whose first word is a key.
 -- rule: reading-reference
 unfoldable pub worded : (word rest : List ℕ) → Line
 worded word rest =

@@ -13,7 +13,7 @@ use Rattle.bufr_text.specs.Line.{Closes}
 use Rattle.std.specs.Io.KnownBytes.{Consumes, IsAtEnd}
 use Rattle.bufr_frame.specs.declared.fault.RunFault.TheVariants.{Read, Write, InputTooLong, Memory}
 
--- ---- The faults of a dump text, and their numbers. (a choice of this project)
+-- ---- The faults of a dump text, and their numbers. (own)
 
 -- a fault of a line: it is not allowed there; a subset is not the next one, or is missing at `end`;
 -- or the value of a header line is out of range
@@ -26,7 +26,7 @@ abbrev pub number_of_read_fault : ReadFault → ℕ
 number_of_read_fault (Line line fault) = (line_report fault).0
 number_of_read_fault (Run fault) = (run_report fault).0
 
--- ---- How a reading of documents goes on, piece by piece. (a choice of this project)
+-- ---- How a reading of documents goes on, piece by piece. (own)
 
 -- octets of one line
 abbrev pub has_no_feed : List ℕ → Bool

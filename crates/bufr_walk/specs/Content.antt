@@ -156,8 +156,8 @@ pub data Coding : Type 0 where
   texts : (octets : ℕ) → Coding
   references : Coding
 
--- the coding of a field, by its role and kind: a reference is recognised by its role, a text by its
--- kind
+-- the coding of a field, from its role and kind: a redefined reference is recognised by its role,
+-- and a text by its kind
 abbrev pub coding_by : Role → Kind → FieldSpec → Coding
 coding_by role.Reference _ spec = references
 coding_by _ kind.Character spec = texts (spec.width / 8)
@@ -202,7 +202,7 @@ abbrev pub reference_in : Content → ℤ
 reference_in (reference value) = value
 reference_in _ = pos 0
 
--- the part of a content that affects the walk, by the role of the field
+-- the part of a content that affects the walk, which depends on the role of the field
 abbrev pub answer_by_role : Role → Content → Taken
 answer_by_role role.Factor c = taken.Count (count_in c)
 answer_by_role role.Reference c = taken.Reference (reference_in c)

@@ -58,7 +58,7 @@ counts_in taken.Plain counts = counts
 counts_in (taken.Count n) counts = n ∷ counts
 counts_in (taken.Reference r) counts = counts
 
--- the counts of the factors among the fields so far, by what the fields returned
+-- the counts of the factors among the fields so far, taken from what the fields returned
 abbrev pub counts_of : List Taken → List ℕ
 counts_of [] = []
 counts_of (t ∷ answers) = counts_in t (counts_of answers)

@@ -88,12 +88,12 @@ ReadsSubsets course (items ∷ subsets) bits suffix =
     (mid : List Bool) × ReadsPass plain course items bits mid
     × ReadsSubsets course subsets mid suffix
 
--- the most values of a compressed message: 2^27 (own)
+-- the maximum number of values in a compressed message: 2^27 (own)
 -- rule: too-many-values
 abbrev pub max_values : ℕ
 max_values = 134217728
 
--- how many items of compressed data have room at once (a choice of this project)
+-- how many items of compressed data have room at once (own)
 abbrev pub items_at_once : ℕ
 items_at_once = 64
 
@@ -177,13 +177,13 @@ wrong_of fxy unequal_factor = wrong.UnequalFactor fxy
 abbrev pub would_be_many : (subsets items_before : ℕ) → Bool
 would_be_many subsets items_before = nat_lt max_values ((items_before + 1) * subsets)
 
--- ---- The faults of the data, by what stops a reading. (The numbers are a choice of this project.)
+-- ---- The faults of the data, by what stops a reading. (The numbers are our choice.)
 
 -- a location
 abbrev pub spot : (subset fxy bit : ℕ) → Spot
 spot subset fxy bit = record { subset = subset; fxy = fxy; bit = bit }
 
--- the fault of a message whose reading stopped in this subset, after `bit` bits
+-- the fault of a message whose reading stopped in this subset, after `bit` bits of the data
 -- rule: stream-fault-place
 abbrev pub fault_at : WalkStop DataFault → (subset bit : ℕ) → WalkFault
 fault_at (stops.Width fxy) subset bit = fault.Width (spot subset fxy bit)

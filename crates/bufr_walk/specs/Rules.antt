@@ -177,7 +177,7 @@ text_spec r fxy width listed = record (unsigned_field fxy width)
 abbrev pub text_width : OperatorModel → ℕ → ℕ
 text_width s width = if s.character_octets == 0 then width else 8 * s.character_octets
 
--- an element by its row, its kind and the operators in effect
+-- the specification of an element, from its row, its kind and the operators in effect
 abbrev pub spec_by_kind : Kind → OperatorModel → Row → Result FieldSpec TurnRefusal
 spec_by_kind kind.Numeric s row = if_valid_width (numeric_spec s row)
 spec_by_kind kind.Coded s row = if_valid_width (coded_spec s row)
@@ -190,8 +190,8 @@ abbrev pub defined_field : OperatorModel → ℕ → FieldSpec
 defined_field s fxy = record (unsigned_field fxy s.new_reference_width)
     { role = role.Reference; may_be_missing = false }
 
--- an element that is met while references are being redefined: its new reference; a text is refused
--- (own)
+-- the specification of the new reference of an element, while references are being redefined; text
+-- is refused (own)
 -- rule: defining-no-text
 abbrev pub new_reference_spec : Kind → OperatorModel → ℕ → Result FieldSpec TurnRefusal
 new_reference_spec kind.Character s fxy = Err (refusal.Defining fxy)
@@ -207,16 +207,16 @@ local_width_spec (Some row) s fxy =
     if row.width == s.local_width then spec_by_kind row.kind begin row
     else if_valid_width (unsigned_field fxy s.local_width)
 
--- An element that no 2 06 Y precedes, by its row: a redefined reference or a value. It always has a
--- row, by the law below; the case `None` is there since each definition needs a value for all
--- arguments.
+-- The specification of an element that does not follow 2 06 Y, from its row: a redefined reference
+-- or a value. By the law below, the row always exists; `None` is covered because a definition must
+-- have a value for all arguments.
 -- rule: fault-32-before-31
 abbrev pub listed_by : Option Row → OperatorModel → ℕ → Result FieldSpec TurnRefusal
 listed_by None s fxy = Err (refusal.Width fxy)
 listed_by (Some row) s fxy =
     if is_defining s then new_reference_spec row.kind s fxy else spec_by_kind row.kind s row
 
--- an element, by Table B and the operators in effect
+-- the specification of an element, from Table B and the operators in effect
 abbrev pub element_spec : List Row → OperatorModel → ℕ → Result FieldSpec TurnRefusal
 element_spec table s fxy =
     if nat_lt 0 s.local_width then local_width_spec (entry_of table fxy) s fxy
@@ -228,18 +228,20 @@ abbrev pub factor_field : Row → ℕ → FieldSpec
 factor_field row fxy = record (coded_spec begin row)
     { fxy = fxy; role = role.Factor; kind = kind.Numeric; may_be_missing = false }
 
--- a factor by its row; as in `listed_by`, it always has one
+-- the specification of a factor, from its row, which it always has (see `listed_by`)
 abbrev pub factor_by : Option Row → ℕ → Result FieldSpec TurnRefusal
 factor_by None fxy = Err (refusal.Width fxy)
 factor_by (Some row) fxy = if_valid_width (factor_field row fxy)
 
--- the factor of a delayed replication; it is refused while references are being redefined (own)
+-- the specification of the factor of a delayed replication; factors are refused while references
+-- are being redefined (own)
 -- rule: factor-by-entry, defining-no-delayed-group
 abbrev pub factor_spec : List Row → OperatorModel → ℕ → Result FieldSpec TurnRefusal
 factor_spec table s fxy =
     if is_defining s then Err (refusal.Defining fxy) else factor_by (entry_of table fxy) fxy
 
--- the Y characters that 2 05 Y inserts; refused while references are being redefined (own)
+-- the specification of the Y characters that 2 05 Y inserts; they are refused while references are
+-- being redefined (own)
 -- rule: 2-05-y, defining-no-inserted-text
 abbrev pub inserted_spec : OperatorModel → ℕ → Result FieldSpec TurnRefusal
 inserted_spec s fxy =

@@ -1,4 +1,4 @@
-//! Faults in the data of a message. (Their numbers and their order are a choice of this project.)
+//! Faults in the data of a message. (Their numbers and their order are our choice.)
 ghost use Rattle.std.specs.Prelude.{◌≡◌};
 ghost use Rattle.bufr_walk.specs.Prelude.{data_report, fault_at};
 ghost use Rattle.bufr_walk.specs.declared.walker.WalkStop.TheVariants as stops;
