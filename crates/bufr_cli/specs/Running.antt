@@ -19,7 +19,7 @@ use Rattle.std.specs.Global.{Global}
 use Rattle.bufr_bits.specs.declared.device.Sink as sink
 use Rattle.bufr_bits.specs.declared.device.Source as source
 
--- ---- What an input and the writers have counted at one time, and which writer a fault is of. (own)
+-- ---- The counts of an input and of the writers, and which writer a fault comes from. (own)
 
 -- The state of an input: the octets that are left (if they are known), the number of reads, and how
 -- many of these failed.
@@ -130,7 +130,7 @@ pub record WritesPrefixes (before after : Writers) (pieces : List Piece) : Type 
 pub record WrittenInPart (before after : Writers) (pieces : List Piece) : Type 0 where
   -- the pieces that were written completely
   pub given : List Piece
-  -- the piece after them, of which a prefix was written
+  -- the piece after them, of which a prefix (possibly empty) was written
   pub next : Option Piece
   -- the pieces that were not written
   pub rest : List Piece
@@ -295,7 +295,7 @@ pub record ReadsAndWrites (pieces : RunPieces) (from to : Input) (before after :
 abbrev pub IsUnrefused : RunPieces → List Piece → Type 0
 IsUnrefused pieces given = pieces.stops ≡ true → count_by is_refused given ≡ 0
 
--- no flush of a writer failed
+-- No flush of a writer failed.
 abbrev pub NoFlushFails : (before after : Writers) → Type 0
 NoFlushFails before after =
     (after.output.flushes.failed ≡ before.output.flushes.failed)

@@ -52,7 +52,7 @@ unroll (delayed fxy body more) rest (n ∷ counts) =
 abbrev pub turns_of : Tree → Rest
 turns_of template = unroll template (λ _. finish)
 
--- the counts after a field: that of a factor comes before those of later factors
+-- the counts after a field: if the field is a factor, its count precedes those of later factors
 abbrev pub counts_in : Taken → List ℕ → List ℕ
 counts_in taken.Plain counts = counts
 counts_in (taken.Count n) counts = n ∷ counts

@@ -28,7 +28,7 @@ pub record OperatorModel : Type 0 where
   pub width_change : ℕ
   -- 2 02 Y: Y - 128 is added to the scale of a quantity
   pub scale_change : ℕ
-  -- 2 03 Y: references of Y bits are being defined; 0 after 2 03 255
+  -- 2 03 Y: references are being redefined, with Y bits each; 0 after 2 03 255
   pub new_reference_width : ℕ
   -- 2 07 Y: a quantity has Y more decimal digits
   pub precision_increase : ℕ
@@ -53,7 +53,7 @@ begin =
       new_references = [];
     }
 
--- whether references are being defined
+-- whether references are being redefined
 abbrev pub is_defining : OperatorModel → Bool
 is_defining s = nat_lt 0 s.new_reference_width
 
