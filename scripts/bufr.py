@@ -35,6 +35,7 @@ there is no library, importing this module raises `ImportError`.
 """
 from __future__ import annotations
 
+import operator
 import pathlib
 import re
 from decimal import Decimal
@@ -228,7 +229,8 @@ def _table_of_subsets(part: Part, columns: Sequence[str]) -> _Table:
         # Where the items of each subset begin and end in `places`.
         begins = numpy.flatnonzero(numpy.diff(row[places], prepend=-1))
         ends = numpy.append(begins[1:], len(places))[: len(begins)]
-        chosen = begins + int(column[7:] or 1) - 1
+        # No subset contains more items than `places`, and a greater number could overflow.
+        chosen = begins + min(int(column[7:] or 1) - 1, len(places))
         chosen = places[chosen[chosen < ends]]
         indices = numpy.full(len(message), -1, "i8")
         indices[row[chosen]] = chosen
@@ -390,7 +392,7 @@ def frame(
     """
     import pandas
 
-    columns, header, keep = bufr_text.checked(columns, header, keep, not levels, _KEYS_OF_FILES)
+    columns, header, keep = bufr_text.checked(columns, header, keep, not levels, _KEYS_OF_FILES, levels)
     if keep and not levels:
         raise TypeError("keep= needs levels=True")
     reader = Reader(source, None if levels else columns, where, tables, faults)
@@ -456,7 +458,7 @@ def levels(
         >>> next(bufr.levels("sounding.bufr", ["007004", "012101"], keep=["001002"]))
         (836, 98520, 258.55)
     """
-    columns, header, keep = bufr_text.checked(columns, header, keep, False, _KEYS_OF_FILES)
+    columns, header, keep = bufr_text.checked(columns, header, keep, False, _KEYS_OF_FILES, has_levels=True)
     return _tuples(_tables(Reader(source, None, where, tables, faults), columns, keep, has_levels=True), header)
 
 
@@ -487,13 +489,24 @@ class Items(NamedTuple):
     elements: Dict[str, Dict[str, str]]
     names: List[Dict[str, Tuple[str, str]]]
 
+    def __repr__(self) -> str:
+        counts = ((len(self.items), "item"), (len(self.messages), "message"))
+        items, messages = (f"{count} {word}" + "s" * (count != 1) for count, word in counts)
+        return f"<bufr.Items: {items} in {messages}>"
+
     def exact(self, index: int) -> Value:
         """Returns the value of an item: a `Decimal`, a string as bytes, or `None` if it is missing.
+
+        `index` is the index of the item in `items`.
 
         >>> bufr.items("synop.bufr", ["012101"]).exact(0)
         Decimal('259.35')
         """
-        kind, value, scale, length = self.items[index][["kind", "integer", "scale", "length"]].tolist()
+        try:
+            row = self.items[operator.index(index)]
+        except TypeError:
+            raise TypeError(f"expected the index of an item in items, found {index!r}") from None
+        kind, value, scale, length = row[["kind", "integer", "scale", "length"]].tolist()
         if kind == MISSING:
             return None
         if kind == TEXT:
@@ -502,6 +515,9 @@ class Items(NamedTuple):
 
     def frame(self) -> Any:
         """Returns a pandas data frame with a row for each item, including its descriptor and any text as strings.
+
+        `message_row` is the index of the message in `messages`, as in `items`. To add columns from `messages`, such as the
+        centre, pass `on="message_row"` to the method `join` of the data frame.
 
         The name and unit come from the Table B with which the item was read. New reference values, which are defined in the
         data, have the name REFERENCE. Strings are the same as in `bufr.frame`.
@@ -521,7 +537,8 @@ class Items(NamedTuple):
         names = [self.names[row] for row in self.items["message_row"][firsts].tolist()]
         elements = [known.get(word, ("", "")) for known, word in zip(names, words)]
         rows = self.messages[self.items["message_row"]]
-        columns = {key: rows[key] for key in ("file", "offset", "time")}
+        columns = {"message_row": self.items["message_row"].astype("i8")}
+        columns.update((key, rows[key]) for key in ("file", "offset", "time"))
         columns.update(subset=self.items["subset"].astype("i8"), fxy=numpy.array(words, object)[codes])
         for at, key in enumerate(("name", "unit")):
             columns[key] = numpy.array([element[at] for element in elements], object)[codes]

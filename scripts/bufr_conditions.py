@@ -21,6 +21,13 @@ KEYS = (
 )
 # How to write the keys with several numbers.
 EXAMPLES = {"centre": "98/0", "category": "0/2/0", "tables": "0/39/0"}
+# For header keys that are not fields in the output of `bufr ls`, the fields that contain them.
+FIELDS = {
+    **dict.fromkeys("year month day hour minute second".split(), "time, as in time=2023-03"),
+    "subcentre": "centre, as in centre=98/0",
+    **dict.fromkeys(("subcategory", "localsubcategory"), "category, as in category=0/2/0"),
+    **dict.fromkeys(("master", "masterversion", "localversion"), "tables, as in tables=0/39/0"),
+}
 # A time, or its beginning up to a separator.
 TIME = re.compile(r"\d{4,}(-\d{2,}(-\d{2,}(T\d{2,}(:\d{2,}(:\d{2,})?)?)?)?)?").fullmatch
 
@@ -52,10 +59,13 @@ class Conditions:
     def add(self, word: str) -> None:
         found = re.fullmatch(r"([a-z]+)(!?)=(.*)", word) if isinstance(word, str) else None
         if not found:
-            raise ValueError(f"{word!r} is not a condition: expected KEY=VALUE or KEY!=VALUE")
+            advice = "; a condition selects messages by their header, so it cannot contain a descriptor"
+            has_descriptor = isinstance(word, str) and re.match("[0-3][0-9]{5}", word)
+            raise ValueError(f"{word!r} is not a condition: expected KEY=VALUE or KEY!=VALUE{advice if has_descriptor else ''}")
         key, negated, text = found.groups()
         if key not in KEYS:
-            raise ValueError(f"unknown key '{key}' in '{word}'; the keys are {' '.join(KEYS)}")
+            advice = f"; use {FIELDS[key]}" if key in FIELDS else ""
+            raise ValueError(f"unknown key '{key}' in '{word}'{advice}; the keys are {' '.join(KEYS)}")
         if not re.fullmatch(r"[0-9T:/-]+(,[0-9T:/-]+)*", text):
             raise ValueError(f"the value in '{word}' can never match; use only digits, T, colons, slashes and hyphens")
         values = text.split(",")

@@ -10,6 +10,7 @@ from __future__ import annotations
 
 import io
 import itertools
+import operator
 import os
 import sys
 from dataclasses import dataclass
@@ -31,6 +32,8 @@ Source = Union[_One, Iterable[_One]]
 TwoTables = Optional[Tuple[Path, Path]]
 Faults = Union[str, List[Fault]]
 
+_SOURCES = "expected a file name, bytes, an open binary file, a Piece or a list of these"
+_TEXT = "the source is a text file; open it with mode 'rb'"
 _BLOCK = 1 << 20
 # The approximate number of bytes in a part, if only some items are wanted, and if all of them are.
 _PART, _PART_OF_ALL = 1 << 23, 1 << 20
@@ -43,6 +46,14 @@ class Piece:
     file: str
     begin: int
     end: int
+
+    def __post_init__(self) -> None:
+        try:
+            is_range = 0 <= operator.index(self.begin) <= operator.index(self.end)
+        except TypeError:
+            is_range = False
+        if not is_range:
+            raise ValueError(f"expected whole numbers with 0 <= begin <= end, found {self.begin!r} and {self.end!r}")
 
 
 class Part(NamedTuple):
@@ -84,6 +95,10 @@ class _Stream:
     def block(self) -> bytes:
         """Returns the next block of bytes, which is empty at the end."""
         octets = self.file.read(int(min(_BLOCK, self.left)))
+        if isinstance(octets, str):
+            raise TypeError(_TEXT)
+        if octets is None:
+            raise BlockingIOError("the source is in non-blocking mode and has no data yet")
         self.left -= len(octets)
         self.start = self.start or octets[:256]
         return octets
@@ -107,13 +122,17 @@ def _opened(source: Source) -> Iterator[_Stream]:
         with open(source, "rb") as file:
             yield _Stream(os.fspath(source), file)
     elif isinstance(source, io.TextIOBase):
-        raise TypeError("the source is a text file; open it with mode 'rb'")
+        raise TypeError(_TEXT)
     elif callable(getattr(source, "read", None)):
-        yield _Stream(str(getattr(source, "name", "stream")), cast(IO[bytes], source))
+        name = getattr(source, "name", None)  # the name of a temporary file is a number
+        yield _Stream(os.fsdecode(name) if isinstance(name, (str, bytes)) else "stream", cast(IO[bytes], source))
     elif not hasattr(source, "__iter__"):
-        raise TypeError(f"expected a file name, bytes, an open binary file, a Piece or a list of these, found {source}")
+        raise TypeError(f"{_SOURCES}, found {source}")
     else:
         for one in source:
+            if isinstance(one, (int, numpy.integer)):
+                array = "if it is an array of bytes, pass array.tobytes()"
+                raise TypeError(f"{_SOURCES}, found a list that contains the number {one}; {array}")
             yield from _opened(one)
 
 
@@ -174,7 +193,10 @@ def pieces(files: Union[Path, Iterable[Path]], size: int = 1 << 26, *, faults: F
     """
     found: List[Piece] = []
     checked_faults(faults)
-    for file in [files] if isinstance(files, (str, os.PathLike)) else files:
+    if not isinstance(size, (int, float, numpy.number)) or not size > 0:
+        raise ValueError(f"size must be a positive number of bytes, not {size!r}")
+    is_one = isinstance(files, (str, bytes, os.PathLike)) or hasattr(files, "read") or not isinstance(files, Iterable)
+    for file in cast(Iterable[Path], [files] if is_one else files):
         if not isinstance(file, (str, os.PathLike)) or file == "-":
             raise TypeError(f"expected the name of a file that other processes can open, found {file!r}")
         begin = 0
@@ -212,8 +234,10 @@ class Reader:
         tables: TwoTables = None,
         faults: Faults = "warn",
     ) -> None:
-        if tables is not None and (isinstance(tables, (str, os.PathLike)) or len(tables) != 2):
-            raise TypeError(f"expected tables=(B, D), the names of Table B and Table D, found {tables!r}")
+        if tables is not None:
+            are_names = isinstance(tables, (tuple, list)) and all(isinstance(name, (str, os.PathLike)) for name in tables)
+            if not are_names or len(tables) != 2:
+                raise TypeError(f"expected tables=(B, D), the names of Table B and Table D, found {tables!r}")
         self.source, self.conditions, self.faults = source, bufr_conditions.Conditions(where), checked_faults(faults)
         self.is_whole = True
         self.wanted, self.size = bufr_calls.words(columns), _PART_OF_ALL if columns is None else _PART

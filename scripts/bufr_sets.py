@@ -182,6 +182,24 @@ def descriptors(words: bytes) -> Tuple[str, ...]:
     return tuple(f"{word >> 14}{word >> 8 & 63:02}{word & 255:03}" for word in pairs)
 
 
+def can_have_value(fxy: str) -> bool:
+    """Returns whether an item can have this descriptor: that of an element, or 2 05 Y, which inserts characters."""
+    return fxy[:1] == "0" or fxy[:3] == "205"
+
+
+def instead(fxy: str, tables: Optional[TableSet]) -> str:
+    """Returns the part of an error message that explains a descriptor that no item can have.
+
+    If it is the descriptor of a sequence, the part lists its elements in a table set.
+    """
+    if fxy[0] != "3":
+        return f" but {'a replication' if fxy[0] == '1' else 'an operator'}, which has no value"
+    members = tables.used((fxy[:6],)) if tables else iter(())
+    found = [member for member in members if member[0] == "0"]
+    elements = ", ".join(found[:10] + ["and others"] * (len(found) > 10))
+    return f" but a sequence; pass the descriptors of its elements{elements and ': '}{elements}"
+
+
 # The table sets that can be made from public tables.
 
 WREPORT = "/usr/share/wreport"

@@ -59,7 +59,8 @@ HEADER = (
 # The contents of a quoted string: plain bytes and escapes.
 _QUOTED = rb'[ !#-\[\]-~]*(?:\\(?:["\\]|x[0-9A-F]{2})[ !#-\[\]-~]*)*'
 _FXY = rb"[0-3](?:[0-5]\d|6[0-3])(?:[01]\d\d|2[0-4]\d|25[0-5])"
-_COLUMN = re.compile(_FXY.decode() + r"(?::[1-9]\d*)?")
+_ELEMENT = re.compile(_FXY.decode(), re.ASCII)
+_COLUMN = re.compile(_FXY.decode() + r"(?::[1-9]\d*)?", re.ASCII)
 _DESCRIPTORS = re.compile(rb"descriptors(?: " + _FXY + rb"){1,8}")
 _HEX = re.compile(rb"(?:[0-9A-Fa-f]{2}){1,32}")
 _VALUE = rb'(?:(-?\d+(?:\.\d+)?)|"(' + _QUOTED + rb')"|MISSING)'
@@ -71,6 +72,7 @@ _LISTED = re.compile(
 )
 _FAULT = re.compile(rb"offset (\d+): (\d+) (.*)\n?")
 _NOTE = re.compile(rb"bufr-auto: (\d+) messages?(?: so far)?,(?: the first)? at offset (\d+): (.*)")
+_MESSAGES = "expected the name of a file, or messages from dump or read"
 _UNPRINTED = re.compile(rb'["\\]|[^ -~]')
 
 
@@ -288,6 +290,8 @@ class _Lines:
 
     def take(self) -> Optional[bytes]:
         for self.line in self.rest:
+            if not isinstance(self.line, bytes):
+                raise TypeError("expected lines as bytes; open the dump with mode 'rb'")
             self.number += 1
             self.line = self.line[:-1] if self.line.endswith(b"\n") else self.line
             if len(self.line) > 4096:
@@ -495,7 +499,7 @@ def levels(
     A subset is skipped if it has no levels, or if its levels are ambiguous because the descriptor that begins a level
     occurs again in the same level. A `DumpWarning` at the end says how many subsets were skipped for each of these reasons.
     """
-    columns, header, keep = checked(columns, header, keep)
+    columns, header, keep = checked(columns, header, keep, has_levels=True)
     found = _by_library("levels", messages, faults, where, columns, header, keep)
     if found is not None:
         return found
@@ -511,7 +515,8 @@ def _by_library(
 
     Returns `None` if the module is not available, or if the environment variable `BUFR` names a program.
     """
-    if not isinstance(file, (str, os.PathLike)) or os.environ.get("BUFR"):
+    # the module would read standard input if the name is -
+    if not isinstance(file, (str, os.PathLike)) or file == "-" or os.environ.get("BUFR"):
         return None
     try:
         import bufr
@@ -534,32 +539,40 @@ def _reported(told: _Told, found: Iterator[Tuple[Cell, ...]]) -> Iterator[Tuple[
 
 
 def checked(
-    columns: Iterable[str], header: Iterable[str], keep: Iterable[str] = (), has_counts: bool = False, more: Sequence[str] = ()
+    columns: Iterable[str],
+    header: Iterable[str],
+    keep: Iterable[str] = (),
+    has_counts: bool = False,
+    more: Sequence[str] = (),
+    has_levels: bool = False,
 ) -> List[List[str]]:
     """Returns the arguments as lists. Raises `ValueError` if a word is not a column or a header key.
 
-    If `has_counts` is true, a column can end with a count, such as `:2`. `more` contains additional header keys.
+    If `has_counts` is true, a column can end with a count, such as `:2`. `more` contains additional header keys. If
+    `has_levels` is true, there must be at least one column.
     """
     keys = (*HEADER, "optional", "subsets", "offset", "length", "message", "subset", *more)
     for words, example in ((columns, "012101"), (header, "time" if "time" in more else "year"), (keep, "001002")):
         if isinstance(words, str):
             raise ValueError(f"expected a list such as ['{words}'], found the string '{words}'")
+        if isinstance(words, bytes):
+            raise ValueError(f"expected a list such as ['{example}'], found {words!r}")
         if not isinstance(words, Iterable):
             raise TypeError(f"expected a list such as ['{example}'], found {words}")
     columns, header, keep = list(columns), list(header), list(keep)
-    form = _COLUMN if has_counts else re.compile(_FXY.decode())
+    if has_levels and not columns:
+        raise ValueError("expected a list such as ['012101'], found an empty list; a level needs at least one column")
+    form = _COLUMN if has_counts else _ELEMENT
     for word in (*columns, *keep):
         if not isinstance(word, str) or not form.fullmatch(word):
             if isinstance(word, str) and _COLUMN.fullmatch(word):
                 allowed = "counts are allowed only in columns that apply to a whole subset"
                 raise ValueError(f"'{word}' has a count, but {allowed}; pass '{word[:6]}'")
-            if re.fullmatch(r"\d{6}", str(word)):
+            if re.fullmatch("[0-9]{6}", str(word)):
                 limits = "in a descriptor FXXYYY, F is at most 3, XX at most 63, and YYY at most 255"
                 raise ValueError(f"no table defines {word}, because {limits}")
             raise ValueError(f"expected a descriptor such as 012101, found {word!r}{_meant(str(word), keys)}")
-        # The characters that 2 05 Y inserts are the only items whose descriptor is not that of an element.
-        if word[0] in "123" and word[:3] != "205":
-            raise ValueError(f"'{word}' is not an element{_instead(word)}")
+        _refuse_valueless(word)
     for word in header:
         if word not in keys:
             raise ValueError(f"the header has no key '{word}'; the keys are {', '.join(keys)}")
@@ -571,8 +584,11 @@ def _meant(word: str, keys: Sequence[str]) -> str:
 
     If the word occurs in the names of elements, the part lists their descriptors, starting with exact matches.
     """
-    if re.fullmatch(r"\d{4,5}", word):
+    if re.fullmatch("[0-9]{4,5}", word):
         return f"; write '0{word:0>5}'"
+    parts = re.split("[ ,]+", word.strip(" ,"))
+    if all(map(_COLUMN.fullmatch, parts)):
+        return f"; write {', '.join(map(repr, parts))}"
     if word in keys:
         return f", which is a header key; pass header=['{word}']"
     asked = word.upper()
@@ -582,15 +598,12 @@ def _meant(word: str, keys: Sequence[str]) -> str:
     return f", which occurs in the {where} of {', '.join(fxy for _, fxy in found)}" if word and found else ""
 
 
-def _instead(word: str) -> str:
-    """Returns the part of an error message that explains a descriptor and, if it is a sequence, lists its elements."""
-    if word[0] != "3":
-        return f" but {'a replication' if word[0] == '1' else 'an operator'}, which has no value"
-    tables = _latest()
-    members = tables.used((word[:6],)) if tables else iter(())
-    found = [fxy for fxy in members if fxy[0] == "0"]
-    elements = ", ".join(found[:10] + ["and others"] * (len(found) > 10))
-    return f" but a sequence; pass the descriptors of its elements{elements and ': '}{elements}"
+def _refuse_valueless(word: str) -> None:
+    """Raises `ValueError` if no item can have the descriptor in a column, because it is not that of an element."""
+    import bufr_sets
+
+    if not bufr_sets.can_have_value(word):
+        raise ValueError(f"'{word}' is not an element{bufr_sets.instead(word, _latest())}")
 
 
 def _latest() -> Optional[TableSet]:
@@ -629,12 +642,16 @@ def _messages(
         return dump(messages, faults=faults, where=where)
     if faults is not None or where:
         raise TypeError("faults= and where= can be used only with a file name; for messages, pass them to dump() instead")
-    return messages
+    if isinstance(messages, Iterable) and not isinstance(messages, str):
+        return messages
+    raise TypeError(f"{_MESSAGES}, found {messages!r}")
 
 
 def _subsets(messages: Iterable[Message], header: Sequence[str]) -> Iterator[Tuple[List[Cell], List[Item]]]:
     """Yields a pair for each subset: the values of the header keys, and the items."""
     for number, message in enumerate(messages, 1):
+        if not isinstance(message, Message):
+            raise TypeError(f"{_MESSAGES}, found {message!r}")
         known: Dict[str, Cell] = {**message.header, "offset": message.offset, "length": message.length}
         known.update(message=number, subsets=len(message.subsets), optional=int(message.section2 is not None))
         for count, subset in enumerate(message.subsets, 1):
@@ -901,6 +918,8 @@ class _Told:
     """Reports the refused messages and strays in a file, in order, and then the notes."""
 
     def __init__(self, file: _Path, faults: Optional[List[Fault]]) -> None:
+        if faults is not None and not hasattr(faults, "append"):
+            raise TypeError(f"faults must be a list or None, not {faults!r}")
         self.file, self.name, self.faults, self.is_bare = file, os.fsdecode(file), faults, False
         self.counts = FaultCounts()
         self.strays: Iterator[Fault] = iter(())
@@ -1017,6 +1036,8 @@ def encode(
     `form` is "plain" or "compressed". Without `form`, each message is encoded in the form that its header specifies.
     Raises `RunError` with the fault line if a message is refused.
     """
+    if form not in (None, "plain", "compressed"):
+        raise ValueError(f"form must be 'plain' or 'compressed', not {form!r}")
     if form is not None:
         compressed = ["plain", "compressed"].index(form)
         messages = (replace(one, header={**one.header, "compressed": compressed}) for one in messages)

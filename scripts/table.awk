@@ -33,10 +33,11 @@
 #     bufr dump -B B.csv -D D.csv FILE 2> faults |
 #       awk -v columns=offset,012101 -v listing=listing -v faults=faults -f scripts/table.awk
 #
-# Notes on standard error name the columns for which there are no items, and give the number of skipped subsets. The exit
-# status is 1 if a subset was skipped because its levels were ambiguous. It is 2 if a column is neither a descriptor nor a
-# header key, if the dump ends inside a message, or if the listing and the fault lines do not match the dump. The script
-# works with any awk.
+# Notes on standard error name the columns for which there are no items, and say which columns of levels occur only outside
+# the levels. They also give the number of skipped subsets. The exit
+# status is 1 if a subset was skipped because its levels were ambiguous. It is 2 if a column is neither a header key nor the
+# descriptor of an element, if the dump ends inside a message, or if the listing and the fault lines do not match the dump.
+# The script works with any awk.
 #
 # bufr-csv sets three more variables. Each note begins with `name`. With placed=1, a comment before each message gives the
 # message's offset, length and file, which can then be used as columns. With feed=0, rows are not flushed after each
@@ -52,6 +53,10 @@ function tell_skipped(count, kind, where) {
     kind = count > 1 ? count " subsets " kind "; the first is" : "a subset " kind ":"
     print name ": skipped " kind " message " where (count ? "" : "; others will not be reported") | "cat >&2"
     close("cat >&2")
+}
+
+function tell_empty(column, why) {
+    print name ": column " column " is empty, because " why | "cat >&2"
 }
 
 # Quotes a string. A string from an item contains escapes: JSON has the same \" and \\, but \u00HH for \xHH. A plain string
@@ -135,8 +140,12 @@ function split_columns(words, list, keys,   count, column, word) {
             is_key[word] = wanted[word] = 1
         else if (by_item)
             fail("without columns=, keep= can contain only header keys, but it contains '" word "'")
-        else if (is_descriptor(word, keys != ""))
+        else if (is_descriptor(word, keys != "")) {
+            # The characters that 2 05 Y inserts are the only items whose descriptor is not that of an element.
+            if (word !~ /^(0|205)/)
+                fail("'" word "' is not an element, so no item has this descriptor")
             wanted[substr(word, 1, 6)] = 1
+        }
         else
             fail("expected a six-digit descriptor" (keys == "" ? "" : " or a header key") ", found '" word "'")
         if (!(++total in label))
@@ -191,8 +200,11 @@ function end_pass(   column, line, others, value) {
     if (level[1] in values && (others || level_count == 1)) {
         rows[++row_count] = line
         for (column in values)
-            had[column] = 1
-    }
+            place[column] = 3
+    } else
+        for (column in values)
+            if (place[column] < 2)
+                place[column] = 2
     open = 0
     split("", values)
 }
@@ -201,6 +213,13 @@ function end_pass(   column, line, others, value) {
 function end_subset(   row, column, line) {
     if (subset && !by_item) {
         end_pass()
+        if (levels) {
+            # 1 for a column that has occurred only outside the levels, 2 for one in a level without a row, 3 for one in a row
+            for (column in place)
+                if (!twice && place_of[column] < place[column])
+                    place_of[column] = place[column]
+            split("", place)
+        }
         if (levels && !row_count && !twice && !bare++) {
             first_bare = message " subset " subset
             if (feed == 1)
@@ -273,15 +292,22 @@ function item(fxy) {
             left = field() + 0
             opener = ""
             opened = inner = 0
+            if (fxy in in_levels && !(fxy in place))
+                place[fxy] = 1
             return
         }
     }
     items++
-    if (open && fxy in in_levels && !(fxy in values))
-        values[fxy] = field()
+    if (fxy in in_levels) {
+        if (open && !(fxy in values))
+            values[fxy] = field()
+        if (!open && !(fxy in place))
+            place[fxy] = 1
+    }
 }
 
 BEGIN {
+    kept_by = name == "" ? "-v keep=" : "--keep "
     if (name == "")
         name = "table.awk"
     by_item = columns == ""
@@ -396,10 +422,15 @@ END {
         exit
     for (column = 1; column <= kept_count; column++)
         if (!(item_of[column] in had) && (has_rows || !levels))
-            print name ": column " kept[column] " is empty, because no row has an item for it" | "cat >&2"
-    for (column = 1; column <= level_count; column++)
-        if (!(level[column] in had))
-            print name ": column " level[column] " is empty, because no row has an item for it" | "cat >&2"
+            tell_empty(kept[column], "no row has an item for it")
+    # Without rows, a column that occurs in levels is not reported.
+    for (column = 1; column <= level_count; column++) {
+        word = level[column]
+        if (place_of[word] == 1)
+            tell_empty(word, word " occurs only outside the levels; pass " kept_by word " instead")
+        else if (place_of[word] < 3 && (has_rows || !place_of[word]))
+            tell_empty(word, "no row has an item for it")
+    }
     if (bare && feed != 1)
         tell_skipped(bare, "without a level", first_bare)
     if (unclear && feed != 1)

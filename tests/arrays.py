@@ -266,6 +266,7 @@ class Same(WithFolder):
             lambda faults: list(bufr_text.rows(self.stream, ["012101"], [], faults, ["time=2006"])),
             lambda faults: list(bufr_text.rows(self.folder / "empty", ["012101"], [], faults)),
             lambda faults: list(bufr_text.rows(self.folder / "none", ["012101"], [], faults)),
+            lambda faults: list(bufr_text.rows("-", ["012101"], [], faults)),  # the name of a file
             lambda faults: bufr_text.rows(self.stream, ["012101"], [], faults, ["categori=0"]),
             lambda faults: bufr_text.levels(self.stream, "012101", [], faults=faults),
         ]
@@ -314,6 +315,12 @@ class Sources(WithFolder):
         for source in (pandas.Series([], dtype=object), numpy.array([]), iter([])):
             self.assertEqual(bufr.frame(source, ["012101"], ["time"]).shape, (0, 2))
         self.assertEqual(len(bufr.pieces(pandas.Series(paths))), 2)
+        with tempfile.TemporaryFile() as file:  # its name is a number
+            file.write(octets)
+            file.seek(0)
+            self.assertEqual(next(bufr.rows(file, [], ["file"])), ("stream",))
+        with open(os.fsencode(SYNOP), "rb") as file:
+            self.assertEqual(next(bufr.rows(file, [], ["file"])), (str(SYNOP),))
 
     def test_standard_input(self):
         code = "import sys; sys.path.insert(0, sys.argv[1]); import bufr; print(len(bufr.frame('-', ['012101'])))"
@@ -324,8 +331,19 @@ class Sources(WithFolder):
         for source in (io.StringIO("BUFR"), open(SYNOP)):
             with source, self.assertRaisesRegex(TypeError, "is a text file; open it with mode 'rb'"):
                 bufr.frame(source, ["012101"])
+        # a text file that is not an instance of io.TextIOBase
+        with tempfile.NamedTemporaryFile("w+") as file, self.assertRaisesRegex(TypeError, "is a text file; open it with mode 'rb'"):
+            bufr.frame(file, ["012101"])
+        idle, end = os.pipe()
+        os.set_blocking(idle, False)
+        with open(idle, "rb", 0) as file, self.assertRaisesRegex(BlockingIOError, "the source is in non-blocking mode and has no data yet"):
+            bufr.frame(file, ["012101"])
+        os.close(end)
         told = "^expected a file name, bytes, an open binary file, a Piece or a list of these, found "
-        others = [(None, TypeError, f"{told}None$"), ([5], TypeError, f"{told}5$")]
+        others = [(None, TypeError, f"{told}None$"), (5, TypeError, f"{told}5$"), ([None], TypeError, f"{told}None$")]
+        advice = "; if it is an array of bytes, pass array.tobytes..$"
+        numbers = numpy.frombuffer(b"BUFR", "u1")
+        others += [(array, TypeError, f"^expected .*, found a list that contains the number 66{advice}") for array in ([66], numbers)]
         for source, error, told in [("none", FileNotFoundError, ""), (self.folder, IsADirectoryError, ""), *others]:
             with self.assertRaisesRegex(error, told):
                 bufr.frame(source, ["012101"])
@@ -390,6 +408,20 @@ class Sources(WithFolder):
         for files in ("-", [SYNOP, "-"], [b"BUFR"], [5], [bufr.Piece(str(SYNOP), 0, 595)]):
             with self.assertRaisesRegex(TypeError, "expected the name of a file that other processes can open, found "):
                 bufr.pieces(files)
+        for files, found in ((None, "None"), (5, "5"), (b"BUFR", "b'BUFR'"), (bufr.Piece("x", 0, 1), "Piece.*"), (io.BytesIO(b"BUFR"), "<.*>")):
+            with self.assertRaisesRegex(TypeError, f"expected the name of a file that other processes can open, found {found}$"):
+                bufr.pieces(files)
+        for size in (0, -1, "64MB", None, float("nan")):
+            with self.assertRaisesRegex(ValueError, f"size must be a positive number of bytes, not {size!r}$"):
+                bufr.pieces(SYNOP, size)
+        self.assertEqual(len(bufr.pieces(SYNOP, 1e6)), 1)
+
+    def test_pieces_that_are_not(self):
+        for begin, end in ((10, 5), (-1, 5), (0.0, 595.0), ("0", "595"), (None, None)):
+            with self.assertRaisesRegex(ValueError, "^expected whole numbers with 0 <= begin <= end, found "):
+                bufr.Piece(str(SYNOP), begin, end)
+        piece = bufr.Piece(str(SYNOP), numpy.int64(0), numpy.uint64(595))
+        self.assertEqual(len(bufr.frame([piece, pickle.loads(pickle.dumps(piece))], ["012101"])), 6)
 
     def test_progress(self):
         self.stream.write_bytes(SYNOP.read_bytes() * 9)
@@ -422,6 +454,11 @@ class Sources(WithFolder):
             (["category=0/2/0/0"], ValueError, never),
             (["subsets=1/2"], ValueError, f"{never} subsets=1, without leading zeros$"),
             (["subsets=1-"], ValueError, never),
+            (["year=2023"], ValueError, "unknown key 'year' in 'year=2023'; use time, as in time=2023-03; the keys are offset "),
+            (["subcentre!=0"], ValueError, "unknown key 'subcentre' in 'subcentre!=0'; use centre, as in centre=98/0; the"),
+            (["masterversion=39"], ValueError, "use tables, as in tables=0/39/0; the keys"),
+            (["012101=280"], ValueError, "^'012101=280' is not a condition: expected .*; a condition selects messages by their header"),
+            (["012101>280"], ValueError, "^'012101>280' is not a condition: expected .*; a condition selects messages by their header"),
         ]:
             for call in (bufr.rows, bufr_text.rows):
                 if where is not None or call is bufr.rows:
@@ -538,6 +575,11 @@ class Values(WithFolder):
             ((["012101"], "time"), "expected a list such as .'time'., found the string 'time'"),
             (([12101],), "expected a descriptor such as 012101, found 12101; write '012101'$"),
             ((["012101", "1015"],), "found '1015'; write '001015'$"),
+            ((b"012101",), "expected a list such as .'012101'., found b'012101'$"),
+            ((["\u0660\u0661\u0662\u0661\u0660\u0661"],), "expected a descriptor such as 012101, found '\u0660\u0661\u0662\u0661\u0660\u0661'$"),
+            ((["012101:1\u0661"],), "expected a descriptor such as 012101, found '012101:1\u0661'$"),
+            (([" 012101"],), "expected a descriptor such as 012101, found ' 012101'; write '012101'$"),
+            ((["001015,012101"],), "found '001015,012101'; write '001015', '012101'$"),
             ((["012101", 101],), "found 101$"),
             ((["time"],), "found 'time', which is a header key; pass header=.'time'.$"),
             ((["subset"],), "found 'subset', which is a header key; pass header=.'subset'.$"),
@@ -559,6 +601,10 @@ class Values(WithFolder):
             for word in ("012999", "064001", "401001", 912101):
                 with self.assertRaisesRegex(ValueError, f"^no table defines {word}, because in a descriptor FXXYYY, "):
                     call(SYNOP, ["001015", word])
+        for call in (bufr.levels, bufr_text.levels, lambda *words: bufr.frame(*words, levels=True)):
+            for columns in ([], (), iter([])):
+                with self.assertRaisesRegex(ValueError, "^expected a list such as .'012101'., found an empty list; "):
+                    call(SYNOP, columns)
         with self.assertRaisesRegex(ValueError, "'001002'"):
             bufr.levels(SYNOP, ["012101"], keep="001002")
         with self.assertRaisesRegex(ValueError, "found 'time', which is a header key; pass header=.'time'.$"):
@@ -570,6 +616,12 @@ class Values(WithFolder):
             bufr.frame(SYNOP, ["012101"], keep=5, levels=True)
         with self.assertRaisesRegex(TypeError, "keep= needs levels=True"):
             bufr.frame(SYNOP, ["012101"], keep=["001002"])
+
+    def test_great_counts(self):
+        for count in (10, 1 << 31, 1 << 63, 10**30):
+            for call in (bufr.rows, bufr_text.rows):
+                rows, told = told_by(lambda: list(call(SYNOP, [f"012101:{count}"])))
+                self.assertEqual((rows, told), ([(None,)] * 3, [f"column 012101:{count} is empty, because no row has an item for it"]))
 
     def test_columns_from_iterators(self):
         octets = SYNOP.read_bytes()
@@ -593,18 +645,39 @@ class Values(WithFolder):
     def test_items_as_a_frame(self):
         found = bufr.items([SYNOP, SYNOP], ["001015", "012101"])
         frame = found.frame()
-        self.assertEqual([*frame.columns], "file offset time subset fxy name unit value text".split())
+        self.assertEqual([*frame.columns], "message_row file offset time subset fxy name unit value text".split())
         rows = frame.fillna("none").to_numpy().tolist()
-        self.assertEqual(rows[9][3:], [2, "012101", "TEMPERATURE/AIR TEMPERATURE", "K", 282.55, "none"])
-        self.assertEqual(rows[8][3:], [2, "001015", "STATION OR SITE NAME", "CCITT IA5", "none", "HEATHROW"])
+        self.assertEqual(rows[9][4:], [2, "012101", "TEMPERATURE/AIR TEMPERATURE", "K", 282.55, "none"])
+        self.assertEqual(rows[8][4:], [2, "001015", "STATION OR SITE NAME", "CCITT IA5", "none", "HEATHROW"])
         self.assertEqual((frame["file"][8], str(frame["time"][8])), (str(SYNOP), "2023-03-14 18:00:00"))
         self.assertEqual(found.elements["012101"], {"name": "TEMPERATURE/AIR TEMPERATURE", "unit": "K"})
+        # two messages with the same offset, which only the row of `messages` tells apart
+        octets = SYNOP.read_bytes()
+        found = bufr.items([octets, octets], ["012101"])
+        self.assertEqual(found.frame()["message_row"].tolist(), [0] * 3 + [1] * 3)
+        self.assertEqual((found.frame()["message_row"] - 2).min(), -2)
+        messages = pandas.DataFrame(found.messages)
+        joined = found.frame().join(messages[["centre"]], on="message_row")
+        self.assertEqual(joined["centre"].tolist(), [78] * 6)
         self.assertEqual(len(bufr.items([]).frame()), 0)
         # a new reference value, and tables of one's own
         octets = (VECTORS / "messages/redefined_reference.bufr").read_bytes()
         names = bufr.items(octets, tables=OF_VECTORS).frame()[["fxy", "name", "unit", "value"]].to_numpy().tolist()
         self.assertEqual(names[0], ["012101", "REFERENCE", "", -400])
         self.assertEqual(names[1][1:3], [*bufr.frame(octets, ["012101"], tables=OF_VECTORS).attrs["012101"].values()])
+
+    def test_items_in_a_notebook(self):
+        found = bufr.items([SYNOP, SYNOP])
+        self.assertEqual(repr(found), "<bufr.Items: 684 items in 2 messages>")
+        self.assertEqual(repr(bufr.items(SYNOP, ["001015"])), "<bufr.Items: 3 items in 1 message>")
+        self.assertEqual(len(pickle.loads(pickle.dumps(found)).items), 684)
+        for index in (slice(0, 2), [0, 1], found.items["fxy"] == 12101, found.items[0], 1.0, "0"):
+            with self.assertRaisesRegex(TypeError, "^expected the index of an item in items, found "):
+                found.exact(index)
+        with self.assertRaises(IndexError):
+            found.exact(684)
+        air = numpy.flatnonzero(found.items["fxy"] == 12101)
+        self.assertEqual([found.exact(index) for index in air[:2]], [Decimal("259.35"), Decimal("282.55")])
 
     def test_names_and_units_of_each_version(self):
         """Names, units and kinds come from the table with which a value was read."""
@@ -846,7 +919,8 @@ class Faults(WithFolder):
             words = said.partition("run: bufr ")[2]
             done = subprocess.run(f"'{lib.program()}' {words}", shell=True, stderr=subprocess.PIPE)
             self.assertRegex(done.stderr.decode(), f"^table [BD]: {fault}$")
-        for tables in ((TABLES[0],), "tables/wmo-39", TOP / "tables/wmo-39", "BD"):
+        wrong = 5, False, (), (1, 2), iter(TABLES), (TABLES[0].encode(), TABLES[1].encode()), {"B": 1, "D": 2}
+        for tables in ((TABLES[0],), "tables/wmo-39", TOP / "tables/wmo-39", "BD", *wrong):
             with self.assertRaisesRegex(TypeError, r"^expected tables=.B, D., the names of Table B and Table D, found "):
                 bufr.frame(SYNOP, ["012101"], tables=tables)
         with self.assertRaises(FileNotFoundError):

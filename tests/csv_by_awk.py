@@ -241,7 +241,7 @@ def tries_levels(awk: list, sounding: bytes, synop: bytes) -> None:
     first = run(awk, NESTED, levels="1", columns="011001,007004")
     want(first == (0, "message,subset,011001,007004\n1,1,1,100\n", ""), f"{awk}: levels by an inner descriptor are {first}")
     behind = run(awk, NESTED, levels="1", columns="007004,012103")
-    told = "table.awk: column 007004 is empty, because no row has an item for it\ntable.awk: column 012103 is empty, because no row has an item for it\n"
+    told = "table.awk: column 012103 is empty, because 012103 occurs only outside the levels; pass -v keep=012103 instead\n"
     told += "table.awk: skipped a subset without a level: message 1 subset 1\n"
     wanted = (0, "message,subset,007004,012103\n", told)
     want(behind == wanted, f"{awk}: an item behind all passes is in a row: {behind}")
@@ -255,10 +255,11 @@ def tries_levels(awk: list, sounding: bytes, synop: bytes) -> None:
     told = "table.awk: column 001015 is empty, because no row has an item for it\n" + bare.format(one)
     want((status, errors) == (0, told), f"{awk}: a column of a subset without a level is told as {errors}")
     empty = run(awk, b"message\nsubset 1\n031001 2\nsubset 2\n012101 1.0\nend\n", levels="1", columns="012101")
-    wanted = (0, "message,subset,012101\n", "table.awk: column 012101 is empty, because no row has an item for it\n" + bare.format(two))
+    outside = "table.awk: column 012101 is empty, because 012101 occurs only outside the levels; pass -v keep=012101 instead\n"
+    wanted = (0, "message,subset,012101\n", outside + bare.format(two))
     want(empty == wanted, f"{awk}: passes without items give {empty}")
     _, _, errors = run(awk, ODD, levels="1", keep="001015", columns="012101")
-    told = "table.awk: column 012101 is empty, because no row has an item for it\n" + bare.format(one)
+    told = outside + bare.format(one)
     want(errors == told, f"{awk}: without a level, a kept column is told as {errors}")
     # the descriptor that begins a pass comes twice before an inner group
     again = b"message\nsubset 1\n031001 3\n" + b"007004 1\n007004 2\n031001 1\n011001 3\n" * 3 + b"end\n"

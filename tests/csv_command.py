@@ -354,6 +354,21 @@ def notes(folder: pathlib.Path) -> None:
     done = run("--levels", "-c", "020013,020011", SYNOP)
     told = b"bufr-csv: skipped a subset without a level: message 1 subset 1\n"
     holds("a subset without levels", (done.returncode, done.stderr) == (0, told), done)
+    # Columns that occur only outside the levels, and columns without rows, as bufr.levels warns of them.
+    outside = "bufr-csv: column {0} is empty, because {0} occurs only outside the levels; pass --keep {0} instead\n"
+    empty = "bufr-csv: column {} is empty, because no row has an item for it\n"
+    one = "bufr-csv: skipped a subset without a level: message 1 subset 1\n"
+    for columns, keep, wanted in [
+        ("001002,007004,012101", "", outside.format("001002") + one),
+        ("007004,001002", "", outside.format("001002") + one),
+        ("007004,012101,001002", "", outside.format("001002")),
+        ("012104", "001002", empty.format("012104") + one),
+        ("007004,012101,012104", "001002", empty.format("012104")),
+        ("007004", "012104", empty.format("012104")),
+    ]:
+        for options in ([], ["--json"]):
+            done = run("--levels", "-c", columns, *(["--keep", keep] if keep else []), *options, SOUNDING)
+            holds(f"--levels -c {columns} {options}: the notes", done.stderr.decode() == wanted, (done.stderr, wanted))
     bits = lib.Bits()
     bits.put(2, 8)
     for _ in range(2):
@@ -364,8 +379,12 @@ def notes(folder: pathlib.Path) -> None:
     (folder / "twice").write_bytes(twice)
     told = b"bufr-csv: skipped a subset with ambiguous levels: message 1 subset 1 (008002 begins a level and occurs again in it)%s\n"
     of_file = run("--levels", "-c", "020011", folder / "twice")
-    for what, done, rest in (("a file", of_file, b""), ("a pipe", done, b"; others will not be reported")):
-        holds(f"ambiguous levels of {what}", (done.returncode, done.stderr) == (1, told % rest), done)
+    column = empty.format("020011").encode()
+    for what, done, wanted in (
+        ("a file", of_file, column + told % b""),
+        ("a pipe", done, told % b"; others will not be reported" + column),
+    ):
+        holds(f"ambiguous levels of {what}", (done.returncode, done.stderr) == (1, wanted), done)
     done = run("--levels", "-c", "020011", folder / "nosuch", folder / "twice")
     holds("ambiguous levels after a missing file", done.returncode == 2, done)
     later = lib.asking(lib.message(b"\x14"), 45)
@@ -401,6 +420,12 @@ def refusals(_folder: pathlib.Path) -> None:
         (["-c", "012101:x"], b"a positive whole number after the colon"),
         (["-c", "012101:\u0662"], b"a positive whole number after the colon"),
         (["-c", "message"], keys),
+        (["-c", "301001"], b"column '301001' is not an element but a sequence; pass the descriptors of its elements: 001001, 001002"),
+        (["-c", "001001,363255"], b"'363255' is not an element but a sequence; pass the descriptors of its elements"),
+        (["-c", "301001:2"], b"'301001:2' is not an element but a sequence"),
+        (["-c", "201132"], b"'201132' is not an element but an operator, which has no value"),
+        (["--levels", "-c", "007004,101000"], b"'101000' is not an element but a replication, which has no value"),
+        (["--levels", "-c", "007004", "--keep", "222000"], b"'222000' is not an element but an operator"),
         (["-c", "time"], b"use 'year,month,day,hour,minute'"),
         (["-c", "001001,tables"], b"use 'master,masterversion,localversion'"),
         (["-c", "year", "--where=", "category=0"], b"'' is not a condition"),

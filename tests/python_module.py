@@ -840,6 +840,26 @@ class Runs(unittest.TestCase):
             bufr_text.encode([message], *TABLES)
         self.assertEqual((str(told.exception), told.exception.status), ("line 153: 52 number", 1))
 
+    def test_wrong_arguments(self):
+        synop, dump = TOP / "examples/synop.bufr", TOP / "examples/synop.txt"
+        [message, *_] = bufr_text.read([*dump.open("rb")])
+        for source, found in (([str(synop)], "'.*/synop.bufr'"), (b"BUFR", "66"), (None, "None"), (5, "5"), ([message.subsets], r"\[.*")):
+            for call in (bufr_text.rows, bufr_text.levels):
+                told = f"^expected the name of a file, or messages from dump or read, found {found}"
+                with self.assertRaisesRegex(TypeError, told):
+                    list(call(source, ["012101"]))
+        for faults in ("warn", "ignore", (), True):
+            for call in (lambda: bufr_text.dump(synop, faults=faults), lambda: bufr_text.listing(synop, faults)):
+                with self.assertRaisesRegex(TypeError, f"^faults must be a list or None, not {re.escape(repr(faults))}$"):
+                    list(call())
+            with self.assertRaisesRegex(TypeError, "^faults must be a list or None, not "):
+                list(bufr_text.rows(synop, ["012101"], faults=faults))
+        for stream in (dump.open(), dump.read_text()):
+            with self.assertRaisesRegex(TypeError, "^expected lines as bytes; open the dump with mode 'rb'$"):
+                list(bufr_text.read(stream))
+        with self.assertRaisesRegex(ValueError, "^form must be 'plain' or 'compressed', not 'zip'$"):
+            bufr_text.encode([message], form="zip")
+
     @unittest.skipUnless(shutil.which("mypy"), "mypy is not installed")
     def test_its_types_hold(self):
         with tempfile.TemporaryDirectory() as cache:

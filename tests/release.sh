@@ -378,7 +378,7 @@ note='bufr-auto: 1 message, at offset 0: there is no table set wmo-99+254-9 for 
     echo 'bufr-feed failed: exit-code'
 } > log
 cron hourly-feed
-printf '%s\n' 'messages refused or skipped: 21' "$note" 'bufr-feed failed: exit-code' 'nothing was dumped for an hour' | cmp - told ||
+printf '%s\n' 'messages rejected or skipped: 21' "$note" 'bufr-feed failed: exit-code' 'nothing was dumped for an hour' | cmp - told ||
     fail "the hourly commands print $(cat told)"
 # A run that was killed.
 (
