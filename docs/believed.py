@@ -9,7 +9,8 @@ first those of the format, then those of how a run uses its devices, and last wh
 Most definitions come after those that they use. The name of each file of definitions is followed by its first lines. A law
 that justifies a file is printed after the file, and definitions that only the laws need come at the end. Types and traits
 in a signature are printed with their ghost items. Imports, tags and derives are left out. An enum of faults is also left
-out if its report, which lists the number and the text of each fault, is printed.
+out if its report, which lists the number and the text of each fault, is printed. The report is printed before the first
+definition that names a fault of the enum.
 
 Names from std, and names that the checker itself derives from a contract (specs.contracts), are not followed. If any other
 imported name is not found, believed.py prints an error instead and exits with status 1. The numbers of definitions, lines
@@ -25,20 +26,20 @@ import sys
 TOP = pathlib.Path(__file__).resolve().parent.parent
 HEADINGS = {
     "Bits and decimals": "bits: Bits decimal Decimal",
-    "Messages in a stream": "frame: fault Octets finder Scan",
-    "The sections of a message": "frame: section1 Section1 Sections Numbers",
-    "Tables B and D": "tables: fxy Fxy fault Records table_b TableB TableD FaultNumber",
+    "Messages in a stream": "frame: fault Octets Numbers finder Scan",
+    "The sections of a message": "frame: section1 Section1 Sections",
+    "Tables B and D": "tables: fxy Fxy fault FaultNumber Records table_b TableB TableD",
     "Expanding a descriptor list": "tables: Tree Expansion",
     "Fields and operators": "walk: spec Content Rules",
     "Reading the data of a message": "walk: fault walker Course Reading Pass",
-    "The lines of a dump": "fill: Draft; text: line Line",
+    "The lines of a dump": "fill: fault Draft; text: line Line",
     "Writing a listing and a dump": "fill: RoundTrip; text: Dump",
-    "Building a message from a dump": "text: document Documents Reader; fill: fault Encoding; frame: Layout; text: encode fault Encoding",
-    "Fault lines, and the pieces of output that a run writes": "text: Writing; cli: outcome FaultLine Pieces",
+    "Building a message from a dump": "text: fault document Documents Reader; fill: Encoding; frame: Layout; text: encode Encoding",
+    "Fault lines, and the pieces of output that a run writes": "cli: FaultLine Pieces",
     "Round trips": "text: Spelling RoundTrip; cli: RoundTrip laws",
     "The command line": "cli: job Line",
-    "How a run reads and writes (relations between device states before and after; requires knowledge of Agda's ≡, × and →)":
-        "bits: Device device Script script; frame: Input; cli: Running Ending Program program",
+    "How a run reads and writes (relations between device states before and after)":
+        "bits: Device device Script script; frame: Input; text: Writing; cli: outcome Running Ending Program program",
     "What the kit's crate csv guarantees about the records of a table": "csv: parser Machine Records Reading",
     "What the kit's crate clap guarantees about a command line":
         "clap: error/kind builder/action builder/possible_value builder/range builder/value_parser parser/matches"
@@ -50,14 +51,39 @@ PRIMER = """\
 == The notation
 
 `f : A → B` gives the type of f. Equations follow, and the first one that matches applies. `f x y` applies f to x and y.
-Every definition has a value for all arguments. `abbrev`, `unfoldable` and `rec` only tell the checker when to unfold it.
-A `record` has named fields, and a `data` type has the constructors that are listed below it. A `Bool` is computed. A
-`Type 0` is a type or a statement: `×` means "and" or a pair, `⊎` "or", `→` "implies" or a function, `≡` "equals",
-`(x : A) →` "for each x", and `(x : A) ×` "for some x". `λ x. e` is a function, `x ∷ xs` is the list xs with x in front, and
-`++` joins lists. In `do`, a line `x ← e` stops at the first fault or `None`, as `>>=` does. docs/proof.md explains `x.now`,
-`x.old` and `x.new`. Names that are not defined below, such as `take` and `codes`, come from std (rattle/std and rattle/core
-in the kit, and rattle/ANTT.md). The first lines of each file cite the part of FM 94 that it defines. `(own)` marks a rule
-that is our choice.
+Every definition has a value for all arguments, even for arguments that never occur. `abbrev`, `unfoldable`, `rec` and
+`infixl` only matter to the checker. In a block `module _ (how : T) where`, every indented definition also takes the argument
+`how`. A `record` has named fields, and `record s { x = 1 }` is s with another field x. A `data` type has the constructors
+that are listed below it. A `Bool` is computed. A `Type 0` is a type or a statement: `×` means "and" or a pair, whose parts
+are `.0` and `.1`, `⊎` "or", `→` "implies" or a function, `≡` "equals", `¬` "not", `(x : A) →` "for each x", and `(x : A) ×`
+"for some x". `Unit` and `⊤` are always true, and `⊥` never. Arguments in braces, as in `{X = T}`, can be left out. `λ x. e`
+is a function, `x ∷ xs` is the list xs with x in front, and `++` joins lists. In `do`, a line `x ← e` stops at the first
+fault or `None`, as `>>=` does.
+
+A number in ℕ is `zero` or `suc n` (n + 1), and one in ℤ is `pos n` (n) or `negsuc n` (-n - 1). A text is a list of octets:
+10 is a line feed, 32 a space, 34 `"`, 35 `#`, 45 `-`, 46 `.`, and 92 `\\`; 48 to 57 are the digits.
+
+A word before a constructor, as in `fault.Width`, only distinguishes constructors that have the same name; the signature
+shows their type. Most types of faults are not printed. Instead, a report lists the number and the text of each fault of a
+type: `cause_report` lists those of `Cause`.
+
+Rust types and traits are printed, too. Their `ghost` items exist only in proofs. A `Model` defines the value to which clauses
+refer instead of the Rust value, and `source.Ghosts R` contains the ghost items that the type R has as a `Source`. A `Bor` is
+a reference. `x.now` is the value behind a reference x, and `x.old` and `x.new` are that value before and after a call. In
+examples, `assert_eq!(rt; ..)` is checked when they run.
+
+What is known about the octets of a device is a list, or `None` if nothing is known. These relations hold between what is
+known before and after, and always hold if nothing is known before:
+  `Appends old new octets`     new is old, followed by these octets
+  `Consumes old new octets`    old is these octets, followed by new
+  `Keeps old new`              new is old
+  `IsAtEnd new`                no octet is left
+`ReadConsumes` and `WriteAppends` mean `Consumes` and `Appends` for a call that returns a count, and `Keeps` for a call that
+fails. `IfSome`, `IfOk` and `IfErr` apply a statement to the value in an option or a result, if there is one.
+
+Names that are not defined below, such as `take` and `codes`, come from std (rattle/std and rattle/core in the kit, and
+rattle/ANTT.md). Names from the kit's csv and clap, and names that only the laws need, are defined after they are used. The
+first lines of each file cite the part of FM 94 that it defines. `(own)` marks a rule that is our choice.
 """
 # The laws that justify definitions, by the file that contains the definitions.
 LAWS = {
@@ -339,10 +365,25 @@ def reached(calls, house):
 
 
 def reported(items):
-    """Returns those enums of faults for which another item, a report, lists each fault with its number and text."""
+    """Returns the enums of faults that have a report, an item that lists each fault with its number and text, and the reports."""
     report = re.compile(r": (\w+) → ℕ × List \(List ℕ\)$")
-    names = {found[1] for item in items for found in [report.search(item.code().split("\n")[0])] if found}
-    return [item for item in items if item.path.suffix == ".rt" and item.name in names]
+    reports = {found[1]: item for item in items for found in [report.search(item.code().split("\n")[0])] if found}
+    return {item: reports[item.name] for item in items if item.path.suffix == ".rt" and item.name in reports}
+
+
+def put_reports_first(enums, key, house):
+    """Changes the sorting keys so that each report comes before the first definition that names a fault of its enum."""
+    for enum, report in enums.items():
+        users = [item for item in key if item is not report and item.path.suffix == ".antt" and enum in house.uses(item)]
+        first = min(users, key=key.get, default=report)
+        if key[first] < key[report]:
+            number, order, path, *_ = key[first]
+            moved = []
+            reach(report, moved, house)
+            for item in moved:
+                if item.path == report.path and key[first] < key[item]:
+                    at = (path, first.line, 0) if item.path == first.path else ("",)
+                    key[item] = (number, order, *at, item.line)
 
 
 def size(items):
@@ -363,7 +404,7 @@ def main():
     laws = {TOP / "crates" / f"bufr_{file}": [contract(law) for law in names] for file, names in LAWS.items()}
     laws = {path: [law for law in ones if law.name not in [call.name for call in calls]] for path, ones in laws.items() if path in paths}
     justifying = sum(laws.values(), [])
-    beside = [item for item in reached(justifying, house) if item not in definitions + calls + enums]
+    beside = [item for item in reached(justifying, house) if item not in [*definitions, *calls, *enums]]
     if house.lost:
         sys.exit("\n".join(f"{sys.argv[0]}: {one}" for one in sorted(house.lost)))
     print(PRIMER)
@@ -371,7 +412,8 @@ def main():
         print(f"== The contract of {call.name}\n\n{text(call)}\n")
     other = len(titles) - 1
     place = {item: order.get(item.path, (other, 0))[0] for item in definitions} | {item: other - 1 for item in beside}
-    key = {item: (place[item], order.get(item.path, (other, 0)), str(item.path), item.line) for item in place}
+    key = {item: (place[item], order.get(item.path, (other, 0)), str(item.path), item.line, 1) for item in place}
+    put_reports_first(enums, key, house)
     number, path, count = -1, None, 0
     for item in [*sorted(place, key=key.get), None]:
         if path and (item is None or item.path != path):
@@ -379,8 +421,8 @@ def main():
                 print(f"\n-- a proved law that justifies these definitions\n{text(law)}")
         if item is None:
             break
-        if place[item] != number:
-            number, path = place[item], None
+        if key[item][0] != number:
+            number, path = key[item][0], None
             count += 1
             print(f"\n== {count}. {titles[number]}")
         if item.path != path:

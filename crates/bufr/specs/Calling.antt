@@ -1,4 +1,4 @@
--- Only contracts need this file. What the process does with its words. (a choice of this project)
+-- Only contracts need this file. What the process does with its words. (own)
 use Rattle.std.specs.Prelude.{◌≡◌, ◌⊎◌, ℕ, List, [], Option, codes}
 use Rattle.std.specs.Borrow.{Bor}
 use Rattle.bufr_frame.specs.declared.fault.RunFault.TheVariants.{Memory}

@@ -1,5 +1,6 @@
--- Octets as bits, bits as numbers, and the windows of eight octets that a slice is read by.
--- (WMO-No. 306, Volume I.2, FM 94: most significant bit first) Cited by public contracts.
+-- Octets as bits, and bits as numbers. (WMO-No. 306, Volume I.2, FM 94: the most significant bit
+-- comes first)
+-- Cited by public contracts.
 use Rattle.std.specs.Prelude.{ℕ, zero, suc, ◌+◌, ◌-◌, ◌*◌, ◌^◌, ◌/◌, ◌%◌, ◌==◌, Bool, false, if◌then◌else◌, List, [], ◌∷◌, ◌++◌, take, drop, replicate, ◌≡◌, ◌<◌, ◌≤◌, length, min}
 use Rattle.std.specs.List.{list_all}
 
@@ -15,12 +16,12 @@ unfoldable pub bits_of : List ℕ → List Bool
 bits_of [] = []
 bits_of (octet ∷ more) = bits_of_octet octet ++ bits_of more
 
--- the number that bits write after a number that was written before them
+-- the number that n becomes when bits follow it: each bit doubles it and is added
 abbrev pub number_after_bits : ℕ → List Bool → ℕ
 number_after_bits n [] = n
 number_after_bits n (bit ∷ bits) = number_after_bits (2 * n + (if bit then 1 else 0)) bits
 
--- the number that bits write
+-- the unsigned number that bits represent
 -- rule: field-number
 abbrev pub number_of : List Bool → ℕ
 number_of bits = number_after_bits 0 bits
@@ -34,16 +35,16 @@ bits_at octets at width = take width (drop at (bits_of octets))
 abbrev pub are_all_ones : List Bool → Bool
 are_all_ones bits = list_all (λ bit. bit) bits
 
--- the bits by which a number is written in a width: its last ones, the most significant first
+-- the low `width` bits of a number, most significant first
 unfoldable pub bits_in : (value width : ℕ) → List Bool
 bits_in value zero = []
 bits_in value (suc width) = (value / 2 ^ width % 2 == 1) ∷ bits_in value width
 
--- the bits that fill the last octet: zeros up to a multiple of eight
+-- the zero bits that fill the last octet of `length` bits
 abbrev pub padding : (length : ℕ) → List Bool
 padding length = replicate ((8 - length % 8) % 8) false
 
--- ---- Eight octets read as one number. (a choice of this project)
+-- ---- Eight octets read as one number. (own)
 
 -- the number that eight octets write, from a place on
 pub record IsWindow (window first : ℕ) (octets : List ℕ) : Type 0 where

@@ -1,5 +1,5 @@
--- Decimal texts, and the numbers that they write: v at scale s is written as v / 10^s.
--- (A choice of this project) Cited by public contracts.
+-- Decimal texts: the number v at scale s is written as v / 10^s. (own)
+-- Cited by public contracts.
 use Rattle.std.specs.Prelude.{ℕ, zero, suc, ◌+◌, ◌-◌, List, [], ◌∷◌, ◌++◌, length, take, drop, replicate, ℤ, pos, negsuc, unsigned_abs, ◌≡◌, ◌*◌, ◌/◌, ◌%◌, ◌^◌, ◌==◌, nat_lt, nat_le, Bool, true, false, ◌&&◌, if◌then◌else◌, Result, Ok, Err, neg_ℤ, is_some, ◌||◌}
 use Rattle.std.specs.Fmt.{decimal}
 use Rattle.std.specs.List.{list_all, position, before_first, after_first}
@@ -9,7 +9,8 @@ use Rattle.bufr_bits.specs.declared.decimal.NumberFault.{NumberFault}
 use Rattle.bufr_bits.specs.declared.decimal.NumberFault.TheVariants.{Syntax, Inexact, Large}
 use Rattle.bufr_bits.specs.declared.decimal.ShortDecimal.{ShortDecimal}
 
--- digits with a point before the last so many, and leading zeros for one digit before the point
+-- digits with a point before the last `decimals` of them; zeros are put in front if no digit would
+-- precede the point
 -- rule: decimal-point
 abbrev pub pointed : (decimals : ℕ) (digits : List ℕ) → List ℕ
 pointed decimals digits =
@@ -17,7 +18,8 @@ pointed decimals digits =
     let whole = length padded - decimals in
     take whole padded ++ 46 ∷ drop whole padded
 
--- a number without its sign: a point before the last digits, or below scale 0 zeros after them
+-- an unsigned number at a scale: a positive scale sets the point, and a negative scale appends
+-- zeros, but not to 0
 -- rule: decimal-zeros-after
 unfoldable pub unsigned_text : (n : ℕ) (scale : ℤ) → List ℕ
 unsigned_text n (pos zero) = decimal n
@@ -25,7 +27,7 @@ unsigned_text n (pos (suc decimals)) = pointed (suc decimals) (decimal n)
 unsigned_text zero (negsuc less) = decimal 0
 unsigned_text (suc n) (negsuc less) = decimal (suc n) ++ replicate (suc less) 48
 
--- a minus before a number below zero
+-- a minus sign for a number below zero
 -- rule: decimal-sign
 abbrev pub sign_of : ℤ → List ℕ
 sign_of (pos n) = []
@@ -35,72 +37,73 @@ sign_of (negsuc n) = 45 ∷ []
 unfoldable pub decimal_text_of : (v scale : ℤ) → List ℕ
 decimal_text_of v scale = sign_of v ++ unsigned_text (unsigned_abs v) scale
 
--- ---- The text of x at scale s is read as x * 10^s. (a choice of this project)
+-- ---- The text of x at scale s is read as x * 10^s. (own)
 
 -- the text after an optional minus sign
 abbrev pub unsigned_part : List ℕ → List ℕ
 unsigned_part text = if starts_with_minus text then drop 1 text else text
 
--- the digits before the point, or all where there is none
+-- the part of a text before the point; all of the text if it has no point
 abbrev pub whole_part : List ℕ → List ℕ
 whole_part text = before_first (λ c. c == 46) text
 
--- the digits after the point
+-- the part of a text after the point; nothing if it has no point
 abbrev pub fraction_part : List ℕ → List ℕ
 fraction_part text = after_first (λ c. c == 46) text
 
--- digits and nothing else
+-- whether each octet is a digit
 abbrev pub all_digits : List ℕ → Bool
 all_digits text = list_all is_ascii_digit text
 
--- one digit or more, and nothing else
+-- whether a text is one or more digits
 abbrev pub is_digits : List ℕ → Bool
 is_digits text = nat_lt 0 (length text) && all_digits text
 
--- digits, and where there is a point digits after it
+-- whether a text is one or more digits, and optionally a point and one or more digits
 -- rule: decimal-form
 abbrev pub is_unsigned : List ℕ → Bool
 is_unsigned text =
     is_digits (whole_part text)
     && (if is_some (position (λ c. c == 46) text) then is_digits (fraction_part text) else true)
 
--- how often ten multiplies a number at a scale
+-- the exponent of the power of ten by which a positive scale multiplies; 0 for other scales
 abbrev pub positive_scale : ℤ → ℕ
 positive_scale (pos n) = n
 positive_scale (negsuc n) = 0
 
--- how often ten divides it
+-- the exponent of the power of ten by which a negative scale divides; 0 for other scales
 abbrev pub negative_scale : ℤ → ℕ
 negative_scale (pos n) = 0
 negative_scale (negsuc n) = n + 1
 
--- a quotient that is whole
+-- n / d, if it is whole
 abbrev pub whole_quotient : (n d : ℕ) → Result ℕ NumberFault
 whole_quotient n d = if n % d == 0 then Ok (n / d) else Err Inexact
 
--- the number that digits with a point before the last so many write, times ten to the scale
+-- the number with these digits, the last `decimals` of which are after the point, times 10^scale
 abbrev pub scaled : (digits : List ℕ) (decimals : ℕ) (scale : ℤ) → Result ℕ NumberFault
 scaled digits decimals scale =
     whole_quotient (digits_value 10 digits * 10 ^ positive_scale scale)
     (10 ^ (decimals + negative_scale scale))
 
--- a number with its sign, within an i128
+-- a number with its sign, if it fits into `i128`
 abbrev pub signed : (negative : Bool) → ℕ → Result ℤ NumberFault
 signed false n = if nat_lt n (2 ^ 127) then Ok (pos n) else Err Large
 signed true n = if nat_le n (2 ^ 127) then Ok (neg_ℤ (pos n)) else Err Large
 
--- one step after another, up to the first fault
+-- sequencing that stops at the first fault
 infixl 10 ◌>>=◌
 abbrev pub ◌>>=◌ : {E A B : Type 0} → Result A E → (A → Result B E) → Result B E
 (Ok x) >>= next = next x
 (Err fault) >>= next = Err fault
 
--- a result with its fault in another form
+-- a result with its fault converted by `form`
 abbrev pub map_err : {E F A : Type 0} → (E → F) → Result A E → Result A F
 map_err form (Ok x) = Ok x
 map_err form (Err fault) = Err (form fault)
 
--- the number that a text writes, times ten to the scale, or the first fault
+-- the number that a text represents, times 10^scale, or the first fault: the syntax is checked
+-- first, then whether the result is whole, and then its size
 -- rule: inexact-before-too-large
 unfoldable pub decimal_value_of : (text : List ℕ) (scale : ℤ) → Result ℤ NumberFault
 decimal_value_of text scale =
@@ -116,7 +119,7 @@ pub record IsParts (text whole fraction : List ℕ) : Type 0 where
   pub before : whole ≡ whole_part text
   pub after : fraction ≡ fraction_part text
 
--- ---- Short decimal texts as numbers of digits. (a choice of this project)
+-- ---- Short decimal texts as numbers of digits. (own)
 
 -- a number with its sign
 abbrev pub signed_number : (negative : Bool) → ℕ → ℤ

@@ -1,4 +1,5 @@
--- What a device has counted: calls, octets asked for, failures, each up to the greatest u64.
+-- The counts of a device: calls, requested octets and failures. Each count stops at 2^64 - 1
+-- (`u64::MAX`).
 -- Cited by public contracts.
 use Rattle.std.specs.Prelude.{true, ℕ, zero, suc, ◌+◌, ◌-◌, ◌^◌, min, max, Bool, false, List, [], ◌∷◌, Result, Ok, Err, if◌then◌else◌, length, nat_eq}
 use Rattle.bufr_bits.specs.declared.device.Device.{Device}
@@ -18,52 +19,56 @@ fresh_device inner =
       all_flushed = true;
     }
 
--- ---- The counts that a device keeps of its calls. (a choice of this project)
+-- ---- The counts that a device keeps of its calls. (own)
 
--- a count that has gone up by some, and stops at the greatest u64
+-- A count increased by `by`, but not beyond 2^64 - 1. `max` covers counts above that, which no code
+-- has: they stay the same.
 abbrev pub counted : (count by : ℕ) → ℕ
 counted count by = max count (min (count + by) (2 ^ 64 - 1))
 
--- the count of failures after a call: an `Err` adds one, an `Ok` leaves it
+-- the count of failures after a call: an `Err` adds one
 abbrev pub failures_after : {A E : Type 0} → ℕ → Result A E → ℕ
 failures_after count (Ok x) = count
 failures_after count (Err e) = counted count 1
 
--- the count of empty writes after a write of these octets: those of which it took none
+-- the count of empty writes after a write of these octets; a write is empty if it took none of
+-- them, although there were some
 abbrev pub empty_writes_after : {E : Type 0} → ℕ → List ℕ → Result ℕ E → ℕ
 empty_writes_after count octets (Err e) = count
 empty_writes_after count octets (Ok (suc taken)) = count
 empty_writes_after count [] (Ok zero) = count
 empty_writes_after count (octet ∷ more) (Ok zero) = counted count 1
 
--- the count of whole writes after a write of these octets: those that took all of them
+-- the count of whole writes after a write of these octets; a write is whole if it took all of them
+-- (the definitions of a run do not use this count)
 abbrev pub whole_writes_after : {E : Type 0} → ℕ → List ℕ → Result ℕ E → ℕ
 whole_writes_after count octets (Err e) = count
 whole_writes_after count octets (Ok taken) =
     if nat_eq taken (length octets) then counted count 1 else count
 
--- How many flushes were made, and how many of them failed.
+-- the number of flushes made, and how many of these failed
 pub record Flushes : Type 0 where
   pub made : ℕ
   pub failed : ℕ
 
--- the counts of flushes after one more
+-- the counts of flushes after one more, which had this result
 abbrev pub flushes_after : {A E : Type 0} → Flushes → Result A E → Flushes
 flushes_after flushes result =
     record { made = counted flushes.made 1; failed = failures_after flushes.failed result }
 
--- all octets that were taken were handed on, after a write: not if it took some
+-- whether all octets taken are flushed after a write: not if the write took any; otherwise as
+-- before
 abbrev pub all_flushed_after_write : {E : Type 0} → Bool → Result ℕ E → Bool
 all_flushed_after_write before (Err e) = before
 all_flushed_after_write before (Ok zero) = before
 all_flushed_after_write before (Ok (suc taken)) = false
 
--- all octets that were taken were handed on, after a flush: where it went through they were
+-- whether all octets taken are flushed after a flush: yes if it succeeded; otherwise as before
 abbrev pub all_flushed_after_flush : {A E : Type 0} → Bool → Result A E → Bool
 all_flushed_after_flush before (Ok x) = true
 all_flushed_after_flush before (Err e) = before
 
--- ---- Numbers that stop at the greatest u128, while digits are read. (a choice of this project)
+-- ---- Numbers that stop at the greatest u128, while digits are read. (own)
 
 -- a number, or the greatest u128 where it is over that
 abbrev pub capped : ℕ → ℕ

@@ -1,4 +1,4 @@
--- Only contracts need this file. What the test devices do. (a choice of this project)
+-- Only contracts need this file. What the test devices do. (own)
 use Rattle.std.specs.Prelude.{ℕ, zero, suc, ◌-◌, min, List, Option, None, Some, option_map, Result, Ok, Err, vec_len}
 use Rattle.bufr_bits.specs.Device.{Flushes}
 use Rattle.bufr_bits.specs.declared.device.Failed.{Failed}

@@ -11,16 +11,16 @@ use itoa::Buffer;
 use std::alloc::AllocError;
 use thiserror::Error;
 
-/// Why a text is no number at a scale. The first that fits is reported.
+/// Why a text is not a number at a scale. The first fault that applies is reported.
 #[derive(Clone, Copy, Debug, PartialEq, Eq, Error)]
 pub enum NumberFault {
     /// Not an optional `-`, one or more digits, and optionally a point and one or more digits.
     #[error("not a decimal number")]
     Syntax,
-    /// The number times ten to the scale is not whole.
+    /// The number times 10^scale is not whole.
     #[error("more places than the scale has")]
     Inexact,
-    /// The number times ten to the scale is outside `i128`.
+    /// The number times 10^scale does not fit into `i128`.
     #[error("too large")]
     Large,
 }

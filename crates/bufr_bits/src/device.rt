@@ -7,46 +7,46 @@ ghost use Rattle.bufr_bits.specs.Device.{Flushes, counted, failures_after, empty
 use std::io::{BufRead, BufReader, Read, Write};
 use thiserror::Error;
 
-/// A call of a device failed. An interrupted call is a failed one too, and nothing is tried again.
+/// The error of a call to a device. An interrupted call counts as failed, and no call is retried.
 #[derive(Clone, Copy, Debug, PartialEq, Eq, Error)]
 #[error("the device failed")]
 pub struct Failed;
 
 /// A reader of octets that counts its calls.
 ///
-/// Its contract speaks of values that no code holds: the octets that are left, where they are
-/// known, how many calls failed, how many were made, and for how many octets they asked. The
-/// counts stop at the greatest `u64`.
+/// Its contract uses ghost items, which exist only in proofs: the octets that are left (if they are
+/// known), the number of failed reads, the number of reads, and the number of octets that they
+/// requested. The counts stop at `u64::MAX`.
 pub trait Source {
-    /// The octets that reads will give from here on, where they are known.
+    /// The octets that reads will return from here on, if they are known.
     ghost left: { Self → Option (List ℕ) };
 
-    /// How many reads failed.
+    /// The number of reads that failed.
     ghost failures: { Self → ℕ };
 
-    /// How many reads were made.
+    /// The number of reads.
     ghost reads: { Self → ℕ };
 
-    /// How many octets all reads had room for, together.
+    /// The number of octets that all reads requested: the sum of the lengths of their buffers.
     ghost asked: { Self → ℕ };
 
-    /// Whether the next read may wait for octets that are not there yet, or fail.
+    /// Whether the next read may block or fail. The program flushes its output before such a read,
+    /// so that live feeds work.
     ghost waits: { Self → Bool } = { λ _. true };
 
-    /// Whether the next read may wait for octets that are not there yet, or fail. A source that
-    /// does not know says that it may.
+    /// Whether the next read may block or fail. A source that cannot tell returns `true`.
     fn may_wait(&self) -> bool
         ensures { result ≡ false → waits self.now ≡ false }
     {
         true
     }
 
-    /// Reads octets into the first places of `buf` and returns how many. None are read only at the
-    /// end of the input, or where `buf` is empty.
+    /// Reads octets into the beginning of `buf` and returns how many. It returns 0 only at the end
+    /// of the input, or if `buf` is empty.
     ///
     /// # Errors
     ///
-    /// [`Failed`] where the device failed; it has then given no octet.
+    /// [`Failed`] if the device failed; no octet is then read.
     fn read(&mut self, buf: &mut [u8]) -> Result<usize, Failed>
         ensures bound { IfOk result (λ n. n ≤ length buf.new) }
         ensures octets { ReadConsumes (left self.old) (left self.new) result buf.new }
@@ -58,35 +58,34 @@ pub trait Source {
 
 /// A writer of octets that counts its calls.
 ///
-/// Its contract speaks of values that no code holds: the octets taken so far, where they are
-/// known, and whether a flush handed all of them on. It counts the calls that failed, the flushes
+/// Its contract uses ghost items, which exist only in proofs: the octets taken so far (if they are
+/// known), and whether all of them have been flushed. It counts the calls that failed, the flushes
 /// made and failed, and the writes that took none of their octets; a sink may also count the writes
-/// that took all of them. The counts stop at the greatest `u64`.
+/// that took all of their octets. The counts stop at `u64::MAX`.
 pub trait Sink {
-    /// The octets taken so far, where they are known.
+    /// The octets taken so far, if they are known.
     ghost taken: { Self → Option (List ℕ) };
 
-    /// How many writes and flushes failed.
+    /// The number of writes and flushes that failed.
     ghost failures: { Self → ℕ };
 
-    /// How many writes took none of the octets that they were given.
+    /// The number of writes that took none of their octets, although there were some.
     ghost empty_writes: { Self → ℕ };
 
-    /// How many writes took all of the octets that they were given. A sink that does not count them
-    /// answers 0.
+    /// The number of writes that took all of their octets; 0 in a sink that does not count them.
     ghost whole_writes: { Self → ℕ } = { λ _. 0 };
 
-    /// How many flushes were made, and how many of them failed.
+    /// The number of flushes made, and how many of these failed.
     ghost flushes: { Self → Flushes };
 
-    /// Whether all octets that were taken were handed on.
+    /// Whether all octets taken so far have been flushed.
     ghost all_flushed: { Self → Bool };
 
     /// Takes the first octets of `buf` and returns how many.
     ///
     /// # Errors
     ///
-    /// [`Failed`] where the device failed; it has then taken nothing.
+    /// [`Failed`] if the device failed; no octet is then taken.
     fn write(&mut self, buf: &[u8]) -> Result<usize, Failed>
         ensures bound { IfOk result (λ n. n ≤ length buf.now) }
         ensures octets { WriteAppends (taken self.old) (taken self.new) result buf.now }
@@ -99,11 +98,11 @@ pub trait Sink {
         ensures handed { all_flushed self.new ≡ all_flushed_after_write (all_flushed self.old)
             result };
 
-    /// Hands on what was taken.
+    /// Flushes the octets that were taken.
     ///
     /// # Errors
     ///
-    /// [`Failed`] where the device failed.
+    /// [`Failed`] if the device failed.
     fn flush(&mut self) -> Result<(), Failed>
         ensures octets { Keeps (taken self.old) (taken self.new) }
         ensures failed { failures self.new ≡ failures_after (failures self.old) result }

@@ -1,5 +1,5 @@
--- Only contracts need this file. What a command writes for an event, and the text of an event. (a
--- choice of this project)
+-- Only contracts need this file. What a command writes for an event, and the text of an event.
+-- (own)
 use Rattle.std.specs.Prelude.{ℕ, ◌≡◌, ◌==◌, List, flat_map, Option, Some, None, if◌then◌else◌}
 use Rattle.bufr_frame.specs.Prelude.{StreamEvent}
 use Rattle.bufr_cli.specs.Prelude.{Piece, output_of, errors_of, is_accepted, ls_piece, dump_piece, Tallies}

@@ -1,5 +1,4 @@
--- Only contracts need this file. What a call leaves in the caller's buffers. (a choice of this
--- project)
+-- Only contracts need this file. What a call leaves in the caller's buffers. (own)
 use Rattle.std.specs.Prelude.{ℕ, ◌+◌, ◌<◌, ◌≤◌, ℤ, pos, ◌≡◌, ◌⊎◌, List, [], ◌∷◌, ◌++◌, ◌-◌, Bool, true, false, codes, length, take, drop, map, flat_map, count_by, Ok, IfOk, IfErr}
 use Rattle.bufr_frame.specs.Prelude.{StreamEvent, FrameAt, StrayAt, StartsWithBufr, scan_from, classify, stated_length, stream_event, candidate_len, has_word_at}
 use Rattle.bufr_frame.specs.declared.fault.Cause.{Cause}

@@ -1,4 +1,4 @@
--- Only contracts need this file. A line that reports another offset. (a choice of this project)
+-- Only contracts need this file. A line that reports another offset. (own)
 use Rattle.std.specs.Prelude.{ℕ, List, [], ◌++◌, length, take, drop, decimal, nat_lt, if◌then◌else◌}
 
 -- a line that reports offset 0 after seven octets, with another offset instead; an empty line stays

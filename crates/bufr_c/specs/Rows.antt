@@ -1,4 +1,4 @@
--- Only contracts need this file. The rows of items and of messages. (a choice of this project)
+-- Only contracts need this file. The rows of items and of messages. (own)
 use Rattle.std.specs.Prelude.{ℕ, ◌≡◌, ◌≤◌, ◌<◌, ◌⊎◌, ◌+◌, ◌^◌, ◌-◌, take, ℤ, pos, neg_ℤ, int_lt, Bool, true, false, List, [], ◌∷◌, ◌++◌, length, nat_eq, Option, Some, None, Result, Ok, Err, if◌then◌else◌}
 use Rattle.std.specs.List.{list_any}
 use Rattle.std.specs.Int.{w128, to_le_bytes, cast_unsigned, from_bool}

@@ -1,5 +1,5 @@
 -- Only contracts need this file. What a buffered writer took and handed on, by what its sink did.
--- (a choice of this project)
+-- (own)
 use Rattle.std.specs.Prelude.{◌≡◌, ◌≤◌, Bool, ℕ, List, length, max, Option, Result, Ok, Err, nat_eq, vec_len, vec_capacity, ◌&&◌}
 use Rattle.std.specs.Io.KnownBytes.{append_known}
 use Rattle.bufr_bits.specs.Prelude.{Flushes, counted}

@@ -1,5 +1,4 @@
--- How a run of the program ended, what is flushed after it, its last line, and its exit status. (a
--- choice of this project)
+-- How a run of the program ends: the last flush, the last line, and the exit status. (own)
 -- Cited by public contracts.
 use Rattle.std.specs.Prelude.{◌≡◌, ◌⊎◌, ◌<◌, ◌≤◌, ◌-◌, ◌^◌, ℕ, true, List, Result, Ok, Err, if◌then◌else◌, ◌==◌, [], ◌∷◌, codes}
 use Rattle.std.specs.Io.KnownBytes.{Appends, Keeps}
@@ -18,12 +17,16 @@ use Rattle.bufr_cli.specs.declared.outcome.Outcome.TheVariants.{Ran, Usage, Cann
 use Rattle.std.specs.List.{concat}
 use Rattle.bufr_cli.specs.FaultLine.{report_line}
 
--- after want of memory, or of reads, the output is flushed once, which may fail; a read that failed
--- came after all was handed on
+-- What happens to the output after a run with this result.
 abbrev pub FlushesRest : {X : Type 0} → (before after : Writer) → Result X RunFault → Type 0
+-- a run that completed has flushed it
 FlushesRest before after (Ok x) = after ≡ before
+-- so has a run that failed to read (see `HandsOn`)
 FlushesRest before after (Err Read) = after ≡ before
+-- after a failed write, the output is not used again
 FlushesRest before after (Err Write) = after ≡ before
+-- After `Memory` or `InputTooLong`, it is flushed at most once, and nothing more is written. Either
+-- no call failed and everything is flushed, or the flush failed.
 FlushesRest before after (Err fault) =
     Keeps before.taken after.taken × (after.empty_writes ≡ before.empty_writes)
     × (after.flushes.made ≤ counted before.flushes.made 1)
@@ -33,32 +36,34 @@ FlushesRest before after (Err fault) =
     × (after.flushes.failed ≡ counted before.flushes.failed 1)
     × (after.all_flushed ≡ before.all_flushed)))
 
--- a writer gains a prefix of a line, and all of it where no call of it failed or took nothing
+-- A writer takes a prefix of a line, and the whole line if no call fails and no write takes
+-- nothing. (The counts show that only if they are not at their greatest value, 2^64 - 1.)
 abbrev pub WritesLine : (before after : Writer) → (line : List ℕ) → Type 0
 WritesLine before after line =
     GrowsByPrefix before.taken after.taken line
     × (before.failures < 2 ^ 64 - 1 → before.empty_writes < 2 ^ 64 - 1 → IsSame before after
     → Appends before.taken after.taken line)
 
--- How a run over an input ended: it left its devices, and then the rest was flushed.
+-- A run over an input ended, and then its output was flushed.
 pub record EndsRun (pieces : RunPieces) (from to : Input) (before after : Writers)
     (ran : Result Tally RunFault) : Type 0 where
+  -- the writers after the run and before the last flush
   pub between : Writers
   pub leaves : LeavesDevices pieces from to before between ran
   pub rest : FlushesRest between.output after.output ran
   pub errors : after.errors ≡ between.errors
 
--- the line of a fault that ends a run
+-- the line of a fault that stops a run
 abbrev pub run_line : RunFault → List ℕ
 run_line fault = report_line (codes "bufr: " ∷ []) (run_report fault)
 
--- the line of a table that cannot be read; want of memory is reported as in a run
+-- the line of a table that cannot be read; `Memory` is reported as it is in a run
 -- rule: status-of-table, fault-73
 abbrev pub table_line : (table : List ℕ) → TableFault → List ℕ
 table_line name table.Memory = run_line Memory
 table_line name fault = report_line (name ∷ []) (table_report fault)
 
--- the line before status 2, or the usage text; nothing where the run went through
+-- the last line of the errors: a fault or the usage text; nothing if the run completed
 -- rule: status-of-usage, status-of-open
 abbrev pub last_line : Outcome → List ℕ
 last_line (Ran tally) = []
@@ -68,7 +73,7 @@ last_line (TableB fault) = table_line (codes "table B: ") fault
 last_line (TableD fault) = table_line (codes "table D: ") fault
 last_line (Run fault) = run_line fault
 
--- 0 where nothing was refused, 1 where something was, 2 for all that is no run that went through
+-- the exit status: 0 if nothing was refused, 1 if something was, and 2 if the run did not complete
 -- rule: status-0-and-1, status-of-usage
 abbrev pub status_of : Outcome → ℕ
 status_of (Ran tally) = if tally.refused == 0 then 0 else 1

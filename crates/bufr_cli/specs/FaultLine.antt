@@ -1,5 +1,4 @@
--- The lines that report the faults of a stream, of its messages, and of a document. (a choice of
--- this project)
+-- The lines that report the faults of a stream, of its messages, and of documents. (own)
 -- Cited by public contracts.
 use Rattle.std.specs.Prelude.{ℕ, List, [], ◌∷◌, ◌++◌, codes, decimal, Option}
 use Rattle.std.specs.Option.{option_map_or}
@@ -20,17 +19,17 @@ stream_report (stream.Section fault) = section_report fault
 stream_report (stream.Template fault) = template_report fault.now
 stream_report (stream.Data fault) = data_report fault.now
 
--- a line that reports a fault: what it is of, its number and its text
+-- the line that reports a fault: its subject, its number and its text
 abbrev pub report_line : (subject : List (List ℕ)) → (report : ℕ × List (List ℕ)) → List ℕ
 report_line subject report =
     concat (subject ++ decimal report.0 ∷ codes " " ∷ (report.1 ++ codes "\n" ∷ []))
 
--- the line of a fault at the offset of `BUFR`
+-- the line that reports a fault in a stream, at the offset of `BUFR`
 -- rule: stream-fault-line
 abbrev pub fault_line : (offset : ℕ) → (report : ℕ × List (List ℕ)) → List ℕ
 fault_line offset = report_line (codes "offset " ∷ decimal offset ∷ codes ": " ∷ [])
 
--- the line of a fault at a line of the text, from 1
+-- the line that reports a fault in a line of a text; lines are counted from 1
 -- rule: fault-lines-of-reading
 abbrev pub document_line : (line : ℕ) → (report : ℕ × List (List ℕ)) → List ℕ
 document_line line = report_line (codes "line " ∷ decimal line ∷ codes ": " ∷ [])
@@ -40,8 +39,7 @@ abbrev pub line_of_read_fault : ReadFault → List ℕ
 line_of_read_fault (read.Line line fault) = document_line line (line_report fault)
 line_of_read_fault (read.Run fault) = []
 
--- a document that is refused: its template's fault is reported as that of a message; want of memory
--- is of no line, and ends a run
+-- the line that reports a fault in a document; empty for `Memory`, which stops the run
 -- rule: fault-lines-of-encoding
 abbrev pub refusal_line : DocumentFault → List ℕ
 refusal_line why =

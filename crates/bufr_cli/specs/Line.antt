@@ -1,4 +1,6 @@
--- The command line of `bufr`, as clap reads it. (a choice of this project)
+-- The command line of `bufr`, in terms of the kit's crate clap: an `App` has subcommands, a `Rule`
+-- describes an option or argument, a `Row` is what a command line gives for it, and `Kinds` are the
+-- errors that clap reports. (own)
 -- Cited by public contracts.
 use Rattle.std.specs.Prelude.{◌≡◌, ◌≢◌, ◌⊎◌, ℕ, List, ◌++◌, Option, Some, None, true, codes, option_map, string_bytes}
 use Rattle.clap.specs.Words.{App, IsAmong, Kinds, Row, Rule, Text, first_of, new_app, new_rule, with_rule, with_subcommand}
@@ -15,22 +17,22 @@ use Rattle.bufr_cli.specs.declared.job.Subcommand.{Subcommand}
 use Rattle.bufr_cli.specs.declared.job.Subcommand.TheVariants.{Ls, Dump, Encode}
 use Rattle.bufr_cli.specs.declared.job.TableNames.{TableNames}
 
--- `-B FILE` or `-D FILE`, which must be there
+-- the option `-B FILE` or `-D FILE`, which is required; `letter` is the octet of B or D
 abbrev pub table_rule : (id : Text) → (letter : ℕ) → Rule
 table_rule id letter =
     record (new_rule id) { short = Some letter; value_names = 1; required = true }
 
--- `NAME -B FILE -D FILE [FILE]`
+-- the subcommand `NAME -B FILE -D FILE [FILE]`
 abbrev pub tables_app : (name : Text) → App
 tables_app name =
     with_rule (with_rule (with_rule (new_app name) (table_rule (codes "B") 66))
     (table_rule (codes "D") 68)) (new_rule (codes "FILE"))
 
--- `--form WORD`
+-- the option `--form WORD`
 abbrev pub form_rule : Rule
 form_rule = record (new_rule (codes "form")) { long = Some (codes "form"); value_names = 1 }
 
--- `bufr`, which has a version and wants a subcommand
+-- the command `bufr`, which has a version and needs a subcommand
 abbrev pub top_app : App
 top_app =
     record (new_app (codes "bufr")) {
@@ -38,7 +40,8 @@ top_app =
           { has_version = true; subcommand_required = true };
     }
 
--- `bufr COMMAND`: `ls [FILE]`, `dump`, or `encode`, which has `[--form WORD]` too
+-- the command `bufr` with its subcommands `ls [FILE]`, `dump`, and `encode`, which also has
+-- `[--form WORD]`
 -- rule: version, one-file
 abbrev pub bufr_app : App
 bufr_app =
@@ -52,35 +55,37 @@ name_of Ls = codes "ls"
 name_of (Dump tables) = codes "dump"
 name_of (Encode tables form) = codes "encode"
 
--- the names of the tables are the values of -B and -D
+-- The names of the tables are the values of `-B` and `-D` among what the command line gives
+-- (`rows`, which are not rows of a table).
 abbrev pub AreNamed : List Row → TableNames → Type 0
 AreNamed rows tables =
     (Some tables.table_b.now ≡ first_of (codes "B") rows)
     × (Some tables.table_d.now ≡ first_of (codes "D") rows)
 
--- the word of --form for a form; without it documents say theirs
+-- the value of `--form` for a form; without this option, the documents determine the form
 -- rule: form-words
 abbrev pub word_of : Form → Option Text
 word_of AsWritten = None
 word_of Plain = Some (codes "plain")
 word_of Compressed = Some (codes "compressed")
 
--- the tables are the values of -B and -D, and the form is that of --form
+-- The tables and the form of a subcommand are the values of `-B`, `-D` and `--form`.
 abbrev pub HasTables : List Row → Subcommand → Type 0
 HasTables rows Ls = Unit {0}
 HasTables rows (Dump tables) = AreNamed rows tables
 HasTables rows (Encode tables form) =
     AreNamed rows tables × (word_of form ≡ first_of (codes "form") rows)
 
--- the job has the subcommand that was met, its tables and form, and the value of FILE there
+-- The job consists of the subcommand on the command line, its tables and form, and the value of
+-- FILE, if any.
 abbrev pub IsJobOf : Option (Text × List Row) → Job → Type 0
 IsJobOf None job = ⊥
 IsJobOf (Some subcommand) job =
     (subcommand.0 ≡ name_of job.command) × HasTables subcommand.1 job.command
     × (option_map (λ name. name.now) job.file ≡ first_of (codes "FILE") subcommand.1)
 
--- why the subcommand that was met, of this name and with these values, gives no job: it is none of
--- ours, or no tables have these values, or no form has this word
+-- Why the subcommand on the command line, which has this name and these values, is not a job:
+-- `bufr` has no such subcommand, a table is missing, or there is no such form.
 -- rule: form-words
 abbrev pub IsWhyNoJob : Text → List Row → NoJob → Type 0
 IsWhyNoJob name rows UnknownCommand = (command : Subcommand) → ¬ (name ≡ name_of command)
@@ -90,7 +95,7 @@ IsWhyNoJob name rows MissingTable =
 IsWhyNoJob name rows UnknownForm =
     (name ≡ codes "encode") × ((form : Form) → ¬ (word_of form ≡ first_of (codes "form") rows))
 
--- the usage text of a subcommand that gives no job
+-- the text for standard error if a subcommand is not a job
 abbrev pub no_job_text : NoJob → Text
 no_job_text UnknownCommand = codes "error: no command\n"
 no_job_text MissingTable = codes "error: -B or -D is missing\n"
@@ -98,14 +103,15 @@ no_job_text UnknownForm =
     codes "error: invalid value for '--form <WORD>'\n"
     ++ codes "  [possible values: plain, compressed]\n\nFor more information, try '--help'.\n"
 
--- no subcommand was met, or the one that was gives no job; the text says which
+-- The command line has no subcommand, or its subcommand is not a job; this is the text for it.
 -- rule: usage
 abbrev pub GivesNoJob : Option (Text × List Row) → (text : Text) → Type 0
 GivesNoJob None text = text ≡ no_job_text UnknownCommand
 GivesNoJob (Some subcommand) text =
     (why : NoJob) × IsWhyNoJob subcommand.0 subcommand.1 why × (text ≡ no_job_text why)
 
--- why a line gives no job: it asks for help or the version, or is refused, or its words give none
+-- Why a command line is not a job. clap reports help or the version; or it reports another error,
+-- or its subcommand is not a job; or memory ran out. `kinds` are the errors that clap reports.
 -- rule: help, usage
 abbrev pub SaysWhy : Kinds → Option (Text × List Row) → LineFault → Type 0
 SaysWhy kinds subcommand (Help text) = IsAmong DisplayHelp kinds ⊎ IsAmong DisplayVersion kinds

@@ -1,4 +1,5 @@
--- What each command writes for an input, in order, and on which writer. (a choice of this project)
+-- The pieces that each command writes for an input, in order: texts for the output, and fault lines
+-- for the errors. (own)
 -- Cited by public contracts.
 use Rattle.std.specs.Prelude.{ℕ, Bool, true, false, not, List, [], ◌∷◌, map, Result, Ok, Err}
 use Rattle.std.specs.Option.{option_map_or}
@@ -13,45 +14,45 @@ use Rattle.bufr_tables.specs.Prelude.{tree_of, tables_of, template_report, Row, 
 use Rattle.bufr_walk.specs.Prelude.{next_item, data_report, data_of, reading_of, fault_of, DataReading}
 use Rattle.bufr_text.specs.declared.encode.Form.{Form}
 
--- a text for the output, or one for the errors
+-- a text for the output, or a fault line for the errors
 pub data Piece : Type 0 where
   OnOutput : (text : List ℕ) → Piece
   OnErrors : (text : List ℕ) → Piece
 
--- what a piece puts on the output
+-- what a piece adds to the output
 abbrev pub output_of : Piece → List ℕ
 output_of (OnOutput text) = text
 output_of (OnErrors text) = []
 
--- what a piece puts on the errors
+-- what a piece adds to the errors
 abbrev pub errors_of : Piece → List ℕ
 errors_of (OnOutput text) = []
 errors_of (OnErrors text) = text
 
--- whether a piece goes to the output: its event was accepted
+-- whether a piece is for the output: its message or document was accepted
 abbrev pub is_accepted : Piece → Bool
 is_accepted (OnOutput text) = true
 is_accepted (OnErrors text) = false
 
--- whether a piece goes to the errors: its event was refused
+-- whether a piece is for the errors: its stray, message or document was refused
 abbrev pub is_refused : Piece → Bool
 is_refused piece = not (is_accepted piece)
 
--- a text, or the fault line of a report
+-- the piece of a message or stray: its text, or the fault line of a report
 -- rule: refused-messages-write-nothing
 abbrev pub text_or_fault : (offset : ℕ) → Result (List ℕ) (ℕ × List (List ℕ)) → Piece
 text_or_fault offset (Ok text) = OnOutput text
 text_or_fault offset (Err report) = OnErrors (fault_line offset report)
 
--- what `ls` writes for an event
+-- the piece of `ls` for an event
 -- rule: one-fault-a-message
 abbrev pub ls_piece : StreamEvent → Piece
 ls_piece (FrameAt offset octets) =
     text_or_fault offset (result_map_both (ls_line offset) section_report (sections_of octets))
 ls_piece (StrayAt offset cause) = text_or_fault offset (Err (cause_report cause))
 
--- the dump text of a message, or the report of its first fault: of its sections, of its list of
--- descriptors, or of its data
+-- the dump text of a message, or the report of its first fault: of its sections, its descriptor
+-- list or its data
 -- rule: list-before-data
 abbrev pub dump_or_report : List Row → List Sequence → Result Sections SectionFault
     → Result (List ℕ) (ℕ × List (List ℕ))
@@ -62,31 +63,31 @@ dump_or_report b d parsed = do
   option_map_or (λ why. Err (data_report why)) (fault_of (data_of s) reading)
       (Ok (dump_text_of s (dump_items b s.subsets reading.values)))
 
--- what `dump` writes for an event
+-- the piece of `dump` for an event
 -- rule: one-fault-a-message
 abbrev pub dump_piece : List Row → List Sequence → StreamEvent → Piece
 dump_piece b d (FrameAt offset octets) =
     text_or_fault offset (dump_or_report b d (sections_of octets))
 dump_piece b d (StrayAt offset cause) = text_or_fault offset (Err (cause_report cause))
 
--- the octets of a document, or the line of its fault
+-- the piece of a document: its message, or its fault line
 abbrev pub encoded : Result (List ℕ) DocumentFault → Piece
 encoded (Ok octets) = OnOutput octets
 encoded (Err why) = OnErrors (refusal_line why)
 
--- what is written for a document, or for the line that is refused
+-- the piece of `encode` for a document or an invalid line
 -- rule: document-read-first
 abbrev pub result_piece : Form → List Row → List Sequence → ParseResult → Piece
 result_piece form b d (Complete document) = encoded (encoding_in form b d document)
 result_piece form b d (Refused line fault) = OnErrors (document_line line (line_report fault))
 
--- nothing more is written after the first fault
+-- the pieces up to the first that was refused
 -- rule: first-refusal-ends
 unfoldable pub up_to_refused : List Piece → List Piece
 up_to_refused [] = []
 up_to_refused (OnOutput text ∷ more) = OnOutput text ∷ up_to_refused more
 up_to_refused (OnErrors text ∷ more) = OnErrors text ∷ []
 
--- what `encode` writes for what a text spells
+-- the pieces of `encode` for the documents of a text; encoding stops at the first fault
 abbrev pub encode_pieces : Form → List Row → List Sequence → List ParseResult → List Piece
 encode_pieces form b d results = up_to_refused (map (result_piece form b d) results)

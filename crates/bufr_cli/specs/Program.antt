@@ -1,4 +1,5 @@
--- What comes of a job by its input, and of a call of the program. (a choice of this project)
+-- What a call of the program does: the inputs that it opens, the tables that it reads, its run and
+-- its outcome. (own)
 -- Cited by public contracts.
 use Rattle.std.specs.Prelude.{◌≡◌, ◌≢◌, ◌⊎◌, ℕ, List, Option, Some, None, Result, Ok, Err, IfSome, [], ◌∷◌, ◌++◌, true, string_bytes}
 use Rattle.std.specs.Borrow.{Bor}
@@ -26,25 +27,30 @@ use Rattle.bufr_cli.specs.Line.{IsJobOf, SaysWhy, bufr_app}
 use Rattle.bufr_cli.specs.declared.job.LineFault.{LineFault}
 use Rattle.bufr_cli.specs.declared.job.LineFault.TheVariants.{Help, Usage, Memory}
 
--- The name of what is opened: of a file, or none for standard input.
+-- What is opened: standard input, or the file with this name.
 pub data InputName : Type 0 where
   standard_name : InputName
   file_name : (name : List ℕ) → InputName
 
--- where it is known what was opened before, these were opened after it
+-- If it is known what had been opened before, exactly these inputs were opened after that, in
+-- order.
 abbrev pub Opens : (before after : Option (List InputName)) → List InputName → Type 0
 Opens None after names = Unit {0}
 Opens (Some before) None names = ⊥
 Opens (Some before) (Some after) names = after ≡ before ++ names
 
--- What is known of the inputs: the octets of standard input, and of files known to open; and what
--- an input of either type has counted.
+-- What is known of the inputs of a program, whose types are Standard and File.
 pub record Known (Standard File : Type 0) : Type 0 where
+  -- the octets of standard input, if they are known
   pub standard : Option (List ℕ)
+  -- the octets of the file with a name, if it is known that it can be opened and what it contains
   pub named : List ℕ → Option (List ℕ)
+  -- the state of standard input
   pub of_standard : Standard → Input
+  -- the state of a file
   pub of_file : File → Input
 
+-- what is known of the inputs, from these parts
 abbrev pub known : {Standard File : Type 0} → (standard : Option (List ℕ))
     → (named : List ℕ → Option (List ℕ)) → (Standard → Input) → (File → Input)
     → Known Standard File
@@ -57,31 +63,33 @@ command_pieces command.Ls = event_pieces ls_piece
 command_pieces (command.Dump b d) = event_pieces (dump_piece b.now d.now)
 command_pieces (command.Encode form b d) = document_pieces form b.now d.now
 
--- the file of this name is not opened: it was not known that it can be, or memory was wanted
+-- The file with this name was not opened: it cannot be (then it is not among the known files), or
+-- memory ran out.
 abbrev pub IsClosed : (named : List ℕ → Option (List ℕ)) → (name : Bor (List ℕ)) → Outcome → Type 0
 IsClosed named name outcome =
     ((outcome ≡ CannotOpen name) × (named name.now ≡ None)) ⊎ (outcome ≡ Run ended.Memory)
 
--- how a run came out
+-- the outcome of a run with this result
 abbrev pub ran_outcome : Result Tally RunFault → Outcome
 ran_outcome (Ok tally) = Ran tally
 ran_outcome (Err fault) = Run fault
 
--- an input of these octets was run over, and this is what it counted
+-- A run reads an input of type R that contains these octets. `counts` gives the state of the input,
+-- which changes from `from` to `to`, and `run` states how.
 abbrev pub RunsOver : {R : Type 0} → (counts : R → Input) → (octets : Option (List ℕ))
     → (run : (from to : Input) → Type 0) → Type 0
 RunsOver {R} counts octets run =
     (from to : R) × ((counts from).left ≡ octets) × run (counts from) (counts to)
 
--- the file of this name was run over, or standard input
+-- A run reads the file with this name, or standard input if there is no name.
 -- rule: dash-is-a-name
 abbrev pub RunsOverInput : {Standard File : Type 0} → Known Standard File
     → (file : Option (Bor (List ℕ))) → (run : (from to : Input) → Type 0) → Type 0
 RunsOverInput inputs None run = RunsOver inputs.of_standard inputs.standard run
 RunsOverInput inputs (Some name) run = RunsOver inputs.of_file (inputs.named name.now) run
 
--- What comes of a run: its input cannot be opened, or memory was wanted first, and nothing was
--- written; or the run ended.
+-- The outcome of a run that reads the file with this name, or standard input: the file cannot be
+-- opened, or memory runs out before the run, and nothing is written; or the run ends.
 pub data RunOutcome {Standard File : Type 0} (pieces : RunPieces) (inputs : Known Standard File)
     (file : Option (Bor (List ℕ))) (before after : Writers) (outcome : Outcome) : Type 0 where
   IsNotOpened : (name : Bor (List ℕ)) → file ≡ Some name → outcome ≡ CannotOpen name
@@ -93,24 +101,28 @@ pub data RunOutcome {Standard File : Type 0} (pieces : RunPieces) (inputs : Know
       → RunsOverInput inputs file (λ from to. EndsRun pieces from to before after ran)
       → RunOutcome pieces inputs file before after outcome
 
--- An input was not read whole: a read of it failed, or 2^32 were made, or memory was wanted before
--- that.
+-- A file is not read to its end: a read failed, 2^32 reads did not reach the end, or memory ran out
+-- before all of these were made.
 pub record FailsToRead (fault : RunFault) (from to : Input) : Type 0 where
   pub octets : List ℕ
   pub read : Consumes from.left to.left octets
+  -- a file is only read
   pub none : fault ≢ ended.Write
+  -- the file counts a `Read` fault; X does not matter, since the result is a fault
   pub failures : to.failures ≡ read_failures_after {X = Unit {0}} from.failures (Err fault)
   pub reads : ReadsAtMost {X = Unit {0}} from.reads to.reads (Err fault)
   pub fewer : fault ≡ ended.Memory → ReadsFewer from.reads to.reads
 
--- a file of these octets was not read whole, and its counts say why
+-- The file with these octets is not read to its end, for this fault.
 -- rule: table-not-read
 abbrev pub IsUnread : {File : Type 0} → (counts : File → Input) → (octets : Option (List ℕ))
     → Outcome → Type 0
 IsUnread counts octets outcome =
     (fault : RunFault) × (outcome ≡ Run fault) × RunsOver counts octets (FailsToRead fault)
 
--- a table's file is not opened, or not read; or the table is at fault
+-- A table is not available: its file is not opened, it is not read to its end, or the table has a
+-- fault. `reads` relates records to the result of reading the table from them, and `says` is the
+-- outcome for a fault of the table.
 abbrev pub TableOutcome : {X File : Type 0} → (counts : File → Input)
     → (reads : List Record → Result X TableFault → Type 0) → (says : TableFault → Outcome)
     → (named : List ℕ → Option (List ℕ)) → (name : Bor (List ℕ)) → Outcome → Type 0
@@ -119,18 +131,18 @@ TableOutcome counts reads says named name outcome =
     ⊎ ((fault : TableFault) × (outcome ≡ says fault)
     × IfSome (named name.now) (λ text. reads (records_of text) (Err fault)))
 
--- Tables B and D are those of the files of these names
+-- Tables B and D are those in the files with these names, if the octets of the files are known.
 pub record AreTables (named : List ℕ → Option (List ℕ)) (tables : TableNames) (b : List Row)
     (d : List Sequence) : Type 0 where
   pub table_b : IfSome (named tables.table_b.now) (λ text. table_b_of (records_of text) ≡ Ok b)
   pub table_d : IfSome (named tables.table_d.now) (λ text. ReadsTableD (records_of text) (Ok d))
 
--- the names of tables, in the order in which they are opened
+-- the files of the tables, in the order in which they are opened
 abbrev pub table_names : TableNames → List InputName
 table_names tables = file_name tables.table_b.now ∷ file_name tables.table_d.now ∷ []
 
--- not both tables are read: Table B is not read or is at fault, and nothing else is opened; or it
--- is read and Table D is not
+-- One of the tables is not available. If it is Table B, nothing else is opened; if it is Table D,
+-- Table B was read before. `opens` says which inputs were opened.
 pub data AreUnread {File : Type 0} (counts : File → Input) (named : List ℕ → Option (List ℕ))
     (tables : TableNames) (opens : List InputName → Type 0) (outcome : Outcome) : Type 0 where
   NoTableB : opens (file_name tables.table_b.now ∷ [])
@@ -141,13 +153,13 @@ pub data AreUnread {File : Type 0} (counts : File → Input) (named : List ℕ �
       → TableOutcome counts ReadsTableD TableD named tables.table_d outcome
       → AreUnread counts named tables opens outcome
 
--- the name of an input
+-- what is opened for an input: the file with this name, or standard input if there is no name
 abbrev pub input_name : Option (Bor (List ℕ)) → InputName
 input_name None = standard_name
 input_name (Some name) = file_name name.now
 
--- what comes of a run by tables: not both are read, and nothing was written; or it is by both, and
--- the input is opened after them
+-- The outcome of `dump` or `encode`: a table is not available, and nothing is written; or both are,
+-- the input is opened after them, and `RunOutcome` applies.
 -- rule: tables-before-input
 pub data TablesOutcome {Standard File : Type 0} (pieces : List Row → List Sequence → RunPieces)
     (inputs : Known Standard File) (tables : TableNames) (opens : List InputName → Type 0)
@@ -159,7 +171,7 @@ pub data TablesOutcome {Standard File : Type 0} (pieces : List Row → List Sequ
       → RunOutcome (pieces b d) inputs file before after outcome
       → TablesOutcome pieces inputs tables opens file before after outcome
 
--- what comes of a command, and what it opens, each once
+-- The outcome of a subcommand, and the inputs that it opens.
 abbrev pub CommandOutcome : {Standard File : Type 0} → Known Standard File
     → (opens : List InputName → Type 0) → Subcommand → (file : Option (Bor (List ℕ)))
     → (before after : Writers) → Outcome → Type 0
@@ -172,7 +184,8 @@ CommandOutcome inputs opens (Dump tables) file before after outcome =
 CommandOutcome inputs opens (Encode tables form) file before after outcome =
     TablesOutcome (document_pieces form) inputs tables opens file before after outcome
 
--- Help was written and handed on; or the output failed at it, and the last line says so.
+-- The help is written and flushed, with status 0; or that fails, and the last line reports it, with
+-- status 2.
 pub data WritesHelp (text : List ℕ) (before after : Writers) (status : ℕ) : Type 0 where
   InWhole : Appends before.output.taken after.output.taken text
       → after.output.all_flushed ≡ true → IsSame before.output after.output
@@ -182,7 +195,7 @@ pub data WritesHelp (text : List ℕ) (before after : Writers) (status : ℕ) : 
       → WritesLine before.errors after.errors (run_line ended.Write) → status ≡ 2
       → WritesHelp text before after status
 
--- what comes of a line without a job: nothing goes to the output but help
+-- What is written if the command line is not a job: only help goes to the output.
 abbrev pub AnswersFault : LineFault → (before after : Writers) → (status : ℕ) → Type 0
 AnswersFault (Help text) before after status = WritesHelp (string_bytes text) before after status
 AnswersFault (Usage text) before after status =
@@ -192,8 +205,9 @@ AnswersFault Memory before after status =
     (after.output ≡ before.output)
     × WritesLine before.errors after.errors (run_line ended.Memory) × (status ≡ 2)
 
--- A job was done, and the last line and the status say how; or there is none, and that is answered,
--- and nothing is opened.
+-- What a call of the program does. Either the command line is a job, and the last line and the
+-- status report its outcome; or it is not, the program writes why not, and no input is opened.
+-- (`fault_of` and `subcommand_of` are clap's.)
 -- rule: status-of-help
 pub data RunsProgram {Standard File : Type 0} (words : List Text) (inputs : Known Standard File)
     (opened opened' : Option (List InputName)) (before after : Writers) (status : ℕ) : Type 0 where

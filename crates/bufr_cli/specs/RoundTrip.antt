@@ -1,5 +1,4 @@
--- Only contracts need this file. A stream dumped, its text encoded, and that dumped again. (A
--- choice of this project)
+-- Only contracts need this file. A stream dumped, its text encoded, and that dumped again. (own)
 use Rattle.std.specs.Prelude.{◌≡◌, ℕ, ◌+◌, ◌≤◌, List, [], ◌∷◌, length, map, flat_map, count_by, Result, Ok, Err}
 use Rattle.std.specs.List.{AllByRecursion, AllZip, concat, filter}
 use Rattle.bufr_bits.specs.Prelude.{taken_of}
@@ -135,7 +134,7 @@ abbrev pub written_by : RunInMemory → Written
 written_by ran =
     record { output = taken_of ran.output; errors = taken_of ran.errors; tally = ran.tally }
 
--- ---- A text encoded, and that dumped: a dump's one spelling. (a choice of this project)
+-- ---- A text encoded, and that dumped: a dump's one spelling. (own)
 
 -- the text of a document in the one spelling that a dump has, by the template that its descriptors
 -- make; where they make none it has no such text

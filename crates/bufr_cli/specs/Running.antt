@@ -1,5 +1,5 @@
--- What a run leaves: its reads, its writes, its counts, and the devices that a fault is of.
--- (A choice of this project)
+-- What a run over an input does to its devices: what it reads and writes, when it flushes, and
+-- which device a fault comes from. (own)
 -- Cited by public contracts.
 use Rattle.std.specs.Prelude.{if◌then◌else◌, ◌+◌, ℕ, Bool, true, OnOk, IfErr, IfOk, ◌≢◌, List, Option, ◌≡◌, ◌⊎◌, Result, Ok, Err, ◌<◌, ◌≤◌, false, ◌++◌, None, flat_map, count_by, option_to_list, map, [], IfSome, Vec, length}
 use Rattle.bufr_frame.specs.declared.fault.RunFault.{RunFault}
@@ -19,17 +19,17 @@ use Rattle.std.specs.Global.{Global}
 use Rattle.bufr_bits.specs.declared.device.Sink as sink
 use Rattle.bufr_bits.specs.declared.device.Source as source
 
--- ---- What an input and the writers have counted at one time, and which writer a fault is of. (a
--- choice of this project)
+-- ---- The counts of an input and of the writers, and which writer a fault comes from. (own)
 
--- An input: the octets that are left, where they are known, its reads, and those that failed.
+-- The state of an input: the octets that are left (if they are known), the number of reads, and how
+-- many of these failed.
 pub record Input : Type 0 where
   pub left : Option (List ℕ)
   pub reads : ℕ
   pub failures : ℕ
 
--- A writer: the octets it took, where known; its failed calls, empty writes and flushes; and whether
--- all that it took was handed on.
+-- The state of a writer: the octets that it took (if they are known); the number of failed calls,
+-- of empty writes and of flushes; and whether everything it took has been flushed.
 pub record Writer : Type 0 where
   pub taken : Option (List ℕ)
   pub failures : ℕ
@@ -37,17 +37,17 @@ pub record Writer : Type 0 where
   pub flushes : Flushes
   pub all_flushed : Bool
 
--- The two writers of a run.
+-- the output and the errors of a run
 pub record Writers : Type 0 where
   pub output : Writer
   pub errors : Writer
 
--- what an input has counted
+-- the state of an input, taken from its ghost items
 abbrev pub input_of : {R : Type 0} → source.Ghosts R → R → Input
 input_of ghosts r =
     record { left = ghosts.left r; reads = ghosts.reads r; failures = ghosts.failures r }
 
--- what a writer has counted
+-- the state of a writer, taken from its ghost items
 abbrev pub writer_of : {W : Type 0} → sink.Ghosts W → W → Writer
 writer_of ghosts w =
     record {
@@ -58,7 +58,7 @@ writer_of ghosts w =
       all_flushed = ghosts.all_flushed w;
     }
 
--- what both writers have counted
+-- the states of both writers, taken from their ghost items
 abbrev pub writers_of : {W E : Type 0} → sink.Ghosts W → W → sink.Ghosts E → E → Writers
 writers_of output w errors e =
     record { output = writer_of output w; errors = writer_of errors e }
@@ -93,20 +93,20 @@ abbrev pub OnlyWrites : {X : Type 0} → (before after : Writer) → Result X Ru
 OnlyWrites before after result =
     CountsCalls before after result × (after.flushes ≡ before.flushes)
 
--- no call of a writer failed, and no write took nothing
+-- Between these states, no call of the writer failed, and no write took nothing.
 abbrev pub IsSame : (before after : Writer) → Type 0
 IsSame before after =
     (after.failures ≡ before.failures) × (after.empty_writes ≡ before.empty_writes)
 
--- one call of a writer failed, or one write took nothing
+-- Between these states, either one call of the writer failed or one write took nothing.
 abbrev pub HasFailed : (before after : Writer) → Type 0
 HasFailed before after =
     ((after.failures ≡ counted before.failures 1) × (after.empty_writes ≡ before.empty_writes))
     ⊎ ((after.failures ≡ before.failures)
     × (after.empty_writes ≡ counted before.empty_writes 1))
 
--- A write fault comes from one of the two writers, which counts it. Without a write fault, neither
--- has failed.
+-- After a fault `Write`, exactly one of the two writers has failed, and has counted that. After any
+-- other result, neither has.
 -- rule: fault-71
 abbrev pub BlamesWriter : {X : Type 0} → (before after : Writers) → Result X RunFault → Type 0
 BlamesWriter before after (Err Write) =
@@ -115,44 +115,51 @@ BlamesWriter before after (Err Write) =
 BlamesWriter before after result =
     IsSame before.output after.output × IsSame before.errors after.errors
 
--- All of the pieces were written, each on its writer, in order.
+-- All of the pieces were written, each to its writer, in order.
 -- rule: output-in-order
 pub record WritesPieces (before after : Writers) (pieces : List Piece) : Type 0 where
   pub output : Appends before.output.taken after.output.taken (flat_map output_of pieces)
   pub errors : Appends before.errors.taken after.errors.taken (flat_map errors_of pieces)
 
--- On each writer a prefix was written of what the pieces put there.
+-- Each writer took a prefix of what the pieces write to it.
 pub record WritesPrefixes (before after : Writers) (pieces : List Piece) : Type 0 where
   pub output : GrowsByPrefix before.output.taken after.output.taken (flat_map output_of pieces)
   pub errors : GrowsByPrefix before.errors.taken after.errors.taken (flat_map errors_of pieces)
 
--- The first pieces were written whole, and of the next one a prefix.
+-- The first pieces were written completely, and the next one in part.
 pub record WrittenInPart (before after : Writers) (pieces : List Piece) : Type 0 where
+  -- the pieces that were written completely
   pub given : List Piece
+  -- the piece after them, of which a prefix (possibly empty) was written
   pub next : Option Piece
+  -- the pieces that were not written
   pub rest : List Piece
   pub parts : pieces ≡ given ++ (option_to_list next ++ rest)
+  -- the writers after `given`
   pub between : Writers
   pub whole : WritesPieces before between given
   pub prefix : WritesPrefixes between after (option_to_list next)
 
--- no piece is left
+-- All of the pieces were written.
 abbrev pub IsAllWritten : {before after : Writers} → {pieces : List Piece}
     → WrittenInPart before after pieces → Type 0
 IsAllWritten part = (part.next ≡ None) × (part.rest ≡ [])
 
--- The tally counts the pieces on each writer.
+-- The tally counts the pieces for each writer.
 pub record Tallies (tally : Tally) (pieces : List Piece) : Type 0 where
   pub accepted : tally.accepted ≡ count_by is_accepted pieces
   pub refused : tally.refused ≡ count_by is_refused pieces
 
--- The pieces of a whole input, those certain of a beginning, and whether a refusal ends all.
+-- The pieces of a command, as functions of the octets of its input.
 pub record RunPieces : Type 0 where
+  -- the pieces of an input that ends after these octets
   pub whole : List ℕ → List Piece
+  -- the first pieces of an input that begins with these octets, whatever follows them
   pub certain : List ℕ → List Piece
+  -- whether the run stops after the first piece that is refused, as `encode` does
   pub stops : Bool
 
--- the pieces of the events of a stream, each by this function
+-- the pieces of a stream; `piece` gives that of an event
 -- rule: input-without-bufr
 abbrev pub event_pieces : (StreamEvent → Piece) → RunPieces
 event_pieces piece =
@@ -171,24 +178,29 @@ document_pieces form b d =
       stops = true;
     }
 
--- the pieces of the octets that were read: all at the end of the input, else those that are certain
+-- the pieces of the octets that were read: all if the input ended, and otherwise those that are
+-- certain
 abbrev pub read_pieces : RunPieces → (ended : Bool) → List ℕ → List Piece
 read_pieces pieces ended bs = if ended then pieces.whole bs else pieces.certain bs
 
--- what was written to a writer is handed on: nothing was, or all that the writer took is
+-- Between these states, either nothing was written to the writer, or everything that it took is
+-- flushed.
 abbrev pub IsHandedOn : (before after : Writer) → Type 0
 IsHandedOn before after = (after ≡ before) ⊎ (after.all_flushed ≡ true)
 
--- where a run went through all is handed on; where a read of it failed, all that it wrote
+-- What is flushed after a run.
 -- rule: output-held-back
 abbrev pub HandsOn : {X : Type 0} → (before after : Writers) → Result X RunFault → Type 0
+-- a run that completes has flushed everything
 HandsOn before after (Ok x) =
     (after.output.all_flushed ≡ true) × (after.errors.all_flushed ≡ true)
+-- before a read that fails, everything that the run wrote was flushed
 HandsOn before after (Err Read) =
     IsHandedOn before.output after.output × IsHandedOn before.errors after.errors
+-- after other faults, `FlushesRest` applies to the output
 HandsOn before after (Err fault) = Unit {0}
 
--- each writer was flushed at most this often
+-- Each writer was flushed at most n times.
 abbrev pub FlushesAtMost : (n : ℕ) → (before after : Writers) → Type 0
 FlushesAtMost n before after =
     (after.output.flushes.made ≤ counted before.output.flushes.made n)
@@ -248,83 +260,91 @@ abbrev pub unflushed_after : Unflushed → Verdict → Unflushed
 unflushed_after unflushed Accepted = record unflushed { output = true }
 unflushed_after unflushed Refused = record unflushed { errors = true }
 
--- fewer than 2^32 reads were made
+-- Fewer than 2^32 reads were made.
 abbrev pub ReadsFewer : (reads reads' : ℕ) → Type 0
 ReadsFewer reads reads' = (n : ℕ) × (n < max_reads) × (reads' ≡ counted reads n)
 
--- at most 2^32 reads were made; an input is too long only after all of them
+-- At most 2^32 reads were made, and exactly 2^32 if the input is too long.
 -- rule: fault-72
 abbrev pub ReadsAtMost : {X : Type 0} → (reads reads' : ℕ) → Result X RunFault → Type 0
 ReadsAtMost reads reads' result =
     (n : ℕ) × (n ≤ max_reads) × (reads' ≡ counted reads n)
     × (result ≡ Err InputTooLong → n ≡ max_reads)
 
--- each writer was flushed at most once before each read, and once at the end
+-- Each writer was flushed at most once before each read, and once at the end.
 abbrev pub FlushesByRead : (reads reads' : ℕ) → (before after : Writers) → Type 0
 FlushesByRead reads reads' before after =
     (n : ℕ) × (reads' ≡ counted reads n) × FlushesAtMost (n + 1) before after
 
--- the pieces of a whole input were written and counted
+-- The pieces of an input that consists of these octets were written and counted.
 abbrev pub WritesWhole : RunPieces → (before after : Writers) → Tally → (octets : List ℕ) → Type 0
 WritesWhole pieces before after tally octets =
     WritesPieces before after (pieces.whole octets) × Tallies tally (pieces.whole octets)
 
--- A run read these octets, perhaps to the end of its input, and wrote of their pieces the first.
+-- A run read these octets, and wrote the first of their pieces.
 pub record ReadsAndWrites (pieces : RunPieces) (from to : Input) (before after : Writers) : Type 0
   where
     pub octets : List ℕ
+    -- whether the run reached the end of the input
     pub ended : Bool
     pub read : Consumes from.left to.left octets
     pub at_end : ended ≡ true → IsAtEnd to.left
     pub written : WrittenInPart before after (read_pieces pieces ended octets)
 
--- where a refusal ends the run, none was written
+-- If a refused piece stops the run, none of these pieces is refused.
 abbrev pub IsUnrefused : RunPieces → List Piece → Type 0
 IsUnrefused pieces given = pieces.stops ≡ true → count_by is_refused given ≡ 0
 
--- no flush of a writer failed
+-- No flush of a writer failed.
 abbrev pub NoFlushFails : (before after : Writers) → Type 0
 NoFlushFails before after =
     (after.output.flushes.failed ≡ before.output.flushes.failed)
     × (after.errors.flushes.failed ≡ before.errors.flushes.failed)
 
--- How a run ended that read and wrote so much. At its end the pieces of the whole input were
--- written and counted, whatever may follow what was read. Nothing follows the end, and after a
--- refusal that ends the run nothing counts. A read that failed, or was not made, came after all
--- that is certain. An input is too long only if 2^32 octets of it were read. A flush that
--- failed came after all. Memory was wanted where a piece was to be written, or before all of the
--- reads were made.
+-- What is known of a run (`so`) that ended with this result.
 -- rule: input-not-read, fault-line-not-written, reader-gone, fault-70
 abbrev pub RunEnds : {pieces : RunPieces} → {from to : Input} → {before after : Writers}
     → ReadsAndWrites pieces from to before after → Result Tally RunFault → Type 0
+-- The run completed: at the end of the input, or after a refused piece that stops it. It wrote and
+-- counted the pieces of the whole input, whatever its remaining octets (t) are: none after the end,
+-- and any after a refused piece that stops the run.
 RunEnds {pieces} {from} {to} {before} {after} so (Ok tally) =
     (pieces.stops ≡ false → so.ended ≡ true) × IsAllWritten so.written
     × ((t : List ℕ) → (so.ended ≡ true → t ≡ [])
     → WritesWhole pieces before after tally (so.octets ++ t))
+-- A write failed, or a flush did. A flush only fails after all pieces were written.
 RunEnds {pieces} {from} {to} {before} {after} so (Err Write) =
     ¬ NoFlushFails before after → IsAllWritten so.written
+-- Memory ran out, but not after a refused piece that stops the run. In a run that no refused piece
+-- stops, memory was needed to write a piece (`next`), or fewer than 2^32 reads had been made.
 RunEnds {pieces} {from} {to} {before} {after} so (Err Memory) =
     IsUnrefused pieces so.written.given
     × (pieces.stops ≡ false → so.written.next ≡ None → ReadsFewer from.reads to.reads)
+-- A read failed, or 2^32 reads did not reach the end of the input (then each returned an octet or
+-- more): all certain pieces were written, and none is a refused piece that stops the run.
 RunEnds {pieces} {from} {to} {before} {after} so (Err fault) =
     (so.ended ≡ false) × IsAllWritten so.written × IsUnrefused pieces so.written.given
     × (fault ≡ InputTooLong → max_reads ≤ length so.octets)
 
--- What a run with these pieces leaves of its devices. At its end all is handed on, and where a read
--- failed all that the run wrote, the errors only after the output. The input counts a read fault, a
--- writer a write fault.
+-- What a run that has these pieces does to its devices.
 pub record LeavesDevices (pieces : RunPieces) (from to : Input) (before after : Writers)
     (result : Result Tally RunFault) : Type 0 where
+  -- what the run read and wrote
   pub ran : ReadsAndWrites pieces from to before after
+  -- what the result says about that
   pub ends : RunEnds ran result
-  -- where the whole input is known, its pieces were written and counted
+  -- if the run completed and its whole input is known, the pieces of that input were written and
+  -- counted
   pub whole : IfOk result (λ tally. IfSome from.left (WritesWhole pieces before after tally))
+  -- the errors are flushed after the output: if that fails, the output was already flushed
   pub order : after.errors.flushes.failed ≢ before.errors.flushes.failed
       → IsHandedOn before.output after.output
   pub flushed : HandsOn before after result
+  -- the input counts a `Read` fault
   pub failures : to.failures ≡ read_failures_after from.failures result
   pub reads : ReadsAtMost from.reads to.reads result
   pub flushes : FlushesByRead from.reads to.reads before after
+  -- a writer counts a `Write` fault
   pub writers : BlamesWriter before after result
 
 -- the octets that were read, to the end; or a fault, never one of a write

@@ -1,5 +1,5 @@
 -- Only contracts need this file. What one step of a run does: a piece is written, or octets are
--- read. (a choice of this project)
+-- read. (own)
 use Rattle.std.specs.Prelude.{ℕ, Bool, true, false, ◌≡◌, ◌≢◌, ◌+◌, ◌<◌, ◌≤◌, ◌^◌, max, List, [], ◌∷◌, ◌++◌, length, map, count_by, option_to_list, Option, None, Result, Ok, Err}
 use Rattle.std.specs.Io.KnownBytes.{Consumes, IsAtEnd}
 use Rattle.bufr_frame.specs.declared.fault.RunFault.{RunFault}

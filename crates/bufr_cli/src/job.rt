@@ -12,7 +12,7 @@ use clap::{Arg, ArgMatches};
 use std::alloc::{AllocError, Global};
 use std::convert::AsStr;
 
-/// The names of the files that Tables B and D are read from.
+/// The names of the files of Tables B and D.
 #[derive(Clone, Copy, Debug, PartialEq, Eq)]
 pub struct TableNames<'a> {
     /// The value of `-B`.
@@ -26,28 +26,29 @@ pub struct TableNames<'a> {
 pub enum Subcommand<'a> {
     /// `bufr ls`: list the messages.
     Ls,
-    /// `bufr dump`: write the messages as text, by these tables.
+    /// `bufr dump`: write the messages as text, using these tables.
     Dump(TableNames<'a>),
-    /// `bufr encode`: write the messages that a text spells, by these tables, in this form.
+    /// `bufr encode`: write the messages of the documents in a text, using these tables and this
+    /// form.
     Encode(TableNames<'a>, Form),
 }
 
 /// What a command line asks for.
 #[derive(Clone, Copy, Debug)]
 pub struct Job<'a> {
-    /// What is to be done.
+    /// The subcommand.
     pub command: Subcommand<'a>,
-    /// The input's file name; standard input where there is none.
+    /// The name of the input file; standard input if there is none.
     pub file: Option<&'a str>,
 }
 
-/// Why a command line gives no job.
+/// Why a command line is not a job.
 #[derive(Debug, Drop, thiserror::Error)]
 pub enum LineFault {
-    /// It asks for help or for the version: this text, for standard output.
+    /// It asks for help or for the version, which is this text for standard output.
     #[error("help was asked for")]
     Help(String),
-    /// It is not understood: this text, for standard error.
+    /// It is invalid; this text is for standard error.
     #[error("the command line is not understood")]
     Usage(String),
     /// Memory ran out.
@@ -304,14 +305,14 @@ fn form_of(found: &ArgMatches<'_>) -> Option<Form>
     }
 }
 
-/// Why a subcommand that clap accepted gives no job.
+/// Why a subcommand that clap accepted is not a job.
 #[derive(Clone, Copy, Debug, PartialEq, Eq)]
 enum NoJob {
-    /// There is no command of this name.
+    /// There is no subcommand with this name.
     UnknownCommand,
     /// A table is missing.
     MissingTable,
-    /// There is no form of this name.
+    /// There is no form with this name.
     UnknownForm,
 }
 

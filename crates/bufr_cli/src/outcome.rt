@@ -13,12 +13,12 @@ use bufr_text::LineWriter;
 /// The octets in which a line is put together; what is longer goes out in several writes.
 const LINE: usize = 320;
 
-/// How a call of the program came out.
+/// The outcome of a call of the program.
 #[derive(Clone, Copy, Debug)]
 pub enum Outcome<'a> {
-    /// The run went through.
+    /// The run completed.
     Ran(Tally),
-    /// The command line was not understood; this text says how it is written.
+    /// The command line is invalid; this text says why.
     Usage(&'a str),
     /// The file of this name cannot be opened.
     CannotOpen(&'a str),
@@ -26,7 +26,7 @@ pub enum Outcome<'a> {
     TableB(TableFault),
     /// Table D cannot be read.
     TableD(TableFault),
-    /// The run was ended by this fault.
+    /// This fault stopped the run.
     Run(RunFault),
 }
 
@@ -140,13 +140,13 @@ pub enum Verdict {
     Refused,
 }
 
-/// How many messages or documents a run accepted, and how many places, messages or documents it
+/// How many messages or documents a run accepted, and how many strays, messages or documents it
 /// refused.
 #[derive(Clone, Copy, Debug, PartialEq, Eq)]
 pub struct Tally {
-    /// Those whose text was written on the output.
+    /// The messages or documents that were written to the output.
     pub accepted: u64,
-    /// Those whose fault line was written on the errors, strays included.
+    /// The fault lines that were written to the errors, including those of strays.
     pub refused: u64,
 }
 

@@ -32,39 +32,42 @@ pub enum OpenFault {
     Memory,
 }
 
-/// Where the program finds its input. What it gives counts the reads, so a contract can say of an
-/// input that a read of it failed.
+/// The inputs of the program. They count their reads, so that contracts can state which read
+/// failed.
 pub trait Inputs {
     /// Standard input.
     type Standard: Source + Drop;
 
-    /// A file that was opened.
+    /// A file.
     type File: Source + Drop;
 
-    /// The octets of standard input, where they are known.
+    /// The octets of standard input, if they are known.
     ghost standard_octets: { Self → Option (List ℕ) };
 
-    /// The octets of the file of a name, where it is known that it can be opened and what it holds.
+    /// The octets of the file with a name, if it is known that it can be opened and what it
+    /// contains.
     ghost file_octets: { Self → List ℕ → Option (List ℕ) };
 
-    /// What was opened so far, in order, where it is known. A call that fails counts too.
+    /// What was opened so far, in order, if it is known. Calls that failed are included.
     ghost opened: { Self → Option (List InputName) } = { λ _. None };
 
-    /// Standard input.
+    /// Standard input. It is opened after all files, so no clause says what is known of files after
+    /// that.
     ///
     /// # Errors
     ///
-    /// [`AllocError`] where memory ran out.
+    /// [`AllocError`] if memory runs out.
     fn standard(&mut self) -> Result<Self::Standard, AllocError>
         ensures octets { IfOk result
             (λ input. Self.Standard.left input ≡ standard_octets self.old) }
         ensures opens { Opens (opened self.old) (opened self.new) (standard_name ∷ []) };
 
-    /// The file of this name.
+    /// The file with this name.
     ///
     /// # Errors
     ///
-    /// [`OpenFault::CannotOpen`] where it cannot be opened, and [`OpenFault::Memory`].
+    /// [`OpenFault::CannotOpen`] if it cannot be opened, and [`OpenFault::Memory`] if memory runs
+    /// out.
     fn open(&mut self, name: &str) -> Result<Self::File, OpenFault>
         ensures octets { IfOk result
             (λ file. Self.File.left file ≡ file_octets self.old name.now) }
@@ -96,9 +99,8 @@ pub fn read_all<R: Source>(alloc: Global, r: &mut R) -> Result<Vec<u8>, RunFault
     Ok(octets)
 }
 
-/// Does what the words of a command line ask for, the first of which is the program's name. It
-/// returns the exit status of [`finish`]. Where help or the version was asked for, its text goes to
-/// `w` and the status is 0.
+/// Does what a command line asks for; the first of its words is the program's name. It returns the
+/// exit status: that of [`finish`], or 0 if help or the version was written to `w`.
 pub fn run<'a, S: AsStr, I: Inputs, W: Sink, E: Sink>(
     alloc: Global,
     words: &'a [S],
@@ -106,9 +108,9 @@ pub fn run<'a, S: AsStr, I: Inputs, W: Sink, E: Sink>(
     w: &mut W,
     e: &mut E,
 ) -> u8
-    // What the words ask for was done, or help was written and handed on, or the errors say why
-    // not; the status says which. Table B was opened first, Table D if that was read, and then the
-    // input if both were, each once.
+    // `RunsProgram` (specs/Program) relates, in this order: the words of the command line, what is
+    // known of the inputs, what was opened before and after the call, the writers before and after
+    // it, and the exit status. `known`, `input_of` and `writers_of` only collect ghost items.
     ensures { RunsProgram (map S.text words.entry.now)
         (known (I.standard_octets inputs.old) (I.file_octets inputs.old)
         (input_of I.Standard.Source) (input_of I.File.Source))

@@ -1,5 +1,4 @@
--- The items of a dump text and its subsets; an item as the content of its field, and its one
--- spelling; the faults in items; and the stored entries. (A choice of this project)
+-- The items of a dump text, the content that each has as a field, and their faults. (own)
 -- Cited by public contracts.
 use Rattle.std.specs.Prelude.{ℕ, List, [], ◌∷◌, Bool, true, false, ◌-◌, ◌/◌, ◌^◌, ◌==◌, ◌&&◌, nat_lt, not, if◌then◌else◌, ◌++◌, length, replicate, ℤ, pos, negsuc, nat_abs, ◌+ℤ◌, ◌-ℤ◌, Result, Ok, Err, ◌≡◌, ◌≤◌, ◌<◌, unsigned_abs, map, slice_range, codes, decimal, Option, Some, None, IfSome}
 pub use Rattle.bufr_walk.specs.declared.spec.TurnRefusal.{TurnRefusal}
@@ -29,29 +28,31 @@ use Rattle.bufr_fill.specs.declared.draft.DraftValue as given
 use Rattle.bufr_fill.specs.declared.draft.DraftValue.TheVariants as item_value
 use Rattle.bufr_fill.specs.declared.draft.DraftItem.{DraftItem}
 
--- the value of an item, as the dump text writes it
+-- the value of an item, as it appears in its line: the digits of a number, a text, `MISSING`, or
+-- the digits of a redefined reference
 pub data DraftValue : Type 0 where
   number_token : (digits : List ℕ) → DraftValue
   text_form : (octets : List ℕ) → DraftValue
   missing_form : DraftValue
   reference_token : (digits : List ℕ) → DraftValue
 
--- an item, and the number of its line
+-- an item of a dump text, and the number of its line
 pub record Draft : Type 0 where
   pub line : ℕ
   pub fxy : ℕ
   pub form : DraftValue
 
--- a draft from its parts
+-- an item of these parts
 abbrev pub draft : (line fxy : ℕ) → DraftValue → Draft
 draft line fxy form = record { line = line; fxy = fxy; form = form }
 
--- an item, or the end of a subset, on the line that begins the next one or on `end`
+-- An entry of a document: an item, or the end of a subset. A subset ends on the line `subset` of
+-- the next one, or on the line `end`.
 pub data DraftEntry : Type 0 where
   Holds : (item : Draft) → DraftEntry
   Ends : (line : ℕ) → DraftEntry
 
--- the items of one subset, and the line that ends it
+-- the items of one subset, and the line on which it ends
 pub record Subset : Type 0 where
   pub items : List Draft
   pub end_line : ℕ
@@ -60,47 +61,51 @@ pub record Subset : Type 0 where
 abbrev pub subset : List Draft → ℕ → Subset
 subset items end_line = record { items = items; end_line = end_line }
 
--- one more item at the start of the first subset; items that no line ends belong to none
+-- one more item at the beginning of the first subset; an item that no end follows is dropped
 abbrev pub prepend_to_subset : Draft → List Subset → List Subset
 prepend_to_subset item [] = []
 prepend_to_subset item (s ∷ subsets) = record s { items = item ∷ s.items } ∷ subsets
 
--- the subsets of entries
+-- the subsets in the entries of a document
 abbrev pub subsets_of : List DraftEntry → List Subset
 subsets_of [] = []
 subsets_of (Holds item ∷ more) = prepend_to_subset item (subsets_of more)
 subsets_of (Ends line ∷ more) = record { items = []; end_line = line } ∷ subsets_of more
 
--- a fault of an item, and its line
+-- a fault of the item on this line
 abbrev pub at_line : ℕ → ItemFault → DraftFault
 at_line line fault = draft_fault.Item line fault
 
--- an item after the last of its subset
+-- the fault of an item after the last field of its subset
 abbrev pub item_too_many : ItemFault
 item_too_many = wrong.WrongDescriptor expected.EndOfSubset
 
--- a step of the walk that is refused, and an item that gives compressed data too many values
+-- the fault of an item whose field the walk refuses
 abbrev pub walk_refused : TurnRefusal → ItemFault
 walk_refused (turn.Width fxy) = wrong.Walk (walk.Width fxy)
 walk_refused (turn.Defining fxy) = wrong.Walk (walk.Defining fxy)
 
+-- the fault of an item with which compressed data have too many values
 abbrev pub too_many_values : (fxy : ℕ) → ItemFault
 too_many_values fxy = wrong.Walk (walk.TooManyValues fxy)
 
--- a refusal of the walk: the number of the fault that a message's data would have, and the
--- descriptor that is refused
+-- the number of the fault that `dump` reports for the same refusal, and the descriptor
 abbrev pub refusal_parts : WalkRefusal → ℕ × ℕ
 refusal_parts (walk.Width fxy) = (31, fxy)
 refusal_parts (walk.Defining fxy) = (32, fxy)
 refusal_parts (walk.TooManyValues fxy) = (35, fxy)
 
--- what is expected, in parts
+-- what was expected, as parts of a text
 abbrev pub expected_text : Expected → List (List ℕ)
 expected_text (expected.Item fxy) = fxy_text fxy ∷ []
 expected_text (expected.Reference fxy) = codes "R " ∷ fxy_text fxy ∷ []
 expected_text expected.EndOfSubset = codes "end of subset" ∷ []
 
--- the number of a fault of an item, and its text in parts (the numbers are a choice of this project)
+-- A fault of an item: another item is expected (51); the value is not a decimal, not whole at the
+-- field's scale, or not of the field's kind (52); the number does not fit, or the value would be
+-- read as missing (53); the text is longer than the field (54); the field cannot be missing (55); a
+-- factor differs between subsets (58); a redefined reference differs between subsets, or texts need
+-- more than 63 octets each (59); or the walk refuses the item (62).
 abbrev pub item_report : ItemFault → ℕ × List (List ℕ)
 item_report (wrong.WrongDescriptor e) = (51, codes "expected " ∷ expected_text e)
 item_report wrong.Number = (52, codes "number" ∷ [])
@@ -119,42 +124,44 @@ number_of_draft_fault (draft_fault.Item line (wrong.Walk why)) = (refusal_parts 
 number_of_draft_fault (draft_fault.Item line fault) = (item_report fault).0
 number_of_draft_fault draft_fault.Memory = 73
 
--- whether a value has the mark of a redefined reference
+-- whether a value has the mark `R` of a redefined reference
 abbrev pub is_marked : DraftValue → Bool
 is_marked (reference_token digits) = true
 is_marked _ = false
 
--- the fault of a text that is no decimal, or not whole at its scale, or past the greatest value
+-- the fault of digits that represent no number at the field's scale: `Large` means that they are
+-- out of range
 -- rule: fault-52
 abbrev pub number_fault : NumberFault → ItemFault
 number_fault Large = wrong.OutOfRange
 number_fault _ = wrong.Number
 
--- the limit of the numbers that `width` bits write, without all ones where that is missing
+-- the limit below which numbers fit into `width` bits; all ones are excluded if they mean missing
 -- rule: packs-class-31
 abbrev pub raw_limit : (may_be_missing : Bool) (width : ℕ) → ℕ
 raw_limit m width = if m then ones width else 2 ^ width
 
--- a number that fits its bits and does not read as missing
+-- a raw value that fits the width and is not the missing value
 -- rule: fault-53
 abbrev pub raw_within : Bool → ℕ → ℤ → Result Content ItemFault
 raw_within m width (pos raw) =
     if nat_lt raw (raw_limit m width) then Ok (number raw) else Err wrong.OutOfRange
 raw_within m width (negsuc n) = Err wrong.OutOfRange
 
--- the number in the bits is the value minus the reference (FM 94: Regulation 94.5, Table B)
+-- the raw value of a number: the number minus the reference (FM 94, Table B)
 abbrev pub raw_of : FieldSpec → Result ℤ NumberFault → Result Content ItemFault
 raw_of spec (Ok value) = raw_within spec.may_be_missing spec.width (value -ℤ spec.reference)
 raw_of spec (Err why) = Err (number_fault why)
 
--- a reference whose magnitude fits the bits after its sign
+-- a redefined reference whose magnitude fits into the bits after the sign bit
 abbrev pub reference_of : FieldSpec → Result ℤ NumberFault → Result Content ItemFault
 reference_of spec (Ok value) =
     if nat_lt (nat_abs value) (2 ^ (spec.width - 1)) then Ok (reference value)
     else Err wrong.OutOfRange
 reference_of spec (Err why) = Err (number_fault why)
 
--- a text followed by spaces up to its length, which does not read as missing
+-- a text with spaces after it up to its length, unless it is too long or all its octets are 255,
+-- which means missing
 -- rule: fault-53, fault-54
 abbrev pub text_within : ℕ → List ℕ → Result Content ItemFault
 text_within count octets =
@@ -162,7 +169,8 @@ text_within count octets =
     else let whole = octets ++ replicate (count - length octets) 32 in
     if list_all (λ octet. octet == 255) whole then Err wrong.OutOfRange else Ok (text whole)
 
--- a value as the content of its field; one of another kind is no number
+-- The value of an item as the content of its field. A text for a number is fault `Number`, and so
+-- is a number for a text.
 -- rule: fault-52, fault-55, fault-order-of-an-item
 abbrev pub content_by_form : DraftValue → FieldSpec → Result Content ItemFault
 content_by_form (number_token digits) spec =
@@ -174,19 +182,21 @@ content_by_form missing_form spec =
     if spec.may_be_missing then Ok missing else Err wrong.MissingForbidden
 content_by_form (reference_token digits) spec = reference_of spec (decimal_value_of digits (pos 0))
 
--- whether an item has the descriptor and the mark of a field
+-- whether an item has the descriptor of a field, and the mark `R` exactly if the field is a
+-- redefined reference
 -- rule: fault-51
 abbrev pub is_of : FieldSpec → Draft → Bool
 is_of spec d =
     (d.fxy == spec.fxy)
     && (if is_reference spec.role then is_marked d.form else not (is_marked d.form))
 
--- the fault of another item than that of the field
+-- the fault if an item is not that of the field
 abbrev pub wrong_for : FieldSpec → ItemFault
 wrong_for spec = wrong.WrongDescriptor
     (if is_reference spec.role then expected.Reference spec.fxy else expected.Item spec.fxy)
 
--- an item as the content of its field; first it must be of the field, then of its kind, then fit
+-- an item as the content of its field: first its descriptor must be that of the field, then its
+-- kind, and then the value must fit
 -- rule: fault-order-of-an-item
 abbrev pub content_of : FieldSpec → Draft → Result Content ItemFault
 content_of spec d = if is_of spec d then content_by_form d.form spec else Err (wrong_for spec)
@@ -231,12 +241,12 @@ IsContentOf spec field_content.Missing =
 IsContentOf spec (field_content.Reference value) =
     (is_reference spec.role ≡ true) × (unsigned_abs value < 2 ^ (spec.width - 1))
 
--- minus zero: the sign bit alone; none is written (a choice of this project)
+-- minus zero: the sign bit alone; none is written (own)
 abbrev pub IsMinusZero : Role → List Bool → Type 0
 IsMinusZero role.Reference bits = bits ≡ true ∷ replicate (length bits - 1) false
 IsMinusZero _ bits = ⊥
 
--- ---- The one spelling that a dump has of an item. (a choice of this project)
+-- ---- The one spelling that a dump has of an item. (own)
 
 -- the text that a dump writes for a decimal at a scale; a text that is no decimal stays
 abbrev pub decimal_again : List ℕ → ℤ → Result ℤ NumberFault → List ℕ

@@ -1,6 +1,5 @@
--- The data bits of a document: how items are written, one after another, and how the contents of
--- one item are packed, with the least base and the least k. (WMO-No. 306, Volume I.2, FM 94:
--- section 4; the order of the faults and the least k are choices of this project)
+-- The data bits of a document: how its items are written, plain or compressed. (WMO-No. 306, Volume
+-- I.2, FM 94: section 4; the order of the faults, the base and the least k are our choices)
 -- Cited by public contracts.
 use Rattle.std.specs.Prelude.{Bool, List, [], ◌∷◌, ◌++◌, Result, Ok, Err, ℕ, zero, suc, ◌+◌, ◌-◌, ◌==◌, ◌&&◌, nat_lt, nat_le, min, not, true, false, if◌then◌else◌, take, replicate, length, Option, Some, None, unwrap_or, ◌≡◌, ◌≤◌, drop, max, map, slice_get}
 pub use Rattle.bufr_walk.specs.declared.spec.Taken.{Taken}
@@ -20,18 +19,26 @@ pub record WrittenItem (C : Type 0) : Type 0 where
   pub content : C
   pub bits : List Bool
 
--- a written item from its parts
+-- a written item of these parts
 abbrev pub written_item : {C : Type 0} → C → List Bool → WrittenItem C
 written_item content bits = record { content = content; bits = bits }
 
--- how drafts D are written as contents C and their bits, and the faults E
+-- How items are written, one at each field. D is what is written at a field: an item, or in
+-- compressed data a row with the items of all subsets. C is its content, and E a fault.
 pub record Filler (D C E : Type 0) : Type 0 where
+  -- writes an item as a field
   pub fills : FieldSpec → D → Result (WrittenItem C) E
+  -- the part of its content that affects the walk
   pub gives : FieldSpec → C → Taken
+  -- the fault if a field comes next but no item is left
   pub none_left : FieldSpec → E
+  -- the fault if the template ends but this item is left
   pub left_over : D → E
+  -- the fault if the walk refuses a step before this item
   pub refused_at : D → TurnRefusal → E
+  -- the fault if the walk refuses a step after the last item
   pub refused_at_end : TurnRefusal → E
+  -- never used; see `Passing`
   pub lost : E
 
 module _ {D C E : Type 0} (filler : Filler D C E) where
@@ -40,22 +47,24 @@ module _ {D C E : Type 0} (filler : Filler D C E) where
   with_bits_before bits (Err why) = Err why
   with_bits_before bits (Ok suffix) = Ok (bits ++ suffix)
 
-  -- the first draft that is left, written as a field
+  -- the step at a field: the next item is written as this field
   abbrev pub write_first : FieldSpec → List D → Result (Step (List D) (WrittenItem C)) E
   write_first spec [] = Err (filler.none_left spec)
   write_first spec (d ∷ left) = do
     w ← filler.fills spec d
     Ok (record { content = w; returned = filler.gives spec w.content; state = left })
 
+  -- the fault if the walk refuses a step: at the next item, or after the last one
   abbrev pub refused_first : TurnRefusal → List D → E
   refused_first why [] = filler.refused_at_end why
   refused_first why (d ∷ left) = filler.refused_at d why
 
+  -- the fault if items are left at the end of the template
   abbrev pub none_over : List D → Option E
   none_over [] = None
   none_over (d ∷ left) = Some (filler.left_over d)
 
-  -- how drafts are written, each as the field that comes next; none may be left at the end
+  -- how a pass writes items; its state is the items that are left
   -- rule: fault-62-first
   abbrev pub filling : Passing (List D) (WrittenItem C) E
   filling = record {
@@ -65,7 +74,7 @@ module _ {D C E : Type 0} (filler : Filler D C E) where
     lost = filler.lost;
   }
 
-  -- the pass that writes drafts
+  -- the pass that writes items; `suc (length drafts)` is enough, since each field uses one item
   abbrev pub fill_pass : Course → List D → Pass (List D) (WrittenItem C) E
   fill_pass course drafts = pass filling (suc (length drafts)) course drafts
 
@@ -73,7 +82,7 @@ module _ {D C E : Type 0} (filler : Filler D C E) where
 abbrev pub bits_written : {C : Type 0} → List (Item (WrittenItem C)) → List Bool
 bits_written {C} items = flat_map (λ (i : Item (WrittenItem C)). i.content.bits) items
 
--- what is written: the bits up to the first refusal, that refusal, if there is one, and the turns
+-- what is written: the bits up to the first fault, that fault (if any), and the number of turns
 pub record Writing (E : Type 0) : Type 0 where
   pub bits : List Bool
   pub stop : Option E
@@ -83,13 +92,13 @@ pub record Writing (E : Type 0) : Type 0 where
 abbrev pub pass_writing : {S C E : Type 0} → Pass S (WrittenItem C) E → Writing E
 pass_writing p = record { bits = bits_written p.items; stop = p.stop; turns = p.turns }
 
--- what is written, and what after it, unless it was refused
+-- what w writes and then, unless w stopped, what `rest` writes; the second argument is `w.stop`
 abbrev pub writing_then : {E : Type 0} → Writing E → Option E → Writing E → Writing E
 writing_then w (Some why) rest = w
 writing_then w None rest =
     record { bits = w.bits ++ rest.bits; stop = rest.stop; turns = w.turns + rest.turns }
 
--- the bits of what is written, or the refusal
+-- the bits that are written, or the fault
 abbrev pub bits_of_writing : {E : Type 0} → Writing E → Result (List Bool) E
 bits_of_writing w = option_map_or (λ why. Err why) w.stop (Ok w.bits)
 
@@ -97,16 +106,17 @@ bits_of_writing w = option_map_or (λ why. Err why) w.stop (Ok w.bits)
 abbrev pub fill : {D C E : Type 0} → Filler D C E → Course → List D → Result (List Bool) E
 fill filler course drafts = bits_of_writing (pass_writing (fill_pass filler course drafts))
 
--- the least number among contents, if there is one
+-- the least number among contents, if there is one; other contents are ignored
 -- rule: packs-numbers
 abbrev pub lowest : List Content → Option ℕ
 lowest [] = None
 lowest (number n ∷ cs) = Some (option_map_or (min n) (lowest cs) n)
 lowest (_ ∷ cs) = lowest cs
 
--- whether a content can be read back from its increment: a number minus the base has k bits, and is
--- not all ones if that means missing; k octets of a text and then spaces are the text, and those k
--- octets are not all 255
+-- Whether a content can be read back from an increment of this k. The increment of a number must
+-- fit into k bits, without being all ones if these mean missing. A text must be its first k octets
+-- and then spaces, and those k octets must not all be 255. Missing always has an increment, of all
+-- ones.
 -- rule: packs-numbers, packs-texts-not-missing
 abbrev pub has_increment : Coding → (base k : ℕ) → Content → Bool
 has_increment (numbers width m) base k (number n) = nat_lt (n - base) (raw_limit m k)
@@ -115,27 +125,29 @@ has_increment (texts count) base k (text octets) =
     && not (list_all (λ octet. octet == 255) (take k octets))
 has_increment c base k _ = true
 
--- the first number from one on, of so many, that passes a test
+-- the first number that passes a test among the next `fuel` numbers from k on, or else the number
+-- after them
 abbrev pub first_from : (ℕ → Bool) → ℕ → ℕ → ℕ
 first_from p zero k = k
 first_from p (suc fuel) k = if p k then k else first_from p fuel (k + 1)
 
--- the least k, from 1 to 63, that all contents pass, or 64
+-- the least k for which all contents pass, from 1 to 63 (k has 6 bits), or 64 if there is none
 -- rule: packs-numbers
 abbrev pub least_k : (ℕ → Content → Bool) → List Content → ℕ
 least_k passes cs = first_from (λ k. list_all (passes k) cs) 63 1
 
--- the bits of the increment of a content
+-- the increment of a content; all ones if it is missing, which is the only other case
 abbrev pub increment_for : Coding → (base k : ℕ) → Content → List Bool
 increment_for (numbers width m) base k (number n) = bits_in (n - base) k
 increment_for (texts count) base k (text octets) = bits_of (take k octets)
 increment_for c base k _ = replicate (step_of c k) true
 
--- a base, k, and what follows
+-- an item in compressed data: its base, k in 6 bits, and its increments
 abbrev pub packed_bits : (base : List Bool) (k : ℕ) (more : List Bool) → List Bool
 packed_bits base k more = base ++ (bits_in k 6 ++ more)
 
--- contents that differ, with the least k; the base is the least number, or zero if there is none
+-- Contents that differ: the base is the least number, or 0 in a text. Fault 59 if a text needs a k
+-- over 63.
 -- rule: packs-numbers, packs-texts, fault-59
 abbrev pub packed_over : FieldSpec → List Content → Result (List Bool) FieldFault
 packed_over spec cs =
@@ -145,14 +157,15 @@ packed_over spec cs =
     let increments = flat_map (increment_for c base k) cs in
     if nat_le k 63 then Ok (packed_bits (bits_in base spec.width) k increments) else Err increment
 
--- contents that differ, by role: counts and references must not
+-- contents that differ: factors and redefined references must not
 -- rule: packs-factors-and-references, fault-59
 abbrev pub packed_unlike : Role → FieldSpec → List Content → Result (List Bool) FieldFault
 packed_unlike role.Factor spec cs = Err unequal_factor
 packed_unlike role.Reference spec cs = Err increment
 packed_unlike _ spec cs = packed_over spec cs
 
--- the contents of one item for all subsets, where they can be packed
+-- The contents of one item in all subsets: if they are the same, that content is the base and k is
+-- 0.
 -- rule: packs-equal, packs-all-missing
 abbrev pub packing : FieldSpec → List Content → Result (List Bool) FieldFault
 packing spec [] = Ok []
@@ -174,7 +187,8 @@ pub record HasLeastK (n : ℕ) (spec : FieldSpec) (contents : List Content) : Ty
   pub short : (bits suffix : List Bool) → packed_field n spec bits ≡ Ok (found contents suffix)
       → length out + length suffix ≤ length bits
 
--- how the items of one subset are written, which ends on a line
+-- How the items of one subset of plain data are written; `end_line` is the line that ends the
+-- subset. (`result_map_both` applies its first function to `Ok`, and its second one to `Err`.)
 -- rule: fault-51, fault-62
 abbrev pub plain_filler : (end_line : ℕ) → Filler Draft Content DraftFault
 plain_filler end_line = record {
@@ -188,7 +202,7 @@ plain_filler end_line = record {
   lost = at_line end_line item_too_many;
 }
 
--- data that are not compressed: subset after subset, each from the beginning of the template
+-- plain data: one subset after another, each from the beginning of the template
 abbrev pub plain_writing : Course → List Subset → Writing DraftFault
 plain_writing course [] = record { bits = []; stop = None; turns = 0 }
 plain_writing course (s ∷ subsets) =
@@ -200,17 +214,18 @@ plain_data course subsets = bits_of_writing (plain_writing course subsets)
 
 -- ---- compressed data
 
--- one subset's cell of a row: its item, or the line that ends the subset
+-- the item of one subset in a row (`None` if the subset has no more), and the line that ends the
+-- subset
 pub record RowCell : Type 0 where
   pub draft : Option Draft
   pub end_line : ℕ
 
--- the row of all subsets at one index, from 0
+-- the items of all subsets at one index, from 0; in compressed data, they are written as one item
 pub record ItemRow : Type 0 where
   pub index : ℕ
   pub cells : List RowCell
 
--- the line of a cell
+-- the line of the item in a cell, or else the line that ends its subset
 abbrev pub cell_line : RowCell → ℕ
 cell_line c = option_map_or (λ (d : Draft). d.line) c.draft c.end_line
 
@@ -223,7 +238,7 @@ cells_at index subsets =
 abbrev pub item_row : ℕ → List Subset → ItemRow
 item_row index subsets = record { index = index; cells = cells_at index subsets }
 
--- the rows at so many indices, from one on
+-- the rows at the next `count` indices, the first of which is `from`
 abbrev pub rows : (count from : ℕ) → List Subset → List ItemRow
 rows zero from subsets = []
 rows (suc n) from subsets = item_row from subsets ∷ rows n (from + 1) subsets
@@ -233,22 +248,22 @@ abbrev pub most_items : List Subset → ℕ
 most_items [] = 0
 most_items (s ∷ subsets) = max (length s.items) (most_items subsets)
 
--- the line of the first cell, 0 where there is none
+-- the line of the first subset's cell; 0 if there are no subsets
 abbrev pub first_line : List RowCell → ℕ
 first_line [] = 0
 first_line (c ∷ cs) = cell_line c
 
--- the line of the first item of a row, 0 where there is none
+-- the line of the first item in a row; subsets that have no more items are skipped
 abbrev pub first_there : List RowCell → ℕ
 first_there [] = 0
 first_there (c ∷ cs) = option_map_or (λ (d : Draft). d.line) c.draft (first_there cs)
 
--- the content of one cell
+-- the content of the item in a cell; a fault if its subset has no more items
 abbrev pub content_here : FieldSpec → Option Draft → (end_line : ℕ) → Result Content DraftFault
 content_here spec None end_line = Err (at_line end_line (wrong_for spec))
 content_here spec (Some d) end_line = map_err (at_line d.line) (content_of spec d)
 
--- the contents of a row
+-- the contents of a row, or the first fault
 abbrev pub contents_here : FieldSpec → List RowCell → Result (List Content) DraftFault
 contents_here spec [] = Ok []
 contents_here spec (c ∷ cs) = do
@@ -256,26 +271,27 @@ contents_here spec (c ∷ cs) = do
   rest ← contents_here spec cs
   Ok (first ∷ rest)
 
--- the line of the first cell whose content is not this one
+-- the line of the first cell whose content is not c
 abbrev pub first_unlike : Content → List Content → List RowCell → ℕ
 first_unlike c [] cells = 0
 first_unlike c (d ∷ ds) [] = 0
 first_unlike c (d ∷ ds) (cell ∷ cells) = if same c d then first_unlike c ds cells
     else cell_line cell
 
--- the line of the first cell whose content differs from the first one's
+-- the line of the first subset whose content is not that of subset 1
 -- rule: fault-58
 abbrev pub unlike_line : List Content → List RowCell → ℕ
 unlike_line [] cells = 0
 unlike_line (c ∷ cs) cells = first_unlike c (c ∷ cs) cells
 
--- the fault of contents that cannot be packed, with its line
+-- the fault if the contents of a row cannot be packed
 -- rule: fault-58
 abbrev pub packing_fault : List Content → List RowCell → FieldFault → DraftFault
 packing_fault cs cells unequal_factor = at_line (unlike_line cs cells) wrong.UnequalFactor
 packing_fault cs cells _ = at_line (first_line cells) wrong.Increment
 
--- an item of all subsets: its contents and its bits, or its fault
+-- An item of all subsets: first there must not be too many values, then each subset must have its
+-- item, and then the contents must be packed.
 -- rule: fault-order-of-subsets
 abbrev pub pack_across : FieldSpec → ItemRow → Result (WrittenItem (List Content)) DraftFault
 pack_across spec a =
@@ -285,7 +301,8 @@ pack_across spec a =
       cs ← contents_here spec a.cells
       result_map_both (written_item cs) (packing_fault cs a.cells) (packing spec cs)
 
--- how rows are written; `many` is whether one more row has too many values
+-- How the rows of compressed data are written. `many` is whether one more row would make too many
+-- values: this fault comes before that of a missing item.
 -- rule: fault-62
 abbrev pub packed_filler : (end_line : ℕ) (many : Bool) → Filler ItemRow (List Content) DraftFault
 packed_filler end_line many = record {
@@ -299,7 +316,7 @@ packed_filler end_line many = record {
   lost = at_line end_line item_too_many;
 }
 
--- compressed data: one pass over the rows of all subsets; with no subset there is none
+-- Compressed data: one pass over the rows of all subsets. Without subsets, nothing is written.
 abbrev pub packed_writing : Course → List Subset → Writing DraftFault
 packed_writing course [] = record { bits = []; stop = None; turns = 0 }
 packed_writing course (s ∷ subsets) =
@@ -310,7 +327,7 @@ packed_writing course (s ∷ subsets) =
 abbrev pub packed_data : Course → List Subset → Result (List Bool) DraftFault
 packed_data course subsets = bits_of_writing (packed_writing course subsets)
 
--- the writing of data
+-- what is written of the data of a document, plain or compressed
 abbrev pub writing_of : (compressed : Bool) → Course → List Subset → Writing DraftFault
 writing_of true course subsets = packed_writing course subsets
 writing_of false course subsets = plain_writing course subsets

@@ -109,7 +109,7 @@ IsTogetherOrNot course subsets drafts =
     ⊎ ((line : ℕ) × (why : ItemFault) × (packed_data course drafts ≡ Err (at_line line why))
     × IsUnlike why)
 
--- ---- The reading of data that were written from drafts. (a choice of this project)
+-- ---- The reading of data that were written from drafts. (own)
 
 -- the text of a value is of octets
 abbrev pub HasOctets : DraftValue → Type 0
@@ -145,7 +145,7 @@ pub record IsPackedReadBack (course : Course) (drafts : List Subset)
   pub read : (suffix : List Bool)
       → IsPackedReading (length drafts) course items (bits ++ suffix) suffix
 
--- ---- Drafts with the same contents, however they are spelled. (a choice of this project)
+-- ---- Drafts with the same contents, however they are spelled. (own)
 
 -- at each field both have the same content, or the same fault
 abbrev pub IsAlike : Draft → Draft → Type 0

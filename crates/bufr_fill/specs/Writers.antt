@@ -1,5 +1,5 @@
 -- Only contracts need this file. The writers of data, compressed or not; the rows of all subsets,
--- and the k that is found. (A choice of this project)
+-- and the k that is found. (own)
 use Rattle.std.specs.Prelude.{ℕ, ◌≡◌, ◌≤◌, ◌<◌, ◌*◌, ◌^◌, Bool, List, [], ◌∷◌, ◌++◌, length, Option, Some, None, Result, Ok, Err, ◌+◌, ◌-◌, suc, ◌==◌, ◌&&◌, nat_lt, max, min, if◌then◌else◌, take}
 use Rattle.bufr_walk.specs.declared.spec.Taken.{Taken}
 use Rattle.bufr_walk.specs.Prelude.{FieldSpec, Content, answer_of, bits_for, Next, take_next, at_end, astray, refused, FieldFault, answer_first, max_values}

@@ -10,7 +10,7 @@ use std::alloc::AllocError;
 use std::fmt;
 use thiserror::Error;
 
-/// The expected item.
+/// The item that was expected.
 #[derive(Clone, Copy, Debug, PartialEq, Eq)]
 pub enum Expected {
     /// An item with this descriptor.
@@ -32,12 +32,12 @@ impl fmt::Display for Expected {
     }
 }
 
-/// Why the walk over a template goes no further, with the descriptor that is refused.
+/// Why the walk over a template refuses an item, and the descriptor that it refuses.
 #[derive(Clone, Copy, Debug, PartialEq, Eq)]
 pub enum WalkRefusal {
     /// A field that is not text would be under 1 or over 63 bits wide.
     Width(Fxy),
-    /// A descriptor that may not come while references are being defined (2 03 Y).
+    /// A descriptor that is not allowed while 2 03 Y redefines references.
     Defining(Fxy),
     /// Compressed data would have more than 134,217,728 values with this item.
     TooManyValues(Fxy),
@@ -119,8 +119,8 @@ impl ItemFault {
 /// Why items cannot be written.
 #[derive(Clone, Copy, Debug, PartialEq, Eq, Error)]
 pub enum DraftFault {
-    /// What is wrong with an item, after the number of its line, or of the line that ends its
-    /// subset.
+    /// What is wrong with an item, and the number of its line. If an item is missing, it is the
+    /// line that ends the subset.
     #[error("{1}")]
     Item(u64, ItemFault),
     /// Memory ran out.

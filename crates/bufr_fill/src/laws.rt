@@ -21,7 +21,7 @@ pub fn data_round_trip()
 /// Law: an item of compressed data is packed with the least `k` of all that its contents can be
 /// read from. So its `k` is never above the one that was read, and the item has no more bits. The
 /// same holds of contents from any source that fit their field. (WMO-No. 306, Volume I.2, FM 94:
-/// section 4, compression; that the `k` is the least is a choice of this project)
+/// section 4, compression; that the `k` is the least is our choice)
 pub fn items_are_packed_with_the_least_k()
     ensures read { (n : ℕ) (spec : FieldSpec) (contents : List Content) (bits suffix : List Bool)
         → 1 ≤ n → IsSpec spec

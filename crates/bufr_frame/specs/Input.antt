@@ -1,4 +1,4 @@
--- What reading an input gives, and how many reads it takes. (a choice of this project)
+-- The reads of an input: how many there may be, and which failures are counted. (own)
 -- Cited by public contracts.
 use Rattle.std.specs.Prelude.{◌≡◌, ◌⊎◌, ℕ, ◌-◌, ◌*◌, min, ◌<◌, ◌≤◌, ◌^◌, Result, Ok, Err, ◌+◌, Bool, true, false, List, [], ◌++◌, length, Option, MatchResult}
 use Rattle.bufr_bits.specs.Prelude.{counted}
@@ -6,14 +6,14 @@ use Rattle.bufr_frame.specs.declared.fault.RunFault.{RunFault}
 use Rattle.bufr_frame.specs.declared.fault.RunFault.TheVariants.{Read, Write, InputTooLong, Memory}
 use Rattle.std.specs.Io.KnownBytes.{Consumes, IsAtEnd}
 
--- ---- The counts of a reader after a call. (a choice of this project)
+-- ---- The counts of a reader after a call. (own)
 
--- the reader's count of failures after a call: a read fault adds one, and nothing else does
+-- the count of failed reads after a call: `Err Read` adds one, and nothing else does
 abbrev pub read_failures_after : {X : Type 0} → ℕ → Result X RunFault → ℕ
 read_failures_after count (Err Read) = counted count 1
 read_failures_after count _ = count
 
--- the most reads that are made of one input
+-- the maximum number of reads of one input
 abbrev pub max_reads : ℕ
 max_reads = 2 ^ 32
 

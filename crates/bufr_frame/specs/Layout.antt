@@ -1,12 +1,14 @@
--- The layout of a message of edition 3 or 4. (WMO-No. 306, Volume I.2, FM 94: sections 0 to 5; that
--- lengths are the least, reserved bits zero, is this project's choice) Cited by public contracts.
+-- The octets of a message that is written, in edition 3 or 4. (WMO-No. 306, Volume I.2, FM 94:
+-- sections 0 to 5) Our choices: each section is as short as its content allows, and reserved bits
+-- are 0.
+-- Cited by public contracts.
 use Rattle.std.specs.Prelude.{◌≡◌, ℕ, ◌≤◌, ◌+◌, ◌*◌, ◌==◌, nat_le, ◌&&◌, ◌||◌, Bool, true, List, [], ◌∷◌, ◌++◌, Option, Some, None, length, codes, is_some, slice_index, if◌then◌else◌}
 use Rattle.bufr_frame.specs.Octets.{three_octets, two_octets, octets_of_words}
 use Rattle.bufr_frame.specs.Section1.{is_edition, min_section_1, octets_3, octets_4, values_of, greatest_values}
 use Rattle.bufr_frame.specs.Sections.{Sections, is_padded}
 use Rattle.bufr_frame.specs.declared.section1.Head.{Head}
 
--- what is written besides the head
+-- what is written in addition to the head
 pub record MessageParts : Type 0 where
   pub local1 : List ℕ
   pub section2 : Option (List ℕ)
@@ -30,27 +32,28 @@ parts_of local1 section2 descriptors subsets observed compressed payload =
       payload = payload;
     }
 
--- the octets of section 2
+-- the length of section 2: its length (3), a reserved octet, and the octets for local use
 abbrev pub section2_size : Option (List ℕ) → ℕ
 section2_size None = 0
 section2_size (Some octets) = 4 + length octets
 
--- the octets of a section 3 or 4; in edition 3 they are even
+-- the length of a section 3 or 4 with its padding
 -- rule: least-lengths
 abbrev pub even_size : (edition size : ℕ) → ℕ
 even_size edition size = if is_padded edition size then size + 1 else size
 
--- octets followed by a zero octet, where they are padded
+-- octets, with a zero octet after them if `pads`
 abbrev pub with_pad_octet : (pads : Bool) → List ℕ → List ℕ
 with_pad_octet pads octets = if pads then octets ++ 0 ∷ [] else octets
 
--- the octets of a section 3 or 4 after its first `prefix` octets
+-- what is written in a section 3 or 4 after its first `prefix` octets: the content and its padding
 -- rule: least-lengths, writes-no-pad-octet, writes-even-sections
 abbrev pub with_even_length : (edition prefix : ℕ) → List ℕ → List ℕ
 with_even_length edition prefix octets = with_pad_octet (is_padded edition (prefix + length octets))
     octets
 
--- how many octets a message of these parts has, section by section
+-- the length of a message of these parts: 8 octets of section 0, sections 1 to 4, and 4 octets of
+-- section 5
 abbrev pub message_size : (edition : ℕ) → MessageParts → ℕ
 message_size edition p =
     8 + (min_section_1 edition + length p.local1) + section2_size p.section2
@@ -63,7 +66,7 @@ size_from edition local1 section2 descriptors payload =
     8 + (min_section_1 edition + local1) + section2_size section2
     + even_size edition (7 + 2 * descriptors) + even_size edition (4 + payload) + 4
 
--- the most octets that a message has, since three octets state its length
+-- the greatest length of a message: 2^24 - 1, since three octets declare it
 -- rule: greatest-length
 abbrev pub max_octets : ℕ
 max_octets = 16777215
@@ -73,7 +76,7 @@ max_octets = 16777215
 abbrev pub max_extra_octets : (edition : ℕ) → ℕ
 max_extra_octets edition = if edition == 3 then 2 else 0
 
--- `BUFR`, the length of the message, the edition
+-- section 0: `BUFR`, the length of the message, and the edition
 -- rule: section-0
 abbrev pub section0_octets : (size edition : ℕ) → List ℕ
 section0_octets size edition = codes "BUFR" ++ three_octets size ++ edition ∷ []
@@ -90,36 +93,38 @@ pub record IsFitting (h : Head) : Type 0 where
   pub edition : is_edition h.edition ≡ true
   pub fits : (i : ℕ) → slice_index (values_of h) i ≤ slice_index (greatest_values h.edition) i
 
--- section 1 after its length and before its local use; bit 1 of the flags: there is a section 2
+-- section 1 from octet 4 to the last octet before local use; flag bit 1 (128) means that section 2
+-- is present
 -- rule: section-2-flag
 abbrev pub head_octets : Head → (optional : Bool) → List ℕ
 head_octets h optional =
     let flags = if optional then 128 else 0 in
     if h.edition == 3 then octets_3 h flags else octets_4 h flags
 
--- section 1: its length, its values, and its local use
+-- section 1: its length, its values, and its octets for local use
 -- rule: sections-1-and-2-as-given
 abbrev pub section1_octets : Head → List ℕ → (optional : Bool) → List ℕ
 section1_octets h local1 optional =
     three_octets (min_section_1 h.edition + length local1) ++ head_octets h optional ++ local1
 
--- section 4: its length, a reserved octet, the payload
+-- section 4: its length, a reserved octet, and the payload
 -- rule: section-4
 abbrev pub section4_octets : List ℕ → List ℕ
 section4_octets payload = three_octets (4 + length payload) ++ 0 ∷ payload
 
--- section 2 where there is one, in the layout of section 4
+-- section 2 if there is one, which has the form of section 4
 -- rule: section-2, sections-1-and-2-as-given
 abbrev pub section2_octets : Option (List ℕ) → List ℕ
 section2_octets None = []
 section2_octets (Some octets) = section4_octets octets
 
--- octet 7 of section 3: bit 1 observed, bit 2 compressed
+-- octet 7 of section 3: bit 1 (128) means observed, bit 2 (64) compressed
 -- rule: reserved-zero
 abbrev pub data_flags : (observed compressed : Bool) → ℕ
 data_flags observed compressed = (if observed then 128 else 0) + (if compressed then 64 else 0)
 
--- section 3: length, a reserved octet, number of subsets, flags, descriptors with the padding
+-- section 3: its length, a reserved octet, the number of subsets, the flags, and `content` (the
+-- descriptors and their padding)
 -- rule: section-3, reserved-zero, writes-no-pad-octet
 abbrev pub section3_octets : List ℕ → (subsets flags : ℕ) → List ℕ
 section3_octets content subsets flags =

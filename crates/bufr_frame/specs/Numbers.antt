@@ -1,4 +1,4 @@
--- The numbers of the faults, and their texts in parts. (a choice of this project)
+-- The number of each fault and its text, as parts that are joined. (own)
 -- Cited by public contracts.
 use Rattle.std.specs.Prelude.{ℕ, List, [], ◌∷◌, codes, decimal}
 use Rattle.bufr_frame.specs.declared.fault.Cause.{Cause}
@@ -10,14 +10,17 @@ use Rattle.bufr_frame.specs.declared.fault.RunFault.TheVariants as run
 use Rattle.bufr_frame.specs.declared.fault.WriteFault.{WriteFault}
 use Rattle.bufr_frame.specs.declared.fault.WriteFault.TheVariants as write
 
--- a stray word
+-- why no message begins at a `BUFR`: the stream ends before the message does, the declared length
+-- is below 12, or there is no `7777` at the end
 -- rule: fault-1, fault-2, fault-3
 abbrev pub cause_report : Cause → ℕ × List (List ℕ)
 cause_report cause.Cut = (1, codes "cut" ∷ [])
 cause_report cause.ShortLength = (2, codes "short length" ∷ [])
 cause_report cause.NoEnd = (3, codes "no end" ∷ [])
 
--- a section fault
+-- A fault in the sections of a message: the edition is not 3 or 4; section k is too short; section
+-- k extends past the beginning of section 5; section 4 ends before that; or a message of edition 3
+-- is too long (`is_long_edition_3`).
 -- rule: fault-10, fault-11, fault-12, fault-13, fault-14
 abbrev pub section_report : SectionFault → ℕ × List (List ℕ)
 section_report (section.Edition edition) = (10, codes "edition " ∷ decimal edition ∷ [])
@@ -27,7 +30,8 @@ section_report (section.SectionPast k) =
 section_report section.SectionsEnd = (13, codes "sections do not meet the end" ∷ [])
 section_report section.Edition3Long = (14, codes "edition 3 length" ∷ [])
 
--- a fault that ends a run
+-- a fault that stops a run: a device failed, 2^32 reads did not reach the end of the input, or
+-- memory ran out
 -- rule: fault-70, fault-71, fault-72, fault-73
 abbrev pub run_report : RunFault → ℕ × List (List ℕ)
 run_report run.Read = (70, codes "read failed" ∷ [])

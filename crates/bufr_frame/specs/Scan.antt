@@ -1,5 +1,5 @@
--- The events of a stream: its messages and stray words, their lengths, and how a scan goes on.
--- (WMO-No. 306, Volume I.2, FM 94, section 0; stray words are a choice of this project)
+-- The events of a stream: each message, and each stray, which is a `BUFR` where no message begins.
+-- (WMO-No. 306, Volume I.2, FM 94: section 0; how messages are found is our choice)
 -- Cited by public contracts.
 use Rattle.std.specs.Prelude.{Option, Some, None, ℕ, zero, suc, ◌+◌, ◌-◌, Bool, true, false, not, nat_lt, List, [], ◌∷◌, ◌++◌, length, take, drop, codes, if◌then◌else◌, take_while, max, ◌≡◌}
 use Rattle.std.specs.Str.{bytes_eq}
@@ -10,22 +10,24 @@ use Rattle.bufr_frame.specs.declared.finder.Candidate.{Candidate}
 use Rattle.bufr_frame.specs.declared.finder.Candidate.TheVariants.{Stray, Frame}
 use Rattle.std.specs.List.{list_all}
 
--- a message, or a `BUFR` where no message begins; offsets count from 0
+-- a message with its octets, or a stray and its cause; offsets count from 0
 pub data StreamEvent : Type 0 where
   FrameAt : (offset : ℕ) (octets : List ℕ) → StreamEvent
   StrayAt : (offset : ℕ) (cause : Cause) → StreamEvent
 
--- the four octets of `word` are at index p
+-- whether the four octets at index p are `word`
 abbrev pub has_word_at : List ℕ → ℕ → List ℕ → Bool
 has_word_at word p m = bytes_eq (take 4 (drop p m)) word
 
--- the length that octets 5 to 7 state
+-- the length of a message, as octets 5 to 7 declare it
 -- rule: section-0
 abbrev pub stated_length : List ℕ → ℕ
 stated_length m = u24_at m 4
 
--- what begins where the octets that are left begin, if they begin with `BUFR`: the first case that
--- holds counts
+-- What begins at the first of the remaining octets of a stream: nothing if they do not begin with
+-- `BUFR`; otherwise the first case that applies. 8 is the length of section 0, and 12 that of
+-- sections 0 and 5 together. A message that the end of the stream cuts off is `Cut`, even if its
+-- declared length is below 12.
 -- rule: stray-cut, stray-short-length, stray-no-end, input-ends-early, order-of-causes
 abbrev pub classify : List ℕ → Option Candidate
 classify m =
@@ -36,21 +38,23 @@ classify m =
     else if not (has_word_at (codes "7777") (stated_length m - 4) m) then Some (Stray NoEnd)
     else Some Frame
 
--- the event there, or none
+-- the event at offset `at`, if something begins there
 -- rule: frame
 abbrev pub stream_event : ℕ → List ℕ → Option Candidate → List StreamEvent
 stream_event at m None = []
 stream_event at m (Some (Stray cause)) = StrayAt at cause ∷ []
 stream_event at m (Some Frame) = FrameAt at (take (stated_length m) m) ∷ []
 
--- by how many octets the scan goes on: one where nothing begins, four after a stray word
+-- the number of octets from here to where the search continues: 1 if nothing begins here, 4 after a
+-- stray, and the declared length after a message
 -- rule: frame, after-a-stray
 abbrev pub candidate_len : List ℕ → Option Candidate → ℕ
 candidate_len m None = 1
 candidate_len m (Some (Stray cause)) = 4
 candidate_len m (Some Frame) = stated_length m
 
--- the events of the octets that are left, the first at offset `at`, after some are skipped
+-- the events in the remaining octets, whose first octet is at offset `at`; no event begins in the
+-- first `skip` of them
 -- rule: first-bufr
 unfoldable pub scan_from : (skip at : ℕ) → List ℕ → List StreamEvent
 scan_from skip at [] = []
@@ -63,16 +67,17 @@ scan_from zero at (octet ∷ m) =
 abbrev pub scan : List ℕ → List StreamEvent
 scan s = scan_from 0 0 s
 
--- the event does not depend on where the stream ends
+-- whether an event stays the same whatever octets follow: only a `Cut` may turn into a message or
+-- another stray
 abbrev pub is_decided : StreamEvent → Bool
 is_decided (StrayAt offset Cut) = false
 is_decided _ = true
 
--- the events of a stream whose end is not known: those before the first that is cut
+-- the events of a stream that may still grow: those before the first `Cut`
 abbrev pub open_scan : List ℕ → List StreamEvent
 open_scan s = take_while is_decided (scan s)
 
--- ---- The greatest length that was stated. (a choice of this project)
+-- ---- The greatest length that was stated. (own)
 
 -- the length that octets 5 to 7 state, 0 where there are not eight octets
 abbrev pub length_here : List ℕ → ℕ
@@ -94,7 +99,7 @@ abbrev pub first_event : List StreamEvent → List StreamEvent
 first_event [] = []
 first_event (event ∷ more) = event ∷ []
 
--- ---- How a scan goes on after its first events. (a choice of this project)
+-- ---- How a scan goes on after its first events. (own)
 
 -- The scan of `rest` is `events` and then that of `rest'`, whatever comes after these octets.
 pub record Advances (ended : Bool) (at : ℕ) (rest : List ℕ) (events : List StreamEvent) (at' : ℕ)

@@ -1,43 +1,47 @@
--- The values of section 1, as its octets have them in each edition, and the octets that write them.
--- (WMO-No. 306, Volume I.2, FM 94: section 1) Cited by public contracts.
+-- The values of section 1, and the octets in which each edition stores them. (WMO-No. 306, Volume
+-- I.2, FM 94: section 1)
+-- Cited by public contracts.
 use Rattle.std.specs.Prelude.{ℕ, ◌+◌, ◌==◌, ◌||◌, Bool, List, [], ◌∷◌, ◌++◌, slice_index, if◌then◌else◌}
 use Rattle.bufr_frame.specs.Octets.{u16_at, two_octets}
 use Rattle.bufr_frame.specs.declared.section1.Head.{Head}
 
--- the editions that are read and written
+-- whether an edition is supported: 3 and 4 are
 -- rule: edition-first
 abbrev pub is_edition : ℕ → Bool
 is_edition edition = (edition == 3) || (edition == 4)
 
--- the edition of octet 8 of section 0
+-- the edition: octet 8 of section 0
 abbrev pub edition_of : List ℕ → ℕ
 edition_of m = slice_index m 7
 
--- octet n of section 1, counted from 1
+-- octet n of section 1, counted from 1; section 1 follows the 8 octets of section 0
 abbrev pub octet_at : List ℕ → (n : ℕ) → ℕ
 octet_at m n = slice_index m (7 + n)
 
--- how many octets its values have
+-- the number of octets of section 1 without its length and without octets for local use
 unfoldable pub head_size : (edition : ℕ) → ℕ
 head_size edition = if edition == 3 then 14 else 19
 
--- how many octets section 1 has without those for local use: the three of its length, and these
+-- the least length of section 1: 17 in edition 3 and 22 in edition 4, of which 3 are the length
+-- itself
 -- rule: local-use, length-under-least
 abbrev pub min_section_1 : (edition : ℕ) → ℕ
 min_section_1 edition = 3 + head_size edition
 
--- the flags of section 1
+-- the flags of section 1: octet 8 in edition 3 and octet 10 in edition 4
 abbrev pub flags_of : List ℕ → ℕ
 flags_of m = octet_at m (if edition_of m == 3 then 8 else 10)
 
--- the octets of section 1 that have a value: octet n, octets n and n + 1, or none
+-- where section 1 stores a value: in octet n, in octets n and n + 1, or nowhere
 pub data HeadOctets : Type 0 where
   OneOctet : (n : ℕ) → HeadOctets
   TwoOctets : (n : ℕ) → HeadOctets
   NoOctets : HeadOctets
 
--- a head, value by value: the key of each in a dump, and its octets in edition 4 and in edition 3;
--- in edition 3 the year is that of the century, unchanged
+-- The head with this edition whose other values `value` gives. It depends on the value's key (its
+-- index among the header lines of a dump), its octets in edition 4 and its octets in edition 3. So
+-- one table serves to read a head, to find the greatest value of each key, and to take a head from
+-- a document. In edition 3, the year is that of the century, as in the message (own).
 -- rule: section-1-of-edition-3, section-1-of-edition-4, year-of-the-century, edition-3-lacks
 -- rule: listing-of-edition-3, odd-values-kept
 abbrev pub head_by : (edition : ℕ) → (value : (key : ℕ) → (in_4 in_3 : HeadOctets) → ℕ) → Head
@@ -60,31 +64,33 @@ head_by edition value = record {
   second = value 15 (OneOctet 22) NoOctets;
 }
 
--- the value that octets of a message have; a value that an edition lacks is 0
+-- the value in octets of section 1; 0 if the edition does not store it
 abbrev pub value_at : List ℕ → HeadOctets → ℕ
 value_at m (OneOctet n) = octet_at m n
 value_at m (TwoOctets n) = u16_at m (7 + n)
 value_at m NoOctets = 0
 
--- the greatest value that octets can have
+-- the greatest value that fits into these octets
 abbrev pub greatest : HeadOctets → ℕ
 greatest (OneOctet n) = 255
 greatest (TwoOctets n) = 65535
 greatest NoOctets = 0
 
--- the edition and the values of section 1
+-- the edition and the values of section 1 of a message
 abbrev pub head_of : List ℕ → Head
 head_of m = head_by (edition_of m)
     (λ key in_4 in_3. value_at m (if edition_of m == 3 then in_3 else in_4))
 
--- section 1 of edition 3 after its length
+-- section 1 of edition 3 from octet 4 to the last octet before local use: `head_by` lists the place
+-- of each value
 -- rule: section-1-of-edition-3, year-of-the-century
 abbrev pub octets_3 : Head → (flags : ℕ) → List ℕ
 octets_3 h flags =
     h.master ∷ h.subcentre ∷ h.centre ∷ h.update ∷ flags ∷ h.category ∷ h.subcategory
     ∷ h.master_version ∷ h.local_version ∷ h.year ∷ h.month ∷ h.day ∷ h.hour ∷ h.minute ∷ []
 
--- section 1 of edition 4 after its length
+-- section 1 of edition 4 from octet 4 to the last octet before local use: `head_by` lists the place
+-- of each value
 -- rule: section-1-of-edition-4
 abbrev pub octets_4 : Head → (flags : ℕ) → List ℕ
 octets_4 h flags =
@@ -92,14 +98,14 @@ octets_4 h flags =
     ∷ h.subcategory ∷ h.local_subcategory ∷ h.master_version ∷ h.local_version ∷ two_octets h.year
     ++ h.month ∷ h.day ∷ h.hour ∷ h.minute ∷ h.second ∷ []
 
--- the values of a head after the edition
+-- the values of a head without the edition, in the order of their keys
 abbrev pub values_of : Head → List ℕ
 values_of h =
     h.master ∷ h.centre ∷ h.subcentre ∷ h.update ∷ h.category ∷ h.subcategory
     ∷ h.local_subcategory ∷ h.master_version ∷ h.local_version ∷ h.year ∷ h.month ∷ h.day
     ∷ h.hour ∷ h.minute ∷ h.second ∷ []
 
--- the greatest of them
+-- the greatest value of each key after the edition, in an edition
 -- rule: reading-header-ranges
 abbrev pub greatest_values : (edition : ℕ) → List ℕ
 greatest_values edition =

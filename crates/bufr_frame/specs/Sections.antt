@@ -1,6 +1,7 @@
--- The sections of a message, or the first fault, and messages as `write_message` writes them.
--- (WMO-No. 306, Volume I.2, FM 94: sections 0 to 5) Octets count from 0. By choice of this project
--- reserved bits are ignored, bits after the data stay, and odd sections are read in edition 3.
+-- The sections of a message, or the first fault. (WMO-No. 306, Volume I.2, FM 94: sections 0 to 5)
+-- Indices of a message count from 0, octets of a section from 1. Our choices: reserved bits are
+-- ignored, the bits after the data remain at the end of `payload` and are not read, and edition 3
+-- may have sections of odd length.
 -- Cited by public contracts.
 use Rattle.std.specs.Prelude.{ℕ, ◌+◌, ◌-◌, ◌%◌, ◌==◌, ◌&&◌, ◌||◌, Bool, not, nat_lt, nat_le, List, Option, Some, None, Result, Ok, Err, length, slice_index, slice_range, if◌then◌else◌, ◌≡◌, ◌<◌, true, All, take, drop, codes}
 use Rattle.bufr_bits.specs.Prelude.{◌>>=◌}
@@ -13,21 +14,23 @@ use Rattle.bufr_frame.specs.declared.fault.SectionFault.TheVariants.{Edition, Se
 -- the parts of a message
 pub record Sections : Type 0 where
   pub head : Head
-  -- section 1 after the octets that its edition defines
+  -- the octets of section 1 for local use
   pub local1 : List ℕ
-  -- section 2 from its octet 5 on
+  -- section 2 from octet 5 on, if there is a section 2
   pub section2 : Option (List ℕ)
-  -- the words of the whole descriptors
+  -- the descriptors of section 3, as numbers of two octets
   pub descriptors : List ℕ
   pub subsets : ℕ
   pub observed : Bool
   pub compressed : Bool
-  -- section 4 from its octet 5 on
+  -- section 4 from octet 5 on
   pub payload : List ℕ
-  -- how many octets the message has
+  -- the length of the message in octets
   pub size : ℕ
 
--- where section k ends, from p on, of at least `least` octets; the last four octets are section 5
+-- The index after section k, which begins at index p. The checks come in this order: its three
+-- length octets precede section 5 (the last four octets), its length is at least `least`, and it
+-- ends before section 5.
 -- rule: odd-sections-read, length-past-end, length-under-least, section-past-end
 -- rule: order-of-sections
 unfoldable pub section_end : List ℕ → (k least p : ℕ) → Result ℕ SectionFault
@@ -37,16 +40,18 @@ section_end m k least p =
     else if nat_lt (length m - 4) (p + u24_at m p) then Err (SectionPast k)
     else Ok (p + u24_at m p)
 
--- whether a section 3 or 4 of `size` octets is written with a zero octet more (edition 3 alone)
+-- Whether a section 3 or 4 of this length gets a padding octet (zero) when a message is written: in
+-- edition 3, FM 94 requires even lengths. Sections 1 and 2 get none (own), since it would be read
+-- back as an octet for local use.
 abbrev pub is_padded : (edition size : ℕ) → Bool
 is_padded edition size = (edition == 3) && (size % 2 == 1)
 
--- bit 1 of the flags of section 1: there is a section 2
+-- whether there is a section 2: bit 1 of the flags of section 1
 -- rule: section-2-flag
 abbrev pub has_section2 : List ℕ → Bool
 has_section2 m = nat_le 128 (flags_of m)
 
--- the parts, where sections 1 to 4 end at p1 to p4 (section 2 is empty where there is none)
+-- the parts of a message whose sections 1 to 4 end at p1 to p4; without section 2, p2 is p1
 -- rule: local-use, section-2, section-3, section-4, reserved-ignored
 abbrev pub parts : List ℕ → (p1 p2 p3 p4 : ℕ) → Sections
 parts m p1 p2 p3 p4 = record {
@@ -61,14 +66,16 @@ parts m p1 p2 p3 p4 = record {
   size = length m;
 }
 
--- a message of edition 3 that is too long for the padding of an odd section 3 or 4
+-- Whether a message of edition 3 is refused (own), because encoding its dump might give a message
+-- that is too long: each odd section 3 or 4 gets a padding octet, and a message has at most 2^24 -
+-- 1 octets. 16,777,213 is 2^24 - 1 - 2; the limit is the same if only one section is odd.
 -- rule: edition-3-length
 abbrev pub is_long_edition_3 : List ℕ → (p2 p3 p4 : ℕ) → Bool
 is_long_edition_3 m p2 p3 p4 =
     nat_lt 16777213 (length m)
     && (is_padded (edition_of m) (p3 - p2) || is_padded (edition_of m) (p4 - p3))
 
--- the parts, where section 4 ends at the last four octets
+-- the parts, if section 4 ends where section 5 (the last four octets) begins
 -- rule: section-4-end, order-of-sections
 abbrev pub parts_if_end_matches : List ℕ → (p1 p2 p3 p4 : ℕ) → Result Sections SectionFault
 parts_if_end_matches m p1 p2 p3 p4 =
@@ -76,7 +83,9 @@ parts_if_end_matches m p1 p2 p3 p4 =
     else if is_long_edition_3 m p2 p3 p4 then Err Edition3Long
     else Ok (parts m p1 p2 p3 p4)
 
--- the sections, or the first fault: of the edition, then of the sections in order, then of the end
+-- The sections, or the first fault: of the edition, then of sections 1 to 4 in order, then of the
+-- end of section 4, then of the length in edition 3. Sections 2, 3 and 4 have at least 4, 7 and 4
+-- octets.
 -- rule: edition-first, sections-in-order, order-of-sections
 unfoldable pub sections_of : List ℕ → Result Sections SectionFault
 sections_of m = if not (is_edition (edition_of m)) then Err (Edition (edition_of m)) else do

@@ -282,10 +282,10 @@ const LENGTH: usize = 4;
 /// How many indices are compared one by one first, since a search costs more to begin.
 const NEAR: usize = 16;
 
-/// What begins at a `BUFR`.
+/// What begins at a `BUFR` in a stream.
 #[derive(Clone, Copy)]
 pub(crate) enum Candidate {
-    /// No message: the word is a stray one.
+    /// No message, for this reason. Such a `BUFR` is called a stray.
     Stray(Cause),
     /// A message.
     Frame,

@@ -4,11 +4,11 @@ ghost use Rattle.bufr_frame.specs.Layout.{even_size};
 ghost use Rattle.bufr_frame.specs.Section1.{min_section_1};
 ghost use Rattle.bufr_frame.specs.Sections.{is_padded};
 
-/// The edition (octet 8 of section 0) and the values of section 1 of a message, unchanged.
+/// The edition (octet 8 of section 0) and the values of section 1, as they are in a message.
 ///
-/// Values are not checked against each other: a month of 14 is kept. In edition 3 centre,
-/// sub-centre and year have one octet each. The local sub-category and the second, which it lacks,
-/// are 0. (WMO-No. 306, Volume I.2, FM 94: section 1)
+/// The values are not checked: a month of 14 is accepted. In edition 3, centre, sub-centre and year
+/// take one octet each, and `local_subcategory` and `second` are 0, since it has neither. (WMO-No.
+/// 306, Volume I.2, FM 94: section 1)
 #[derive(Clone, Copy, Debug, PartialEq, Eq)]
 pub struct Head {
     /// The edition of FM 94, octet 8 of section 0.

@@ -1,5 +1,4 @@
--- Only contracts need this file. A template as cells, read back as its tree. (a choice of this
--- project)
+-- Only contracts need this file. A template as cells, read back as its tree. (own)
 use Rattle.std.specs.Prelude.{◌≡◌, ℕ, zero, suc, List, [], ◌∷◌, refl, ◌+◌, ◌≤◌}
 use Rattle.std.proofs.Common.{◌∙◌, ap}
 use Rattle.std.specs.Coded.{Coded, code_by, coded×, coded_ℕ, coded_list}

@@ -1,6 +1,6 @@
--- The tree that a list of descriptors means, or the first fault, and what holds of it.
--- (WMO-No. 306, Volume I.2, FM 94: section 3, replications, Tables C and D; the faults and limits
--- are a choice of this project) Cited by public contracts.
+-- The template of a descriptor list, or the first fault. (WMO-No. 306, Volume I.2, FM 94: section
+-- 3, replications, Tables C and D; the faults, their order and the limits are our choice)
+-- Cited by public contracts.
 use Rattle.std.specs.Prelude.{ℕ, zero, suc, ◌+◌, ◌==◌, nat_lt, nat_le, not, ◌||◌, Bool, true, false, List, [], ◌∷◌, length, take, Option, Some, None, Result, Ok, Err, ok_or, is_some, ◌≡◌, ◌≤◌, ◌⊎◌, ◌++◌, ◌<◌, ◌≢◌, IfOk, IfErr, slice_index, if◌then◌else◌}
 use Rattle.bufr_tables.specs.Records.{◌>>=◌}
 use Rattle.bufr_tables.specs.declared.fault.TemplateFault.{TemplateFault}
@@ -12,38 +12,43 @@ use Rattle.bufr_tables.specs.TableD.{Sequence, members_of}
 use Rattle.bufr_tables.specs.declared.fault.TemplateFault.TheVariants as fault
 use Rattle.bufr_tables.specs.declared.fault.TemplateFault.TheVariants.{Memory}
 
--- what the tables say: which elements Table B knows, and the members of a sequence of Table D
+-- what expansion needs of the tables: whether Table B has an element, and the members of each
+-- sequence
 pub record Tables : Type 0 where
   pub known : ℕ → Bool
   pub members : ℕ → Option (List ℕ)
 
--- the most groups and sequences that may be open together
+-- the maximum number of nested groups and sequences
 abbrev pub max_open : ℕ
 max_open = 32
 
--- a fault, unless a test is met
+-- the fault `why`, unless the test passes
 abbrev pub unless : Bool → TemplateFault → Result (Unit {0}) TemplateFault
 unless true why = Ok tt
 unless false why = Err why
 
--- a fault, where so many places more are too many
+-- the fault of descriptor d if `more` places after the first `places` would make more than 65,535
 -- rule: fault-27
 abbrev pub with_places : (places more d : ℕ) → Result (Unit {0}) TemplateFault
 with_places places more d = unless (nat_le (places + more) 65535) (fault.TemplateSize d)
 
--- what a list of descriptors means after so many places
+-- How a descriptor list is expanded if `places` places of the template come before it. In what
+-- follows, an argument `Option Expansion` says how to expand the list inside a group or sequence;
+-- it is `None` if no more of them may be nested. `inner_of` defines it.
 abbrev pub Expansion : Type 0
 Expansion = (places : ℕ) → List ℕ → Result Tree TemplateFault
 
--- what one descriptor means, and how many of those after it it takes
+-- the nodes of one descriptor, and how many descriptors after it belong to it (the factor and body
+-- of a replication)
 pub record ExpandedPart : Type 0 where
   pub tree : Tree
   pub taken : ℕ
 
+-- an expanded part with these nodes and this number of descriptors
 abbrev pub part : Tree → ℕ → ExpandedPart
 part tree taken = record { tree = tree; taken = taken }
 
--- how one more group or sequence is expanded, where there is room for it
+-- how to expand the inner list of d, or a fault if too many groups and sequences are nested
 -- rule: fault-26
 abbrev pub opened : Option Expansion → ℕ → Result Expansion TemplateFault
 opened None d = Err (fault.Depth d)
@@ -54,7 +59,7 @@ abbrev pub begins_with_element : List ℕ → Bool
 begins_with_element [] = false
 begins_with_element (d ∷ after) = f_of d == 0
 
--- an element: known to Table B, or of a width that the operator before it gives
+-- an element: Table B has it, or 2 06 Y before it gives its width
 -- rule: 2-06-y-unknown-element, fault-20, order-at-an-element
 abbrev pub element_part : Tables → Bool → ℕ → ℕ → Result ExpandedPart TemplateFault
 element_part tables width_given places d = do
@@ -62,7 +67,7 @@ element_part tables width_given places d = do
   _ ← with_places places 1 d
   Ok (part (element d bare) 0)
 
--- an operator; one that gives a width comes before an element (own)
+-- an operator; after 2 06 Y an element must follow in the same list (own)
 -- rule: 2-06-y-before-an-element, fault-22, fault-28, order-at-an-operator
 abbrev pub operator_part : ℕ → ℕ → List ℕ → Result ExpandedPart TemplateFault
 operator_part places d after = do
@@ -71,7 +76,9 @@ operator_part places d after = do
   _ ← with_places places 1 d
   Ok (part (operator d bare) 0)
 
--- the body of a group: the next X descriptors after its own places; some node takes bits (own)
+-- The body of group d: the first X descriptors of `after`, which must all be in the same list
+-- (own). `own` is the number of places that the group itself takes. Some node of the body must take
+-- bits of the data (own).
 -- rule: replication-before-expansion, replication-nested, replication-in-one-list, fault-23
 -- rule: order-at-a-replication
 abbrev pub body_of : Option Expansion → (places own d : ℕ) → List ℕ → Result Tree TemplateFault
@@ -83,14 +90,14 @@ body_of inner places own d after = do
   _ ← unless (consumes body) (fault.EmptyGroup d)
   Ok body
 
--- a group of Y passes
+-- a replication with a count: Y passes of the next X descriptors
 -- rule: fixed-replication
 abbrev pub fixed_part : Option Expansion → ℕ → ℕ → List ℕ → Result ExpandedPart TemplateFault
 fixed_part inner places d after = do
   body ← body_of inner places 2 d after
   Ok (part (fixed (y_of d) body bare) (x_of d))
 
--- a group of as many passes as its factor says, which comes before the X descriptors
+-- a delayed replication: a factor, and then the X descriptors that it repeats
 -- rule: delayed-replication, fault-24, order-at-a-replication
 abbrev pub delayed_part : Tables → Option Expansion → ℕ → ℕ → List ℕ
     → Result ExpandedPart TemplateFault
@@ -101,7 +108,7 @@ delayed_part tables inner places d (factor ∷ after) = do
   body ← body_of inner places 3 d after
   Ok (part (delayed factor body bare) (1 + x_of d))
 
--- a replication: of Y passes, or where Y is 0 of as many as a factor says
+-- a replication of X descriptors: with a count Y, or delayed if Y is 0
 -- rule: fault-23, order-at-a-replication
 abbrev pub group_part : Tables → Option Expansion → ℕ → ℕ → List ℕ
     → Result ExpandedPart TemplateFault
@@ -109,7 +116,7 @@ group_part tables inner places d after = do
   _ ← unless (nat_lt 0 (x_of d)) (fault.GroupShape d)
   if y_of d == 0 then delayed_part tables inner places d after else fixed_part inner places d after
 
--- a sequence: its members are in its place
+-- a sequence: its members take its place
 -- rule: fault-21, order-at-a-sequence
 abbrev pub sequence_part : Tables → Option Expansion → ℕ → ℕ → Result ExpandedPart TemplateFault
 sequence_part tables inner places d = do
@@ -118,7 +125,8 @@ sequence_part tables inner places d = do
   tree ← expand places members
   Ok (part tree 0)
 
--- one descriptor, by its F
+-- the nodes of one descriptor, which depend on its F; `width_given` means that 2 06 Y comes
+-- directly before it
 -- rule: descriptor-kinds
 unfoldable pub part_of : Tables → Option Expansion → Bool → ℕ → ℕ → List ℕ
     → Result ExpandedPart TemplateFault
@@ -128,7 +136,9 @@ part_of tables inner width_given places d after =
     else if f_of d == 2 then operator_part places d after
     else sequence_part tables inner places d
 
--- one list, from left to right, but for so many descriptors that a group has taken
+-- The nodes of a list from left to right, or the leftmost fault. The first `skip` descriptors are
+-- part of a replication before them; `width_given` means that 2 06 Y comes directly before the
+-- list.
 -- rule: first-descriptor-decides
 unfoldable pub level : Tables → Option Expansion → Bool → ℕ → Expansion
 level tables inner width_given skip places [] = Ok bare
@@ -139,13 +149,14 @@ level tables inner width_given zero places (d ∷ after) = do
   rest ← level tables inner (gives_width d) first.taken (places + size first.tree) after
   Ok (join first.tree rest)
 
--- how one more group or sequence is expanded, where so many more may be open
+-- how to expand an inner list if `room` more groups and sequences may be nested
 unfoldable pub inner_of : Tables → ℕ → Option Expansion
 inner_of tables zero = None
 inner_of tables (suc room) = Some (level tables (inner_of tables room) false 0)
 
--- a whole list: the end of the template is its first place, and some node takes bits; else the fault
--- names the first descriptor, or 000000
+-- The template of the descriptor list of section 3. One place is counted before all others, for the
+-- end of the template. Some node must take bits of the data (own); otherwise the fault names the
+-- first descriptor, or 000000 if the list is empty.
 -- rule: groups-take-bits, fault-25
 unfoldable pub tree_of : Tables → List ℕ → Result Tree TemplateFault
 tree_of tables list = do
@@ -155,7 +166,7 @@ tree_of tables list = do
 
 -- ---- What Tables B and D say to the expansion.
 
--- an element is known where Table B has a row of it
+-- what expansion needs of Tables B and D
 abbrev pub tables_of : List Row → List Sequence → Tables
 tables_of b d = record { known = λ fxy. is_some (entry_of b fxy); members = members_of d }
 
@@ -166,8 +177,8 @@ abbrev pub is_element_first : Tree → Bool
 is_element_first (element fxy rest) = true
 is_element_first _ = false
 
--- Elements have F = 0, and factors are replication factors. Operators have F = 2 and are those that
--- a template may hold. One that gives a width comes before an element.
+-- Each node has a descriptor of its kind: an element, a factor of a delayed replication, or a
+-- supported operator. An element follows 2 06 Y.
 abbrev pub IsLegal : Tree → Type 0
 IsLegal bare = Unit {0}
 IsLegal (element fxy rest) = (f_of fxy ≡ 0) × IsLegal rest
@@ -198,7 +209,7 @@ pub data ListsLeaves (members : ℕ → Option (List ℕ)) : List ℕ → List �
       → ListsLeaves members inner inside → ListsLeaves members after said
       → ListsLeaves members (d ∷ after) (inside ++ said)
 
--- That every group of a template, and the whole, takes bits of the data (a choice of this project).
+-- That every group of a template, and the whole, takes bits of the data (own).
 
 -- some node of each group's body takes bits, and each fixed count is above 0
 abbrev pub EveryGroupConsumes : Tree → Type 0
@@ -216,7 +227,8 @@ IsSound tree = EveryGroupConsumes tree × (consumes tree ≡ true)
 
 -- That a table knows what a template asks of it (WMO-No. 306, Volume I.2, FM 94: Tables B and C).
 
--- every factor is known, and every element but one whose width the operator before it gives
+-- Table B has each factor, and each element except for one whose width 2 06 Y gives; `width_given`
+-- means that 2 06 Y comes directly before the nodes.
 abbrev pub IsKnownAfter : (known : ℕ → Bool) → (width_given : Bool) → Tree → Type 0
 IsKnownAfter known width_given bare = Unit {0}
 IsKnownAfter known width_given (element fxy rest) =
@@ -227,6 +239,7 @@ IsKnownAfter known width_given (fixed count body rest) =
 IsKnownAfter known width_given (delayed factor body rest) =
     (known factor ≡ true) × (IsKnownAfter known false body × IsKnownAfter known false rest)
 
+-- Table B has each factor and element of the template, except for elements after 2 06 Y.
 abbrev pub IsKnown : (known : ℕ → Bool) → Tree → Type 0
 IsKnown known tree = IsKnownAfter known false tree
 

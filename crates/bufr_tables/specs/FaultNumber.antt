@@ -1,5 +1,6 @@
--- The numbers of the faults, and their texts in parts. (a choice of this project)
--- Want of memory ends a run, whose line reports it. Cited by public contracts.
+-- The number of each fault and its text, as parts that are joined. (own) `Memory` has a number, but
+-- no text: it stops a run, and the last line of the run (`run_line`) reports it.
+-- Cited by public contracts.
 use Rattle.std.specs.Prelude.{ℕ, List, [], ◌∷◌, codes, decimal}
 use Rattle.bufr_tables.specs.Fxy.{fxy_text}
 use Rattle.bufr_tables.specs.declared.fault.TableFault.{TableFault}
@@ -7,7 +8,9 @@ use Rattle.bufr_tables.specs.declared.fault.TableFault.TheVariants as table
 use Rattle.bufr_tables.specs.declared.fault.TemplateFault.{TemplateFault}
 use Rattle.bufr_tables.specs.declared.fault.TemplateFault.TheVariants as template
 
--- a fault of a table
+-- A fault of a table: the header is not the expected one; record n has an invalid field; an element
+-- has two rows, or the rows of a sequence are apart; a sequence contains itself; there are too many
+-- rows; or a record does not have as many fields as the header.
 abbrev pub table_report : TableFault → ℕ × List (List ℕ)
 table_report table.Header = (40, codes "header" ∷ [])
 table_report (table.Row n) = (41, codes "row " ∷ decimal n ∷ [])
@@ -17,7 +20,10 @@ table_report table.TableSize = (44, codes "table size" ∷ [])
 table_report table.Csv = (45, codes "csv" ∷ [])
 table_report table.Memory = (73, [])
 
--- a fault of a template
+-- A fault of a descriptor list, with its descriptor: Table B or D lacks it; an operator or its
+-- operand is not supported; a replication repeats no descriptors, or more than follow it; a delayed
+-- replication has no factor; a body takes no bits of the data; more than 32 groups and sequences
+-- are nested; the template has more than 65,535 places; no element follows 2 06 Y.
 -- rule: fault-20, fault-21, fault-22, fault-23, fault-24, fault-25, fault-26, fault-27, fault-28
 abbrev pub template_report : TemplateFault → ℕ × List (List ℕ)
 template_report (template.UnknownElement fxy) = (20, codes "unknown element " ∷ fxy_text fxy ∷ [])

@@ -1,19 +1,20 @@
--- A descriptor as 16 bits, F (2), X (6) and Y (8), and as six digits, one, two and three of these.
--- (WMO-No. 306, Volume I.2, FM 94: section 3, descriptors) Cited by public contracts.
+-- A descriptor as a number of 16 bits: F (2 bits), X (6) and Y (8); and as six digits: one for F,
+-- two for X and three for Y. (WMO-No. 306, Volume I.2, FM 94: section 3, descriptors)
+-- Cited by public contracts.
 use Rattle.std.specs.Prelude.{ℕ, ◌+◌, ◌-◌, ◌*◌, ◌/◌, ◌%◌, ◌==◌, ◌&&◌, Bool, nat_le, if◌then◌else◌, List, [], ◌∷◌, length, slice_index, Option, Some, None, ◌≡◌, suc, ◌<◌, ◌≤◌, nat_eq, vec_capacity, option_and_then, option_map}
 use Rattle.std.specs.Char.{is_ascii_digit}
 use Rattle.std.specs.List.{list_all, AllByRecursion, IsDistinct}
 use Rattle.bufr_tables.specs.declared.index.FxyIndex.TheInside.{Inside}
 
--- the kind of descriptor: 0 an element, 1 a replication, 2 an operator, 3 a sequence
+-- F: 0 for an element, 1 for a replication, 2 for an operator, 3 for a sequence
 abbrev pub f_of : ℕ → ℕ
 f_of word = word / 16384
 
--- the class
+-- X: the class, the number of descriptors of a replication, or the kind of an operator
 abbrev pub x_of : ℕ → ℕ
 x_of word = word / 256 % 64
 
--- the place in the class
+-- Y: the number in the class, the count of a replication, or the operand of an operator
 abbrev pub y_of : ℕ → ℕ
 y_of word = word % 256
 
@@ -21,7 +22,8 @@ y_of word = word % 256
 abbrev pub key_of : ℕ → ℕ
 key_of word = word % 16384
 
--- the factors of delayed replications: 0 31 000, 0 31 001 and 0 31 002
+-- whether a descriptor is a factor of a delayed replication: 0 31 000, 0 31 001 or 0 31 002. The
+-- repetition factors 0 31 011 and 0 31 012 are not supported (own).
 abbrev pub is_factor : ℕ → Bool
 is_factor word = f_of word == 0 && (x_of word == 31 && nat_le (y_of word) 2)
 
@@ -32,39 +34,42 @@ fxy_text word =
     (48 + f_of word) ∷ (48 + x_of word / 10) ∷ (48 + x_of word % 10)
     ∷ (48 + y_of word / 100) ∷ (48 + y_of word / 10 % 10) ∷ (48 + y_of word % 10) ∷ []
 
--- the number of the digit at a place of a text
+-- the value of the digit at an index of a text
 abbrev pub number_at : List ℕ → ℕ → ℕ
 number_at text place = slice_index text place - 48
 
--- F, X and Y of a text of six digits
+-- F of a text of six digits
 abbrev pub f_in : List ℕ → ℕ
 f_in text = number_at text 0
 
+-- X of a text of six digits
 abbrev pub x_in : List ℕ → ℕ
 x_in text = 10 * number_at text 1 + number_at text 2
 
+-- Y of a text of six digits
 abbrev pub y_in : List ℕ → ℕ
 y_in text = 100 * number_at text 3 + 10 * number_at text 4 + number_at text 5
 
--- a text is six digits whose F, X and Y fit their bits
+-- whether a text is six digits whose F, X and Y fit into 2, 6 and 8 bits
 -- rule: reading-descriptor
 abbrev pub is_fxy : List ℕ → Bool
 is_fxy text =
     (length text == 6) && list_all is_ascii_digit text && nat_le (f_in text) 3
     && nat_le (x_in text) 63 && nat_le (y_in text) 255
 
--- the descriptor that a text writes, where it writes one
+-- the descriptor that a text represents, if any
 -- rule: descriptor-fxy
 abbrev pub fxy_of : List ℕ → Option ℕ
 fxy_of text = if is_fxy text then Some (16384 * f_in text + 256 * x_in text + y_in text) else None
 
 -- ---- Steps that may give nothing, one after another.
 
+-- sequencing that stops at the first `None`
 infixl 10 ◌>>=◌
 abbrev pub ◌>>=◌ : {A B : Type 0} → Option A → (A → Option B) → Option B
 o >>= f = option_and_then f o
 
--- the value, where the test passes
+-- x if the test passes, or else `None`
 abbrev pub only_if : {A : Type 0} → Bool → A → Option A
 only_if test x = if test then Some x else None
 

@@ -1,5 +1,6 @@
--- The records of a table's text, as the crate `csv` gives them, and the faults that they have.
--- They have any number of fields, not trimmed; the header is record 1. (a choice of this project)
+-- The records of the text of a table, and the numbers in their fields. `records` is the definition
+-- of CSV in the crate `csv`: a record has any number of fields, and spaces are not removed. The
+-- header is record 1. (own)
 -- Cited by public contracts.
 use Rattle.std.specs.Prelude.{ℕ, ◌+◌, ◌-◌, ◌*◌, ◌^◌, ◌==◌, ◌&&◌, Bool, nat_lt, if◌then◌else◌, ℤ, pos, negsuc, neg_ℤ, List, [], ◌∷◌, length, drop, slice_index, Option, Some, None, option_and_then, option_map, unwrap_or, ◌≡◌, ◌≢◌, Result, Ok, Err, true, false, ◌<◌, map, IsSome}
 use Rattle.std.specs.Char.{is_ascii_digit}
@@ -18,68 +19,70 @@ use Rattle.csv.specs.declared.reader.Reader.{Reader}
 use Rattle.bufr_tables.specs.declared.rows.RecordReader.{RecordReader}
 use Rattle.csv.specs.declared.reader.Trim.TheVariants as trim
 
--- ---- Whole numbers: an optional `-` and one or more digits. (a choice of this project)
+-- ---- Whole numbers: an optional `-` and one or more digits. (own)
 
--- the number that a text writes, where it is one digit or more
+-- the number that a text of one or more digits represents
 unfoldable pub natural_of : List ℕ → Option ℕ
 natural_of text =
     only_if (nat_lt 0 (length text) && list_all is_ascii_digit text) (digits_value 10 text)
 
--- the number that a text writes, however long it is
+-- the number that a text represents: an optional `-` and one or more digits
 unfoldable pub integer_of : List ℕ → Option ℤ
 integer_of text =
     if slice_index text 0 == 45 then option_map (λ n. neg_ℤ (pos n)) (natural_of (drop 1 text))
     else option_map pos (natural_of text)
 
--- 64 bits with a sign hold the number
+-- whether a number fits into `i64`
 abbrev pub fits_i64 : ℤ → Bool
 fits_i64 (pos n) = nat_lt n (2 ^ 63)
 fits_i64 (negsuc n) = nat_lt n (2 ^ 63)
 
--- the number that a text writes, where 64 bits hold it
+-- the number that a text represents, if it fits into `i64`
 unfoldable pub i64_of : List ℕ → Option ℤ
 i64_of text = option_and_then (λ z. only_if (fits_i64 z) z) (integer_of text)
 
--- a record: its fields
+-- a record: the texts of its fields
 abbrev pub Record : Type 0
 Record = List (List ℕ)
 
--- the records of a text
+-- the records of a text; a byte order mark at its beginning is ignored
 abbrev pub records_of : List ℕ → List Record
 records_of text = records default_config (strip_bom text)
 
--- a field of a record, counted from 0, or no octets where there is none
+-- field `place` of a record, from 0; empty if there is none
 abbrev pub field_of : Record → ℕ → List ℕ
 field_of record' place = unwrap_or (field_at record' place) []
 
 -- ---- Steps that may fail, one after another, and the answer of a call whose memory may run out.
 
+-- sequencing that stops at the first fault
 infixl 10 ◌>>=◌
 abbrev pub ◌>>=◌ : {E A B : Type 0} → Result A E → (A → Result B E) → Result B E
 (Ok x) >>= next = next x
 (Err fault) >>= next = Err fault
 
--- a call answers what is expected, or memory ran out
+-- A call returns this result, unless memory runs out.
 abbrev pub ReturnsUnlessMemory : {A : Type 0} → Result A TableFault → Result A TableFault → Type 0
 ReturnsUnlessMemory expected (Ok x) = expected ≡ Ok x
 ReturnsUnlessMemory expected (Err fault) = fault ≢ Memory → expected ≡ Err fault
 
--- A table as the records of its text: a header, and under it a row each. (A choice of this project)
+-- A table as the records of its text: a header, and under it a row each. (own)
 
--- a record has these fields, and no other
+-- whether the fields of a record are exactly these names
 abbrev pub has_fields : List (List ℕ) → Record → Bool
 has_fields [] [] = true
 has_fields [] (field ∷ fields) = false
 has_fields (name ∷ names) [] = false
 has_fields (name ∷ names) (field ∷ fields) = bytes_eq field name && has_fields names fields
 
--- the first record is the header
+-- whether the first record is this header
 -- rule: fault-40
 abbrev pub has_header : List (List ℕ) → List Record → Bool
 has_header header [] = false
 has_header header (first ∷ rest) = has_fields header first
 
--- what was read so far with the rows of the records from record n on, or the first fault of these
+-- The table that comes from `table` by adding the given records one by one, or the first fault. The
+-- first of the records has number n; `with_record` adds one.
 -- rule: first-record-decides
 unfoldable pub table_from : {A : Type 0} → (with_record : ℕ → A → Record → Result A TableFault) → ℕ
     → A → List Record → Result A TableFault
@@ -87,7 +90,8 @@ table_from with_record n table [] = Ok table
 table_from with_record n table (r ∷ rs) =
     with_record n table r >>= λ more. table_from with_record (n + 1) more rs
 
--- the table of these records: the header is record 1
+-- the table of all records, or the first fault: the header comes first, then rows are added to the
+-- empty table `none`
 unfoldable pub table_of : {A : Type 0} → (header : List (List ℕ)) → (with_record : ℕ → A → Record
     → Result A TableFault) → (none : A) → List Record → Result A TableFault
 table_of header with_record none records =

@@ -1,6 +1,6 @@
--- Table B: its rows, their limits and faults, and the kind of an element by its unit.
--- (WMO-No. 306, Volume I.2, FM 94: Table B; the text, its limits, its faults and the kinds are a
--- choice of this project) Cited by public contracts.
+-- Table B: its rows and their limits, and the kind of an element. (WMO-No. 306, Volume I.2, FM 94:
+-- Table B; the format of the file, the limits, the faults and the kinds are our choice)
+-- Cited by public contracts.
 use Rattle.std.specs.Prelude.{ℕ, Bool, if◌then◌else◌, ◌||◌, List, length, take, codes, ◌≡◌, ◌%◌, ◌==◌, ◌&&◌, true, false, not, nat_le, ℤ, pos, negsuc, [], ◌∷◌, ◌++◌, map, nat_eq, Option, Some, None, is_some, Result, Ok, Err, ◌+◌, ◌-◌, ◌≤◌, slice_range, ◌<◌}
 use Rattle.std.specs.Str.{str_eq_ignore_ascii_case}
 use Rattle.bufr_tables.specs.declared.table_b.Kind.{Kind}
@@ -15,13 +15,14 @@ use Rattle.bufr_tables.specs.declared.table_b.Stored.{Stored}
 use Rattle.bufr_tables.specs.declared.table_b.ParsedRow.{ParsedRow}
 use Rattle.bufr_tables.specs.declared.table_b.TableB.TheInside.{Inside}
 
--- ---- What a unit says of the values; ASCII case makes no difference. (a choice of this project)
+-- ---- What a unit says of the values; ASCII case makes no difference. (own)
 
--- a text begins with these words
+-- whether a text begins with these words, in upper or lower case
 unfoldable pub begins_with : List ℕ → List ℕ → Bool
 begins_with text words = str_eq_ignore_ascii_case (take (length words) text) words
 
--- `CCITT IA5` is text; tables of figures are coded; every other unit is a quantity
+-- the kind of an element, which its unit (in upper or lower case) determines: text, a code or flag
+-- table, or a quantity
 -- rule: kind-by-unit
 unfoldable pub kind_of : List ℕ → Kind
 kind_of unit =
@@ -29,7 +30,7 @@ kind_of unit =
     else if begins_with unit (codes "Code table") || begins_with unit (codes "Common code table")
     || begins_with unit (codes "Flag table") then Coded else Numeric
 
--- an element of the table: its descriptor, and what its row says of it; the width is in bits
+-- a row of Table B, which defines one element; the width is in bits
 pub record Row : Type 0 where
   pub fxy : ℕ
   pub name : List ℕ
@@ -47,62 +48,71 @@ row_line_start row = fxy_text row.fxy ++ codes " "
 abbrev pub row_comment : Row → List ℕ
 row_comment row = codes "  # " ++ row.name ++ codes " [" ++ row.unit ++ codes "]\n"
 
--- the fields of the header
+-- the header of the file
 -- rule: fault-40
 abbrev pub columns_b : List (List ℕ)
 columns_b =
     codes "fxy" ∷ codes "name" ∷ codes "unit" ∷ codes "scale" ∷ codes "reference"
     ∷ codes "width" ∷ []
 
--- the descriptor of an element
+-- the descriptor of an element that a text represents
 unfoldable pub element_of : List ℕ → Option ℕ
 element_of text = fxy_of text >>= λ fxy. only_if (f_of fxy == 0) fxy
 
--- no control character of ASCII
+-- whether an octet is not a control character of ASCII
 abbrev pub is_printed : ℕ → Bool
 is_printed octet = nat_le 32 octet && not (octet == 127)
 
--- a name or a unit: at most 512 octets, and none of them a control character of ASCII
+-- whether a text may be a name or a unit: at most 512 octets without control characters
 abbrev pub is_name : List ℕ → Bool
 is_name text = nat_le (length text) 512 && list_all is_printed text
 
+-- a name or a unit, if the text may be one
 unfoldable pub plain_of : List ℕ → Option (List ℕ)
 plain_of text = only_if (is_name text) text
 
--- a scale, from -127 to 127
+-- the scale that a text represents, from -127 to 127
 unfoldable pub scale_of : List ℕ → Option ℤ
 scale_of text = i64_of text >>= λ scale. only_if (nat_le (unsigned_abs scale) 127) scale
 
--- the widths that an element may have, in bits: whole octets for text
+-- The widths in bits that an element may have (own). Text has whole octets, at most 2,040 bits: 255
+-- octets, the most that 2 08 Y can set. Other elements have 1 to 63 bits.
 abbrev pub allows_width : Kind → ℕ → Bool
 allows_width Character width = nat_le 8 width && nat_le width 2040 && (width % 8 == 0)
 allows_width _ width = nat_le 1 width && nat_le width 63
 
+-- a number, if it is not negative
 abbrev pub natural_part : ℤ → Option ℕ
 natural_part (pos n) = Some n
 natural_part (negsuc n) = None
 
+-- the width that a text represents, if the kind allows it
 unfoldable pub width_of : Kind → List ℕ → Option ℕ
 width_of kind text =
     i64_of text >>= λ z. natural_part z >>= λ width. only_if (allows_width kind width) width
 
--- factors of delayed replications have 1 bit where Y is 0, 8 where it is 1, and 16 where it is 2
+-- the width of a replication factor, `None` for other elements: 1 bit if Y is 0, 8 if it is 1, 16
+-- if it is 2
 abbrev pub factor_width : ℕ → Option ℕ
 factor_width fxy =
     if is_factor fxy then Some (if y_of fxy == 0 then 1 else if y_of fxy == 1 then 8 else 16)
     else None
 
+-- whether a kind is text
 abbrev pub is_character : Kind → Bool
 is_character Character = true
 is_character _ = false
 
+-- Whether a row is valid for its element. If the element is a replication factor, which needs this
+-- width, the row must have the width, scale 0 and reference 0, and must not be text. For other
+-- elements (`None`), each row is valid.
 abbrev pub is_valid_factor : Option ℕ → Row → Bool
 is_valid_factor None row = true
 is_valid_factor (Some width) row =
     (row.width == width) && (unsigned_abs row.scale == 0) && (unsigned_abs row.reference == 0)
     && not (is_character row.kind)
 
--- the row that a record writes, where it writes one
+-- the row of a record, if each of its fields is valid
 -- rule: fault-41-of-table-b
 unfoldable pub row_of : Record → Option Row
 row_of r = do
@@ -134,26 +144,29 @@ pub record IsRow (row : Row) : Type 0 where
   pub width : allows_width row.kind row.width ≡ true
   pub factor : is_valid_factor (factor_width row.fxy) row ≡ true
 
--- the element of a descriptor
+-- the row of an element, if the table has one
 abbrev pub entry_of : List Row → ℕ → Option Row
 entry_of rows fxy = find (λ row. row.fxy == fxy) rows
 
--- the rows so far and that of record n, or what is at fault with this record
+-- The rows so far with the row of record n, or the fault of this record: it has no valid row, or an
+-- earlier row has its element. (`RowFault` is `table.Row` in `table_report`.)
 -- rule: fault-42
 abbrev pub with_row : ℕ → List Row → Option Row → Result (List Row) TableFault
 with_row n rows None = Err (RowFault n)
 with_row n rows (Some row) =
     if is_some (entry_of rows row.fxy) then Err (Duplicate row.fxy) else Ok (rows ++ row ∷ [])
 
+-- the rows so far with the row of record n, which must have six fields
 -- rule: fault-45, order-in-a-record
 unfoldable pub with_record_b : ℕ → List Row → Record → Result (List Row) TableFault
 with_record_b n rows r = if length r == 6 then with_row n rows (row_of r) else Err Csv
 
--- the table of these records, or the first fault
+-- Table B of these records, or the first fault
 abbrev pub table_b_of : List Record → Result (List Row) TableFault
 table_b_of records = table_of columns_b with_record_b [] records
 
--- the rows are those that the records under the header write, in order, no descriptor twice
+-- These are the rows of a Table B: those of the records after the header, in order, without a
+-- second row of an element.
 pub record AreRows (records : List Record) (table : List Row) : Type 0 where
   pub first : Record
   pub rest : List Record

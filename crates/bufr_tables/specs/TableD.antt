@@ -1,6 +1,6 @@
--- Table D: its sequences, its faults, and chains of members.
--- (WMO-No. 306, Volume I.2, FM 94: Table D; the text, its limits and faults are a choice of this
--- project) Cited by public contracts.
+-- Table D: its sequences, and chains of sequences that contain each other. (WMO-No. 306, Volume
+-- I.2, FM 94: Table D; the format of the file, the limits and the faults are our choice)
+-- Cited by public contracts.
 use Rattle.std.specs.Prelude.{◌≡◌, ◌≢◌, ℕ, ◌-◌, ◌==◌, ◌&&◌, Bool, true, false, not, nat_le, if◌then◌else◌, List, [], ◌∷◌, ◌++◌, length, map, codes, Option, Some, None, is_some, option_map, unwrap_or, Result, Ok, Err, IsSome, Contains, All, ⊤, ◌≤◌, ◌<◌, slice_range, ◌+◌, ◌⊎◌, slice_index, slice_index_or}
 use Rattle.std.specs.List.{find, AllByRecursion}
 use Rattle.bufr_tables.specs.declared.fault.TableFault.{TableFault}
@@ -10,26 +10,26 @@ use Rattle.bufr_tables.specs.Records.{Record, field_of, has_fields, table_of}
 use Rattle.bufr_tables.specs.declared.table_d.MemberRange.{MemberRange}
 use Rattle.bufr_tables.specs.declared.table_d.TableD.TheInside.{Inside}
 
--- a sequence of the table: its descriptor, and its members in order
+-- a sequence: its descriptor, and its members in order
 pub record Sequence : Type 0 where
   pub fxy : ℕ
   pub members : List ℕ
 
--- a row: a member of a sequence
+-- a row of the file: a sequence, and one of its members
 pub record Member : Type 0 where
   pub sequence : ℕ
   pub fxy : ℕ
 
--- the fields of the header
+-- the header of the file
 -- rule: fault-40
 abbrev pub columns_d : List (List ℕ)
 columns_d = codes "fxy" ∷ codes "member" ∷ []
 
--- the descriptor of a sequence
+-- the descriptor of a sequence that a text represents
 unfoldable pub sequence_of : List ℕ → Option ℕ
 sequence_of text = fxy_of text >>= λ fxy. only_if (f_of fxy == 3) fxy
 
--- the row that a record writes, where it writes one
+-- the row of a record, if both of its fields are valid
 -- rule: fault-41-of-table-d
 unfoldable pub member_of : Record → Option Member
 member_of r = do
@@ -41,7 +41,7 @@ member_of r = do
 abbrev pub fxys_of : List Sequence → List ℕ
 fxys_of table = map (λ s. s.fxy) table
 
--- the members of a sequence
+-- the members of a sequence, if the table has it
 abbrev pub members_of : List Sequence → ℕ → Option (List ℕ)
 members_of table fxy = option_map (λ s. s.members) (find (λ s. s.fxy == fxy) table)
 
@@ -49,30 +49,32 @@ members_of table fxy = option_map (λ s. s.members) (find (λ s. s.fxy == fxy) t
 abbrev pub members_or_none : List Sequence → ℕ → List ℕ
 members_or_none table fxy = unwrap_or (members_of table fxy) []
 
--- the last sequence has this descriptor
+-- whether the last sequence so far has this descriptor
 abbrev pub is_last : List Sequence → ℕ → Bool
 is_last [] fxy = false
 is_last (s ∷ []) fxy = s.fxy == fxy
 is_last (s ∷ t ∷ rest) fxy = is_last (t ∷ rest) fxy
 
--- the last sequence has one member more
+-- the sequences with one more member of the last one
 abbrev pub extended : List Sequence → ℕ → List Sequence
 extended [] member = []
 extended (s ∷ []) member = record { fxy = s.fxy; members = s.members ++ member ∷ [] } ∷ []
 extended (s ∷ t ∷ rest) member = s ∷ extended (t ∷ rest) member
 
--- the rows of one sequence are together: a row belongs to the last sequence, or begins one
+-- the sequences with one more row, which is a member of the last sequence or begins a new one
 unfoldable pub added : List Sequence → Member → List Sequence
 added table row =
     if is_last table row.sequence then extended table row.fxy
     else table ++ record { fxy = row.sequence; members = row.fxy ∷ [] } ∷ []
 
--- a row begins a second run of rows of its sequence
+-- whether a row belongs to an earlier sequence, but not to the last one: the rows of a sequence
+-- must be next to each other
 -- rule: fault-42
 abbrev pub begins_again : List Sequence → Member → Bool
 begins_again table row = not (is_last table row.sequence) && is_some (members_of table row.sequence)
 
--- the sequences with the row of record n, before which are n - 2 rows, or what is at fault with it
+-- The sequences so far with the row of record n, or the fault of this record. n - 2 rows come
+-- before it, since the header is record 1; a table has at most 65,536 rows.
 -- rule: fault-44, order-in-a-record
 abbrev pub with_member : ℕ → List Sequence → Option Member → Result (List Sequence) TableFault
 with_member n table None = Err (RowFault n)
@@ -80,11 +82,12 @@ with_member n table (Some row) =
     if begins_again table row then Err (Duplicate row.sequence)
     else if nat_le 65536 (n - 2) then Err TableSize else Ok (added table row)
 
+-- the sequences so far with the row of record n, which must have two fields
 -- rule: fault-45, order-in-a-record
 unfoldable pub with_record_d : ℕ → List Sequence → Record → Result (List Sequence) TableFault
 with_record_d n table r = if length r == 2 then with_member n table (member_of r) else Err Csv
 
--- the table of these records, or the first fault
+-- Table D of these records, or the first fault; cycles are not checked here
 abbrev pub table_d_of : List Record → Result (List Sequence) TableFault
 table_d_of records = table_of columns_d with_record_d [] records
 
@@ -105,24 +108,25 @@ pub record AreSequences (records : List Record) (table : List Sequence) : Type 0
   pub members : (fxy : ℕ) → members_or_none table fxy ≡ members_in rows fxy
 
 -- ---- Chains of members: a sequence that holds itself by one cannot be expanded.
--- (WMO-No. 306, Volume I.2, FM 94: Table D; the fault is a choice of this project)
+-- (WMO-No. 306, Volume I.2, FM 94: Table D; the fault is our choice)
 
--- a sequence of the table has this member, which is a sequence of the table too
+-- Sequence `from` has the member `to`, which is also a sequence of the table.
 pub record Leads (table : List Sequence) (from to : ℕ) : Type 0 where
   pub members : List ℕ
   pub has : members_of table from ≡ Some members
   pub member : Contains members to
   pub sequence : IsSome (members_of table to)
 
--- a chain of members leads from one sequence to another
+-- A chain of members leads from one sequence to another.
 pub data Chain (table : List Sequence) : ℕ → ℕ → Type 0 where
   one : {from to : ℕ} → Leads table from to → Chain table from to
   more : {from by to : ℕ} → Leads table from by → Chain table by to → Chain table from to
 
+-- A sequence contains itself, directly or through other sequences.
 abbrev pub ReachesItself : List Sequence → ℕ → Type 0
 ReachesItself table fxy = Chain table fxy fxy
 
--- the first sequence of the file that reaches itself
+-- This is the first sequence of the file that contains itself.
 -- rule: fault-43
 pub record IsFirstCycle (table : List Sequence) (fxy : ℕ) : Type 0 where
   pub before : List Sequence
@@ -133,7 +137,8 @@ pub record IsFirstCycle (table : List Sequence) (fxy : ℕ) : Type 0 where
   pub reaches : ReachesItself table fxy
   pub first : All (λ s. ¬ ReachesItself table s.fxy) before
 
--- what a read answers: the table without a cycle, or the first fault; a cycle comes after others
+-- What reading Table D returns: the table, if no sequence contains itself, or the first fault. A
+-- cycle is reported only if the records have no fault.
 -- rule: fault-43-last
 abbrev pub ReadsTableD : List Record → Result (List Sequence) TableFault → Type 0
 ReadsTableD records (Ok table) =

@@ -11,7 +11,7 @@ use std::marker::Model;
 /// A descriptor F X Y of section 3: two, six and eight bits (WMO-No. 306, Volume I.2, FM 94).
 ///
 /// F is 0 for an element of Table B, 1 for a replication, 2 for an operator and 3 for a sequence of
-/// Table D. A clause sees a descriptor as the number that its 16 bits write.
+/// Table D. In clauses, a descriptor is the number that its 16 bits write.
 ///
 /// ```
 /// let temperature = Fxy::from_word(0x0c65);

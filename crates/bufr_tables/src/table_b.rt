@@ -426,12 +426,12 @@ fn store(octets: &mut Vec<u8>, row: &ParsedRow) -> Result<Stored, AllocError>
     })
 }
 
-/// What the values of an element are, by its unit.
+/// What the values of an element are, which its unit determines.
 #[derive(Clone, Copy, Debug, PartialEq, Eq)]
 pub enum Kind {
-    /// Octets of text: the unit is `CCITT IA5`.
+    /// Text: the unit is `CCITT IA5`.
     Character,
-    /// Figures of a code table, a common code table or a flag table.
+    /// Entries of a code table, a common code table or a flag table.
     Coded,
     /// A quantity in the unit.
     Numeric,

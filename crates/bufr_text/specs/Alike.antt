@@ -1,5 +1,5 @@
 -- Only contracts need this file. The lines that all subsets of compressed data have alike, and the
--- items between them. (A choice of this project)
+-- items between them. (own)
 use Rattle.std.specs.Prelude.{◌≡◌, ◌≤◌, ◌<◌, ◌-◌, ℕ, List, [], ◌∷◌, Ok, length, take, drop, map}
 use Rattle.bufr_tables.specs.Prelude.{Row}
 use Rattle.bufr_walk.specs.Prelude.{Content, Item, PackedValues, Read, IsPackedOf, items_between}

@@ -1,5 +1,5 @@
--- A message as its text gives it, what each line does to it, and the documents of a text.
--- (A choice of this project)
+-- A document (the dump text of one message), what each line does to it, and the documents of a
+-- text. (own)
 -- Cited by public contracts.
 use Rattle.std.specs.Prelude.{ℕ, List, [], slice_index, ◌+◌, ◌==◌, nat_le, nat_lt, Bool, true, false, not, ◌&&◌, if◌then◌else◌, ◌∷◌, ◌++◌, length, ◌≡◌, ◌^◌, Option, Some, None}
 use Rattle.bufr_fill.specs.Prelude.{DraftEntry, draft, Holds, Ends}
@@ -16,27 +16,26 @@ use Rattle.bufr_text.specs.declared.document.LineGroup.{LineGroup}
 use Rattle.std.specs.List.{onto_first}
 use Rattle.bufr_text.specs.declared.document.LineGroup.TheVariants as group
 
--- ---- A message as its text gives it; no value is looked at yet. (a choice of this project)
+-- ---- A message as its text gives it; no value is looked at yet. (own)
 
--- what a document says
+-- what the lines of a document say
 pub record Document : Type 0 where
-  -- the line of its `message`
+  -- the number of its line `message`
   pub line : ℕ
-  -- the values of its header lines, in their order
+  -- the values of its header lines, in the order of `keys`
   pub header : List ℕ
   pub local1 : List ℕ
   pub section2 : List ℕ
   pub descriptors : List ℕ
-  -- the items of the subsets, one subset after another, each with its end
+  -- the items of all subsets in order, with an end after each subset
   pub entries : List DraftEntry
 
--- a document of which its first line was read
+-- a document of which only the line `message` was read
 abbrev pub blank : (line : ℕ) → Document
 blank line =
     record { line = line; header = []; local1 = []; section2 = []; descriptors = []; entries = [] }
 
--- the edition and section 1, whether the data are observed and compressed, whether there is a
--- section 2, and the number of subsets
+-- what the header lines say; `optional` means that there is a section 2
 pub record DocumentHeader : Type 0 where
   pub head : Head
   pub observed : Bool
@@ -44,7 +43,8 @@ pub record DocumentHeader : Type 0 where
   pub optional : Bool
   pub subsets : ℕ
 
--- the values of the header lines by name; a value that was not read yet is 0
+-- The header lines of a document by name; 0 for those that were not read yet. Keys 1 to 15 are
+-- those of `head_by`.
 abbrev pub header_in : Document → DocumentHeader
 header_in d =
     let value : ℕ → ℕ = slice_index d.header in
@@ -56,11 +56,11 @@ header_in d =
       subsets = value 19;
     }
 
--- where the reading is, and the document as far as it was read
+-- where the reader is, and the document so far
 abbrev pub Parsing : Type 0
 Parsing = ParserState × Document
 
--- between documents
+-- between documents; the document here is not used
 abbrev pub between : Parsing
 between = (Between, blank 0)
 
@@ -68,21 +68,23 @@ between = (Between, blank 0)
 abbrev pub LineStep : Type 0
 LineStep = LineEffect × Document
 
--- a document, or the fault that ends the reading, with its line
+-- a complete document, or the fault of a line, after which the text is not read any further
 pub data ParseResult : Type 0 where
   Complete : Document → ParseResult
   Refused : (line : ℕ) (fault : TextLineFault) → ParseResult
 
--- the document with one more entry
+-- a document with one more entry
 abbrev pub with_entry : Document → DraftEntry → Document
 with_entry d entry = record d { entries = d.entries ++ entry ∷ [] }
 
--- in the range of its key, which goes by the edition
+-- Whether a value is in the range of its key, given the edition. The range of the edition itself
+-- (key 0) does not depend on it.
 abbrev pub in_range : (edition key value : ℕ) → Bool
 in_range edition key value = nat_le (slice_index leasts key) value
     && nat_le value (slice_index (mosts edition) key)
 
--- a header line
+-- a header line: its key must be the next one, and its value in range; key 19 (`subsets`) is the
+-- last one
 -- rule: reading-header-order, fault-61, fault-order-of-a-line
 abbrev pub heading : Document → Line → LineStep
 heading d (Header key value) = if not (key == length d.header) then (Refuses NotAllowed, d)
@@ -92,30 +94,32 @@ heading d (Header key value) = if not (key == length d.header) then (Refuses Not
     )
 heading d line = (Refuses NotAllowed, d)
 
--- `subset` and its number, where so many subsets were read
+-- the line `subset` with a number, after `read` subsets: it must be the next one, and at most the
+-- number of subsets
 -- rule: reading-subsets, fault-57
 abbrev pub beginning : (read : ℕ) → Document → (subset : ℕ) → LineEffect
 beginning read d subset = if (subset == read + 1) && nat_le subset (header_in d).subsets
     then Continues (Filling subset) else Refuses SubsetCount
 
--- `end`
+-- the line `end` after `read` subsets: no subset may be missing
 -- rule: reading-subsets, fault-57
 abbrev pub closing : (read : ℕ) → Document → LineEffect
 closing read d = if read == (header_in d).subsets then Completes else Refuses SubsetCount
 
--- octets of local use come first, then those of section 2, where there is one
+-- whether a line `local1` is allowed after a line of this group; lines `local1` come first
 -- rule: reading-section2
 abbrev pub may_be_local1 : LineGroup → Bool
 may_be_local1 group.Local1 = true
 may_be_local1 group.Section2 = false
 may_be_local1 group.Descriptors = false
 
+-- whether a line `section2` is allowed: before the lines `descriptors`, if there is a section 2
 abbrev pub may_be_section2 : LineGroup → Document → Bool
 may_be_section2 group.Local1 d = (header_in d).optional
 may_be_section2 group.Section2 d = (header_in d).optional
 may_be_section2 group.Descriptors d = false
 
--- a line after the header and before the first subset
+-- a line between the header lines and the first subset
 abbrev pub before_subsets : LineGroup → Document → Line → LineStep
 before_subsets part d (Local1 octets) = if may_be_local1 part then (
   Continues (BeforeSubsets group.Local1),
@@ -133,7 +137,7 @@ before_subsets part d (Begins subset) = (beginning 0 d subset, d)
 before_subsets part d Closes = (closing 0 d, d)
 before_subsets part d line = (Refuses NotAllowed, d)
 
--- a line in a subset
+-- a line in a subset; `at` is its number
 -- rule: reading-subset-end
 abbrev pub in_subset : (at subset : ℕ) → Document → Line → LineStep
 in_subset at subset d (ItemLine fxy form) =
@@ -142,7 +146,8 @@ in_subset at subset d (Begins next) = (beginning subset d next, with_entry d (En
 in_subset at subset d Closes = (closing subset d, with_entry d (Ends at))
 in_subset at subset d line = (Refuses NotAllowed, d)
 
--- what a line does; between documents only `message` may be
+-- What the line with number `at` does. Empty lines and comments do nothing. Between documents only
+-- `message` is allowed, and after an invalid line all others are ignored.
 -- rule: reading-empty-lines, reading-between-documents, fault-50
 unfoldable pub line_step : (at : ℕ) → Parsing → Line → LineStep
 line_step at (state, d) Passed = (Continues state, d)
@@ -164,34 +169,36 @@ adds (Filling subset) (Begins next) = true
 adds (Filling subset) Closes = true
 adds state line = false
 
--- the most octets of a line, without its line feed
+-- the maximum number of octets in a line, without its line feed
 abbrev pub max_line : ℕ
 max_line = 4096
 
--- what a line says, which has at most 4,096 octets
+-- what a line says; a line of more than 4,096 octets is `Wrong`
 -- rule: reading-longest-line
 abbrev pub read_line : List ℕ → Line
 read_line line = if nat_lt max_line (length line) then Wrong else line_of line
 
--- where the reading is after a line
+-- where the reader is after a line
 abbrev pub parsing_after : LineStep → Parsing
 parsing_after (Continues state, d) = (state, d)
 parsing_after (Completes, d) = between
 parsing_after (Refuses fault, d) = (Stopped, d)
 
+-- what is reported after the line with number `at`: a complete document, or the fault of the line
 abbrev pub reported_at : (at : ℕ) → LineStep → List ParseResult
 reported_at at (Continues state, d) = []
 reported_at at (Completes, d) = Complete d ∷ []
 reported_at at (Refuses fault, d) = Refused at fault ∷ []
 
--- the end of the text: inside a document it is a fault at the next line
+-- what is reported at the end of the text: if the end is inside a document, a fault at the line
+-- after the last one
 -- rule: fault-50, input-ends-early
 abbrev pub reported_at_end : (at : ℕ) → ParserState → List ParseResult
 reported_at_end at Between = []
 reported_at_end at Stopped = []
 reported_at_end at state = Refused at NotAllowed ∷ []
 
--- the documents that lines spell, from a line on
+-- the documents and the fault in the last lines of a text, the first of which has number `at`
 -- rule: reading-line-numbers
 unfoldable pub parse_lines : (at : ℕ) → Parsing → List (List ℕ) → List ParseResult
 parse_lines at p [] = reported_at_end at p.0
@@ -199,17 +206,19 @@ parse_lines at p (line ∷ more) =
     let here = line_step at p (read_line line) in reported_at at here
     ++ parse_lines (at + 1) (parsing_after here) more
 
--- the lines of a text, each without its line feed; the last may lack it
+-- the lines of a text without their line feeds, which the last line may lack; `onto_first` puts an
+-- octet in front of the first line
 -- rule: reading-last-line
 unfoldable pub lines_of : List ℕ → List (List ℕ)
 lines_of [] = []
 lines_of (c ∷ more) = if c == 10 then [] ∷ lines_of more else onto_first c (lines_of more)
 
--- the documents of a text, up to its end or to the first line that is refused
+-- the documents of a text, and the first fault of its lines, if any
 abbrev pub documents_of : List ℕ → List ParseResult
 documents_of text = parse_lines 1 between (lines_of text)
 
--- the documents that lines spell, where more lines may come
+-- The documents in the lines of a text that may still grow. `rest` is the last line, which is not
+-- complete; if it is too long already, its fault is certain.
 unfoldable pub parse_open_lines : (at : ℕ) → Parsing → List (List ℕ) → (rest : List ℕ)
     → List ParseResult
 parse_open_lines at p [] rest =
@@ -218,27 +227,28 @@ parse_open_lines at p (line ∷ more) rest =
     let here = line_step at p (read_line line) in reported_at at here
     ++ parse_open_lines (at + 1) (parsing_after here) more rest
 
--- the lines of a text that end by a line feed, and what is after the last of them
+-- the lines of a text that have a line feed, and what comes after the last line feed
 pub record Split : Type 0 where
   pub whole : List (List ℕ)
   pub rest : List ℕ
 
--- one more octet before the first line, or of the rest where there is no line
+-- one more octet before the first line, or before the rest if there is no line
 abbrev pub onto_split : ℕ → List (List ℕ) → List ℕ → Split
 onto_split c [] rest = record { whole = []; rest = c ∷ rest }
 onto_split c (line ∷ more) rest = record { whole = (c ∷ line) ∷ more; rest = rest }
 
+-- a text, split into its lines and the rest
 unfoldable pub split_of : List ℕ → Split
 split_of [] = record { whole = []; rest = [] }
 split_of (c ∷ more) =
     let s = split_of more in
     if c == 10 then record { whole = [] ∷ s.whole; rest = s.rest } else onto_split c s.whole s.rest
 
--- the documents of a text whose end is not known
+-- the documents of a text that may still grow
 abbrev pub open_documents_of : List ℕ → List ParseResult
 open_documents_of text = parse_open_lines 1 between (split_of text).whole (split_of text).rest
 
--- section 2, where there is one
+-- the octets of section 2 of a document, if there is a section 2
 abbrev pub section2_in : Document → Option (List ℕ)
 section2_in d = if (header_in d).optional then Some d.section2 else None
 

@@ -1,5 +1,4 @@
--- The dump text of a message, line by line, its items and their bounds, and the line that lists it.
--- (A choice of this project)
+-- The dump text of a message, line by line, and the line that lists a message. (own)
 -- Cited by public contracts.
 use Rattle.std.specs.Prelude.{get_or, ℕ, ◌+◌, Bool, List, [], ◌∷◌, ◌++◌, length, map, flat_map, codes, decimal, Option, Some, None, is_some, unwrap_or, pos, ◌≡◌, ◌^◌, ◌<◌, ◌≤◌, true, unsigned_abs, replicate, ◌-◌}
 use Rattle.bufr_bits.specs.Prelude.{decimal_text_of}
@@ -13,37 +12,40 @@ use Rattle.std.specs.List.{concat, AllByRecursion}
 use Rattle.bufr_frame.specs.declared.section1.Head.{Head}
 use Rattle.std.specs.Int.{from_bool}
 
--- decimal digits, at least so many, with leading zeros
+-- a decimal number with leading zeros up to this number of digits
 -- rule: listing-time
 abbrev pub zero_padded : (least n : ℕ) → List ℕ
 zero_padded least n = replicate (least - length (decimal n)) 48 ++ decimal n
 
--- the values of the header lines
+-- the values of the header lines, in the order of `keys`
 -- rule: text-header, text-header-of-edition-3
 abbrev pub header_of : Sections → List ℕ
 header_of s =
     s.head.edition ∷ values_of s.head ++ from_bool s.observed ∷ from_bool s.compressed
     ∷ from_bool (is_some s.section2) ∷ s.subsets ∷ []
 
--- the header lines from a key on
+-- the header lines of values, the first of which has this key
 unfoldable pub header_lines : (key : ℕ) → List ℕ → List (List ℕ)
 header_lines key [] = []
 header_lines key (value ∷ more) =
     (get_or keys key [] ++ 32 ∷ decimal value) ∷ header_lines (key + 1) more
 
+-- a line of octets for local use in section 1
 -- rule: text-local1
 abbrev pub local1_line : List ℕ → List ℕ
 local1_line octets = codes "local1 " ++ hex_text octets
 
+-- a line of octets of section 2
 -- rule: text-section2
 abbrev pub section2_line : List ℕ → List ℕ
 section2_line octets = codes "section2 " ++ hex_text octets
 
+-- a line of descriptors
 -- rule: text-descriptors
 abbrev pub descriptors_line : List ℕ → List ℕ
 descriptors_line words = codes "descriptors" ++ descriptors_text words
 
--- the form of a value in a document
+-- the value of an item, as it appears in its line
 -- rule: text-number
 abbrev pub dump_value_of : ShownValue → DraftValue
 dump_value_of (shown_number v scale) = number_token (decimal_text_of v scale)
@@ -51,13 +53,14 @@ dump_value_of (shown_text octets) = text_form octets
 dump_value_of shown_missing = missing_form
 dump_value_of (shown_reference v) = reference_token (decimal_text_of v (pos 0))
 
--- two spaces, `# `, the name, the unit in brackets; exactly where the item was read by a row
+-- the comment of an item that was read by a row of Table B: two spaces, `# `, the name, and the
+-- unit in brackets
 -- rule: text-comment, text-no-comment
 abbrev pub comment_text : Option Row → List ℕ
 comment_text None = []
 comment_text (Some row) = concat (codes "  # " ∷ row.name ∷ codes " [" ∷ row.unit ∷ codes "]" ∷ [])
 
--- a descriptor and its value's text
+-- a descriptor and its value, as they appear in a line
 -- rule: text-quoted, text-missing, text-reference, text-inserted
 abbrev pub form_text : (fxy : ℕ) → DraftValue → List ℕ
 form_text fxy (number_token token) = fxy_text fxy ++ 32 ∷ token
@@ -65,13 +68,15 @@ form_text fxy (text_form octets) = fxy_text fxy ++ 32 ∷ 34 ∷ quoted octets
 form_text fxy missing_form = fxy_text fxy ++ 32 ∷ codes "MISSING"
 form_text fxy (reference_token token) = codes "R " ++ fxy_text fxy ++ 32 ∷ token
 
+-- the line of an item
 abbrev pub item_text : View → List ℕ
 item_text item = form_text item.fxy (dump_value_of item.value) ++ comment_text item.entry
 
+-- the line before the items of a subset
 abbrev pub subset_line : ℕ → List ℕ
 subset_line subset = codes "subset " ++ decimal subset
 
--- the lines of the subsets from a number on
+-- the lines of subsets, the first of which has this number
 -- rule: text-subset
 unfoldable pub subset_lines : (subset : ℕ) → List (List View) → List (List ℕ)
 subset_lines subset [] = []
@@ -85,16 +90,16 @@ head_lines s = codes "message" ∷ (header_lines 0 (header_of s)
     ++ (map section2_line (runs_of 32 (unwrap_or s.section2 []))
     ++ map descriptors_line (runs_of 8 s.descriptors))))
 
--- the lines of a message
+-- the lines of a message, whose subsets have these items
 -- rule: text-lines-in-order
 abbrev pub dump_lines : Sections → List (List View) → List (List ℕ)
 dump_lines s subsets = head_lines s ++ (subset_lines 1 subsets ++ codes "end" ∷ [])
 
--- lines, each ended by a line feed
+-- lines, each with a line feed after it
 abbrev pub text_of_lines : List (List ℕ) → List ℕ
 text_of_lines lines = flat_map (λ line. line ++ 10 ∷ []) lines
 
--- the dump text of a message
+-- the dump text of a message, whose subsets have these items
 abbrev pub dump_text_of : Sections → List (List View) → List ℕ
 dump_text_of s subsets = text_of_lines (dump_lines s subsets)
 
@@ -126,13 +131,13 @@ document_of at s subsets = record {
   entries = subset_entries (at + lines_before s) subsets;
 }
 
--- ---- The items that a reading gives to a dump text. (a choice of this project)
+-- ---- The items that a reading gives to a dump text. (own)
 
--- the items of a subset, each as it is shown
+-- the items of a subset as they are shown
 abbrev pub items_shown : List Row → List (Item Content) → List View
 items_shown table items = map (λ i. view_of table i.spec i.content) items
 
--- the items of each of so many subsets, as the dump text of a message gives them
+-- the items of each of n subsets as they are shown
 abbrev pub dump_items : List Row → (subsets : ℕ) → Values → List (List View)
 dump_items table n values = map (items_shown table) (each_subset n values)
 
@@ -174,7 +179,8 @@ pub record IsDumpable (s : Sections) (subsets : List (List View)) : Type 0 where
 
 -- ---- The line that lists a message.
 
--- where the message is, where it comes from, what kind of data it has, and by which tables
+-- the first part of a listing line: where the message is, where it comes from, its category and its
+-- tables
 abbrev pub source_texts : (offset size : ℕ) → Head → List (List ℕ)
 source_texts offset size h =
     codes "offset=" ∷ decimal offset ∷ codes " length=" ∷ decimal size ∷ codes " edition="
@@ -184,13 +190,14 @@ source_texts offset size h =
     ∷ decimal h.master ∷ codes "/" ∷ decimal h.master_version ∷ codes "/"
     ∷ decimal h.local_version ∷ []
 
--- the time that section 1 says
+-- the time in section 1
 abbrev pub time_texts : Head → List (List ℕ)
 time_texts h =
     codes " time=" ∷ zero_padded 4 h.year ∷ codes "-" ∷ zero_padded 2 h.month ∷ codes "-" ∷ zero_padded 2 h.day ∷
     codes "T" ∷ zero_padded 2 h.hour ∷ codes ":" ∷ zero_padded 2 h.minute ∷ codes ":" ∷ zero_padded 2 h.second ∷ []
 
--- how many subsets and descriptors it has, and its flags: 1 or 0
+-- the last part of a listing line: the number of subsets, the flags (1 or 0), and the number of
+-- descriptors
 -- rule: listing-flags
 abbrev pub counts_texts : (subsets : ℕ) (observed compressed optional : Bool)
     (descriptors : ℕ) → List (List ℕ)
@@ -200,7 +207,7 @@ counts_texts subsets observed compressed optional descriptors =
     ∷ codes " optional=" ∷ decimal (from_bool optional)
     ∷ codes " descriptors=" ∷ decimal descriptors ∷ codes "\n" ∷ []
 
--- the line of a message at an offset, with its line feed
+-- the line that lists a message at an offset, with its line feed
 -- rule: listing-line, listing-offset-and-length
 abbrev pub ls_line : ℕ → Sections → List ℕ
 ls_line offset s = concat (source_texts offset s.size s.head ++ (time_texts s.head

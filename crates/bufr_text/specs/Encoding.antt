@@ -1,5 +1,5 @@
--- The message that a document is encoded to, or its first refusal, with the turns made.
--- (WMO-No. 306, Volume I.2, FM 94: sections 0 to 5)
+-- The message that a document is encoded to, or the first fault. (WMO-No. 306, Volume I.2, FM 94:
+-- sections 0 to 5; the order of the faults is our choice)
 -- Cited by public contracts.
 use Rattle.std.specs.Prelude.{Bool, true, false, ℕ, ◌+◌, ◌/◌, nat_lt, if◌then◌else◌, List, ◌++◌, length, Result, Ok, Err, ◌≡◌, Option, Some, None, ◌≤◌, [], ◌∷◌, Vec, ◌*◌, ◌≢◌, ◌⊎◌, codes, decimal}
 use Rattle.bufr_text.specs.declared.encode.Form.{Form}
@@ -23,9 +23,9 @@ use Rattle.bufr_fill.specs.declared.fault.DraftFault.TheVariants as draft_fault
 use Rattle.bufr_walk.specs.declared.walker.WalkStop.TheVariants as stops
 use Rattle.bufr_tables.specs.declared.fault.TemplateFault.TheVariants as template_fault
 
--- ---- The form in which the data of a document are written. (a choice of this project)
+-- ---- The form in which the data of a document are written. (own)
 
--- whether data are compressed, where a document says so or not
+-- whether data are compressed in a form; `written` is what the document says
 -- rule: writes-form
 abbrev pub compressed_by : Form → (written : Bool) → Bool
 compressed_by form.AsWritten written = written
@@ -37,12 +37,14 @@ abbrev pub form_of_flag : (compressed : Bool) → Form
 form_of_flag false = form.Plain
 form_of_flag true = form.Compressed
 
--- a fault of the data is one of their document
+-- the fault of a document whose items have a fault
 abbrev pub document_fault : DraftFault → DocumentFault
 document_fault (draft_fault.Item line why) = fault.Item line why
 document_fault draft_fault.Memory = fault.Memory
 
--- the number of a fault, and its text in parts (the numbers are a choice of this project)
+-- A fault of a document: of an item (`item_report`), of its template (56, then the number and the
+-- text of `template_report`), or the message would have more than 16,777,215 octets. `Memory` has
+-- no text: it stops a run, and the last line of the run reports it.
 abbrev pub document_report : DocumentFault → ℕ × List (List ℕ)
 document_report (fault.Item line why) = item_report why
 document_report (fault.Template line why) =
@@ -50,23 +52,23 @@ document_report (fault.Template line why) =
 document_report (fault.TooLong line) = (60, codes "too long" ∷ [])
 document_report fault.Memory = (73, [])
 
--- its line
+-- the line of a fault; `Memory` has none
 abbrev pub line_of_fault : DocumentFault → Option ℕ
 line_of_fault (fault.Item line why) = Some line
 line_of_fault (fault.Template line why) = Some line
 line_of_fault (fault.TooLong line) = Some line
 line_of_fault fault.Memory = None
 
--- the bits of the data
+-- the data bits of the subsets of a document, or the first fault
 abbrev pub data_bits : (compressed : Bool) → Course → List Subset → Result (List Bool) DraftFault
 data_bits compressed course subsets = bits_of_writing (writing_of compressed course subsets)
 
--- bits as octets, with zero bits up to the next octet
+-- bits as octets, with zero bits after them up to a whole octet
 -- rule: writes-section-4
 abbrev pub octets_of_bits : List Bool → List ℕ
 octets_of_bits bits = octets_in ((length bits + 7) / 8) (bits ++ padding (length bits))
 
--- what is written besides the head
+-- the parts of a document's message with this payload
 -- rule: writes-local-use
 abbrev pub parts_as : (compressed : Bool) → Document → (payload : List ℕ) → MessageParts
 parts_as compressed d payload =
@@ -85,15 +87,15 @@ parts_as compressed d payload =
 abbrev pub compressed_as : Form → Document → Bool
 compressed_as form d = compressed_by form (header_in d).compressed
 
--- a message of these parts, where it is not too long
+-- the message of these parts, unless it is too long; `line` is where that is reported
 -- rule: fault-60
 abbrev pub message_of : (line : ℕ) → Head → MessageParts → Result (List ℕ) DocumentFault
 message_of line head parts =
     if nat_lt max_octets (message_size head.edition parts) then Err (fault.TooLong line)
     else Ok (message_octets head parts)
 
--- a document's message, or its first fault: of the template, which is reported at the line of
--- `message`, of the items in order, of the length
+-- The message of a document, or the first fault: of the template, which is reported at the line
+-- `message`; then of the items; then of the length of the message, which is reported there, too.
 -- rule: fault-56, fault-56-first-60-last
 unfoldable pub encoding_in : Form → List Row → List Sequence → Document
     → Result (List ℕ) DocumentFault

@@ -1,5 +1,4 @@
--- The words and values that lines are made of, what a line says, and the keys of the header.
--- (A choice of this project)
+-- The lines of a dump text: the words and values in them, and what each line says. (own)
 -- Cited by public contracts.
 use Rattle.std.specs.Prelude.{ℕ, zero, suc, ◌+◌, ◌==◌, nat_le, nat_lt, Bool, not, ◌&&◌, if◌then◌else◌, List, [], ◌∷◌, Option, Some, None, option_map, codes, length, replicate, ◌-◌, ◌++◌, take, drop, ◌≡◌, ◌*◌, ◌≤◌, ◌/◌, ◌%◌, min, true, false, ◌||◌, slice_index}
 use Rattle.std.specs.List.{list_all, position_from}
@@ -13,73 +12,77 @@ use Rattle.bufr_frame.specs.Prelude.{greatest_values}
 use Rattle.bufr_fill.specs.Prelude.{DraftValue, number_token, text_form, missing_form, reference_token}
 use Rattle.std.specs.Option.{option_zip}
 
--- the longest prefix of elements that pass a test, and the rest
+-- the longest prefix of octets that pass a test
 unfoldable pub prefix_while : (ℕ → Bool) → List ℕ → List ℕ
 prefix_while test [] = []
 prefix_while test (c ∷ more) = if test c then c ∷ prefix_while test more else []
 
+-- the octets after that prefix
 unfoldable pub suffix_while : (ℕ → Bool) → List ℕ → List ℕ
 suffix_while test [] = []
 suffix_while test (c ∷ more) = if test c then suffix_while test more else c ∷ more
 
--- the rest after a word that comes first
+-- the text after a word, if it begins with the word
 unfoldable pub without_prefix : (word text : List ℕ) → Option (List ℕ)
 without_prefix [] text = Some text
 without_prefix (w ∷ word) [] = None
 without_prefix (w ∷ word) (c ∷ text) = if c == w then without_prefix word text else None
 
--- what is after one space
+-- the text after one space, if it begins with one
 abbrev pub without_space : List ℕ → Option (List ℕ)
 without_space text = without_prefix (32 ∷ []) text
 
--- a list in runs of at most so many; the elements that a run has taken are skipped
+-- runs of `most` elements each; the last run may be shorter. The first `skip` elements belong to
+-- the run before.
 unfoldable pub runs_after : (skip most : ℕ) → List ℕ → List (List ℕ)
 runs_after skip most [] = []
 runs_after (suc skip) most (x ∷ more) = runs_after skip most more
 runs_after zero most (x ∷ more) = take most (x ∷ more) ∷ runs_after (most - 1) most more
 
+-- a list in runs of `most` elements each; the last run may be shorter
 abbrev pub runs_of : (most : ℕ) → List ℕ → List (List ℕ)
 runs_of most xs = runs_after 0 most xs
 
--- the upper-case hexadecimal digit of a number under 16
+-- the upper-case hexadecimal digit of a number below 16
 abbrev pub hex_digit : ℕ → ℕ
 hex_digit n = if nat_lt n 10 then 48 + n else 55 + n
 
--- the number of a digit of upper case, or of either case
+-- the value of an upper-case hexadecimal digit
 abbrev pub upper_value : ℕ → Option ℕ
 upper_value c = if is_ascii_digit c then Some (c - 48) else if nat_le 65 c && nat_le c 70
     then Some (c - 55) else None
 
+-- the value of a hexadecimal digit in upper or lower case
 -- rule: reading-hexadecimal
 abbrev pub either_value : ℕ → Option ℕ
 either_value c = if nat_le 97 c && nat_le c 102 then Some (c - 87) else upper_value c
 
--- two digits as an octet
+-- the octet that two hexadecimal digits represent, given their values
 abbrev pub pair_value : Option ℕ → Option ℕ → Option ℕ
 pair_value high low = option_map (λ both. 16 * both.0 + both.1) (option_zip high low)
 
--- two digits for an octet
+-- the two hexadecimal digits of an octet
 abbrev pub hex_pair : ℕ → List ℕ
 hex_pair octet = hex_digit (octet / 16) ∷ hex_digit (octet % 16) ∷ []
 
--- two digits for each octet
+-- two hexadecimal digits for each octet
 -- rule: text-hexadecimal
 unfoldable pub hex_text : List ℕ → List ℕ
 hex_text [] = []
 hex_text (octet ∷ more) = hex_pair octet ++ hex_text more
 
--- one more element before a list that was read
+-- an element before a list, if both could be read
 abbrev pub onto_read : {X : Type 0} → Option X → Option (List X) → Option (List X)
 onto_read x xs = option_map (λ both. both.0 ∷ both.1) (option_zip x xs)
 
--- the octets that digits of either case write
+-- the octets that hexadecimal digits represent, two for each octet, in upper or lower case
 unfoldable pub hex_read : List ℕ → Option (List ℕ)
 hex_read [] = Some []
 hex_read (high ∷ []) = None
 hex_read (high ∷ low ∷ more) =
     onto_read (pair_value (either_value high) (either_value low)) (hex_read more)
 
--- the descriptor that six digits write first, and what is after it
+-- the descriptor in the first six octets of a text, and the text after them
 unfoldable pub fxy_read : List ℕ → Option (ℕ × List ℕ)
 fxy_read (a ∷ b ∷ c ∷ d ∷ e ∷ g ∷ more) =
     option_map (λ fxy. (fxy, more)) (fxy_of (a ∷ b ∷ c ∷ d ∷ e ∷ g ∷ []))
@@ -90,6 +93,7 @@ unfoldable pub descriptors_text : List ℕ → List ℕ
 descriptors_text [] = []
 descriptors_text (fxy ∷ more) = 32 ∷ fxy_text fxy ++ descriptors_text more
 
+-- the descriptors of a text, each after one space
 -- rule: reading-descriptor
 unfoldable pub descriptors_read : List ℕ → Option (List ℕ)
 descriptors_read [] = Some []
@@ -97,45 +101,52 @@ descriptors_read (s ∷ a ∷ b ∷ c ∷ d ∷ e ∷ g ∷ more) = if s == 32
     then onto_read (fxy_of (a ∷ b ∷ c ∷ d ∷ e ∷ g ∷ [])) (descriptors_read more) else None
 descriptors_read text = None
 
--- an unsigned decimal of any length; numbers past 65,535 are all alike, since none fits anywhere
+-- The unsigned number that a text represents. Numbers above 65,535 are all read as 65,536, which is
+-- too large for every header line and every subset.
 -- rule: reading-header-number
 abbrev pub number_read : List ℕ → Option ℕ
 number_read text = if nat_lt 0 (length text) && list_all is_ascii_digit text
     then Some (min (digits_value 10 text) 65536) else None
 
--- an octet that a text has unescaped
+-- whether an octet is written as itself in a text: a printed character of ASCII other than `"` and
+-- `\`
 abbrev pub is_unescaped : ℕ → Bool
 is_unescaped c = nat_le 32 c && nat_le c 126 && not (c == 34) && not (c == 92)
 
--- an octet in a text: a quote and a backslash after a backslash, what cannot be printed as `\xHH`
+-- an octet in a text: `"` and `\` have a backslash before them, and octets that are not printed are
+-- `\xHH`
 -- rule: text-escapes
 abbrev pub escaped : ℕ → List ℕ
 escaped octet = if is_unescaped octet then octet ∷ []
     else if (octet == 34) || (octet == 92) then 92 ∷ octet ∷ [] else 92 ∷ 120 ∷ hex_pair octet
 
--- octets as a text, with the quote that closes it
+-- octets as a quoted text, without its opening quote
 unfoldable pub quoted : List ℕ → List ℕ
 quoted [] = 34 ∷ []
 quoted (octet ∷ more) = escaped octet ++ quoted more
 
+-- the token of `\xHH`, which is 4 octets long, if HH are hexadecimal digits in upper case
 abbrev pub says_pair : Option ℕ → QuotedToken
 says_pair (Some octet) = Octet octet 4
 says_pair None = Nothing
 
--- what begins with a backslash; past the end of the text is 0, which no case allows
+-- What begins with a backslash: `\"`, `\\` or `\xHH`. An index past the end of the text gives 0,
+-- which none of them has.
 abbrev pub escape_of : List ℕ → QuotedToken
 escape_of text = if (slice_index text 1 == 34) || (slice_index text 1 == 92)
     then Octet (slice_index text 1) 2 else if slice_index text 1 == 120 then says_pair
     (pair_value (upper_value (slice_index text 2)) (upper_value (slice_index text 3))) else Nothing
 
--- how a text begins
+-- what the rest of a quoted text begins with
 -- rule: reading-quoted
 abbrev pub quoting_of : List ℕ → QuotedToken
 quoting_of text = if slice_index text 0 == 34 then Closed
     else if slice_index text 0 == 92 then escape_of text
     else if is_unescaped (slice_index text 0) then Octet (slice_index text 0) 1 else Nothing
 
--- a text that was read, and what is after its closing quote
+-- The octets of a text that begins with this token, and the line after its closing quote: `closed`
+-- if the token is that quote. `more` reads on after an octet; its argument is how many octets of
+-- the line it must skip.
 abbrev pub quoted_on : QuotedToken → (closed : List ℕ) → (more : ℕ → Option (List ℕ × List ℕ))
     → Option (List ℕ × List ℕ)
 quoted_on Closed closed more = Some ([], closed)
@@ -143,22 +154,24 @@ quoted_on (Octet octet written) closed more =
     option_map (λ read. (octet ∷ read.0, read.1)) (more (written - 1))
 quoted_on Nothing closed more = None
 
--- the octets of a text and what is after its closing quote; octets that were seen are skipped
+-- The octets of a text, and the line after its closing quote. The first `skip` octets were read
+-- before.
 unfoldable pub quoted_read : (skip : ℕ) → List ℕ → Option (List ℕ × List ℕ)
 quoted_read skip [] = None
 quoted_read (suc skip) (c ∷ more) = quoted_read skip more
 quoted_read zero (c ∷ more) = quoted_on (quoting_of (c ∷ more)) more (λ skip. quoted_read skip more)
 
--- an octet of a number token
+-- whether an octet may be part of a number: a digit, `-` or `.`
 -- rule: reading-number
 abbrev pub is_number_octet : ℕ → Bool
 is_number_octet c = is_ascii_digit c || (c == 45) || (c == 46)
 
--- nothing, or spaces and then `#` and anything
+-- whether a text is any number of spaces, and then `#` and anything
 unfoldable pub is_hashed : List ℕ → Bool
 is_hashed [] = false
 is_hashed (c ∷ more) = if c == 32 then is_hashed more else (c == 35)
 
+-- what may come after a value: nothing, or one or more spaces and then `#` and anything
 -- rule: reading-after-a-value
 abbrev pub is_passed_after : List ℕ → Bool
 is_passed_after [] = true
@@ -166,7 +179,9 @@ is_passed_after (c ∷ more) = (c == 32) && is_hashed more
 
 -- ---- What a line says, apart from where it is.
 
--- what a line says; `Header` has the index of its key, `Wrong` is no line of a document
+-- What a line says. `Passed` is an empty line or a comment; `Opens`, `Begins` and `Closes` are
+-- `message`, `subset` and `end`; `Header` has the index of its key in `keys`; and `Wrong` is not a
+-- line of a document.
 pub data Line : Type 0 where
   Passed : Line
   Opens : Line
@@ -179,7 +194,7 @@ pub data Line : Type 0 where
   Closes : Line
   Wrong : Line
 
--- the keys of the header, in their order
+-- the keys of the header lines, in their order
 -- rule: text-header
 unfoldable pub keys : List (List ℕ)
 keys =
@@ -189,30 +204,32 @@ keys =
     ∷ codes "minute" ∷ codes "second" ∷ codes "observed" ∷ codes "compressed"
     ∷ codes "optional" ∷ codes "subsets" ∷ []
 
--- the least value of each key, and the greatest by edition
+-- the least value of each key: 3 for the edition, and 0 for the others
 -- rule: reading-header-ranges
 unfoldable pub leasts : List ℕ
 leasts = 3 ∷ replicate 19 0
 
+-- the greatest value of each key in an edition: 4 for the edition, what the octets of section 1 can
+-- store, 1 for each flag, and 65,535 subsets
 unfoldable pub mosts : (edition : ℕ) → List ℕ
 mosts edition = 4 ∷ greatest_values edition ++ 1 ∷ 1 ∷ 1 ∷ 65535 ∷ []
 
--- a line that what was read makes, or none
+-- a line made of what could be read, or else `Wrong`
 abbrev pub made : {X : Type 0} → (X → Line) → Option X → Line
 made line (Some x) = line x
 made line None = Wrong
 
--- lines of hexadecimal digits have 1 to 32 octets, lines of descriptors 1 to 8
+-- a line with a list, which must have 1 to `most` elements
 -- rule: reading-long-lists
 abbrev pub with_one_to : (most : ℕ) → (List ℕ → Line) → List ℕ → Line
 with_one_to most line xs =
     if nat_lt 0 (length xs) && nat_le (length xs) most then line xs else Wrong
 
--- nothing but a comment is after a value
+-- an item line, if nothing but a comment follows the value
 abbrev pub item_if_comment : (fxy : ℕ) → DraftValue × List ℕ → Line
 item_if_comment fxy (form, rest) = if is_passed_after rest then ItemLine fxy form else Wrong
 
--- a number by its form, and the rest after it
+-- the number at the beginning of a text, as a value of this form, and the text after it
 abbrev pub number_value : (List ℕ → DraftValue) → List ℕ → Option (DraftValue × List ℕ)
 number_value form [] = None
 number_value form (c ∷ more) = if is_number_octet c then Some (
@@ -220,7 +237,8 @@ number_value form (c ∷ more) = if is_number_octet c then Some (
   suffix_while is_number_octet (c ∷ more),
 ) else None
 
--- a value, and the rest after it
+-- the value at the beginning of a text (a quoted text, a number or `MISSING`), and the text after
+-- it
 unfoldable pub value_read : List ℕ → Option (DraftValue × List ℕ)
 value_read [] = None
 value_read (c ∷ more) =
@@ -228,14 +246,16 @@ value_read (c ∷ more) =
     else if is_number_octet c then number_value number_token (c ∷ more)
     else option_map (λ rest. (missing_form, rest)) (without_prefix (codes "MISSING") (c ∷ more))
 
--- a descriptor, one space and a value
+-- an item line whose descriptor was read: one space and a value must follow; `read` reads the value
 abbrev pub valued : (List ℕ → Option (DraftValue × List ℕ)) → ℕ × List ℕ → Line
 valued read (fxy, rest) = made (λ text. made (item_if_comment fxy) (read text)) (without_space rest)
 
+-- an item line: a descriptor, one space and a value, which `read` reads
 abbrev pub item_line : (List ℕ → Option (DraftValue × List ℕ)) → List ℕ → Line
 item_line read text = made (valued read) (fxy_read text)
 
--- a line by its first word, and what is after that word
+-- A line, given its first word and the text after this word. It is `Wrong` if that text is not what
+-- the word needs. The last case is a header line, whose first word is a key.
 -- rule: reading-reference
 unfoldable pub worded : (word rest : List ℕ) → Line
 worded word rest =
@@ -254,10 +274,11 @@ worded word rest =
     else made (λ index. made (λ text. made (Header index) (number_read text)) (without_space rest))
     (position_from (bytes_eq word) 0 keys)
 
+-- whether an octet is not a space
 abbrev pub is_no_space : ℕ → Bool
 is_no_space c = not (c == 32)
 
--- what a line says
+-- what a line says: `#` begins a comment, a digit an item, and any other line has a first word
 -- rule: reading-empty-lines, reading-carriage-return, reading-blanks
 unfoldable pub line_of : List ℕ → Line
 line_of [] = Passed

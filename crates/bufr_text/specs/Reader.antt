@@ -1,5 +1,4 @@
--- What a reader of dump texts does, call by call, and its faults.
--- (A choice of this project)
+-- What a reader of dump texts does, and the faults of lines. (own)
 -- Cited by public contracts.
 use Rattle.std.specs.Prelude.{ℕ, ◌≡◌, ◌+◌, ◌==◌, Bool, true, false, not, List, [], ◌∷◌, ◌++◌, length, ◌⊎◌, ◌-◌, ◌*◌, ◌<◌, ◌≤◌, if◌then◌else◌, take, Option, Some, None, Result, Ok, Err, codes}
 use Rattle.bufr_frame.specs.Prelude.{run_report, max_reads, read_failures_after}
@@ -14,9 +13,10 @@ use Rattle.bufr_text.specs.Line.{Closes}
 use Rattle.std.specs.Io.KnownBytes.{Consumes, IsAtEnd}
 use Rattle.bufr_frame.specs.declared.fault.RunFault.TheVariants.{Read, Write, InputTooLong, Memory}
 
--- ---- The faults of a dump text, and their numbers. (a choice of this project)
+-- ---- The faults of a dump text, and their numbers. (own)
 
--- the number of a fault of a line, and its text in parts
+-- a fault of a line: it is not allowed there; a subset is not the next one, or is missing at `end`;
+-- or the value of a header line is out of range
 abbrev pub line_report : TextLineFault → ℕ × List (List ℕ)
 line_report NotAllowed = (50, codes "line" ∷ [])
 line_report SubsetCount = (57, codes "subset count" ∷ [])
@@ -26,7 +26,7 @@ abbrev pub number_of_read_fault : ReadFault → ℕ
 number_of_read_fault (Line line fault) = (line_report fault).0
 number_of_read_fault (Run fault) = (run_report fault).0
 
--- ---- How a reading of documents goes on, piece by piece. (a choice of this project)
+-- ---- How a reading of documents goes on, piece by piece. (own)
 
 -- octets of one line
 abbrev pub has_no_feed : List ℕ → Bool

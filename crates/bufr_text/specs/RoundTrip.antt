@@ -126,7 +126,7 @@ EncodesForm form table s template values (Ok octets) =
     HasReadingIn form table s template values octets.items
 EncodesForm form table s template values (Err why) = IsFaultIn form why
 
--- ---- A message that is as an encoder writes it. (a choice of this project)
+-- ---- A message that is as an encoder writes it. (own)
 
 -- no redefined reference of the items that begin the bits is written as minus zero
 abbrev pub HaveNoMinusZero : List (Item Content) → List Bool → Type 0

@@ -1,5 +1,5 @@
 -- Only contracts need this file. What the lines of a document are, in order, and the one spelling
--- that a dump has. (A choice of this project)
+-- that a dump has. (own)
 use Rattle.std.specs.Prelude.{slice_index, ◌≡◌, false, List, [], ◌∷◌, length, ◌≤◌, ◌⊎◌, ℕ, ◌+◌, ◌++◌, map, if◌then◌else◌, take, drop, codes, None, Result, Ok, Err}
 use Rattle.std.specs.List.{AllByRecursion, concat}
 use Rattle.bufr_fill.specs.Prelude.{AllHaveOctets, DraftEntry, Holds, Ends, subsets_of, DraftValue, draft, Draft, Subset, content_of, normal_form}
@@ -14,7 +14,7 @@ use Rattle.bufr_text.specs.declared.encode.Form.{Form}
 use Rattle.bufr_text.specs.declared.encode.Form.TheVariants.{AsWritten, Plain, Compressed}
 use Rattle.bufr_walk.specs.declared.spec.Taken.TheVariants as taken
 
--- ---- A document as the lines of a text can spell it. (a choice of this project)
+-- ---- A document as the lines of a text can spell it. (own)
 
 -- the last entry, where there is one, is an end: each item is in a subset
 abbrev pub AreEnded : List DraftEntry → Type 0
@@ -34,7 +34,7 @@ pub record IsProper (d : Document) : Type 0 where
   pub counted : length (subsets_of d.entries) ≡ (header_in d).subsets
   pub ended : AreEnded d.entries
 
--- ---- A document that was read whole, and the documents of a text. (a choice of this project)
+-- ---- A document that was read whole, and the documents of a text. (own)
 
 -- A document that was read whole.
 pub record IsWhole (d : Document) : Type 0 where
@@ -133,7 +133,7 @@ AreReported lines (Complete d ∷ results) =
     (own : List NumberedLine) × (more : List NumberedLine) × (lines ≡ own ++ more)
     × IsDocument d own × AreReported more results
 
--- ---- The text of a document in the one spelling that a dump has. (a choice of this project)
+-- ---- The text of a document in the one spelling that a dump has. (own)
 
 -- the values of the header, where the data are written in a form: the flag of compression, the
 -- eighteenth, is that of the form

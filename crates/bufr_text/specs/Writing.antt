@@ -1,5 +1,4 @@
--- What a writer gains, what a text does to a writer of lines, and what a dump leaves on it.
--- (A choice of this project)
+-- What a writer takes of the texts that are written to it. (own)
 -- Cited by public contracts.
 use Rattle.std.specs.Prelude.{◌≡◌, ◌≤◌, ◌⊎◌, ℕ, List, [], ◌∷◌, ◌++◌, Option, Result, Ok, Err, IfSome, length, take}
 use Rattle.std.specs.Io.KnownBytes.{Appends}
@@ -9,7 +8,7 @@ use Rattle.bufr_frame.specs.declared.fault.RunFault.TheVariants.{Write, Read, In
 use Rattle.bufr_walk.specs.Prelude.{Timed, Call, subset_call, item_call, ticked}
 use Rattle.bufr_text.specs.Dump.{subset_line, item_text}
 
--- known octets grow by a prefix of a text
+-- The known octets of a writer grow by a prefix of this text.
 pub record GrowsByPrefix (old new : Option (List ℕ)) (text : List ℕ) : Type 0 where
   pub prefix : List ℕ
   pub back : List ℕ
@@ -42,7 +41,7 @@ abbrev pub Puts : (old : List ℕ) (at : ℕ) (text new : List ℕ) → Option �
 Puts old at text new result =
     IfSome result (λ end. (end ≤ length new) × (take end new ≡ take at old ++ text))
 
--- ---- What a writer of lines holds, and what a text does to it. (a choice of this project)
+-- ---- What a writer of lines holds, and what a text does to it. (own)
 
 -- what the sink took and counted, what the block holds after that, and whether a write failed; the
 -- sink goes by its ghost name

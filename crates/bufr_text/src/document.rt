@@ -214,7 +214,7 @@ impl Document {
     }
 }
 
-/// How far the parts before the subsets have come: they are in this order.
+/// The groups of lines between the header and the subsets, in their order.
 #[derive(Clone, Copy)]
 pub(crate) enum LineGroup {
     Local1,
@@ -222,29 +222,29 @@ pub(crate) enum LineGroup {
     Descriptors,
 }
 
-/// Where the reading is.
+/// Where the reader of a text is.
 #[derive(Clone, Copy)]
 pub(crate) enum ParserState {
     /// Between documents.
     Between,
-    /// In the header.
+    /// In the header lines.
     Heading,
-    /// After the header, before the first subset.
+    /// After the header lines and before the first subset, in this group of lines.
     BeforeSubsets(LineGroup),
-    /// In this subset.
+    /// In the subset with this number.
     Filling(u32),
-    /// After a line that was refused.
+    /// After an invalid line; the rest of the text is ignored.
     Stopped,
 }
 
 /// What a line does.
 #[derive(Clone, Copy)]
 pub(crate) enum LineEffect {
-    /// The reading goes on there.
+    /// Reading continues in this state.
     Continues(ParserState),
-    /// The document is whole.
+    /// The document is complete.
     Completes,
-    /// The line is refused.
+    /// The line is invalid.
     Refuses(TextLineFault),
 }
 

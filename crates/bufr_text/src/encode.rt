@@ -317,15 +317,15 @@ pub fn encode_document(
     encode_form(alloc, document, Form::AsWritten, table_b, table_d, steps)
 }
 
-/// How the data of a document are written: compressed or not (WMO-No. 306, Volume I.2, FM 94:
-/// section 4, compression; that it can be chosen is a choice of this project).
+/// How the data of a document are written (WMO-No. 306, Volume I.2, FM 94: section 4, compression;
+/// that there is an option for it is our choice).
 #[derive(Clone, Copy, Debug, PartialEq, Eq)]
 pub enum Form {
-    /// As the document says by `compressed`.
+    /// As the line `compressed` of the document says.
     AsWritten,
-    /// One subset after another.
+    /// Plain: one subset after another.
     Plain,
-    /// Each item once for all subsets.
+    /// Compressed: each item once for all subsets.
     Compressed,
 }
 

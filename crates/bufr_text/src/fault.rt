@@ -1,5 +1,5 @@
 //! What can be wrong with a dump text, and why a document cannot be encoded. (The numbers and
-//! their order are a choice of this project.)
+//! their order are our choice.)
 ghost use Rattle.std.specs.Prelude.{◌≡◌};
 ghost use Rattle.bufr_text.specs.Prelude.{document_fault, document_report, line_of_fault, line_report, number_of_read_fault};
 ghost use Rattle.bufr_text.specs.declared.fault.DocumentFault.TheVariants.{Memory};

@@ -294,14 +294,14 @@ pub(crate) fn reference<'a>(text: &'a [u8]) -> Option<ParsedLine<'a>>
     Some(ParsedLine::Item { fxy, form })
 }
 
-/// How a text begins.
+/// What the rest of a quoted text begins with.
 #[derive(Clone, Copy)]
 pub(crate) enum QuotedToken {
-    /// The quote that ends it.
+    /// The quote that ends the text.
     Closed,
-    /// An octet, and how many octets write it.
+    /// An octet of the text, and the number of octets of the line that represent it.
     Octet { octet: u8, written: usize },
-    /// Nothing that a text can hold.
+    /// Something that is not allowed in a text.
     Nothing,
 }
 

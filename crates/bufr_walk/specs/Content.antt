@@ -1,6 +1,6 @@
--- A field: its specification, its content, what it shows, and how it is read, compressed or not.
--- (WMO-No. 306, Volume I.2, FM 94: section 4, Tables B and C; what compression leaves open is a
--- choice of this project)
+-- A field: its specification, its content, the value that it shows, and how it is read, plain or
+-- compressed. (WMO-No. 306, Volume I.2, FM 94: section 4, Tables B and C; what compression leaves
+-- open is our choice)
 -- Cited by public contracts.
 use Rattle.std.specs.Prelude.{ℕ, ◌≡◌, ◌≤◌, ◌^◌, ◌%◌, Bool, ℤ, unsigned_abs, ◌<◌, ◌&&◌, ◌||◌, nat_le, nat_lt, not, true, false, zero, suc, ◌-◌, ◌/◌, if◌then◌else◌, List, [], ◌∷◌, take, drop, replicate, pos, negsuc, neg_ℤ, nat_abs, ◌+ℤ◌, length, Result, Ok, Err, ◌+◌, ◌*◌, ◌==◌, ◌++◌, map}
 use Rattle.bufr_tables.specs.declared.table_b.Kind.{Kind}
@@ -20,7 +20,7 @@ use Rattle.std.specs.Str.{bytes_eq}
 use Rattle.std.specs.Ordering.{int_eq}
 use Rattle.std.specs.List.{list_all, AllByRecursion}
 
--- a field: its descriptor, what it is for, and how its bits are read; the width is in bits
+-- How to read one field of the data. The width is in bits.
 pub record FieldSpec : Type 0 where
   pub fxy : ℕ
   pub role : Role
@@ -28,7 +28,9 @@ pub record FieldSpec : Type 0 where
   pub width : ℕ
   pub scale : ℤ
   pub reference : ℤ
+  -- whether all ones mean that a number is missing (in a text they always do)
   pub may_be_missing : Bool
+  -- whether the field is read by its row of Table B, so that a dump shows the row's name and unit
   pub listed : Bool
 
 -- whether a kind of field may have a width: whole octets for text
@@ -84,7 +86,7 @@ IsForRole _ _ = ⊥
 abbrev pub IsFor : FieldSpec → Taken → Type 0
 IsFor spec t = IsForRole spec.role t
 
--- whether a field is a reference that is being defined
+-- whether a field is a redefined reference of an element
 abbrev pub is_reference : Role → Bool
 is_reference role.Reference = Bool.true
 is_reference _ = Bool.false
@@ -128,31 +130,34 @@ pub record IsSpecWith (plain : Bool) (a : FieldSpec) : Type 0 where
   pub spec : IsSpec a
   pub same : is_plain a ≡ plain
 
--- the content of a field: a number before its reference is added, a text, all ones, a reference
+-- the content of a field: a number to which the reference is not added yet, a text, missing, or a
+-- redefined reference
 pub data Content : Type 0 where
   number : (raw : ℕ) → Content
   text : (octets : List ℕ) → Content
   missing : Content
   reference : (value : ℤ) → Content
 
--- the first n octets of bits, as numbers
+-- the first n octets of bits
 abbrev pub octets_in : ℕ → List Bool → List ℕ
 octets_in zero bits = []
 octets_in (suc n) bits = number_of (take 8 bits) ∷ octets_in n (drop 8 bits)
 
--- a number whose first bit is its sign
+-- a number whose first bit is its sign and whose other bits are its magnitude
 -- rule: new-reference, reads-minus-zero
 abbrev pub signed_by : List Bool → ℤ
 signed_by [] = pos 0
 signed_by (sign ∷ bits) = if sign then neg_ℤ (pos (number_of bits)) else pos (number_of bits)
 
--- how a field is coded: as a number, a text of `octets` octets, or a redefined reference
+-- how a field is coded: as an unsigned number, as a text of `octets` octets, or as a redefined
+-- reference
 pub data Coding : Type 0 where
   numbers : (width : ℕ) → (may_be_missing : Bool) → Coding
   texts : (octets : ℕ) → Coding
   references : Coding
 
--- the coding of a field, by its role and kind
+-- the coding of a field, from its role and kind: a redefined reference is recognised by its role,
+-- and a text by its kind
 abbrev pub coding_by : Role → Kind → FieldSpec → Coding
 coding_by role.Reference _ spec = references
 coding_by _ kind.Character spec = texts (spec.width / 8)
@@ -162,23 +167,24 @@ coding_by _ _ spec = numbers spec.width spec.may_be_missing
 abbrev pub coding_of : FieldSpec → Coding
 coding_of spec = coding_by spec.role spec.kind spec
 
--- the content of a field's bits; all ones means missing if the field may be missing
+-- The content of the bits of a field. All ones mean missing in a text, and in a number that may be
+-- missing. (own for a text that 2 05 Y inserts)
 -- rule: missing, missing-inserted-text
 abbrev pub said : Coding → List Bool → Content
 said (numbers width m) bits = if are_all_ones bits && m then missing else number (number_of bits)
 said (texts octets) bits = if are_all_ones bits then missing else text (octets_in octets bits)
 said references bits = reference (signed_by bits)
 
--- the content of a field's bits, by its coding
+-- the content of the bits of a field
 abbrev pub content_in : FieldSpec → List Bool → Content
 content_in spec bits = said (coding_of spec) bits
 
--- the sign bit of a number
+-- the sign bit of a number: true if the number is negative
 abbrev pub sign_bit : ℤ → Bool
 sign_bit (pos n) = false
 sign_bit (negsuc n) = true
 
--- the bits that write a content; zero has the plus sign
+-- the bits of a content, whose width is `width`; a reference of zero gets the plus sign
 -- rule: writes-plus-zero
 abbrev pub bits_for : ℕ → Content → List Bool
 bits_for width (number raw) = bits_in raw width
@@ -186,7 +192,7 @@ bits_for width (text octets) = bits_of octets
 bits_for width missing = replicate width true
 bits_for width (reference value) = sign_bit value ∷ bits_in (nat_abs value) (width - 1)
 
--- the count of a factor
+-- the count of a factor, whose content is always a number
 abbrev pub count_in : Content → ℕ
 count_in (number raw) = raw
 count_in _ = 0
@@ -196,24 +202,25 @@ abbrev pub reference_in : Content → ℤ
 reference_in (reference value) = value
 reference_in _ = pos 0
 
--- what a content returns to the walk, by role
+-- the part of a content that affects the walk, which depends on the role of the field
 abbrev pub answer_by_role : Role → Content → Taken
 answer_by_role role.Factor c = taken.Count (count_in c)
 answer_by_role role.Reference c = taken.Reference (reference_in c)
 answer_by_role _ c = taken.Plain
 
--- what a field returns to the walk
+-- the part of a field's content that affects the walk
 abbrev pub answer_of : FieldSpec → Content → Taken
 answer_of spec c = answer_by_role spec.role c
 
--- what an item shows: a number with its scale, a text, missing, or a reference
+-- the value that an item shows: the number value / 10^scale, a text, missing, or a redefined
+-- reference
 pub data ShownValue : Type 0 where
   shown_number : (value scale : ℤ) → ShownValue
   shown_text : (octets : List ℕ) → ShownValue
   shown_missing : ShownValue
   shown_reference : (value : ℤ) → ShownValue
 
--- the value that an item shows
+-- the value of a content; the reference of the field is added to a number
 -- rule: value
 abbrev pub shown : FieldSpec → Content → ShownValue
 shown spec (number raw) = shown_number (pos raw +ℤ spec.reference) spec.scale
@@ -223,22 +230,23 @@ shown spec (reference value) = shown_reference value
 
 -- ---- One field of data that are not compressed.
 
--- the faults of a field: the data end in it, an increment is invalid, or factors differ
+-- why a field cannot be read: the data end inside it, an increment is invalid, or a factor differs
+-- between subsets
 pub data FieldFault : Type 0 where
   data_end : FieldFault
   increment : FieldFault
   unequal_factor : FieldFault
 
--- the content of a field, and the bits after it
+-- a field that was read: its content, and the bits after it
 pub record FieldRead (C : Type 0) : Type 0 where
   pub content : C
   pub suffix : List Bool
 
--- a field from its content and the bits after it
+-- a field with this content and these bits after it
 abbrev pub found : {C : Type 0} → C → List Bool → FieldRead C
 found content suffix = record { content = content; suffix = suffix }
 
--- the field that begins the bits
+-- the field at the beginning of bits, in plain data
 -- rule: field-past-end
 abbrev pub plain_field : FieldSpec → List Bool → Result (FieldRead Content) FieldFault
 plain_field spec bits =
@@ -247,30 +255,36 @@ plain_field spec bits =
 
 -- ---- One item of compressed data: a base, six bits k, and an increment for each subset.
 
--- the number that k ones write
+-- the number whose k bits are all ones
 abbrev pub ones : ℕ → ℕ
 ones k = 2 ^ k - 1
 
--- the first n increments of k bits
+-- the first `count` increments of k bits each
 abbrev pub increments : (count k : ℕ) → List Bool → List (List Bool)
 increments zero k bits = []
 increments (suc n) k bits = take k bits ∷ increments n k (drop k bits)
 
--- number of bits that each subset has after the base and k; a text has k octets
+-- the number of bits of an increment: k for a number; 8 k for a text, whose k counts octets; a
+-- redefined reference has none
 -- rule: compressed-references
 abbrev pub step_of : Coding → ℕ → ℕ
 step_of (numbers width m) k = k
 step_of (texts octets) k = 8 * k
 step_of references k = 0
 
--- the sum of a base and an increment: none if it exceeds the width; all ones may mean missing
+-- The sum of a base and an increment: `None` if it exceeds the width. All ones in the sum mean
+-- missing if the number may be missing (own).
 -- rule: compressed-past-width, compressed-class-31, compressed-sum-of-ones
 abbrev pub sum_within : (width : ℕ) → (may_be_missing : Bool) → (sum : ℕ) → Option Content
 sum_within width m sum =
     if nat_lt (ones width) sum then None
     else Some (if m && (sum == ones width) then missing else number sum)
 
--- the content of one subset, from the base and its increment, if k and the increment are valid
+-- The content of one subset if k is not 0, or `None` (fault 34). A number is missing if its base or
+-- its increment is all ones, and otherwise their sum. A text ignores its base: it is the k octets
+-- of the increment and then spaces, or missing if all k octets are 255; k must not exceed its
+-- length. A redefined reference has no increments. (own, except for increments of numbers and the
+-- meaning of k)
 -- rule: compressed-all-missing, compressed-missing-increment, compressed-text
 -- rule: compressed-text-missing, compressed-text-past-width, compressed-text-base
 -- rule: compressed-references
@@ -284,13 +298,14 @@ increased (texts octets) k base i =
     else text (octets_in k i ++ replicate (octets - k) 32))
 increased references k base i = None
 
--- the values of a list of options, unless one of them is `None`
+-- the values of a list of options, or `None` if one of them is `None`
 abbrev pub all_there : {A : Type 0} → List (Option A) → Option (List A)
 all_there [] = Some []
 all_there (None ∷ more) = None
 all_there (Some a ∷ more) = option_map (λ others. a ∷ others) (all_there more)
 
--- the contents of an item, one for each subset; if k is 0, every subset has the base
+-- The contents of an item, one for each of n subsets, or `None` (fault 34). If k is 0, every subset
+-- has the base.
 -- rule: compressed-equal
 abbrev pub contents_across : Coding → (k subsets : ℕ) → (base suffix : List Bool)
     → Option (List Content)
@@ -306,14 +321,16 @@ same missing missing = true
 same (reference a) (reference b) = int_eq a b
 same _ _ = false
 
--- the contents of an item, unless it is a factor whose counts differ
+-- the contents of an item; a factor must have the same count in all subsets (own)
 -- rule: compressed-factors
 abbrev pub if_equal : Role → List Content → Result (List Content) FieldFault
 if_equal role.Factor (c ∷ cs) =
     if list_all (same c) cs then Ok (c ∷ cs) else Err unequal_factor
 if_equal _ cs = Ok cs
 
--- The item that begins the bits, for n subsets, or the first of its faults in this order.
+-- The item at the beginning of bits, in compressed data of n subsets: a base, 6 bits for k, and n
+-- increments if k is not 0. Faults come in this order: the data end (30), an increment is invalid
+-- (34), the factors differ (33).
 -- rule: compressed-item, compressed-increments-there, fault-30-before-34, fault-34-before-33
 abbrev pub packed_field : (subsets : ℕ) → FieldSpec → List Bool
     → Result (FieldRead (List Content)) FieldFault
@@ -329,7 +346,8 @@ packed_field n spec bits =
       equal ← if_equal spec.role contents
       Ok (found equal (drop used suffix))
 
--- what an item returns to the walk: factors are the same in all subsets, and so are references
+-- the part of an item's contents that affects the walk: that of the first subset, since factors and
+-- redefined references are the same in all subsets
 abbrev pub answer_first : FieldSpec → List Content → Taken
 answer_first spec [] = taken.Plain
 answer_first spec (c ∷ cs) = answer_of spec c

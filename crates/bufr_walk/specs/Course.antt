@@ -1,4 +1,5 @@
--- The turns of a template, what comes next after some items, and a walk over its cells.
+-- A walk over a template, turn by turn: which field comes next after the fields so far. (WMO-No.
+-- 306, Volume I.2, FM 94: sections 3 and 4; the turns are our choice)
 -- Cited by public contracts.
 use Rattle.std.specs.Prelude.{ℕ, zero, suc, List, [], ◌∷◌, ◌+◌, Result, Ok, Err, if◌then◌else◌, ◌-◌, ◌^◌, min, max, ◌≡◌}
 use Rattle.bufr_tables.specs.Prelude.{Tree, bare, element, operator, fixed, delayed, is_inserted_text, Row}
@@ -12,7 +13,10 @@ use Rattle.bufr_walk.specs.declared.spec.Role.TheVariants as role
 
 -- ---- The turns of a walk over a template. (WMO-No. 306, Volume I.2, FM 94: section 3)
 
--- turns up to the end; open where the counts ran out
+-- The turns (steps) of a walk, in order. Nothing happens at `group` (a group begins) and `pass_end`
+-- (one of its passes ends), but they count as turns, since the number of turns bounds the work.
+-- `finish` is the end of the template; `open_end` comes after a factor whose count is not known
+-- yet.
 pub data Turns : Type 0 where
   finish : Turns
   open_end : Turns
@@ -22,17 +26,19 @@ pub data Turns : Type 0 where
   element_turn : (fxy : ℕ) → (next : Turns) → Turns
   operator_turn : (fxy : ℕ) → (next : Turns) → Turns
 
--- turns that depend on the counts that are still to come
+-- the turns from some point of a template to its end, given the counts of the factors among them
 abbrev pub Rest : Type 0
 Rest = List ℕ → Turns
 
--- n passes of a body, and then the rest
+-- n passes of a body, and then the turns of `rest`. A body is a function of the turns after it.
 -- rule: passes-by-count
 abbrev pub passes : ℕ → (Rest → Rest) → Rest → Rest
 passes zero body rest counts = rest counts
 passes (suc n) body rest counts = body (λ later. pass_end (passes n body rest later)) counts
 
--- the turns of a template, and then the rest
+-- The turns of nodes, and then those of `rest`, given the counts of all factors that were read so
+-- far. Turns need the counts, and a count is read at a turn; so where the counts run out, the last
+-- turn is the factor that is read next.
 abbrev pub unroll : Tree → Rest → Rest
 unroll bare rest counts = rest counts
 unroll (element fxy more) rest counts = element_turn fxy (unroll more rest counts)
@@ -42,55 +48,58 @@ unroll (delayed fxy body more) rest [] = group (factor_turn fxy open_end)
 unroll (delayed fxy body more) rest (n ∷ counts) =
     group (factor_turn fxy (passes n (unroll body) (unroll more rest) counts))
 
--- the turns of a whole template
+-- the turns of a whole template, given the counts so far
 abbrev pub turns_of : Tree → Rest
 turns_of template = unroll template (λ _. finish)
 
--- the counts with that of a factor before them
+-- the counts after a field: if the field is a factor, its count precedes those of later factors
 abbrev pub counts_in : Taken → List ℕ → List ℕ
 counts_in taken.Plain counts = counts
 counts_in (taken.Count n) counts = n ∷ counts
 counts_in (taken.Reference r) counts = counts
 
--- the counts that items returned
+-- the counts of the factors among the fields so far, taken from what the fields returned
 abbrev pub counts_of : List Taken → List ℕ
 counts_of [] = []
 counts_of (t ∷ answers) = counts_in t (counts_of answers)
 
--- what comes next: a field, the end, or a refusal
+-- what comes next in a walk: a field to read or write, the end of the template, or a refusal
 pub data Next : Type 0 where
   take_next : (spec : FieldSpec) → Next
   at_end : Next
-  -- the counts do not match the factors
+  -- the counts do not match the factors: never
   astray : Next
   refused : (why : TurnRefusal) → Next
 
--- what comes next, with the number of turns up to it, itself included
+-- what comes next, and the number of turns up to it, itself included (only bounds on the number of
+-- steps use it)
 pub record NextTurn : Type 0 where
   pub turns : ℕ
   pub next : Next
 
--- what comes next after n turns more
+-- what comes next, counted from n turns earlier
 abbrev pub later : ℕ → NextTurn → NextTurn
 later n a = record { turns = n + a.turns; next = a.next }
 
--- what comes next, in one turn
+-- what comes next, in the first turn
 abbrev pub in_one_turn : Next → NextTurn
 in_one_turn next = record { turns = 1; next = next }
 
--- a field: an item was taken there, or it comes next
+-- A field. If no answers are left, it comes next; otherwise it is one of the fields so far, and
+-- `go` continues after it with its answer and the answers after that.
 abbrev pub asked : Result FieldSpec TurnRefusal → (Taken → List Taken → NextTurn) → List Taken
     → NextTurn
 asked (Err why) go answers = in_one_turn (refused why)
 asked (Ok spec) go [] = in_one_turn (take_next spec)
 asked (Ok spec) go (t ∷ answers) = later 1 (go t answers)
 
--- an operator: it is applied, or refused
+-- an operator: `go` continues with the operators in effect after it, or it is refused
 abbrev pub operated : Result OperatorModel TurnRefusal → (OperatorModel → NextTurn) → NextTurn
 operated (Err why) go = in_one_turn (refused why)
 operated (Ok settings) go = later 1 (go settings)
 
--- what comes next in these turns, after items that returned `answers`
+-- What comes next in these turns, if the fields so far returned `answers` and the operators `s` are
+-- in effect at the first turn. Each field changes the operators by `after_field`.
 -- rule: defining-fixed-groups, 2-03-255-alone
 abbrev pub ahead : List Row → Turns → OperatorModel → List Taken → NextTurn
 ahead table finish s answers = in_one_turn at_end
@@ -106,7 +115,7 @@ ahead table (operator_turn fxy next) s answers =
     then asked (inserted_spec s fxy) (λ t more. ahead table next (after_field s fxy t) more) answers
     else operated (after_operator s fxy) (λ s'. ahead table next s' answers)
 
--- what comes next after any items, by what these returned
+-- what comes next, as a function of what the fields so far returned
 abbrev pub Course : Type 0
 Course = List Taken → NextTurn
 
@@ -120,7 +129,7 @@ ticked count n = max count (min (count + n) (2 ^ 64 - 1))
 
 -- ---- The stop of a walk where a turn is refused.
 
--- the stop of a refusal
+-- a refusal, as the reason why a walk stopped
 abbrev pub stop_by : {E : Type 0} → TurnRefusal → WalkStop E
 stop_by (refusal.Width fxy) = stops.Width fxy
 stop_by (refusal.Defining fxy) = stops.Defining fxy

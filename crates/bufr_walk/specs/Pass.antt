@@ -1,6 +1,6 @@
--- One pass over a template: at each field a step is made, up to the end or to what stops the pass;
--- and the reading of data, which is made of passes. (WMO-No. 306, Volume I.2, FM 94: sections 3 and
--- 4; the order of the faults at one item is a choice of this project)
+-- One pass over a whole template, for one subset or for all subsets of compressed data, and the
+-- reading of data in such passes. (WMO-No. 306, Volume I.2, FM 94: sections 3 and 4; the order of
+-- the faults at one item is our choice)
 -- Cited by public contracts.
 use Rattle.std.specs.Prelude.{ℕ, zero, suc, ◌+◌, ◌-◌, Bool, true, false, List, [], ◌∷◌, length, Result, Ok, Err, Option, Some, None, option_map, map, if◌then◌else◌, ◌≡◌, ◌<◌, ◌++◌, ◌%◌, ◌⊎◌, ◌==◌, is_none, is_some}
 use Rattle.bufr_walk.specs.Content.{Taken, FieldSpec, Content, FieldFault, FieldRead}
@@ -15,52 +15,58 @@ use Rattle.bufr_tables.specs.Prelude.{Row, Tree}
 
 -- ---- A pass, whatever is done with the fields.
 
--- what a step makes of a field: its content, what it returns to the walk, and the state after it
+-- a field that was read or written: its content, the part of it that affects the walk, and the
+-- state after it
 pub record Step (S C : Type 0) : Type 0 where
   pub content : C
   pub returned : Taken
   pub state : S
 
--- how a pass is made: the step at a field, why a refused turn stops it, and whether it may end, at
--- the end of the template or where a factor returned no count
+-- How a pass is made, from field to field. S is the state between two fields, and E is a reason to
+-- stop.
 pub record Passing (S C E : Type 0) : Type 0 where
+  -- the step at a field: it is read or written, or the reason why not
   pub step : FieldSpec → S → Result (Step S C) E
+  -- the reason to stop if the walk refuses a step
   pub refuses : TurnRefusal → S → E
+  -- the reason why the pass may not end here, if there is one (a draft may have items left)
   pub ends : S → Option E
+  -- never used: the reason to stop if the walk is `astray`, or if the bound of `pass` is reached
   pub lost : E
 
--- a pass: its items, how many turns it took, the state after them, and what stopped it, if anything
+-- a pass: its items, the number of its turns, the state after it, and the reason why it stopped, if
+-- any
 pub record Pass (S C E : Type 0) : Type 0 where
   pub items : List (Item C)
   pub turns : ℕ
   pub state : S
   pub stop : Option E
 
--- the last turn of a pass
+-- a pass without items, which ends after this number of turns
 abbrev pub last_turn : {S C E : Type 0} → ℕ → S → Option E → Pass S C E
 last_turn turn state stop = record { items = []; turns = turn; state = state; stop = stop }
 
--- an item, and the pass after it
+-- an item, and then a pass
 abbrev pub item_then : {S C E : Type 0} → FieldSpec → C → Pass S C E → Pass S C E
 item_then spec content p =
     record p { items = record { spec = spec; content = content } ∷ p.items }
 
 module _ {S C E : Type 0} (how : Passing S C E) where
-  -- a field: its step stops the pass, or the rest of the pass follows it
+  -- a field: either its step stops the pass, or `rest` is the pass after it
   abbrev pub pass_field : (turn : ℕ) → FieldSpec → S → Result (Step S C) E
       → (Step S C → Pass S C E) → Pass S C E
   pass_field turn spec s (Err why) rest = last_turn turn s (Some why)
   pass_field turn spec s (Ok f) rest = item_then spec f.content (rest f)
 
-  -- what comes next: a field, the end, or a refusal
+  -- what comes next: a field, the end, or a refusal; `rest` is the pass after a field
   abbrev pub pass_next : (turn : ℕ) → Next → S → (Step S C → Pass S C E) → Pass S C E
   pass_next turn (take_next spec) s rest = pass_field turn spec s (how.step spec s) rest
   pass_next turn at_end s rest = last_turn turn s (how.ends s)
   pass_next turn (refused why) s rest = last_turn turn s (Some (how.refuses why s))
-  -- never, since each factor returns its count
+  -- this never happens, since each factor returns its count
   pass_next turn astray s rest = last_turn turn s (Some how.lost)
 
-  -- what comes next stops the pass, or ends it
+  -- What comes next ends the pass, or stops it for this reason.
   abbrev pub EndsPass : Next → S → Option E → Type 0
   EndsPass (take_next spec) s None = ⊥
   EndsPass (take_next spec) s (Some why) = how.step spec s ≡ Err why
@@ -68,8 +74,10 @@ module _ {S C E : Type 0} (how : Passing S C E) where
   EndsPass (refused why) s stop = stop ≡ Some (how.refuses why s)
   EndsPass astray s stop = ⊥
 
-  -- A pass: each item by what comes next after those before it. No pass over data reaches `most`,
-  -- which is more than they have bits.
+  -- The pass along a course, on which `course []` comes next. If that is a field, its step returns
+  -- an answer, and the pass continues along the course after this answer. `most` bounds the
+  -- recursion: it is greater than the number of bits (or of items to write), and each field uses at
+  -- least one of them.
   abbrev pub pass : (most : ℕ) → Course → S → Pass S C E
   pass zero course s = last_turn (course []).turns s (Some how.lost)
   pass (suc more) course s = pass_next (course []).turns (course []).next s
@@ -77,16 +85,16 @@ module _ {S C E : Type 0} (how : Passing S C E) where
 
 -- ---- A pass that reads data.
 
--- how far data were read: the number of items before, and the bits that are left
+-- how far data have been read: the number of items so far, and the bits that are left
 pub record Place : Type 0 where
   pub items : ℕ
   pub left : List Bool
 
--- a place from its parts
+-- a place after this number of items, with these bits left
 abbrev pub place_at : ℕ → List Bool → Place
 place_at items left = record { items = items; left = left }
 
--- an item that was read, or the fault of its field
+-- the step at a field: the item that was read, or the fault of its field
 abbrev pub read_field : {C : Type 0} → DataCoding C → FieldSpec → (items : ℕ)
     → Result (FieldRead C) FieldFault → Result (Step Place C) Stop
 read_field form spec items (Err why) = Err (stops.Field (wrong_of spec.fxy why))
@@ -96,9 +104,9 @@ read_field form spec items (Ok f) = Ok (record {
   state = place_at (items + 1) f.suffix;
 })
 
--- How data are read: at each field its item, unless there are too many values. So the faults at an
--- item come in this order: the walk refuses it (32, 31), too many values (35), the field's own (30,
--- 34, 33).
+-- How data are read. At one item, faults come in this order: the walk refuses it (32, 31), there
+-- are too many values (35), or the field cannot be read (30, 34, 33). `many` says whether one more
+-- item would be too many. `lost` is never used.
 -- rule: compressed-fault-order
 abbrev pub reading : {C : Type 0} → DataCoding C → (many : ℕ → Bool) → Passing Place C Stop
 reading form many = record {
@@ -109,7 +117,7 @@ reading form many = record {
   lost = stops.Field (wrong.TooManyValues 0);
 }
 
--- one pass over bits, from the beginning of the template; each item takes a bit at least
+-- one pass over bits; `suc (length bits)` is enough, since each field takes at least one bit
 abbrev pub read_pass : {C : Type 0} → DataCoding C → (many : ℕ → Bool) → Course → List Bool
     → Pass Place C Stop
 read_pass form many course bits =
@@ -121,7 +129,8 @@ read_pass form many course bits =
 abbrev pub DataPass : Type 0 → Type 0
 DataPass C = Pass Place C Stop
 
--- a pass for each of n subsets, from the beginning of the template, up to one that is stopped
+-- plain data: one pass for each of n subsets, each from the beginning of the template, up to one
+-- that stops
 -- rule: operators-end-with-subset, subsets-without-padding
 abbrev pub passes_apart : Course → (n : ℕ) → List Bool → List (DataPass Content)
 passes_apart course zero bits = []
@@ -129,14 +138,14 @@ passes_apart course (suc n) bits =
     let p = read_pass plain (λ items. false) course bits in
     p ∷ (if is_none p.stop then passes_apart course n p.state.left else [])
 
--- one pass for n compressed subsets; with no subset there is none (own)
+-- compressed data: one pass for all n subsets; no bits are read if there are no subsets (own)
 -- rule: no-subsets
 abbrev pub passes_together : Course → (n : ℕ) → List Bool → List (DataPass (List Content))
 passes_together course zero bits = []
 passes_together course (suc n) bits =
     read_pass (packed (suc n)) (would_be_many (suc n)) course bits ∷ []
 
--- what stops passes, if anything
+-- why the first pass that stopped did so, if any
 abbrev pub stop_of : {C : Type 0} → List (DataPass C) → Option Stop
 stop_of [] = None
 stop_of (p ∷ passes) = if is_some p.stop then p.stop else stop_of passes
@@ -146,13 +155,13 @@ abbrev pub left_after : {C : Type 0} → List Bool → List (DataPass C) → Lis
 left_after bits [] = bits
 left_after bits (p ∷ passes) = left_after p.state.left passes
 
--- the turns of passes
+-- the total number of turns of several passes
 abbrev pub turns_in_all : {C : Type 0} → List (DataPass C) → ℕ
 turns_in_all [] = 0
 turns_in_all (p ∷ passes) = p.turns + turns_in_all passes
 
--- A reading: its items, what stopped it, if anything, and in which subset, from 1 (0 where all are
--- read together), the bits after its items, and its turns.
+-- A reading of data: its items; why it stopped (if it did) and in which subset, from 1 (0 in
+-- compressed data); the bits after its items; and its number of turns.
 pub record DataReading : Type 0 where
   pub values : Values
   pub stop : Option Stop
@@ -164,12 +173,13 @@ pub record DataReading : Type 0 where
 abbrev pub items_by_pass : {C : Type 0} → List (DataPass C) → List (List (Item C))
 items_by_pass passes = map (λ p. p.items) passes
 
--- the items of the one pass for all; none where there is no pass
+-- the items of the only pass over compressed data; none if there are no subsets
 abbrev pub first_items : {C : Type 0} → List (List (Item C)) → List (Item C)
 first_items [] = []
 first_items (items ∷ more) = items
 
--- the reading that has these passes over bits
+-- the reading that consists of these passes over bits; `form` makes its values from the items of
+-- each pass
 abbrev pub reading_by : {C : Type 0} → (List (List (Item C)) → Values) → (subset : ℕ) → List Bool
     → List (DataPass C) → DataReading
 reading_by form subset bits passes = record {
@@ -180,17 +190,19 @@ reading_by form subset bits passes = record {
   turns = turns_in_all passes;
 }
 
--- the reading of data
+-- The reading of data by a course. In plain data, the last pass is the one that stopped, if any, so
+-- its number is that of the subset.
 abbrev pub reading_in : Course → (compressed : Bool) → (subsets : ℕ) → List Bool → DataReading
 reading_in course false n bits =
     let passes = passes_apart course n bits in reading_by apart (length passes) bits passes
 reading_in course true n bits =
     reading_by (λ items. together (first_items items)) 0 bits (passes_together course n bits)
 
+-- the reading of data by a course
 abbrev pub reading_of : Course → Data → DataReading
 reading_of course d = reading_in course d.compressed d.subsets d.bits
 
--- the fault of a reading, where it was stopped
+-- the fault of a reading, if it stopped
 -- rule: stream-fault-place
 abbrev pub fault_of : Data → DataReading → Option WalkFault
 fault_of d r =
@@ -217,7 +229,7 @@ pub record IsPackedOf (p : PackedValues) (r : Read) : Type 0 where
 
 -- ---- The same item by item: each is what comes next, read where the one before ended.
 
--- a pass reads its items from a place, and then it ends
+-- A pass reads its items from a place on and then ends.
 pub record ReadsTo {C : Type 0} (form : DataCoding C) (many : ℕ → Bool) (course : Course)
     (from : Place) (p : DataPass C) : Type 0 where
   pub reads : ReadsItems form course p.items from.left p.state.left

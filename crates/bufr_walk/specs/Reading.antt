@@ -1,6 +1,5 @@
--- The reading of data by a template, each item as what comes next specifies; why data cannot be
--- read; and the calls of a visitor that show a reading. (WMO-No. 306, Volume I.2, FM 94: sections 3
--- and 4; the order of the faults at one item is a choice of this project)
+-- The data of a message: their items, and why they cannot be read. (WMO-No. 306, Volume I.2, FM 94:
+-- sections 3 and 4)
 -- Cited by public contracts.
 use Rattle.std.specs.Prelude.{ℕ, zero, suc, ◌≡◌, ◌+◌, ◌*◌, ◌≤◌, Bool, true, false, List, [], ◌∷◌, length, drop, take, ◌<◌, Result, Ok, ◌⊎◌, nat_lt, Option, None, Err, codes, decimal, if◌then◌else◌, ◌++◌, option_map}
 use Rattle.bufr_walk.specs.Content.{Taken, FieldSpec, Content, answer_of, FieldFault, FieldRead, found, plain_field, data_end, increment, unequal_factor, packed_field, answer_first, ShownValue, shown, missing, shown_number, shown_text, shown_missing, shown_reference}
@@ -21,33 +20,37 @@ use Rattle.bufr_walk.specs.declared.visitor.ItemView.{ItemView}
 use Rattle.bufr_walk.specs.declared.fault.ShowFault.TheVariants as show_fault
 use Rattle.bufr_walk.specs.declared.visitor.Value.TheVariants as item_value
 
--- an item: its specification, and its content for one subset or for all
+-- an item: its specification, and its content in one subset, or its contents in all
 pub record Item (C : Type 0) : Type 0 where
   pub spec : FieldSpec
   pub content : C
 
--- how a field is read, and what its content returns to the walk
+-- How data are coded: plain with C = Content, or compressed with C = List Content. (`Coding` is how
+-- a single field is coded.)
 pub record DataCoding (C : Type 0) : Type 0 where
+  -- reads the item at the beginning of bits
   pub field : FieldSpec → List Bool → Result (FieldRead C) FieldFault
+  -- the part of an item's content that affects the walk
   pub gives : FieldSpec → C → Taken
 
--- the coding of one subset
+-- the coding of plain data
 abbrev pub plain : DataCoding Content
 plain = record { field = plain_field; gives = answer_of }
 
--- the coding of n compressed subsets
+-- the coding of compressed data of n subsets
 abbrev pub packed : ℕ → DataCoding (List Content)
 packed n = record { field = packed_field n; gives = answer_first }
 
--- what an item returns to the walk
+-- the part of an item's content that affects the walk
 abbrev pub item_answer : {C : Type 0} → DataCoding C → Item C → Taken
 item_answer form i = form.gives i.spec i.content
 
--- a course after one more item
+-- the course after one more item
 abbrev pub after : {C : Type 0} → DataCoding C → Course → Item C → Course
 after form course i answer_of = course (item_answer form i ∷ answer_of)
 
--- each item is the content of the field that comes next, at the bits after the one before
+-- Each item is the content of the field that comes next, and is read where the item before it
+-- ended; `suffix` is the bits after the last one.
 abbrev pub ReadsItems : {C : Type 0} → DataCoding C → Course → List (Item C)
     → (bits suffix : List Bool) → Type 0
 ReadsItems form course [] bits suffix = bits ≡ suffix
@@ -61,13 +64,13 @@ abbrev pub next_after : {C : Type 0} → DataCoding C → Course → List (Item 
 next_after form course [] = (course []).next
 next_after form course (i ∷ items) = next_after form (after form course i) items
 
--- one pass over a template, to its end
+-- The items are those of one pass to the end of the template.
 abbrev pub ReadsPass : {C : Type 0} → DataCoding C → Course → List (Item C)
     → (bits suffix : List Bool) → Type 0
 ReadsPass form course items bits suffix =
     ReadsItems form course items bits suffix × (next_after form course items ≡ at_end)
 
--- the turns of a pass with these items, up to what comes after them
+-- the number of turns of a pass with these items, up to what comes next after them
 abbrev pub turns_after : {C : Type 0} → DataCoding C → Course → List (Item C) → ℕ
 turns_after form course [] = (course []).turns
 turns_after form course (i ∷ items) = turns_after form (after form course i) items
@@ -77,7 +80,7 @@ abbrev pub turns_in : Course → List (List (Item Content)) → ℕ
 turns_in course [] = 0
 turns_in course (items ∷ subsets) = turns_after plain course items + turns_in course subsets
 
--- subsets one after another, each from the beginning of the template
+-- The subsets follow one another, each from the beginning of the template.
 -- rule: operators-end-with-subset, subsets-without-padding
 abbrev pub ReadsSubsets : Course → List (List (Item Content)) → (bits suffix : List Bool) → Type 0
 ReadsSubsets course [] bits suffix = bits ≡ suffix
@@ -85,16 +88,17 @@ ReadsSubsets course (items ∷ subsets) bits suffix =
     (mid : List Bool) × ReadsPass plain course items bits mid
     × ReadsSubsets course subsets mid suffix
 
--- the most values of a compressed message (own)
+-- the maximum number of values in a compressed message: 2^27 (own)
 -- rule: too-many-values
 abbrev pub max_values : ℕ
 max_values = 134217728
 
--- how many items of compressed data have room at once (a choice of this project)
+-- how many items of compressed data have room at once (own)
 abbrev pub items_at_once : ℕ
 items_at_once = 64
 
--- compressed data: one pass for all subsets; with no subset nothing is read
+-- The items are those of one pass for all subsets, and do not have too many values; without
+-- subsets, no items are read.
 -- rule: no-subsets
 abbrev pub IsPackedReading : (subsets : ℕ) → Course → List (Item (List Content))
     → (bits suffix : List Bool) → Type 0
@@ -102,24 +106,25 @@ IsPackedReading zero course items bits suffix = (items ≡ []) × (bits ≡ suff
 IsPackedReading (suc n) course items bits suffix =
     ReadsPass (packed (suc n)) course items bits suffix × (length items * suc n ≤ max_values)
 
--- data that are not compressed: the subsets, n of them
+-- The subsets follow one another, and there are n of them.
 abbrev pub IsPlainReading : (subsets : ℕ) → Course → List (List (Item Content))
     → (bits suffix : List Bool) → Type 0
 IsPlainReading n course subsets bits suffix =
     ReadsSubsets course subsets bits suffix × (length subsets ≡ n)
 
--- the data: the number of subsets, whether they are compressed, and their bits
+-- the data of a message: whether they are compressed, their number of subsets, and their bits
 pub record Data : Type 0 where
   pub compressed : Bool
   pub subsets : ℕ
   pub bits : List Bool
 
--- the items of the data: those of each subset, or of all together where they are compressed
+-- the items of the data: those of each subset, or in compressed data those of all subsets together
 pub data Values : Type 0 where
   apart : (subsets : List (List (Item Content))) → Values
   together : (items : List (Item (List Content))) → Values
 
--- the content of one subset, counted from 0
+-- the content of one subset, from 0; each list has one for each subset, so the first equation is
+-- never used
 abbrev pub content_at : (subset : ℕ) → List Content → Content
 content_at j [] = missing
 content_at zero (c ∷ cs) = c
@@ -131,13 +136,13 @@ items_of_subset j [] = []
 items_of_subset j (i ∷ items) =
     record { spec = i.spec; content = content_at j i.content } ∷ items_of_subset j items
 
--- the items of `left` subsets of compressed data, each by itself, from one on, counted from 0
+-- the items of the next `left` subsets of compressed data, the first of which is `subset`, from 0
 abbrev pub subsets_from : (left subset : ℕ) → List (Item (List Content))
     → List (List (Item Content))
 subsets_from zero j items = []
 subsets_from (suc left) j items = items_of_subset j items ∷ subsets_from left (suc j) items
 
--- the items of each subset, whatever the form in which they were read
+-- the items of each subset, whether the data were plain or compressed
 abbrev pub each_subset : (subsets : ℕ) → Values → List (List (Item Content))
 each_subset n (apart subsets) = subsets
 each_subset n (together items) = subsets_from n 0 items
@@ -147,7 +152,7 @@ abbrev pub items_kept : Values → ℕ
 items_kept (apart subsets) = 0
 items_kept (together items) = length items
 
--- the items of the data, and how many bits they take
+-- These are the items of the data, and they take the first `used` bits.
 -- rule: bits-left-over
 abbrev pub IsReading : Course → Data → Values → (used : ℕ) → Type 0
 IsReading course d (apart subsets) used =
@@ -157,28 +162,28 @@ IsReading course d (together items) used =
     (d.compressed ≡ true) × (used ≤ length d.bits)
     × IsPackedReading d.subsets course items d.bits (drop used d.bits)
 
--- why a reading stops: the walk is refused, or a field is at fault
+-- why a reading stops: the walk refuses a step, or a field cannot be read
 abbrev pub Stop : Type 0
 Stop = WalkStop DataFault
 
--- the fault of a field with this descriptor
+-- the fault of the field with this descriptor
 abbrev pub wrong_of : (fxy : ℕ) → FieldFault → DataFault
 wrong_of fxy data_end = wrong.DataEnd fxy
 wrong_of fxy increment = wrong.Increment fxy
 wrong_of fxy unequal_factor = wrong.UnequalFactor fxy
 
--- whether the values would be too many with one item more
+-- whether one more item would make too many values
 -- rule: too-many-values
 abbrev pub would_be_many : (subsets items_before : ℕ) → Bool
 would_be_many subsets items_before = nat_lt max_values ((items_before + 1) * subsets)
 
--- ---- The faults of the data, by what stops a reading. (The numbers are a choice of this project.)
+-- ---- The faults of the data, by what stops a reading. (The numbers are our choice.)
 
--- the location of an item: the subset, the descriptor, and the bits before it
+-- a location
 abbrev pub spot : (subset fxy bit : ℕ) → Spot
 spot subset fxy bit = record { subset = subset; fxy = fxy; bit = bit }
 
--- the fault of a stop, in a subset, after `bit` bits
+-- the fault of a message whose reading stopped in this subset, after `bit` bits of the data
 -- rule: stream-fault-place
 abbrev pub fault_at : WalkStop DataFault → (subset bit : ℕ) → WalkFault
 fault_at (stops.Width fxy) subset bit = fault.Width (spot subset fxy bit)
@@ -200,14 +205,17 @@ bits_before (fault.Increment s) all = s.bit
 bits_before (fault.TooManyValues s) all = s.bit
 bits_before fault.Memory all = all
 
--- a text, and where in the data an item is: the subset, the descriptor, and the bits before it
+-- the text of a fault: its name, and the location of the item
 -- rule: stream-fault-place
 abbrev pub spot_text : List ℕ → Spot → List (List ℕ)
 spot_text name s =
     name ∷ codes " at subset " ∷ decimal s.subset ∷ codes " descriptor " ∷ fxy_text s.fxy
     ∷ codes " bit " ∷ decimal s.bit ∷ []
 
--- the number of a fault, and its text in parts; want of memory ends a run, whose line reports it
+-- A fault of the data: they end inside an item (30); a field that is not text has an invalid width
+-- (31); a descriptor is not allowed while references are being redefined (32); a factor differs
+-- between subsets (33); an increment is invalid (34); compressed data have too many values (35).
+-- `Memory` has no text: it stops a run, and the last line of the run reports it.
 -- rule: fault-30, fault-31, fault-32, fault-33, fault-34, fault-35
 abbrev pub data_report : WalkFault → ℕ × List (List ℕ)
 data_report (fault.DataEnd s) = (30, spot_text (codes "data end") s)
@@ -248,7 +256,8 @@ course_of r = next_item r.table r.template
 
 -- ---- The calls of a visitor that show a reading, in order, up to its first fault.
 
--- an item as it is shown: its descriptor, the row of Table B by which it was read, and its value
+-- an item as it is shown: its descriptor, the row of Table B by which it was read (if it was), and
+-- its value
 pub record View : Type 0 where
   pub fxy : ℕ
   pub entry : Option Row
@@ -259,11 +268,11 @@ pub data Call : Type 0 where
   subset_call : (number : ℕ) → Call
   item_call : (item : View) → Call
 
--- a view from its parts
+-- a view of these parts
 abbrev pub view : (fxy : ℕ) → Option Row → ShownValue → View
 view fxy entry value = record { fxy = fxy; entry = entry; value = value }
 
--- the view of one field: the row of Table B only where the field was read by it
+-- an item as it is shown
 abbrev pub view_of : List Row → FieldSpec → Content → View
 view_of table spec c =
     view spec.fxy (if spec.listed then entry_of table spec.fxy else None) (shown spec c)

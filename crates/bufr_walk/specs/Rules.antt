@@ -1,6 +1,5 @@
--- The operators in force, and the specification of a field under them.
--- (WMO-No. 306, Volume I.2, FM 94: Tables B and C. What they leave open is a choice of this
--- project.)
+-- The operators in effect, and the specification of a field under them. (WMO-No. 306, Volume I.2,
+-- FM 94: Tables B and C; what these leave open is our choice)
 -- Cited by public contracts.
 use Rattle.std.specs.Prelude.{ℕ, ◌==◌, ◌&&◌, not, nat_lt, Bool, if◌then◌else◌, List, [], ◌∷◌, ℤ, Result, Ok, Err, ◌+◌, ◌-◌, ◌*◌, ◌/◌, ◌^◌, nat_le, true, false, pos, ◌+ℤ◌, ◌-ℤ◌, ◌*ℤ◌, Option, Some, None, ◌≤◌, ◌≡◌, ◌<◌}
 use Rattle.bufr_tables.specs.Prelude.{x_of, y_of, Row, entry_of}
@@ -16,29 +15,31 @@ use Rattle.bufr_walk.specs.declared.operators.TableField.TheVariants as field
 
 -- ---- The operators in force, in one subset. (WMO-No. 306, Volume I.2, FM 94: Table C)
 
--- a reference that the data defined for an element
+-- a redefined reference of an element, which the data define after 2 03 Y
 pub record Redefined : Type 0 where
   pub fxy : ℕ
   pub reference : ℤ
 
--- the operand Y of each operator in force, 0 where none is, and the references that are defined
+-- The operators in effect: the operand Y of each, and the redefined references. 0 means that the
+-- operator is not in effect: Y = 0 cancels 2 01, 2 02, 2 07 and 2 08, and is no width for 2 03 and
+-- 2 06.
 pub record OperatorModel : Type 0 where
-  -- 2 01 Y: the width of a quantity is changed by Y - 128 bits
+  -- 2 01 Y: Y - 128 is added to the width of a quantity
   pub width_change : ℕ
-  -- 2 02 Y: the scale of a quantity is changed by Y - 128
+  -- 2 02 Y: Y - 128 is added to the scale of a quantity
   pub scale_change : ℕ
-  -- 2 03 Y: references of Y bits are being defined
+  -- 2 03 Y: references are being redefined, with Y bits each; 0 after 2 03 255
   pub new_reference_width : ℕ
-  -- 2 07 Y: a quantity has Y decimal digits more
+  -- 2 07 Y: a quantity has Y more decimal digits
   pub precision_increase : ℕ
-  -- 2 08 Y: a text has Y octets
+  -- 2 08 Y: a text element has Y octets
   pub character_octets : ℕ
   -- 2 06 Y: the next element has Y bits
   pub local_width : ℕ
-  -- one for an element, in the order of descriptors
+  -- the redefined references, one for each element that has one, in the order of the descriptors
   pub new_references : List Redefined
 
--- no operator is in force, as at the beginning of each subset
+-- no operator is in effect, as at the beginning of each subset
 -- rule: operators-end-with-subset
 abbrev pub begin : OperatorModel
 begin =
@@ -52,11 +53,12 @@ begin =
       new_references = [];
     }
 
--- whether references are being defined
+-- whether references are being redefined
 abbrev pub is_defining : OperatorModel → Bool
 is_defining s = nat_lt 0 s.new_reference_width
 
--- 2 03 Y: 255 ends the definition of references, 0 drops those that were defined, else one begins
+-- the operators after 2 03 Y: 255 ends the definition of references, 0 cancels all redefined
+-- references, and every other Y begins a definition
 -- rule: 2-03-y, 2-03-000, 2-03-y-again, 2-03-255-alone
 abbrev pub with_references : ℕ → OperatorModel → OperatorModel
 with_references y s =
@@ -64,7 +66,7 @@ with_references y s =
     else if y == 0 then record s { new_references = [] }
     else record s { new_reference_width = y }
 
--- the operator 2 X Y changes the operands; a text of the template (2 05 Y) changes nothing
+-- the operators in effect after 2 X Y; 2 05 Y changes nothing
 -- rule: later-operator-replaces
 abbrev pub with_operator : (x y : ℕ) → OperatorModel → OperatorModel
 with_operator x y s =
@@ -76,14 +78,16 @@ with_operator x y s =
     else if x == 8 then record s { character_octets = y }
     else s
 
--- the operators in force after one; only their end is allowed while references are defined (own)
+-- the operators in effect after one more; while references are being redefined, only 2 03 255 is
+-- allowed (own)
 -- rule: defining-no-other-operator, fault-32-before-31
 abbrev pub after_operator : OperatorModel → ℕ → Result OperatorModel TurnRefusal
 after_operator s fxy =
     if is_defining s && not (x_of fxy == 3 && y_of fxy == 255) then Err (refusal.Defining fxy)
     else Ok (with_operator (x_of fxy) (y_of fxy) s)
 
--- the references, with that of an element in place of the one before (own)
+-- The redefined references with one more. It replaces an earlier one of the same element (own).
+-- They are sorted by descriptor, as the code stores them.
 -- rule: last-reference-counts
 abbrev pub with_reference : (fxy : ℕ) → (reference : ℤ) → List Redefined → List Redefined
 with_reference fxy reference [] = record { fxy = fxy; reference = reference } ∷ []
@@ -92,37 +96,39 @@ with_reference fxy reference (r ∷ more) =
     else if fxy == r.fxy then record r { reference = reference } ∷ more
     else r ∷ with_reference fxy reference more
 
--- the operators in force after a field: a given width ends, and a reference is kept
+-- the operators in effect after a field: 2 06 Y ends, and a redefined reference is stored
 -- rule: 2-06-y-used-up
 abbrev pub after_field : OperatorModel → ℕ → Taken → OperatorModel
 after_field s fxy (taken.Reference r) =
     record s { local_width = 0; new_references = with_reference fxy r s.new_references }
 after_field s fxy _ = record s { local_width = 0 }
 
--- the reference of an element: the one that the data defined, or that of Table B
+-- the reference of an element: the redefined one, or else `listed`, that of Table B
 abbrev pub current_reference : List Redefined → ℕ → ℤ → ℤ
 current_reference [] fxy listed = listed
 current_reference (r ∷ more) fxy listed =
     if r.fxy == fxy then r.reference else current_reference more fxy listed
 
--- a number whose width is 1 to 63 bits
+-- a field that is not text must be 1 to 63 bits wide (own)
 -- rule: widths
 abbrev pub if_valid_width : FieldSpec → Result FieldSpec TurnRefusal
 if_valid_width a = if nat_le 1 a.width && nat_le a.width 63 then Ok a else Err (refusal.Width a.fxy)
 
--- what 2 02 Y adds to a scale: Y - 128, and nothing where Y is 0
+-- what 2 02 Y adds to a scale: Y - 128, or nothing if it is not in effect
 -- rule: 2-02-y, cancel-2-01-and-2-02
 abbrev pub scale_change_of : ℕ → ℤ
 scale_change_of y = if y == 0 then pos 0 else pos y -ℤ pos 128
 
--- a quantity's width: 2 07 Y adds (10 Y + 2) / 3, rounded down, 2 01 Y adds Y - 128; at least 0
+-- The width of a quantity: 2 07 Y adds (10 Y + 2) / 3, rounded down, and then 2 01 Y adds Y - 128.
+-- A negative result becomes 0, which is refused as well.
 -- rule: 2-01-y, 2-07-y, cancel-2-01-and-2-02, cancel-2-07-and-2-08
 abbrev pub operator_width : (width precision change : ℕ) → ℕ
 operator_width width precision change =
     let wider = width + (10 * precision + 2) / 3 in
     if change == 0 then wider else (wider + change) - 128
 
--- an unsigned number of a given width; in class 31 none is missing (own)
+-- An unsigned number of this width with scale 0 and reference 0. In class 31, all ones do not mean
+-- missing (own).
 -- rule: 2-06-y-of-class-31, class-31-never-missing
 abbrev pub unsigned_field : (fxy width : ℕ) → FieldSpec
 unsigned_field fxy width =
@@ -137,7 +143,8 @@ unsigned_field fxy width =
       listed = false;
     }
 
--- a figure of a code table: only a redefined reference changes it (own)
+-- An element of a code or flag table: 2 01, 2 02 and 2 07 do not apply to it (Table C), but a
+-- redefined reference does (own).
 -- rule: new-reference-of-figures, figures-unchanged
 abbrev pub coded_spec : OperatorModel → Row → FieldSpec
 coded_spec s row = record (unsigned_field row.fxy row.width) {
@@ -147,7 +154,9 @@ coded_spec s row = record (unsigned_field row.fxy row.width) {
   listed = true;
 }
 
--- a quantity, by its row or the latest redefined reference, with the changes in force (own)
+-- A quantity: 2 01, 2 02, 2 03 and 2 07 apply, and what is not given here is as in `coded_spec`.
+-- How they combine is our choice: 2 07 may be used together with 2 01 and 2 02, and also multiplies
+-- a redefined reference.
 -- rule: 2-07-y, 2-01-2-02-2-07-add-up, 2-07-y-of-a-new-reference, new-reference-of-quantities
 abbrev pub numeric_spec : OperatorModel → Row → FieldSpec
 numeric_spec s row = record (coded_spec s row) {
@@ -158,35 +167,39 @@ numeric_spec s row = record (coded_spec s row) {
       (10 ^ s.precision_increase);
 }
 
--- text of `width` bits
+-- a text of `width` bits, which may be missing; the last argument is `listed`
 abbrev pub text_spec : Role → (fxy width : ℕ) → Bool → FieldSpec
 text_spec r fxy width listed = record (unsigned_field fxy width)
     { role = r; kind = kind.Character; may_be_missing = true; listed = listed }
 
--- the width of a text element
+-- the width of a text element: that of its row, or Y octets after 2 08 Y
 -- rule: 2-08-y, cancel-2-07-and-2-08
 abbrev pub text_width : OperatorModel → ℕ → ℕ
 text_width s width = if s.character_octets == 0 then width else 8 * s.character_octets
 
--- an element by its row and kind
+-- the specification of an element, from its row, its kind and the operators in effect
 abbrev pub spec_by_kind : Kind → OperatorModel → Row → Result FieldSpec TurnRefusal
 spec_by_kind kind.Numeric s row = if_valid_width (numeric_spec s row)
 spec_by_kind kind.Coded s row = if_valid_width (coded_spec s row)
 spec_by_kind kind.Character s row = Ok
     (text_spec role.Element row.fxy (text_width s row.width) true)
 
--- a reference that is being defined
+-- a redefined reference of an element, whose width 2 03 Y gives; its kind is not used, since
+-- `coding_by` looks at the role first
 abbrev pub defined_field : OperatorModel → ℕ → FieldSpec
 defined_field s fxy = record (unsigned_field fxy s.new_reference_width)
     { role = role.Reference; may_be_missing = false }
 
--- an element whose reference is being defined; no text has one (own)
+-- the specification of the new reference of an element, while references are being redefined; text
+-- is refused (own)
 -- rule: defining-no-text
 abbrev pub new_reference_spec : Kind → OperatorModel → ℕ → Result FieldSpec TurnRefusal
 new_reference_spec kind.Character s fxy = Err (refusal.Defining fxy)
 new_reference_spec _ s fxy = if_valid_width (defined_field s fxy)
 
--- an element of a given width: by its row alone where Table B has that width, else unsigned (own)
+-- An element after 2 06 Y. If its row has the width Y, the element is read by this row alone: no
+-- operator applies (`begin`). Otherwise, it is an unsigned number of Y bits. (own) A number of more
+-- than 63 bits is refused (own), so data of 64 to 255 bits cannot be skipped by 2 06 Y.
 -- rule: 2-06-y, 2-06-y-width-of-table-b, 2-06-y-other-width
 abbrev pub local_width_spec : Option Row → OperatorModel → ℕ → Result FieldSpec TurnRefusal
 local_width_spec None s fxy = if_valid_width (unsigned_field fxy s.local_width)
@@ -194,36 +207,41 @@ local_width_spec (Some row) s fxy =
     if row.width == s.local_width then spec_by_kind row.kind begin row
     else if_valid_width (unsigned_field fxy s.local_width)
 
--- an element by its row; a template's elements have one
+-- The specification of an element that does not follow 2 06 Y, from its row: a redefined reference
+-- or a value. By the law below, the row always exists; `None` is covered because a definition must
+-- have a value for all arguments.
 -- rule: fault-32-before-31
 abbrev pub listed_by : Option Row → OperatorModel → ℕ → Result FieldSpec TurnRefusal
 listed_by None s fxy = Err (refusal.Width fxy)
 listed_by (Some row) s fxy =
     if is_defining s then new_reference_spec row.kind s fxy else spec_by_kind row.kind s row
 
--- an element
+-- the specification of an element, from Table B and the operators in effect
 abbrev pub element_spec : List Row → OperatorModel → ℕ → Result FieldSpec TurnRefusal
 element_spec table s fxy =
     if nat_lt 0 s.local_width then local_width_spec (entry_of table fxy) s fxy
     else listed_by (entry_of table fxy) s fxy
 
--- the factor of a delayed replication, by its row alone (own)
+-- the factor of a delayed replication: read by its row alone, to which no operator applies, and
+-- never missing (own)
 abbrev pub factor_field : Row → ℕ → FieldSpec
 factor_field row fxy = record (coded_spec begin row)
     { fxy = fxy; role = role.Factor; kind = kind.Numeric; may_be_missing = false }
 
--- the factor of a delayed replication by its row, or the refusal of its width
+-- the specification of a factor, from its row, which it always has (see `listed_by`)
 abbrev pub factor_by : Option Row → ℕ → Result FieldSpec TurnRefusal
 factor_by None fxy = Err (refusal.Width fxy)
 factor_by (Some row) fxy = if_valid_width (factor_field row fxy)
 
--- the specification of a factor
+-- the specification of the factor of a delayed replication; factors are refused while references
+-- are being redefined (own)
 -- rule: factor-by-entry, defining-no-delayed-group
 abbrev pub factor_spec : List Row → OperatorModel → ℕ → Result FieldSpec TurnRefusal
 factor_spec table s fxy =
     if is_defining s then Err (refusal.Defining fxy) else factor_by (entry_of table fxy) fxy
 
--- a text of the template, 2 05 Y
+-- the specification of the Y characters that 2 05 Y inserts; they are refused while references are
+-- being redefined (own)
 -- rule: 2-05-y, defining-no-inserted-text
 abbrev pub inserted_spec : OperatorModel → ℕ → Result FieldSpec TurnRefusal
 inserted_spec s fxy =

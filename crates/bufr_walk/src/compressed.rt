@@ -180,7 +180,7 @@ fn valid_item_at(
 }
 
 /// The most values of a message with compressed data, read or written: its items times its subsets.
-/// (a choice of this project)
+/// (own)
 pub const MAX_VALUES: u64 = 134_217_728;
 
 /// Fields of compressed data: each item occurs once for all subsets. An item is a base, six bits

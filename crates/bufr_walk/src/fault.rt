@@ -1,4 +1,4 @@
-//! Faults in the data of a message. (Their numbers and their order are a choice of this project.)
+//! Faults in the data of a message. (Their numbers and their order are our choice.)
 ghost use Rattle.std.specs.Prelude.{◌≡◌};
 ghost use Rattle.bufr_walk.specs.Prelude.{data_report, fault_at};
 ghost use Rattle.bufr_walk.specs.declared.walker.WalkStop.TheVariants as stops;
@@ -12,11 +12,11 @@ use thiserror::Error;
 /// The location of an item in the data.
 #[derive(Clone, Copy, Debug, PartialEq, Eq)]
 pub struct Spot {
-    /// The subset, from 1; 0 where the data are compressed.
+    /// The subset, from 1; 0 in compressed data.
     pub subset: u16,
     /// The descriptor: an element, a factor, or an operator.
     pub fxy: Fxy,
-    /// How many bits of the data precede the item.
+    /// The number of data bits before the item.
     pub bit: u64,
 }
 
@@ -87,17 +87,17 @@ pub enum DataFault {
     /// The data end inside the item.
     #[error("the data end inside an item")]
     DataEnd(Fxy),
-    /// A sum past the width of a number, more octets than a text has, or a redefined reference with
-    /// increments.
+    /// The sum of a base and an increment exceeds the width, k exceeds the length of a text, or a
+    /// redefined reference has increments.
     #[error("an increment that cannot be")]
     Increment(Fxy),
-    /// The factor of a replication is not the same in all subsets.
+    /// A replication factor differs between subsets.
     #[error("a factor is not the same in all subsets")]
     UnequalFactor(Fxy),
-    /// With this item there are more than 134,217,728 values.
+    /// There are more than 134,217,728 values up to this item.
     #[error("too many values")]
     TooManyValues(Fxy),
-    /// Memory ran out: room is made at every 64th item, from the first on.
+    /// Memory ran out. (Only the first of every 64 items allocates memory.)
     #[error("out of memory")]
     Memory,
 }

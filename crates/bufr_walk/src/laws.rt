@@ -8,11 +8,12 @@ ghost use Rattle.bufr_walk.specs.Course.{turns_of, counts_of};
 ghost use Rattle.bufr_walk.specs.Rules.{begin};
 ghost use Rattle.bufr_walk.specs.Prelude.{next_item, Data, Values, IsReading, Taken, FieldSpec, AreWithin, IsField, take_next, reading_of, read_pass, place_at, ReadsTo, plain, packed, would_be_many};
 
-/// Law: by each template of legal nodes and each Table B, a pass over any bits reads item by item.
-/// Each item is what comes next, and is read where the one before it ended. Then the template ends,
-/// or what comes next cannot be read, and that stops the pass. A reading is not stopped exactly
-/// where its items are read to the end of each subset, and its items are those. So data have one
-/// reading or one refusal, and never both. (WMO-No. 306, Volume I.2, FM 94: sections 3 and 4)
+/// Law: for each template of legal nodes and each Table B, a pass over any bits reads item by item.
+/// Each item is what comes next, and is read where the item before it ended. Finally the template
+/// ends, or what comes next cannot be read and stops the pass. A reading does not stop exactly if
+/// its items can be read to the end of each subset, and then these are its items. So data have
+/// either one reading or one refusal, never both. (WMO-No. 306, Volume I.2, FM 94: sections 3 and
+/// 4)
 pub fn data_are_read_item_by_item()
     ensures plain { (records : List Record) (table : List Row) (template : Tree) (bits : List Bool)
         → AreRows records table → IsLegal template
@@ -42,10 +43,10 @@ pub fn next_fields_are_fields()
         → (next_item table template answers).next ≡ take_next spec → IsField spec }
 {}
 
-/// Law: a walk over a template that [`Template::build`](bufr_tables::Template::build) gave meets no
-/// element and no factor that the table lacks, but the descriptor after 2 06 Y, which has its width
-/// from there. So a field's width may be refused, but never since its row is missing. (WMO-No. 306,
-/// Volume I.2, FM 94: section 3)
+/// Law: a walk over a template that [`Template::build`](bufr_tables::Template::build) returned
+/// meets no element and no factor that the table lacks, except for the descriptor after 2 06 Y,
+/// which gets its width from there. So if a width is refused, the reason is never that its row is
+/// missing. (WMO-No. 306, Volume I.2, FM 94: section 3)
 pub fn elements_have_their_rows()
     ensures { (table : List Row) (template : Tree) (answers : List Taken) → IsLegal template
         → IsKnown (λ fxy. is_some (entry_of table fxy)) template

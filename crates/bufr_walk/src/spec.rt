@@ -12,31 +12,31 @@ use std::marker::Model;
 pub enum Role {
     /// The value of an element.
     Element,
-    /// Text of the template (2 05 Y).
+    /// Characters that 2 05 Y inserts.
     Inserted,
     /// The factor of a delayed replication.
     Factor,
-    /// A reference value that is being defined (2 03 Y).
+    /// A redefined reference of an element (after 2 03 Y).
     Reference,
 }
 
-/// Why a step is refused: an invalid data width, or not allowed while 2 03 Y defines references.
+/// Why a step of a walk over a template is refused, and at which descriptor.
 #[derive(Clone, Copy, Debug, PartialEq, Eq)]
 pub enum TurnRefusal {
     /// A field that is not text is under 1 or over 63 bits wide, or Table B lacks its element.
     Width(Fxy),
-    /// A step that is not allowed while 2 03 Y defines references.
+    /// The descriptor is not allowed while 2 03 Y redefines references.
     Defining(Fxy),
 }
 
-/// What `take` returns to the walk.
+/// The part of a field's value that affects the walk over the template.
 #[derive(Clone, Copy, Debug, PartialEq, Eq)]
 pub enum Taken {
-    /// Nothing that the walk needs.
+    /// Nothing: only factors and redefined references affect the walk.
     Plain,
-    /// How many passes of the group follow.
+    /// The number of passes of the group that follows.
     Count(u64),
-    /// The new reference value.
+    /// The redefined reference of the element.
     Reference(i64),
 }
 

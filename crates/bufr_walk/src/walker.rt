@@ -13,16 +13,16 @@ use bufr_tables::{Cell, Fxy, TableB, Template};
 use std::alloc::Global;
 use std::marker::Model;
 
-/// Why a walk stopped.
+/// Why a walk over a template stopped.
 #[derive(Debug, PartialEq, Eq, Drop)]
 pub enum WalkStop<E> {
     /// A field that is not text is under 1 or over 63 bits wide, or Table B lacks its element.
     Width(Fxy),
-    /// A step that is not allowed while 2 03 Y defines references.
+    /// The descriptor is not allowed while 2 03 Y redefines references.
     Defining(Fxy),
-    /// The field was not taken.
+    /// The field itself could not be read or written, for this reason.
     Field(E),
-    /// Memory ran out before a reference was taken.
+    /// Memory ran out before a redefined reference was read.
     Memory,
 }
 
