@@ -53,9 +53,9 @@ PRIMER = """\
 `f : A → B` gives the type of f. Equations follow, and the first one that matches applies. `f x y` applies f to x and y.
 Every definition has a value for all arguments, even for arguments that never occur. `abbrev`, `unfoldable`, `rec` and
 `infixl` only matter to the checker. In a block `module _ (how : T) where`, every indented definition also takes the argument
-`how`. A `record` has named fields, and `record s { x = 1 }` is s with another field x. A `data` type has the constructors
-that are listed below it. A `Bool` is computed. A `Type 0` is a type or a statement: `×` means "and" or a pair, whose parts
-are `.0` and `.1`, `⊎` "or", `→` "implies" or a function, `≡` "equals", `¬` "not", `(x : A) →` "for each x", and `(x : A) ×`
+`how`. A `record` has named fields, and `record s { x = 1 }` is s with 1 in the field x. A `data` type has the constructors
+that are listed below it. A `Bool` is computed. A `Type 0` is a type or a statement: `×` means "and" or a pair (its parts
+are `.0` and `.1`), `⊎` "or", `→` "implies" or a function, `≡` "equals", `¬` "not", `(x : A) →` "for each x", and `(x : A) ×`
 "for some x". `Unit` and `⊤` are always true, and `⊥` never. Arguments in braces, as in `{X = T}`, can be left out. `λ x. e`
 is a function, `x ∷ xs` is the list xs with x in front, and `++` joins lists. In `do`, a line `x ← e` stops at the first
 fault or `None`, as `>>=` does.
@@ -72,8 +72,8 @@ refer instead of the Rust value, and `source.Ghosts R` contains the ghost items 
 a reference. `x.now` is the value behind a reference x, and `x.old` and `x.new` are that value before and after a call. In
 examples, `assert_eq!(rt; ..)` is checked when they run.
 
-What is known about the octets of a device is a list, or `None` if nothing is known. These relations hold between what is
-known before and after, and always hold if nothing is known before:
+What is known about the octets of a device is a list, or `None` if nothing is known. The following relations describe what is
+known before and after a call. If nothing is known before the call, they always hold:
   `Appends old new octets`     new is old, followed by these octets
   `Consumes old new octets`    old is these octets, followed by new
   `Keeps old new`              new is old
@@ -365,7 +365,7 @@ def reached(calls, house):
 
 
 def reported(items):
-    """Returns the enums of faults that have a report, an item that lists each fault with its number and text, and the reports."""
+    """Returns the report of each enum of faults that has one: an item that lists each fault with its number and text."""
     report = re.compile(r": (\w+) → ℕ × List \(List ℕ\)$")
     reports = {found[1]: item for item in items for found in [report.search(item.code().split("\n")[0])] if found}
     return {item: reports[item.name] for item in items if item.path.suffix == ".rt" and item.name in reports}
