@@ -366,7 +366,7 @@ class Reader:
 
 
 def guarded(call: Callable[[], Any]) -> Any:
-    """Returns the result of a call. If the call raises `Failed`, for lack of table sets, raises `BufrError` instead."""
+    """Returns the result of a call. If the call raises `Failed`, as it does without table sets, raises `BufrError`."""
     try:
         return call()
     except bufr_guard.Failed as failed:
