@@ -8,3 +8,4 @@ pub mod TemplateExamples
 mod TemplateFaultExamples
 mod RecordFaultExamples
 mod Examples
+pub mod WidthLemmas

@@ -10,7 +10,7 @@ use Rattle.std.specs.Int.RustNames.{unsigned_abs}
 use Rattle.bufr_tables.specs.declared.fault.TableFault.{TableFault}
 use Rattle.bufr_tables.specs.declared.fault.TableFault.TheVariants.{Row as RowFault, Duplicate, Csv}
 use Rattle.bufr_tables.specs.Fxy.{◌>>=◌, only_if, f_of, fxy_of, fxy_text, is_factor, y_of}
-use Rattle.bufr_tables.specs.Records.{i64_of, Record, field_of, has_fields, table_of}
+use Rattle.bufr_tables.specs.Records.{i64_of, natural_of, Record, field_of, has_fields, table_of}
 use Rattle.bufr_tables.specs.declared.table_b.Stored.{Stored}
 use Rattle.bufr_tables.specs.declared.table_b.ParsedRow.{ParsedRow}
 use Rattle.bufr_tables.specs.declared.table_b.TableB.TheInside.{Inside}
@@ -85,6 +85,9 @@ natural_part (negsuc n) = None
 unfoldable pub width_of : Kind → List ℕ → Option ℕ
 width_of kind text =
     i64_of text >>= λ z. natural_part z >>= λ width. only_if (allows_width kind width) width
+
+unfoldable pub width_from : Kind → List ℕ → Option ℕ
+width_from kind text = natural_of text >>= λ width. only_if (allows_width kind width) width
 
 -- factors of delayed replications have 1 bit where Y is 0, 8 where it is 1, and 16 where it is 2
 abbrev pub factor_width : ℕ → Option ℕ

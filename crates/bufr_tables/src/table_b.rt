@@ -202,7 +202,7 @@ fn is_printable_text(text: &[u8]) -> bool
 }
 
 /// The width of an element of this kind, in bits.
-#[tactic(auto, unfolding(crate::specs::TableB::width_of))]
+#[tactic(auto, using(crate::proofs::WidthLemmas::width_same), unfolding(crate::specs::TableB::width_of))]
 fn read_width(kind: Kind, text: &[u8]) -> Option<u32>
     ensures { result ≡ width_of kind text.now }
 {
