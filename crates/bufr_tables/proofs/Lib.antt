@@ -8,4 +8,3 @@ pub mod TemplateExamples
 mod TemplateFaultExamples
 mod RecordFaultExamples
 mod Examples
-pub mod WidthLemmas

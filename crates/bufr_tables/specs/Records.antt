@@ -1,7 +1,7 @@
 -- The records of a table's text, as the crate `csv` gives them, and the faults that they have.
 -- They have any number of fields, not trimmed; the header is record 1. (a choice of this project)
 -- Cited by public contracts.
-use Rattle.std.specs.Prelude.{ℕ, ◌+◌, ◌-◌, ◌*◌, ◌^◌, ◌==◌, ◌&&◌, Bool, nat_lt, if◌then◌else◌, ℤ, pos, negsuc, neg_ℤ, List, [], ◌∷◌, length, drop, slice_index, Option, Some, None, option_and_then, option_map, unwrap_or, ◌≡◌, ◌≢◌, Result, Ok, Err, true, false, ◌<◌, map, IsSome}
+use Rattle.std.specs.Prelude.{ℕ, ◌+◌, ◌^◌, ◌==◌, ◌&&◌, Bool, nat_lt, if◌then◌else◌, ℤ, pos, negsuc, neg_ℤ, List, [], ◌∷◌, length, drop, slice_index, Option, Some, None, option_and_then, option_map, unwrap_or, ◌≡◌, ◌≢◌, Result, Ok, Err, true, false, ◌<◌, map, IsSome}
 use Rattle.std.specs.Char.{is_ascii_digit}
 use Rattle.std.specs.List.{list_all}
 use Rattle.std.specs.Str.Parse.{digits_value}

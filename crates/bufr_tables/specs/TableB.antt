@@ -1,7 +1,7 @@
 -- Table B: its rows, their limits and faults, and the kind of an element by its unit.
 -- (WMO-No. 306, Volume I.2, FM 94: Table B; the text, its limits, its faults and the kinds are a
 -- choice of this project) Cited by public contracts.
-use Rattle.std.specs.Prelude.{ℕ, Bool, if◌then◌else◌, ◌||◌, List, length, take, codes, ◌≡◌, ◌%◌, ◌==◌, ◌&&◌, true, false, not, nat_le, ℤ, pos, negsuc, [], ◌∷◌, ◌++◌, map, nat_eq, Option, Some, None, is_some, Result, Ok, Err, ◌+◌, ◌-◌, ◌≤◌, slice_range, ◌<◌}
+use Rattle.std.specs.Prelude.{ℕ, Bool, if◌then◌else◌, ◌||◌, List, length, take, codes, ◌≡◌, ◌%◌, ◌==◌, ◌&&◌, true, false, not, nat_le, ℤ, [], ◌∷◌, ◌++◌, map, nat_eq, Option, Some, None, is_some, Result, Ok, Err, ◌+◌, ◌-◌, ◌≤◌, slice_range, ◌<◌}
 use Rattle.std.specs.Str.{str_eq_ignore_ascii_case}
 use Rattle.bufr_tables.specs.declared.table_b.Kind.{Kind}
 use Rattle.bufr_tables.specs.declared.table_b.Kind.TheVariants.{Character, Coded, Numeric}
@@ -78,16 +78,8 @@ abbrev pub allows_width : Kind → ℕ → Bool
 allows_width Character width = nat_le 8 width && nat_le width 2040 && (width % 8 == 0)
 allows_width _ width = nat_le 1 width && nat_le width 63
 
-abbrev pub natural_part : ℤ → Option ℕ
-natural_part (pos n) = Some n
-natural_part (negsuc n) = None
-
 unfoldable pub width_of : Kind → List ℕ → Option ℕ
-width_of kind text =
-    i64_of text >>= λ z. natural_part z >>= λ width. only_if (allows_width kind width) width
-
-unfoldable pub width_from : Kind → List ℕ → Option ℕ
-width_from kind text = natural_of text >>= λ width. only_if (allows_width kind width) width
+width_of kind text = natural_of text >>= λ width. only_if (allows_width kind width) width
 
 -- factors of delayed replications have 1 bit where Y is 0, 8 where it is 1, and 16 where it is 2
 abbrev pub factor_width : ℕ → Option ℕ
