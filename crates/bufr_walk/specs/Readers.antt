@@ -334,10 +334,13 @@ pub record IsPut (specs : List FieldSpec) (spec : FieldSpec) (place : ℕ)
   pub few : length more ≤ 1
   pub fits : HasSpecAt specs' place spec
 
--- each location has its field; the items have room until it is made again, and a field with each
+-- each location has its field; the items have room until it is made again, and a field with each;
+-- the room is at most that for twice what is kept and 64 more
 pub record IsKeptBy (specs : List FieldSpec) (places : List ItemLocation)
     (room_specs room_places : ℕ) : Type 0 where
   pub have : All (λ p. p.spec < length specs) places
   pub few : length specs ≤ length places
   pub has_room : room_for (length places) ≤ room_places
   pub has_room_for_specs : length specs + room_left (length places) ≤ room_specs
+  pub most_places : room_places ≤ 2 * length places + items_at_once
+  pub most_specs : room_specs ≤ 2 * length specs + items_at_once
