@@ -43,11 +43,8 @@ fn reserve<T>(items: &mut Vec<T>) -> Result<(), DataFault>
 {
     let len = items.len();
     let full = items.capacity() - len < ITEMS_AT_ONCE;
-    match items.reserve_exact(if full {
-        len.max(ITEMS_AT_ONCE)
-    } else {
-        ITEMS_AT_ONCE
-    }) {
+    let more = len.max(ITEMS_AT_ONCE);
+    match items.reserve_exact(if full { more } else { ITEMS_AT_ONCE }) {
         Ok(()) => Ok(()),
         Err(_) => Err(DataFault::Memory),
     }
