@@ -1,5 +1,5 @@
 -- Steps and calls of a finder, and the reads that they make.
-use Rattle.std.proofs.Common.{min, ◌*◌, ◌≡◌, ◌≢◌, ◌^◌, ℕ, ◌+◌, ◌-◌, ◌<◌, ◌≤◌, List, [], ◌++◌, sym, ◌∙◌, ap, subst, arith, Option, Ok, Err, append_assoc, append-nil, ◌∷◌, length, take, drop, refl, length-take, length-drop, inl, inr, Bool, true, false, length-append, ◌⊎◌, ◌*◌, zero, suc, codes, Result, slice_range, take_while, Some, None, max}
+use Rattle.std.proofs.Common.{min, rules, tests, if◌then◌else◌, nat_lt, nat_le, ◌&&◌, ◌*◌, ◌≡◌, ◌≢◌, ◌^◌, ℕ, ◌+◌, ◌-◌, ◌<◌, ◌≤◌, List, [], ◌++◌, sym, ◌∙◌, ap, subst, arith, Option, Ok, Err, append_assoc, append-nil, ◌∷◌, length, take, drop, refl, length-take, length-drop, inl, inr, Bool, true, false, length-append, ◌⊎◌, ◌*◌, zero, suc, codes, Result, slice_range, take_while, Some, None, max}
 use Rattle.std.specs.Io.KnownBytes.{Consumes, IsAtEnd}
 use Rattle.std.proofs.KnownBytes.{Consumes-nil, Consumes-trans}
 use Rattle.bufr_bits.specs.Prelude.{counted}
@@ -43,6 +43,22 @@ asks-none asked reads reads' n same =
     let nothing : (reads' - reads) * n ≡ 0 = rw none (omega arith) in
     rw nothing (sym (counted-none asked))
 
+-- the gap after a read, and without one
+pub slides-once : (reads reads' held long gap start slid : ℕ) → reads' ≡ reads + 1 → held ≡ long → gap ≡ start → slid ≡ (if nat_le long start then start else 0)
+    → start - slid ≡ (if nat_lt reads reads' && nat_le held gap then 0 else gap)
+slides-once reads reads' held long gap start slid made same is by =
+    let more : nat_lt reads reads' ≡ true = search (rules, tests) in
+    rw (more, same, is, by) (at_once (nat_le long start))
+  where
+    at_once : (b : Bool) → start - (if b then start else 0) ≡ (if true && b then 0 else start)
+    at_once true = omega arith
+    at_once false = omega arith
+
+pub slides-none : (reads reads' held gap gap' : ℕ) → reads' ≡ reads → gap' ≡ gap → gap' ≡ (if nat_lt reads reads' && nat_le held gap then 0 else gap)
+slides-none reads reads' held gap gap' made same =
+    let no_more : nat_lt reads reads' ≡ false = search (rules, tests) in
+    rw no_more same
+
 -- no read, no more reads, and reads after others
 pub adds-none : (reads made : ℕ) → made ≤ max_reads → AddsReads reads reads made made
 adds-none reads made most = record { made = (let e : made - made ≡ 0 = omega arith in rw e (sym (counted-none reads))); order = omega arith; most = most }
@@ -73,6 +89,13 @@ part-drop s b c n order =
 
 pub part-length : (s : List ℕ) (a b : ℕ) → b ≤ length s → length (slice_range s a b) ≡ b - a
 part-length s a b within = omega (arith, length-take (b - a) (drop a s), length-drop a s)
+
+-- a part of the first octets, after which others came
+pub part-same : (old new : List ℕ) (n a b : ℕ) → take n new ≡ old → a ≤ b → b ≤ n → slice_range new a b ≡ slice_range old a b
+part-same old new n a b is order within =
+    let same : a + (n - a) ≡ n = omega arith in
+    let cut : drop a old ≡ take (n - a) (drop a new) = ap (drop a) (sym is ∙ ap (λ k. take k new) (sym same)) ∙ drop-take a (n - a) new in
+    sym (ap (take (b - a)) cut ∙ take-take (b - a) (n - a) (drop a new) (omega arith))
 
 -- what was read follows what was held, where a part of the buffer was lent
 pub after-read : (a b : Option (List ℕ)) (items lent buf post more : List ℕ) (filled to size n : ℕ) → lent ≡ items → size ≡ length items → length buf ≡ length (take (to - filled) (drop filled lent))

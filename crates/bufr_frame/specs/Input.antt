@@ -1,6 +1,6 @@
 -- The reads of an input: how many there may be, and which failures are counted. (own)
 -- Cited by public contracts.
-use Rattle.std.specs.Prelude.{◌≡◌, ◌⊎◌, ℕ, ◌-◌, ◌*◌, min, ◌<◌, ◌≤◌, ◌^◌, Result, Ok, Err, ◌+◌, Bool, true, false, List, [], ◌++◌, length, Option, MatchResult}
+use Rattle.std.specs.Prelude.{◌≡◌, ℕ, ◌-◌, ◌*◌, min, ◌<◌, ◌≤◌, ◌^◌, nat_lt, nat_le, ◌&&◌, if◌then◌else◌, Result, Ok, Err, ◌+◌, Bool, true, false, List, [], ◌++◌, length, Option, MatchResult}
 use Rattle.bufr_bits.specs.Prelude.{counted}
 use Rattle.bufr_frame.specs.declared.fault.RunFault.{RunFault}
 use Rattle.bufr_frame.specs.declared.fault.RunFault.TheVariants.{Read, Write, InputTooLong, Memory}
@@ -63,9 +63,11 @@ FillEnds refused old new bs (Ok u) =
 FillEnds refused old new bs (Err fault) =
     (bs ≡ []) × (new.ended ≡ false) × FillFails refused old new fault
 
--- The octets held move to the start of the buffer only if at least as many were skipped.
+-- Before a read, the octets held move to the start of the buffer if at least as many were skipped.
 abbrev pub SlidesOver : (old new : InputModel) → Type 0
-SlidesOver old new = (new.gap ≡ old.gap) ⊎ ((new.gap ≡ 0) × (length old.held ≤ old.gap))
+SlidesOver old new =
+    new.gap ≡ (if nat_lt old.reads new.reads && nat_le (length old.held) old.gap then 0
+    else old.gap)
 
 -- how many octets the reads asked for that were made, of which there is one at most: for all that
 -- fit after those held, but at most `most`

@@ -1,5 +1,5 @@
 //! The finder: the messages of a stream, one after another, and its search for `BUFR`.
-ghost use Rattle.std.specs.Prelude.{◌≡◌, ◌≢◌, ◌⊎◌, ◌≤◌, false, List, ℕ, ◌<◌, ◌+◌, ◌-◌, ◌*◌, ◌^◌, length, take, drop, min, codes, IfSome, Some, None, Option, max, Err};
+ghost use Rattle.std.specs.Prelude.{◌≡◌, ◌≢◌, ◌⊎◌, ◌≤◌, false, List, ℕ, ◌<◌, ◌+◌, ◌-◌, ◌*◌, ◌^◌, length, take, drop, codes, IfSome, Some, None, Option, max, Err};
 ghost use Rattle.memchr.specs.Find.{FindsNeedle};
 ghost use Rattle.bufr_frame.specs.Scan.{classify, stated_length};
 ghost use Rattle.bufr_frame.specs.Finder.{IsSearchResult, passed_by, len_at, IsEventAt, GivesHeldEvent, ReadsMore, input_left, gone_to, StartsWithBufr, FinderModel, held, min_held, new_finder, ReturnsNextEvent, IsFinder};

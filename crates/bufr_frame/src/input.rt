@@ -1,5 +1,5 @@
 //! An input, read piece by piece or to its end.
-ghost use Rattle.std.specs.Prelude.{◌≡◌, ◌≢◌, ◌⊎◌, ◌≤◌, ◌<◌, ◌+◌, ◌-◌, ◌*◌, ◌^◌, ℕ, List, ◌++◌, take, length, drop, slice_range, Ok, Err, IsOk, IfOk, IfErr, vec_len, vec_capacity, [], ◌∷◌, true, false, max};
+ghost use Rattle.std.specs.Prelude.{◌≡◌, ◌≢◌, ◌⊎◌, ◌≤◌, ◌<◌, ◌+◌, ◌-◌, ◌*◌, ◌^◌, ℕ, List, ◌++◌, take, length, drop, slice_range, Ok, Err, IsOk, IfOk, IfErr, vec_len, vec_capacity, [], ◌∷◌, true, false, max, nat_le, if◌then◌else◌};
 ghost use Rattle.bufr_bits.specs.Prelude.{counted};
 ghost use Rattle.bufr_frame.specs.Input.{read_failures_after, max_reads, ReadsOnce, ReadsInput, AddsReads, InputModel, FillsInput, SlidesOver, asked_by, new_input};
 
@@ -52,7 +52,8 @@ impl Model for InputBuffer {
     } };
 
     ghost invariant = { λ f. (f.start ≤ f.filled) × (f.filled ≤ vec_len f.octets)
-        × (f.reads ≤ max_reads) × (f.reads ≡ 0 → vec_len f.octets ≡ 0) };
+        × (f.reads ≤ max_reads) × (f.reads ≡ 0 → vec_len f.octets ≡ 0)
+        × (vec_len f.octets ≡ vec_capacity f.octets) };
 }
 
 impl InputBuffer {
@@ -123,6 +124,8 @@ impl InputBuffer {
         ensures grows { (self.new.room ≡ self.old.room) ⊎ (room ≤ self.new.room) }
         ensures most { self.new.room ≤ max self.old.room room }
         ensures free { self.new.ended ≡ true → 0 < self.new.free }
+        // All places are used: each is in the gap, holds an octet or is free.
+        ensures whole { self.new.room ≡ self.new.gap + length self.new.held + self.new.free }
         ensures slides { SlidesOver self.old self.new }
         ensures sure { R.waits r.old ≡ false → result ≢ Err RunFault.Read }
         ensures failed { R.failures r.new ≡ read_failures_after (R.failures r.old) result }
@@ -156,11 +159,13 @@ fn make_room(
     requires within { filled ≤ vec_len octets.old }
     requires fits { 2 * (filled - start) ≤ room }
     requires any { 0 < room }
+    requires whole { vec_len octets.old ≡ vec_capacity octets.old }
     ensures free { IfOk result (λ slid. (slid ≤ start) × (filled - slid < vec_len octets.new)) }
     ensures held { IfOk result (λ slid. slice_range octets.new.items (start - slid) (filled - slid)
         ≡ slice_range octets.old.items start filled) }
     ensures slides { IfOk result
-        (λ slid. (slid ≡ 0) ⊎ ((slid ≡ start) × (filled - start ≤ start))) }
+        (λ slid. slid ≡ (if nat_le (filled - start) start then start else 0)) }
+    ensures whole { vec_len octets.new ≡ vec_capacity octets.new }
     ensures grown { IfOk result (λ _. vec_len octets.old ≡ 0 → vec_len octets.new ≡ room) }
     ensures refused { IfErr result (λ fault. (fault ≡ RunFault.Memory)
         × (vec_capacity octets.old < room) × (octets.new.items ≡ octets.old.items)
@@ -180,14 +185,25 @@ fn make_room(
     if octets.reserve_exact(room - octets.len()).is_err() {
         return Err(RunFault::Memory);
     }
+    fill_up(octets, room);
+    Ok(0)
+}
+
+/// Appends zeros to the octets of a buffer until there are `len`, for which there is room.
+fn fill_up(octets: &mut Vec<u8>, len: usize)
+    requires order { vec_len octets.old ≤ len }
+    requires room { len ≤ vec_capacity octets.old }
+    ensures before { take (vec_len octets.old) octets.new.items ≡ octets.old.items }
+    ensures len { vec_len octets.new ≡ len }
+    ensures capacity { vec_capacity octets.new ≡ vec_capacity octets.old }
+{
     let alloc = *octets.allocator();
     // In a local vector the loop compiles to one `memset`.
     let mut grown = replace(octets, Vec::new(alloc));
-    'places: while grown.len() < room {
+    'places: while grown.len() < len {
         grown.push_reserved(0);
     }
     *octets = grown;
-    Ok(0)
 }
 
 /// Reads once after the first `filled` octets of a buffer, up to index `to`, and returns how many.
@@ -238,10 +254,15 @@ pub fn read_to_end<R: Source>(
     // Each read but the last one gave an octet.
     ensures each { reads.new - reads.old ≤ length octets.new.items - length octets.old.items + 1 }
     ensures asked { R.asked r.new ≡ counted (R.asked r.old) (65536 * (reads.new - reads.old)) }
+    // The capacity grows to at most twice the octets that are held and one chunk more.
+    ensures capacity { vec_capacity octets.new
+        ≤ max (vec_capacity octets.old) (2 * length octets.new.items + 65536) }
 {
     while *reads < MAX_READS {
         let held = octets.len();
-        octets.resize(held + CHUNK, 0)?;
+        let full = octets.capacity() - held < CHUNK;
+        octets.reserve_exact(if full { held + CHUNK } else { CHUNK })?;
+        fill_up(octets, held + CHUNK);
         *reads += 1;
         let read = read_after(r, octets, held, held + CHUNK);
         octets.truncate(held + read.unwrap_or(0));

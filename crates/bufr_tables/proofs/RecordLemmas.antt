@@ -22,7 +22,6 @@ use Rattle.bufr_tables.specs.declared.rows.RecordReader.{RecordReader}
 use Rattle.std.specs.Str.{bytes_eq}
 use Rattle.csv.specs.Records.{field_at}
 use Rattle.bufr_tables.specs.declared.fault.TableFault.TheVariants.{Header, Row, Duplicate, Cycle, TableSize, Csv, Memory}
-use Rattle.std.proofs.lemmas.List.{take_more}
 use Rattle.csv.specs.declared.parser.State.TheVariants as st
 use Rattle.csv.specs.declared.parser.Terminator.TheVariants as term
 

@@ -1,6 +1,6 @@
 -- Passes on the names that proofs and other crates cite. Declares nothing.
 pub use Rattle.bufr_tables.specs.Fxy.{only_if, f_of, x_of, y_of, fxy_of, fxy_text, mark_of, place_of, key_of, is_fxy, f_in, x_in, y_in}
-pub use Rattle.bufr_tables.specs.TableB.{ExtendsBlock, IsStored, row_parsed, rows_kept, IsRowKept, row_kept, Row, entry_of, row_comment, row_line_start, IsRow, allows_width, is_name, AreRows, columns_b, table_b_of, with_row, is_character, natural_part, is_printed}
+pub use Rattle.bufr_tables.specs.TableB.{ExtendsBlock, IsStored, row_parsed, rows_kept, IsRowKept, row_kept, Row, entry_of, row_comment, row_line_start, IsRow, allows_width, is_name, AreRows, columns_b, table_b_of, with_row, is_character, is_printed}
 unfoldable pub use Rattle.bufr_tables.specs.TableB.{begins_with, kind_of, element_of, plain_of, row_of, scale_of, width_of, with_record_b}
 pub use Rattle.bufr_tables.specs.Records.{◌>>=◌, records_of, Record, GivesNext, IsBetween, count_of, record_given, records_after, text_left, field_of, IsOpened, records_left, field_texts, has_fields, has_header, ReturnsUnlessMemory, octets_left, fits_i64}
 unfoldable pub use Rattle.bufr_tables.specs.Records.{i64_of, integer_of, natural_of, table_from, table_of}

@@ -1,7 +1,7 @@
 -- Table B: its rows and their limits, and the kind of an element. (WMO-No. 306, Volume I.2, FM 94:
 -- Table B; the format of the file, the limits, the faults and the kinds are our choice)
 -- Cited by public contracts.
-use Rattle.std.specs.Prelude.{ℕ, Bool, if◌then◌else◌, ◌||◌, List, length, take, codes, ◌≡◌, ◌%◌, ◌==◌, ◌&&◌, true, false, not, nat_le, ℤ, pos, negsuc, [], ◌∷◌, ◌++◌, map, nat_eq, Option, Some, None, is_some, Result, Ok, Err, ◌+◌, ◌-◌, ◌≤◌, slice_range, ◌<◌}
+use Rattle.std.specs.Prelude.{ℕ, Bool, if◌then◌else◌, ◌||◌, List, length, take, codes, ◌≡◌, ◌%◌, ◌==◌, ◌&&◌, true, false, not, nat_le, ℤ, [], ◌∷◌, ◌++◌, map, nat_eq, Option, Some, None, is_some, Result, Ok, Err, ◌+◌, ◌-◌, ◌≤◌, slice_range, ◌<◌}
 use Rattle.std.specs.Str.{str_eq_ignore_ascii_case}
 use Rattle.bufr_tables.specs.declared.table_b.Kind.{Kind}
 use Rattle.bufr_tables.specs.declared.table_b.Kind.TheVariants.{Character, Coded, Numeric}
@@ -10,7 +10,7 @@ use Rattle.std.specs.Int.RustNames.{unsigned_abs}
 use Rattle.bufr_tables.specs.declared.fault.TableFault.{TableFault}
 use Rattle.bufr_tables.specs.declared.fault.TableFault.TheVariants.{Row as RowFault, Duplicate, Csv}
 use Rattle.bufr_tables.specs.Fxy.{◌>>=◌, only_if, f_of, fxy_of, fxy_text, is_factor, y_of}
-use Rattle.bufr_tables.specs.Records.{i64_of, Record, field_of, has_fields, table_of}
+use Rattle.bufr_tables.specs.Records.{i64_of, natural_of, Record, field_of, has_fields, table_of}
 use Rattle.bufr_tables.specs.declared.table_b.Stored.{Stored}
 use Rattle.bufr_tables.specs.declared.table_b.ParsedRow.{ParsedRow}
 use Rattle.bufr_tables.specs.declared.table_b.TableB.TheInside.{Inside}
@@ -81,15 +81,9 @@ abbrev pub allows_width : Kind → ℕ → Bool
 allows_width Character width = nat_le 8 width && nat_le width 2040 && (width % 8 == 0)
 allows_width _ width = nat_le 1 width && nat_le width 63
 
--- a number, if it is not negative
-abbrev pub natural_part : ℤ → Option ℕ
-natural_part (pos n) = Some n
-natural_part (negsuc n) = None
-
 -- the width that a text represents, if the kind allows it
 unfoldable pub width_of : Kind → List ℕ → Option ℕ
-width_of kind text =
-    i64_of text >>= λ z. natural_part z >>= λ width. only_if (allows_width kind width) width
+width_of kind text = natural_of text >>= λ width. only_if (allows_width kind width) width
 
 -- the width of a replication factor, `None` for other elements: 1 bit if Y is 0, 8 if it is 1, 16
 -- if it is 2

@@ -1,6 +1,6 @@
 //! The expansion of descriptors, depth first, from left to right, and the cells that it builds.
 //! Few descriptors are looked at for each place, so a hostile list is refused soon.
-ghost use Rattle.std.specs.Prelude.{◌≡◌, ◌+◌, ◌<◌, ◌≤◌, ◌++◌, ◌∷◌, [], length, Ok, Err, MatchResult, OnOk, OnErr, IfErr, IfOk};
+ghost use Rattle.std.specs.Prelude.{◌≡◌, ◌+◌, ◌*◌, max, vec_capacity, ◌<◌, ◌≤◌, ◌++◌, ◌∷◌, [], length, Ok, Err, MatchResult, OnOk, OnErr, IfErr, IfOk};
 ghost use Rattle.bufr_tables.specs.Fxy.{x_of};
 ghost use Rattle.bufr_tables.specs.Expansion.{begins_with_element as element_begins, part_of, group_part, with_places};
 ghost use Rattle.bufr_tables.specs.Growth.{places_so_far, PushesTreeUnlessMemory, GivesPart, factor_cells, first_cell, own_places, tables_in, inner_in, list_in, group_in};
@@ -230,6 +230,7 @@ pub(crate) struct TemplateBuilder {
     pub(crate) consumes: bool,
     pub(crate) ghost within: { length cells.items + open_groups < 65535 },
     pub(crate) ghost around: { open_groups ≤ depth },
+    pub(crate) ghost room: { vec_capacity cells ≤ 131072 },
 }
 
 /// The fault of the descriptor that asks for so many places more, where they are too many.
@@ -246,16 +247,28 @@ fn check_places(places: u32, more: u32, fxy: Fxy) -> Result<(), TemplateFault>
     Ok(())
 }
 
+/// Puts a cell after others. If there is no room for it, the room doubles.
 pub(crate) fn push_cell(cells: &mut Vec<Cell>, cell: Cell) -> Result<(), TemplateFault>
+    ensures room { vec_capacity cells.new
+        ≤ max (vec_capacity cells.old) (2 * length cells.old.items + 1) }
     ensures ok { OnOk result (cells.new.items ≡ cells.old.items ++ cell ∷ []) }
     ensures err { IfErr result (λ why. why ≡ TemplateFault.Memory) }
     ensures unchanged { OnErr result (cells.new.items ≡ cells.old.items) }
 {
-    cells.push(cell).map_err(|_| TemplateFault::Memory)
+    let len = cells.len();
+    let full = len == cells.capacity();
+    match cells.reserve_exact(if full { len.max(1) } else { 1 }) {
+        Ok(()) => {}
+        Err(_) => return Err(TemplateFault::Memory),
+    }
+    cells.push_reserved(cell);
+    Ok(())
 }
 
 /// Puts the cells between a group's first one and its body after others.
 fn push_factor(cells: &mut Vec<Cell>, passes: &Passes) -> Result<(), TemplateFault>
+    ensures room { vec_capacity cells.new
+        ≤ max (vec_capacity cells.old) (2 * length cells.old.items + 1) }
     ensures ok { OnOk result (cells.new.items ≡ cells.old.items ++ factor_cells passes.now) }
     ensures err { IfErr result (λ why. why ≡ TemplateFault.Memory) }
     ensures unchanged { OnErr result (cells.new.items ≡ cells.old.items) }

@@ -109,7 +109,7 @@ fn is_negative(text: &[u8]) -> bool
 
 /// The number that one or more digits write, or the greatest `u64` where it is over that.
 #[tactic(auto, unfolding(crate::specs::Records::natural_of))]
-fn magnitude(digits: &[u8]) -> Option<u64>
+pub(crate) fn magnitude(digits: &[u8]) -> Option<u64>
     ensures { result ≡ option_map (λ n. min n (2 ^ 64 - 1)) (natural_of digits.now) }
 {
     if digits.is_empty() || !are_digits(digits) {

@@ -9,7 +9,7 @@ ghost use Rattle.bufr_tables.specs.Records.{records_of, ReturnsUnlessMemory};
 use crate::fault::TableFault;
 use crate::fxy::Fxy;
 use crate::index::FxyIndex;
-use crate::rows::{RecordReader, field, integer};
+use crate::rows::{RecordReader, field, integer, magnitude};
 use csv::ByteRecord;
 use std::alloc::{AllocError, Global};
 use std::fmt;
@@ -206,7 +206,7 @@ fn is_printable_text(text: &[u8]) -> bool
 fn read_width(kind: Kind, text: &[u8]) -> Option<u32>
     ensures { result ≡ width_of kind text.now }
 {
-    let width = integer(text)?;
+    let width = magnitude(text)?;
     let (least, most) = match kind {
         Kind::Character => (8, 2040),
         Kind::Coded | Kind::Numeric => (1, 63),

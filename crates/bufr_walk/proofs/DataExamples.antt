@@ -3,7 +3,8 @@ use Rattle.std.proofs.Common.{◌≡◌, ℕ, Bool, true, false, List, [], ◌�
 use Rattle.bufr_bits.specs.Prelude.{bits_of}
 use Rattle.bufr_tables.specs.Prelude.{Tree, bare, element, operator, fixed}
 use Rattle.bufr_walk.specs.Prelude.{next_item, Stop, data_in, Course, DataCoding, plain, packed, Content, FieldSpec, FieldRead, FieldFault, unequal_factor, data_end, increment, Next, take_next, at_end, astray, refused, would_be_many, fault_at, Data, fault_of}
-use Rattle.bufr_walk.specs.Pass.{reading_of, reading_in, Pass, Place, Step, DataPass, pass, pass_next, pass_field, read_field, reading, place_at, read_pass, stop_of, passes_apart}
+use Rattle.bufr_walk.specs.Pass.{reading_of, reading_in, Pass, Place, Step, DataPass, pass, pass_next, pass_field, read_field, reading, read_pass, stop_of, passes_apart}
+use Rattle.bufr_walk.specs.Readers.{place_at}
 use Rattle.bufr_walk.specs.declared.walker.WalkStop.TheVariants as stops
 use Rattle.bufr_walk.specs.declared.fault.DataFault.TheVariants as wrong
 use Rattle.bufr_walk.specs.declared.fault.WalkFault.TheVariants as fault

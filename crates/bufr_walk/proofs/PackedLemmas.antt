@@ -15,7 +15,6 @@ use Rattle.bufr_walk.specs.Prelude.{numbers, texts, Coding, coding_of, coding_by
 use Rattle.bufr_bits.proofs.DecimalLemmas.{and_first, and_second}
 use Rattle.bufr_tables.specs.Prelude.{is_character}
 use Rattle.bufr_walk.proofs.PlainLemmas.{bits_length, ones_by_number, number_coding, text_coding}
-use Rattle.bufr_tables.specs.declared.table_b.Kind.TheVariants as kind
 use Rattle.bufr_walk.specs.declared.spec.Role.TheVariants as role
 use Rattle.bufr_walk.specs.declared.spec.Taken.TheVariants as taken
 

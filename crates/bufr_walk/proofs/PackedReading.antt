@@ -23,7 +23,8 @@ use Rattle.bufr_walk.specs.declared.walker.WalkStop.TheVariants as stops
 use Rattle.bufr_walk.specs.declared.fault.WalkFault.TheVariants as fault
 use Rattle.bufr_walk.specs.declared.reading.StoredItems.TheVariants as kept
 use Rattle.bufr_walk.proofs.WalkLemmas.{stop_cases}
-use Rattle.bufr_walk.specs.Pass.{DataPass, passes_together, stop_of, left_after, turns_in_all, reading_of, fault_of, RunsShort, ReadsData, AnswersReading, EndsPass, reading, place_at, read_field}
+use Rattle.bufr_walk.specs.Pass.{DataPass, passes_together, stop_of, left_after, turns_in_all, reading_of, fault_of, RunsShort, ReadsData, AnswersReading, EndsPass, reading, read_field}
+use Rattle.bufr_walk.specs.Readers.{place_at}
 use Rattle.bufr_walk.proofs.PassLemmas.{together_read, together_stops, together_begins}
 
 -- compressed data were read, and each item is kept

@@ -2,12 +2,13 @@
 use Rattle.std.proofs.lemmas.Bool.{ltb-false, le-ltb}
 use Rattle.bufr_bits.specs.Prelude.{number_of}
 use Rattle.bufr_walk.proofs.PackedLemmas.{item_parts, neither}
-use Rattle.std.proofs.Common.{◌≡◌, ℕ, zero, suc, ◌+◌, ◌-◌, ◌<◌, ◌≤◌, Bool, true, false, List, [], ◌∷◌, ◌++◌, length, Option, Some, None, Result, Ok, Err, ◌==◌, ◌||◌, ◌*◌, nat_lt, take, refl, sym, ◌∙◌, ap, subst, arith, drop, length-drop, if◌then◌else◌}
+use Rattle.std.proofs.Common.{◌≡◌, ℕ, zero, suc, ◌+◌, ◌-◌, ◌<◌, ◌≤◌, Bool, true, false, List, [], ◌∷◌, ◌++◌, length, Option, Some, None, Result, Ok, Err, ◌||◌, ◌*◌, nat_lt, take, refl, sym, ◌∙◌, ap, subst, arith, drop, length-drop, if◌then◌else◌}
 use Rattle.bufr_tables.specs.Prelude.{Row, Tree, IsLegal, Record, AreRows}
 use Rattle.bufr_walk.specs.Prelude.{packed_field, step_of, coding_of, contents_across, FieldSpec, Content, FieldFault, FieldRead, found, Course, Next, take_next, at_end, astray, refused, next_item, Item, DataCoding, plain, packed, item_answer, after, ReadsItems, ReadsPass, next_after, turns_after, ReadsSubsets, IsPackedReading, Data, Values, apart, together, IsReading, Stop, would_be_many, max_values, wrong_of, stop_by}
 use Rattle.bufr_walk.specs.declared.walker.WalkStop.TheVariants as stops
 use Rattle.bufr_walk.specs.declared.fault.DataFault.TheVariants as wrong
-use Rattle.bufr_walk.specs.Pass.{Step, Pass, last_turn, item_then, pass_field, pass_next, pass, Place, place_at, read_field, reading, read_pass, DataPass, passes_apart, passes_together, stop_of, left_after, turns_in_all, DataReading, reading_in, reading_of, items_by_pass, first_items, EndsPass, ReadsTo}
+use Rattle.bufr_walk.specs.Pass.{Step, Pass, last_turn, item_then, pass_field, pass_next, pass, Place, read_field, reading, read_pass, DataPass, passes_apart, passes_together, stop_of, left_after, turns_in_all, DataReading, reading_in, reading_of, EndsPass, ReadsTo}
+use Rattle.bufr_walk.specs.Readers.{place_at, items_by_pass, first_items}
 use Rattle.std.proofs.lemmas.Grind.{common_steps}
 use Rattle.std.proofs.lemmas.List.{drop-drop}
 use Rattle.bufr_walk.proofs.CourseLemmas.{IsSane, Forth, plain_forth, packed_forth, rows_within, template_sane}

@@ -10,7 +10,8 @@ use Rattle.bufr_tables.specs.Prelude.{is_character}
 use Rattle.std.proofs.Common.{◌&&◌}
 use Rattle.bufr_walk.specs.Prelude.{number}
 use Rattle.bufr_walk.specs.Prelude.{turns_in, items_in, Stop, plain, WalkFault, Kind, Taken, Role, is_reference, FieldSpec, IsSpec, HasRole, HasWidth, answer_of, answer_by_role, content_in, signed_by, plain_field, found, data_end, octets_in, Content, Cursor, rest_of, past, IsTaken, fault_at, PlainTakes, WalkStop, Course, Next, take_next, at_end, refused, next_item, TakenField, Takes, ticked, oks, answers_of, Walked, data_in, data_of, read_by, Read, course_of, Item, ReadsItems, next_after, turns_after, after, apart, together, Values, IsReading, KeepsValues, ReadsSubsets, max_values, IsStoredReading, IsReadAndPaid, TurnRefusal, stop_by, said, coding_by, coding_of, numbers, texts, missing, text, reference, count_in, reference_in}
-use Rattle.bufr_walk.specs.Pass.{DataPass, passes_apart, stop_of, left_after, turns_in_all, items_by_pass, values_read, ReadsData, AnswersReading, EndsPass, read_field, reading, place_at}
+use Rattle.bufr_walk.specs.Pass.{DataPass, passes_apart, stop_of, left_after, turns_in_all, values_read, ReadsData, AnswersReading, EndsPass, read_field, reading}
+use Rattle.bufr_walk.specs.Readers.{items_by_pass, place_at}
 use Rattle.bufr_walk.specs.declared.fault.DataFault.{DataFault}
 use Rattle.bufr_walk.specs.declared.fault.DataFault.TheVariants as wrong
 use Rattle.bufr_frame.specs.Prelude.{Sections}

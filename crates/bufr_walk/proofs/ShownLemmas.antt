@@ -19,7 +19,8 @@ use Rattle.bufr_walk.specs.declared.fault.DataFault.TheVariants as wrong
 use Rattle.bufr_walk.specs.declared.spec.Taken.TheVariants as taken
 use Rattle.bufr_walk.proofs.WalkLemmas.{stop_cases}
 use Rattle.std.proofs.lemmas.List.{map-append, append-nil, length-map}
-use Rattle.bufr_walk.specs.Pass.{DataPass, read_pass, passes_apart, stop_of, left_after, turns_in_all, items_by_pass, values_read, calls_of, turns_shown, ReadsData, ReadsTo, place_at, EndsPass, reading}
+use Rattle.bufr_walk.specs.Pass.{DataPass, read_pass, passes_apart, stop_of, left_after, turns_in_all, values_read, calls_of, turns_shown, ReadsData, ReadsTo, EndsPass, reading}
+use Rattle.bufr_walk.specs.Readers.{items_by_pass, place_at}
 use Rattle.bufr_walk.proofs.PassLemmas.{passed, pass_is, pass_prefix, ended}
 use Rattle.bufr_walk.specs.declared.reading.StoredItems.TheVariants as kept
 use Rattle.std.specs.Prelude.{is_none, is_some}

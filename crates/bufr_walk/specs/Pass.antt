@@ -2,7 +2,7 @@
 -- reading of data in such passes. (WMO-No. 306, Volume I.2, FM 94: sections 3 and 4; the order of
 -- the faults at one item is our choice)
 -- Cited by public contracts.
-use Rattle.std.specs.Prelude.{ℕ, zero, suc, ◌+◌, ◌-◌, Bool, true, false, List, [], ◌∷◌, length, Result, Ok, Err, Option, Some, None, option_map, map, if◌then◌else◌, ◌≡◌, ◌<◌, ◌++◌, ◌%◌, ◌⊎◌, ◌==◌, is_none, is_some}
+use Rattle.std.specs.Prelude.{ℕ, zero, suc, ◌+◌, ◌-◌, Bool, true, false, List, [], ◌∷◌, length, Result, Ok, Err, Option, Some, None, option_map, map, get_or, if◌then◌else◌, ◌≡◌, ◌<◌, ◌++◌, ◌%◌, ◌⊎◌, ◌==◌, is_none, is_some}
 use Rattle.bufr_walk.specs.Content.{Taken, FieldSpec, Content, FieldFault, FieldRead}
 use Rattle.bufr_walk.specs.Rules.{TurnRefusal}
 use Rattle.bufr_walk.specs.Course.{stop_by, Course, Next, take_next, at_end, astray, refused, ticked, next_item}
@@ -90,10 +90,6 @@ pub record Place : Type 0 where
   pub items : ℕ
   pub left : List Bool
 
--- a place after this number of items, with these bits left
-abbrev pub place_at : ℕ → List Bool → Place
-place_at items left = record { items = items; left = left }
-
 -- the step at a field: the item that was read, or the fault of its field
 abbrev pub read_field : {C : Type 0} → DataCoding C → FieldSpec → (items : ℕ)
     → Result (FieldRead C) FieldFault → Result (Step Place C) Stop
@@ -101,7 +97,7 @@ read_field form spec items (Err why) = Err (stops.Field (wrong_of spec.fxy why))
 read_field form spec items (Ok f) = Ok (record {
   content = f.content;
   returned = form.gives spec f.content;
-  state = place_at (items + 1) f.suffix;
+  state = record { items = items + 1; left = f.suffix };
 })
 
 -- How data are read. At one item, faults come in this order: the walk refuses it (32, 31), there
@@ -121,7 +117,7 @@ reading form many = record {
 abbrev pub read_pass : {C : Type 0} → DataCoding C → (many : ℕ → Bool) → Course → List Bool
     → Pass Place C Stop
 read_pass form many course bits =
-    pass (reading form many) (suc (length bits)) course (place_at 0 bits)
+    pass (reading form many) (suc (length bits)) course (record { items = 0; left = bits })
 
 -- ---- The reading of data: a pass for each subset, or one for all where they are compressed.
 
@@ -169,21 +165,11 @@ pub record DataReading : Type 0 where
   pub left : List Bool
   pub turns : ℕ
 
--- the items of each pass
-abbrev pub items_by_pass : {C : Type 0} → List (DataPass C) → List (List (Item C))
-items_by_pass passes = map (λ p. p.items) passes
-
--- the items of the only pass over compressed data; none if there are no subsets
-abbrev pub first_items : {C : Type 0} → List (List (Item C)) → List (Item C)
-first_items [] = []
-first_items (items ∷ more) = items
-
--- the reading that consists of these passes over bits; `form` makes its values from the items of
--- each pass
-abbrev pub reading_by : {C : Type 0} → (List (List (Item C)) → Values) → (subset : ℕ) → List Bool
-    → List (DataPass C) → DataReading
-reading_by form subset bits passes = record {
-  values = form (items_by_pass passes);
+-- the reading that has these values and consists of these passes over bits
+abbrev pub reading_by : {C : Type 0} → Values → (subset : ℕ) → List Bool → List (DataPass C)
+    → DataReading
+reading_by values subset bits passes = record {
+  values = values;
   stop = stop_of passes;
   subset = subset;
   left = left_after bits passes;
@@ -191,12 +177,14 @@ reading_by form subset bits passes = record {
 }
 
 -- The reading of data by a course. In plain data, the last pass is the one that stopped, if any, so
--- its number is that of the subset.
+-- its number is that of the subset. Compressed data have one pass, or none if there are no subsets.
 abbrev pub reading_in : Course → (compressed : Bool) → (subsets : ℕ) → List Bool → DataReading
 reading_in course false n bits =
-    let passes = passes_apart course n bits in reading_by apart (length passes) bits passes
+    let passes = passes_apart course n bits in
+    reading_by (apart (map (λ p. p.items) passes)) (length passes) bits passes
 reading_in course true n bits =
-    reading_by (λ items. together (first_items items)) 0 bits (passes_together course n bits)
+    let passes = passes_together course n bits in
+    reading_by (together (get_or (map (λ p. p.items) passes) 0 [])) 0 bits passes
 
 -- the reading of data by a course
 abbrev pub reading_of : Course → Data → DataReading

@@ -1,16 +1,16 @@
 -- Only contracts need this file. The readers of data, compressed or not: one pass over them, fields
 -- shown at once, an item as the code reads it, and what a reading keeps.
-use Rattle.std.specs.Prelude.{ℕ, ◌≡◌, ◌≤◌, ◌+◌, Bool, List, drop, Result, Ok, Err, ◌++◌, ◌<◌, ◌*◌, ◌%◌, ◌==◌, ◌&&◌, ◌||◌, true, false, [], ◌∷◌, length, take, ◌/◌, ◌-◌, map, get_or, is_some}
-use Rattle.bufr_walk.specs.Content.{Taken, Coding, step_of, increments, increased, FieldSpec, Content, answer_of, plain_field, found, data_end, FieldFault, FieldRead, packed_field, answer_first}
-use Rattle.bufr_walk.specs.Reading.{wrong_of, Item, plain, turns_after, ReadsPass, Read, course_of, max_values, items_at_once, Data, Values, apart, together, IsReading, ShowFault, Call, item_call, view_of, Timed, item_calls, Shows, content_at, PackedValues}
-use Rattle.bufr_walk.specs.Pass.{reading_of, values_read}
+use Rattle.std.specs.Prelude.{ℕ, ◌≡◌, ◌≤◌, ◌+◌, Bool, List, drop, Result, Ok, Err, ◌++◌, ◌<◌, ◌*◌, ◌%◌, ◌==◌, ◌&&◌, ◌||◌, true, false, [], ◌∷◌, length, take, ◌/◌, ◌-◌, map, get_or, is_some, Option}
+use Rattle.bufr_walk.specs.Content.{Taken, missing, ShownValue, Coding, step_of, increments, increased, FieldSpec, Content, answer_of, plain_field, found, data_end, FieldFault, FieldRead, packed_field, answer_first}
+use Rattle.bufr_walk.specs.Reading.{wrong_of, Item, plain, turns_after, ReadsPass, Read, course_of, max_values, items_at_once, Data, Values, apart, together, IsReading, ShowFault, Call, item_call, view_of, Timed, item_calls, Shows, View, PackedValues}
+use Rattle.bufr_walk.specs.Pass.{DataPass, Place, reading_of, values_read}
 use Rattle.bufr_walk.specs.Course.{Course, ticked}
 use Rattle.std.proofs.Common.{ap}
-use Rattle.bufr_tables.specs.Prelude.{Row, is_character}
+use Rattle.bufr_tables.specs.Prelude.{Row, Tree, is_character}
 use Rattle.bufr_walk.specs.declared.plain.ShowStop.{ShowStop}
 use Rattle.bufr_walk.specs.declared.plain.ShowStop.TheVariants as show_stop
 use Rattle.std.specs.List.{list_all, All}
-use Rattle.bufr_bits.specs.Prelude.{number_of}
+use Rattle.bufr_bits.specs.Prelude.{bits_of, number_of}
 pub use Rattle.bufr_walk.specs.declared.item_index.IndexedItem.{IndexedItem}
 use Rattle.bufr_walk.specs.declared.fault.DataFault.{DataFault}
 use Rattle.bufr_walk.specs.declared.fault.DataFault.TheVariants as wrong
@@ -19,6 +19,33 @@ use Rattle.bufr_walk.specs.declared.reading.StoredItems.{StoredItems}
 use Rattle.bufr_walk.specs.Rules.{unsigned_field}
 use Rattle.bufr_walk.specs.declared.item_index.ItemLocation.{ItemLocation}
 use Rattle.bufr_walk.specs.declared.reading.StoredItems.TheVariants as stored
+
+-- data, a reading, a view and a place from their parts
+abbrev pub data_in : (compressed : Bool) → (subsets : ℕ) → (octets : List ℕ) → Data
+data_in compressed subsets octets =
+    record { compressed = compressed; subsets = subsets; bits = bits_of octets }
+
+abbrev pub read_by : List Row → Tree → Data → (bits held : ℕ) → Read
+read_by table template source bits held =
+    record { table = table; template = template; source = source; bits = bits; held = held }
+
+abbrev pub view : (fxy : ℕ) → Option Row → ShownValue → View
+view fxy entry value = record { fxy = fxy; entry = entry; value = value }
+
+abbrev pub place_at : ℕ → List Bool → Place
+place_at items left = record { items = items; left = left }
+
+-- the content of one subset, counted from 0
+abbrev pub content_at : (subset : ℕ) → List Content → Content
+content_at j contents = get_or contents j missing
+
+-- the items of each pass
+abbrev pub items_by_pass : {C : Type 0} → List (DataPass C) → List (List (Item C))
+items_by_pass passes = map (λ p. p.items) passes
+
+-- the items of the one pass for all; none where there is no pass
+abbrev pub first_items : {C : Type 0} → List (List (Item C)) → List (Item C)
+first_items passes = get_or passes 0 []
 
 -- the bits, and how many of them were read
 pub record Cursor : Type 0 where
@@ -334,10 +361,13 @@ pub record IsPut (specs : List FieldSpec) (spec : FieldSpec) (place : ℕ)
   pub few : length more ≤ 1
   pub fits : HasSpecAt specs' place spec
 
--- each location has its field; the items have room until it is made again, and a field with each
+-- each location has its field; the items have room until it is made again, and a field with each;
+-- the room is at most that for twice what is kept and 64 more
 pub record IsKeptBy (specs : List FieldSpec) (places : List ItemLocation)
     (room_specs room_places : ℕ) : Type 0 where
   pub have : All (λ p. p.spec < length specs) places
   pub few : length specs ≤ length places
   pub has_room : room_for (length places) ≤ room_places
   pub has_room_for_specs : length specs + room_left (length places) ≤ room_specs
+  pub most_places : room_places ≤ 2 * length places + items_at_once
+  pub most_specs : room_specs ≤ 2 * length specs + items_at_once

@@ -1,7 +1,7 @@
 -- The data of a message: their items, and why they cannot be read. (WMO-No. 306, Volume I.2, FM 94:
 -- sections 3 and 4)
 -- Cited by public contracts.
-use Rattle.std.specs.Prelude.{ℕ, zero, suc, ◌≡◌, ◌+◌, ◌*◌, ◌≤◌, Bool, true, false, List, [], ◌∷◌, length, drop, take, ◌<◌, Result, Ok, ◌⊎◌, nat_lt, Option, None, Err, codes, decimal, if◌then◌else◌, ◌++◌, option_map}
+use Rattle.std.specs.Prelude.{ℕ, zero, suc, ◌≡◌, ◌+◌, ◌*◌, ◌≤◌, Bool, true, false, List, [], ◌∷◌, length, drop, take, ◌<◌, Result, Ok, ◌⊎◌, nat_lt, Option, None, Err, codes, decimal, if◌then◌else◌, ◌++◌, option_map, map, get_or}
 use Rattle.bufr_walk.specs.Content.{Taken, FieldSpec, Content, answer_of, FieldFault, FieldRead, found, plain_field, data_end, increment, unequal_factor, packed_field, answer_first, ShownValue, shown, missing, shown_number, shown_text, shown_missing, shown_reference}
 use Rattle.bufr_walk.specs.Course.{Course, Next, take_next, at_end, next_item, ticked}
 use Rattle.bufr_walk.specs.declared.fault.DataFault.{DataFault}
@@ -123,18 +123,10 @@ pub data Values : Type 0 where
   apart : (subsets : List (List (Item Content))) → Values
   together : (items : List (Item (List Content))) → Values
 
--- the content of one subset, from 0; each list has one for each subset, so the first equation is
--- never used
-abbrev pub content_at : (subset : ℕ) → List Content → Content
-content_at j [] = missing
-content_at zero (c ∷ cs) = c
-content_at (suc j) (c ∷ cs) = content_at j cs
-
--- the items of one subset of compressed data
+-- the items of one subset of compressed data, from 0; each item has a content for each subset
 abbrev pub items_of_subset : (subset : ℕ) → List (Item (List Content)) → List (Item Content)
-items_of_subset j [] = []
-items_of_subset j (i ∷ items) =
-    record { spec = i.spec; content = content_at j i.content } ∷ items_of_subset j items
+items_of_subset j items =
+    map (λ i. record { spec = i.spec; content = get_or i.content j missing }) items
 
 -- the items of the next `left` subsets of compressed data, the first of which is `subset`, from 0
 abbrev pub subsets_from : (left subset : ℕ) → List (Item (List Content))
@@ -228,14 +220,9 @@ data_report fault.Memory = (73, [])
 
 -- ---- What the reading of a message returns.
 
--- the data in octets
-abbrev pub data_in : (compressed : Bool) → (subsets : ℕ) → (octets : List ℕ) → Data
-data_in compressed subsets octets =
-    record { compressed = compressed; subsets = subsets; bits = bits_of octets }
-
 -- the data of a message
 abbrev pub data_of : Sections → Data
-data_of m = data_in m.compressed m.subsets m.payload
+data_of m = record { compressed = m.compressed; subsets = m.subsets; bits = bits_of m.payload }
 
 -- a reading as its users see it: what was read, how many bits it took, and how many items it keeps
 pub record Read : Type 0 where
@@ -244,11 +231,6 @@ pub record Read : Type 0 where
   pub source : Data
   pub bits : ℕ
   pub held : ℕ
-
--- a reading from its parts
-abbrev pub read_by : List Row → Tree → Data → (bits held : ℕ) → Read
-read_by table template source bits held =
-    record { table = table; template = template; source = source; bits = bits; held = held }
 
 -- what comes next in its template
 abbrev pub course_of : Read → Course
@@ -268,14 +250,14 @@ pub data Call : Type 0 where
   subset_call : (number : ℕ) → Call
   item_call : (item : View) → Call
 
--- a view of these parts
-abbrev pub view : (fxy : ℕ) → Option Row → ShownValue → View
-view fxy entry value = record { fxy = fxy; entry = entry; value = value }
-
 -- an item as it is shown
 abbrev pub view_of : List Row → FieldSpec → Content → View
 view_of table spec c =
-    view spec.fxy (if spec.listed then entry_of table spec.fxy else None) (shown spec c)
+    record {
+      fxy = spec.fxy;
+      entry = if spec.listed then entry_of table spec.fxy else None;
+      value = shown spec c;
+    }
 
 -- a call, and how many turns the walk makes before it
 pub record Timed : Type 0 where
@@ -394,4 +376,9 @@ seen_value (item_value.Reference r) = shown_reference r
 
 -- the model of the view of an item
 abbrev pub seen : ItemView → View
-seen v = view v.fxy (option_map row_of_entry v.entry) (seen_value v.value)
+seen v =
+    record {
+      fxy = v.fxy;
+      entry = option_map row_of_entry v.entry;
+      value = seen_value v.value;
+    }

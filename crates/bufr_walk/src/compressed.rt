@@ -2,7 +2,7 @@
 ghost use Rattle.std.specs.Prelude.{unwrap_or, option_map, ◌≡◌, ◌≤◌, ◌<◌, ◌+◌, ◌*◌, ◌^◌, false, true, length, IfSome, ◌-◌, ◌/◌, ◌++◌, drop, MatchResult, IfOk, ◌==◌, ◌&&◌, ◌||◌, not, nat_lt, take, get_or, replicate};
 ghost use Rattle.bufr_bits.specs.Prelude.{bits_at, number_of, bits_of, octets_of};
 ghost use Rattle.bufr_tables.specs.Prelude.{is_character};
-ghost use Rattle.bufr_walk.specs.Prelude.{ones, numbers, coding_of, step_of, increments, are_valid, IsSeen, IsUnseen, call_kept, content_kept, items_at, fits_at, IsFor, is_reference, missing, number, shown, seen_value, Shows, IndexedItem, new_packed_in, PackedTakes, refuses_packed, IsSameInAll, range_calls, packed_calls};
+ghost use Rattle.bufr_walk.specs.Prelude.{ones, numbers, coding_of, step_of, increments, are_valid, IsSeen, IsUnseen, call_kept, content_kept, fits_at, IsFor, is_reference, missing, number, shown, seen_value, Shows, IndexedItem, new_packed_in, PackedTakes, refuses_packed, IsSameInAll, range_calls, packed_calls};
 ghost use Rattle.std.specs.List.{list_all};
 ghost use Rattle.std.proofs.Common.{arith, ap};
 

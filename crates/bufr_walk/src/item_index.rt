@@ -1,6 +1,6 @@
 //! The index of the items of compressed data, and the specifications that they were read by.
 ghost use Rattle.bufr_walk.specs.declared.fault.DataFault.TheVariants as wrong;
-ghost use Rattle.std.specs.Prelude.{◌≡◌, ◌≤◌, ◌<◌, ◌+◌, ◌%◌, ◌^◌, ◌++◌, ◌∷◌, [], length, vec_len, vec_capacity, IfErr, OnOk, OnErr, get_or};
+ghost use Rattle.std.specs.Prelude.{◌≡◌, ◌≤◌, ◌<◌, ◌+◌, ◌*◌, max, ◌%◌, ◌^◌, ◌++◌, ◌∷◌, [], length, vec_len, vec_capacity, IfErr, OnOk, OnErr, get_or};
 ghost use Rattle.bufr_walk.specs.Prelude.{IsPut, room_for, room_left, items_at_once};
 
 use crate::fault::DataFault;
@@ -30,6 +30,26 @@ pub(crate) struct ItemLocation {
     step: u8,
 }
 
+/// Makes room for 64 more items. If there is less, the room about doubles.
+#[inline(always)]
+fn reserve<T>(items: &mut Vec<T>) -> Result<(), DataFault>
+    ensures same { items.new.items ≡ items.old.items }
+    ensures len { vec_len items.new ≡ vec_len items.old }
+    ensures room { OnOk result (vec_len items.old + items_at_once ≤ vec_capacity items.new) }
+    ensures least { vec_capacity items.old ≤ vec_capacity items.new }
+    ensures most { vec_capacity items.new
+        ≤ max (vec_capacity items.old) (2 * vec_len items.old + items_at_once) }
+    ensures fault { IfErr result (λ e. e ≡ wrong.Memory) }
+{
+    let len = items.len();
+    let full = items.capacity() - len < ITEMS_AT_ONCE;
+    let more = len.max(ITEMS_AT_ONCE);
+    match items.reserve_exact(if full { more } else { ITEMS_AT_ONCE }) {
+        Ok(()) => Ok(()),
+        Err(_) => Err(DataFault::Memory),
+    }
+}
+
 /// Makes room for one more item and one more field, by 64 at once.
 #[inline(always)]
 fn make_room(locations: &mut Vec<ItemLocation>, specs: &mut Vec<Spec>) -> Result<(), DataFault>
@@ -45,20 +65,18 @@ fn make_room(locations: &mut Vec<ItemLocation>, specs: &mut Vec<Spec>) -> Result
     ensures least_locations { room_for (vec_len locations.old) ≤ vec_capacity locations.new }
     ensures least_specs { vec_len specs.old + room_left (vec_len locations.old)
         ≤ vec_capacity specs.new }
+    ensures most_locations { vec_capacity locations.new
+        ≤ max (vec_capacity locations.old) (2 * vec_len locations.old + items_at_once) }
+    ensures most_specs { vec_capacity specs.new
+        ≤ max (vec_capacity specs.old) (2 * vec_len specs.old + items_at_once) }
     ensures fault { IfErr result (λ e. e ≡ wrong.Memory) }
     ensures full { OnErr result (vec_len locations.old % items_at_once ≡ 0) }
 {
     if locations.len() % ITEMS_AT_ONCE != 0 {
         return Ok(());
     }
-    match locations.reserve(ITEMS_AT_ONCE) {
-        Ok(()) => {}
-        Err(_) => return Err(DataFault::Memory),
-    }
-    match specs.reserve(ITEMS_AT_ONCE) {
-        Ok(()) => Ok(()),
-        Err(_) => Err(DataFault::Memory),
-    }
+    reserve(locations)?;
+    reserve(specs)
 }
 
 /// The index of a field among others: the guess, if it is there, else that after all others.
@@ -67,7 +85,7 @@ fn index_of(specs: &mut Vec<Spec>, guess: u32, spec: &Spec) -> u32
     requires few { vec_len specs.old < 2 ^ 32 }
     requires room { vec_len specs.old + 1 ≤ vec_capacity specs.old }
     ensures put { IsPut specs.old.items spec.now result specs.new.items }
-    ensures room { vec_capacity specs.old ≤ vec_capacity specs.new }
+    ensures room { vec_capacity specs.new ≡ vec_capacity specs.old }
 {
     let known = specs.as_slice();
     if (guess as usize) < known.len() {
@@ -77,10 +95,7 @@ fn index_of(specs: &mut Vec<Spec>, guess: u32, spec: &Spec) -> u32
         }
     }
     let index = specs.len() as u32;
-    match specs.push(*spec) {
-        Ok(()) => {}
-        Err(_) => unreachable!(),
-    }
+    specs.push_reserved(*spec);
     index
 }
 
@@ -157,9 +172,7 @@ impl ItemIndex {
             spec,
             step: item.step,
         };
-        match self.locations.push(location) {
-            Ok(()) => Ok(spec),
-            Err(_) => unreachable!(),
-        }
+        self.locations.push_reserved(location);
+        Ok(spec)
     }
 }

@@ -6,7 +6,7 @@ ghost use Rattle.bufr_tables.specs.Expansion.{IsKnown};
 ghost use Rattle.bufr_walk.specs.KnownRows.{HasRows};
 ghost use Rattle.bufr_walk.specs.Course.{turns_of, counts_of};
 ghost use Rattle.bufr_walk.specs.Rules.{begin};
-ghost use Rattle.bufr_walk.specs.Prelude.{next_item, Data, Values, IsReading, Taken, FieldSpec, AreWithin, IsField, take_next, reading_of, read_pass, place_at, ReadsTo, plain, packed, would_be_many};
+ghost use Rattle.bufr_walk.specs.Prelude.{next_item, Data, Values, IsReading, Taken, FieldSpec, AreWithin, IsField, take_next, reading_of, read_pass, ReadsTo, plain, packed, would_be_many};
 
 /// Law: for each template of legal nodes and each Table B, a pass over any bits reads item by item.
 /// Each item is what comes next, and is read where the item before it ended. Finally the template
@@ -17,11 +17,13 @@ ghost use Rattle.bufr_walk.specs.Prelude.{next_item, Data, Values, IsReading, Ta
 pub fn data_are_read_item_by_item()
     ensures plain { (records : List Record) (table : List Row) (template : Tree) (bits : List Bool)
         → AreRows records table → IsLegal template
-        → ReadsTo plain (λ items. false) (next_item table template) (place_at 0 bits)
+        → ReadsTo plain (λ items. false) (next_item table template)
+        (record { items = 0; left = bits })
         (read_pass plain (λ items. false) (next_item table template) bits) }
     ensures packed { (records : List Record) (table : List Row) (template : Tree) (n : ℕ)
         (bits : List Bool) → AreRows records table → IsLegal template → 1 ≤ n
-        → ReadsTo (packed n) (would_be_many n) (next_item table template) (place_at 0 bits)
+        → ReadsTo (packed n) (would_be_many n) (next_item table template)
+        (record { items = 0; left = bits })
         (read_pass (packed n) (would_be_many n) (next_item table template) bits) }
     ensures read { (records : List Record) (table : List Row) (template : Tree) (d : Data)
         → AreRows records table → IsLegal template

@@ -1,6 +1,5 @@
 //! The operators in force, and the specification of a field under them.
 ghost use Rattle.std.specs.Prelude.{ℕ, ◌≡◌, ◌≤◌, ◌<◌, ◌*◌, ◌+◌, ◌^◌, ◌+ℤ◌, ◌*ℤ◌, ◌==◌, pos, unsigned_abs, List, Result, Ok, Err, Some, OnOk, IfOk, IfErr, true, false};
-ghost use Rattle.std.specs.BTreeMap.{get};
 ghost use Rattle.bufr_tables.specs.Prelude.{row_of_entry, is_legal_operator, is_inserted_text, IsRow};
 ghost use Rattle.bufr_walk.specs.Prelude.{if_valid_width, spec_by_kind, unsigned_field, scale_change_of, operator_width, OperatorModel, Redefined, current_reference, AreOperands, known_by, operator_model, IsOperatorKey, HasRole, descriptor_of, inserted_spec, begin, after_operator, after_field, IsFieldKey, spec_of, is_reference, TakesField};
 ghost use Rattle.bufr_tables.specs.declared.table_b.Kind.TheVariants as kinds;

@@ -2,10 +2,9 @@
 ghost use Rattle.std.specs.Prelude.{◌≡◌, ◌≤◌, ◌<◌, ◌+◌, ◌-◌, ◌*◌, ◌^◌, length, take, drop, if◌then◌else◌, ◌==◌, pos, neg_ℤ, false, List, IfOk, IfErr, ◌/◌, Bool, Result, Some, Ok, Err, MatchResult};
 ghost use Rattle.bufr_bits.specs.Prelude.{number_of, bits_at, bits_of, are_all_ones, octets_of};
 ghost use Rattle.bufr_walk.specs.Prelude.{IsFor, answer_of, content_in, signed_by, octets_in, Content, shown, next_item, bits_before, data_in, ReadsData, Item, plain, ReadsPass, ReadsSubsets, turns_in, IsReadAndPaid, rest_of, ItemsGo, item_call, view_of, subset_calls, seen_value, Shows, PlainTakes, past, shown_missing};
-ghost use Rattle.bufr_walk.specs.Reading.{view};
 ghost use Rattle.bufr_tables.specs.Prelude.{places, row_of_entry};
 ghost use Rattle.std.proofs.Common.{arith, ap};
-ghost use Rattle.bufr_walk.specs.Readers.{ShowingTakes, refusal_keeps, stage};
+ghost use Rattle.bufr_walk.specs.Readers.{ShowingTakes, refusal_keeps, stage, view};
 
 use crate::fault::{DataFault, ShowFault, WalkFault, fault_at};
 use crate::spec::{Role, Spec, Taken};

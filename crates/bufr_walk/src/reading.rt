@@ -1,7 +1,7 @@
 //! The reading of a message's data.
 ghost use Rattle.std.specs.Prelude.{◌≡◌, ◌≤◌, ◌+◌, ◌*◌, length, IfOk, IfErr, IfSome, is_some, false};
 ghost use Rattle.bufr_tables.specs.Prelude.{places};
-ghost use Rattle.bufr_walk.specs.Prelude.{next_item, bits_before, data_of, AnswersReading, calls_of, turns_shown, items_called, Shows, values_read, items_kept, max_values, IsPackedOf};
+ghost use Rattle.bufr_walk.specs.Prelude.{bits_before, data_of, AnswersReading, calls_of, turns_shown, items_called, Shows, values_read, items_kept, max_values, IsPackedOf};
 
 use crate::compressed::{PackedData, PackedIn, PackedItems};
 use crate::fault::{ShowFault, WalkFault, fault_at};
@@ -40,7 +40,8 @@ impl<'a> Model for Reading<'a> {
     ghost use Rattle.std.specs.Coded.{codes};
     ghost use Rattle.bufr_bits.specs.Prelude.{octets_of};
     ghost use Rattle.bufr_tables.specs.Prelude.{tree_code};
-    ghost use Rattle.bufr_walk.specs.Reading.{data_in, read_by, Read};
+    ghost use Rattle.bufr_walk.specs.Reading.{Read};
+    ghost use Rattle.bufr_walk.specs.Readers.{data_in, read_by};
 
     ghost Value = { Read };
 

@@ -1,4 +1,4 @@
-use Rattle.std.proofs.Common.{◌≡◌, ◌≤◌, ◌-◌, ◌*◌, length}
+use Rattle.std.proofs.Common.{◌≡◌, ◌≤◌, ◌-◌, ◌*◌, ◌+◌, max, length, vec_capacity}
 use Rattle.bufr_bits.specs.Prelude.{counted}
 use Rattle.bufr_frame.specs.Prelude.{AddsReads, max_reads}
 use Rattle.bufr_frame.proofs.FinderLemmas.{ReadSoFar}
@@ -12,6 +12,7 @@ invariant-loop-reads g l = record {
   counts : AddsReads (g.R.Source.reads l.fn.r) (g.R.Source.reads l.r) l.fn.reads l.reads;
   each : l.reads - l.fn.reads ≤ length l.octets.items - length l.fn.octets.items;
   asked : g.R.Source.asked l.r ≡ counted (g.R.Source.asked l.fn.r) (65536 * (l.reads - l.fn.reads));
+  capacity : vec_capacity l.octets ≤ max (vec_capacity l.fn.octets) (2 * length l.octets.items + 65536);
 }
 
 abbrev pub decreases-loop-reads : goal.decreases-loop-reads

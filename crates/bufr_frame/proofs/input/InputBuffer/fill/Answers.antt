@@ -4,7 +4,7 @@ use Rattle.std.proofs.lemmas.Result.{err_from_is_err_and}
 use Rattle.std.proofs.lemmas.Bool.{true≢false, eqb-true}
 use Rattle.bufr_bits.specs.Prelude.{counted}
 use Rattle.bufr_frame.specs.Prelude.{max_reads}
-use Rattle.bufr_frame.proofs.FinderLemmas.{part-append, part-length, empty-of, asks-once, asks-none}
+use Rattle.bufr_frame.proofs.FinderLemmas.{part-append, part-length, empty-of, asks-once, asks-none, slides-once, slides-none}
 use Rattle.bufr_frame.proofs.input.InputBuffer.fill.Goals as goal
 
 pub returns-in_err-slid-clause-fills : goal.returns-in_err-slid-clause-fills
@@ -108,3 +108,23 @@ returns-clause-asked g c =
     c.read_after.ensures.asked
     ∙ ap (counted (g.R.Source.asked c.args.r.now)) (asks-once c.args.most _ _ _ _ _ filled c.len.result n _ (ap (λ s. s.reads) c.self.view_is)
     (held ∙ omega (arith, long, free.0, free.1, c.self.invariant)) (omega (arith, fits, len)) c.min-to.ensures)
+
+pub returns-then-self-eq-MAX_READS-clause-slides : goal.returns-then-self-eq-MAX_READS-clause-slides
+returns-then-self-eq-MAX_READS-clause-slides g c = slides-none c.args.self.now.reads _ _ _ _ refl refl
+
+pub returns-in_err-slid-clause-slides : goal.returns-in_err-slid-clause-slides
+returns-in_err-slid-clause-slides g c = slides-none c.args.self.now.reads _ _ _ _ (ap (λ s. s.reads) c.self.view_is) (ap (λ s. s.gap) c.self.view_is)
+
+pub returns-in_err-n-clause-slides : goal.returns-in_err-n-clause-slides
+returns-in_err-n-clause-slides g c =
+    let v = c.self.inside in
+    let long : length c.args.self.now.held ≡ v.filled - v.start = sym (ap (λ s. length s.held) c.self.view_is)
+    ∙ part-length v.octets.items v.start v.filled (omega (arith, c.self.invariant, v.octets.ok.0)) in
+    slides-once c.args.self.now.reads _ _ _ _ _ _ (ap (λ s. s.reads + 1) c.self.view_is) long (sym (ap (λ s. s.gap) c.self.view_is)) c.in_ok-slid.ensures.slides
+
+pub returns-clause-slides : goal.returns-clause-slides
+returns-clause-slides g c =
+    let v = c.self.inside in
+    let long : length c.args.self.now.held ≡ v.filled - v.start = sym (ap (λ s. length s.held) c.self.view_is)
+    ∙ part-length v.octets.items v.start v.filled (omega (arith, c.self.invariant, v.octets.ok.0)) in
+    slides-once c.args.self.now.reads _ _ _ _ _ _ (ap (λ s. s.reads + 1) c.self.view_is) long (sym (ap (λ s. s.gap) c.self.view_is)) c.in_ok-slid.ensures.slides
