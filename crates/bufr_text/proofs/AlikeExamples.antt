@@ -36,11 +36,11 @@ none_gathered r text p is some = absurd (omega (arith, some))
 
 -- a writer of lines that holds a text
 abbrev holding : List ℕ → LineModel
-holding text = record { taken = Some []; failures = 0; empty_writes = 0; flushes = record { made = 0; failed = 0 }; held = text; status = Ok tt; sink = 0 }
+holding text = record { taken = Some []; failures = 0; empty_writes = 0; whole_writes = 0; flushes = record { made = 0; failed = 0 }; held = text; size = 0; status = Ok tt; sink = 0 }
 
 -- fails where an item that differs is pushed
 pushes_one : PushesAlike two_items 0 1 (holding []) (holding (codes "001001 MISSING\n"))
-pushes_one = record { order = omega arith; within = omega arith; pushes = holds_pushes refl refl refl refl refl refl refl; status = refl; alike = λ j below. same j below }
+pushes_one = record { order = omega arith; within = omega arith; pushes = holds_pushes refl refl refl refl refl refl refl refl refl; status = refl; alike = λ j below. same j below }
   where
     same : (j : ℕ) → j < 2 → lines_between two_items j 0 1 ≡ lines_between two_items 0 0 1
     same zero below = refl

@@ -1,5 +1,5 @@
 -- The lines that all subsets of compressed data have alike: made once, and pushed for each.
-use Rattle.std.proofs.Common.{◌≡◌, ◌≤◌, ◌<◌, ◌+◌, ◌-◌, ◌⊎◌, ℕ, zero, suc, List, [], ◌∷◌, ◌++◌, length, take, drop, Result, Ok, Err, Option, Some, inl, inr, refl, sym, ap, ◌∙◌, subst, arith, append_assoc, append-nil, length-append, length-take-le, get_or, add-one, Bool, true, if◌then◌else◌}
+use Rattle.std.proofs.Common.{◌≡◌, ◌≤◌, ◌<◌, ◌+◌, ◌*◌, ◌-◌, ◌⊎◌, ℕ, zero, suc, List, [], ◌∷◌, ◌++◌, length, take, drop, Result, Ok, Err, Option, Some, inl, inr, refl, sym, ap, ◌∙◌, subst, arith, append_assoc, append-nil, length-append, length-take-le, get_or, add-one, Bool, true, if◌then◌else◌}
 use Rattle.std.specs.Io.KnownBytes.{Appends}
 use Rattle.std.proofs.lemmas.List.{drop_all}
 use Rattle.std.proofs.Math.Seq.{drop-cons, drop-append_seam, take-append_seam}
@@ -10,7 +10,7 @@ use Rattle.bufr_walk.specs.declared.fault.ShowFault.TheVariants as show
 use Rattle.bufr_walk.specs.Prelude.{Content, Item, Timed, timed, item_call, content_at, PackedValues, IsPackedOf, Read, together, IsSameInAll, Shows, Sofar, item_calls, items_between, items_of_subset, range_calls, without_turns, view_of}
 use Rattle.bufr_walk.proofs.PackedShowing.{items_done, shows_before, sofar_all}
 use Rattle.bufr_walk.proofs.ShownLemmas.{sofar_self, sofar_then}
-use Rattle.bufr_text.specs.Prelude.{LineModel, MovesOn, MovesPrefix, Moves, Pushes, PushesFrom, PushesCall, item_text, item_lines, lines_between, PushesAlike, AreStretches}
+use Rattle.bufr_text.specs.Prelude.{LineModel, MovesOn, MovesPrefix, Moves, Pushes, PushesFrom, PushesCall, gathered_by, item_text, item_lines, lines_between, PushesAlike, AreStretches}
 use Rattle.bufr_text.specs.declared.alike.Stretch.{Stretch}
 use Rattle.bufr_text.proofs.PushLemmas.{◌⨾◌, calls-pushed, calls_text, holds_pushes, items-text, nothing_pushed, retold}
 
@@ -72,8 +72,10 @@ holding a text = record {
   taken = a.taken;
   failures = a.failures;
   empty_writes = a.empty_writes;
+  whole_writes = a.whole_writes;
   flushes = a.flushes;
   held = a.held ++ text;
+  size = a.size;
   status = a.status;
   sink = a.sink;
 }
@@ -94,9 +96,12 @@ prefix-of old new text held (Err f) is moves = absurd (let no : Err f ≡ Ok tt 
 -- a text that is pushed is pushed in parts
 pushed-after : {a b : LineModel} (s t : List ℕ) → a.status ≡ Ok tt → Pushes a (s ++ t) b → Pushes (holding a s) t b
 pushed-after {a = a} {b = b} s t ok pushes =
-    let from = moves-of a b (s ++ t) a.status ok pushes.from in
+    let from = moves-of a b (s ++ t) a.status ok pushes.somehow.from in
     let on : MovesOn (holding a s) t b = record { moves = subst (λ l. Moves a.taken b.taken l b.held b.status) (sym (append_assoc a.held s t)) from.moves; counts = from.counts } in
-    record { from = pushes-of (holding a s) b t a.status ok on; flushes = pushes.flushes; sink = pushes.sink }
+    record {
+      somehow = record { from = pushes-of (holding a s) b t a.status ok on; flushes = pushes.somehow.flushes; sink = pushes.somehow.sink; size = pushes.somehow.size };
+      few = subst (λ l. b.whole_writes * gathered_by a.size + 2 * length b.held ≤ a.whole_writes * gathered_by a.size + 2 * length l) (sym (append_assoc a.held s t)) pushes.few;
+    }
 
 -- whether a write has failed, as a showing answers it
 abbrev answered : Result Unit RunFault → Result Unit (ShowFault RunFault)
@@ -110,13 +115,13 @@ made-on table i [] a b (Err f) ok pushes is = inl (record { pushes = retold push
 made-on table i (k ∷ items) a b (Ok x) ok pushes is =
     let line : List ℕ = item_text (view_of table i.spec i.content) ++ 10 ∷ [] in (
       holding a line,
-      record { pushes = holds_pushes refl refl refl refl refl refl refl; status = sym ok },
+      record { pushes = holds_pushes refl refl refl refl refl refl refl refl refl; status = sym ok },
       made-on table k items (holding a line) b (Ok x) ok (pushed-after line (item_lines table (k ∷ items)) ok pushes) is,
     )
 made-on table i (k ∷ items) a b (Err f) ok pushes is =
     let line : List ℕ = item_text (view_of table i.spec i.content) ++ 10 ∷ [] in inr (
       holding a line,
-      record { pushes = holds_pushes refl refl refl refl refl refl refl; status = sym ok },
+      record { pushes = holds_pushes refl refl refl refl refl refl refl refl refl; status = sym ok },
       made-on table k items (holding a line) b (Err f) ok (pushed-after line (item_lines table (k ∷ items)) ok pushes) is,
     )
 
@@ -196,7 +201,7 @@ next-stretch stretches i s below is = drop-cons stretches i s below ∙ ap (λ x
 -- where nothing is taken and no write has failed, the block holds the text
 pub held-grown : {a b : LineModel} {t : List ℕ} → a.taken ≡ Some [] → b.taken ≡ Some [] → a.status ≡ Ok tt → b.status ≡ Ok tt → Pushes a t b → b.held ≡ a.held ++ t
 held-grown {a = a} {b = b} {t = t} none none' ok ok' pushes =
-    let from = moves-of a b t a.status ok pushes.from in
+    let from = moves-of a b t a.status ok pushes.somehow.from in
     let moves = prefix-of a.taken b.taken (a.held ++ t) b.held b.status ok' from.moves in
     let gains : [] ≡ moves.prefix = subst (λ z. Appends (Some []) z moves.prefix) none' (subst (λ z. Appends z b.taken moves.prefix) none moves.gains) in
     sym (moves.parts ∙ ap (λ l. l ++ b.held) (sym gains))

@@ -1,10 +1,11 @@
 -- Texts that are pushed one after another, and the calls that show a reading.
-use Rattle.std.proofs.Common.{get_or, ◌≡◌, ℕ, ◌≤◌, List, ◌++◌, length, take, drop, sym, ◌∙◌, ap, Option, None, Some, Ok, Err, append_assoc, ◌+◌, zero, suc, [], ◌∷◌, replicate, refl, subst, arith, append-nil, length-append, map, inl, inr, codes, ◌-◌, ◌<◌, Bool, true, false, ℤ, min, option_map, Result, flat_map, decimal, unwrap_or, IsTrue, ◌↔◌, is_some}
+use Rattle.std.proofs.Common.{get_or, ◌≡◌, ℕ, ◌≤◌, ◌*◌, List, ◌++◌, length, take, drop, sym, ◌∙◌, ap, Option, None, Some, Ok, Err, append_assoc, ◌+◌, zero, suc, [], ◌∷◌, replicate, refl, subst, arith, append-nil, length-append, map, inl, inr, codes, ◌-◌, ◌<◌, Bool, true, false, ℤ, min, option_map, Result, flat_map, decimal, unwrap_or, IsTrue, ◌↔◌, is_some}
 use Rattle.std.specs.Io.KnownBytes.{Appends}
 use Rattle.std.proofs.KnownBytes.{Appends-trans}
+use Rattle.std.proofs.Math.Nat.{add-mul, mul-le-mul_right}
 use Rattle.std.proofs.lemmas.List.{take_rest, take-append-drop, length-take-le, take_all, length-replicate, at_drop_more, at_drop_all, take_more, length-set, take_more_set}
 use Rattle.bufr_frame.specs.declared.fault.RunFault.{RunFault}
-use Rattle.bufr_text.specs.Prelude.{keys, MovesPrefix, Writes, GrowsByPrefix, CountsWrites, LineModel, Moves, MovesOn, StaysFailed, PushesFrom, Pushes, Puts, item_text, comment_text, subset_line, subset_lines, text_of_lines, head_lines, dump_text_of, header_of, header_lines, local1_line, section2_line, descriptors_line, CountsFaults, MakesSteps, StepsWithin, WritesPrefix, call_line, PushesCall, descriptors_text, runs_after, runs_of, lead_of, counts_texts, ls_line, source_texts, time_texts, items_shown, dump_items}
+use Rattle.bufr_text.specs.Prelude.{keys, MovesPrefix, Writes, GrowsByPrefix, CountsWrites, LineModel, Moves, MovesOn, StaysFailed, PushesFrom, Pushes, PushesSomehow, gathered_by, Puts, item_text, comment_text, subset_line, subset_lines, text_of_lines, head_lines, dump_text_of, header_of, header_lines, local1_line, section2_line, descriptors_line, CountsFaults, MakesSteps, StepsWithin, WritesPrefix, call_line, PushesCall, descriptors_text, runs_after, runs_of, lead_of, counts_texts, ls_line, source_texts, time_texts, items_shown, dump_items}
 use Rattle.std.proofs.Math.Seq.{take-append_seam}
 use borrow.Rule.Slice.PartMut.{put_mid, post_of}
 use Rattle.std.proofs.lemmas.Grind.{common_steps}
@@ -90,21 +91,59 @@ module _ (a b c : LineModel) (s t : List ℕ) where
   goes (Err f) (Err g) is first second = stays f g first is second
 
 -- a text was pushed, and then another
-infixl 20 ◌⨾◌
-pub ◌⨾◌ : {a b c : LineModel} {s t : List ℕ} → Pushes a s b → Pushes b t c → Pushes a (s ++ t) c
-◌⨾◌ {a = a} {b = b} {c = c} {s = s} {t = t} first second = record {
+pub somehow_then : {a b c : LineModel} {s t : List ℕ} → PushesSomehow a s b → PushesSomehow b t c → PushesSomehow a (s ++ t) c
+somehow_then {a = a} {b = b} {c = c} {s = s} {t = t} first second = record {
   from = goes a b c s t a.status b.status refl first.from second.from;
   flushes = second.flushes ∙ first.flushes;
   sink = second.sink ∙ first.sink;
+  size = second.size ∙ first.size;
+}
+
+few_then : (x y z h s g t k : ℕ) → y + 2 * g ≤ x + 2 * (h + s) → z + 2 * k ≤ y + 2 * (g + t) → z + 2 * k ≤ x + 2 * (h + (s + t))
+few_then x y z h s g t k first second = omega arith
+
+infixl 20 ◌⨾◌
+pub ◌⨾◌ : {a b c : LineModel} {s t : List ℕ} → Pushes a s b → Pushes b t c → Pushes a (s ++ t) c
+◌⨾◌ {a = a} {b = b} {c = c} {s = s} {t = t} first second = record {
+  somehow = somehow_then first.somehow second.somehow;
+  few = rw (length-append a.held (s ++ t), length-append s t)
+      (few_then (a.whole_writes * gathered_by a.size) (b.whole_writes * gathered_by a.size) (c.whole_writes * gathered_by a.size) (length a.held) (length s) (length b.held) (length t) (length c.held)
+      (rw (length-append a.held s) at first.few) (rw (length-append b.held t, first.somehow.size) at second.few));
 }
 
 pub holds_pushes : {a b : LineModel} {text : List ℕ} → b.status ≡ a.status → b.taken ≡ a.taken → b.failures ≡ a.failures → b.empty_writes ≡ a.empty_writes → b.flushes ≡ a.flushes
-    → b.sink ≡ a.sink
+    → b.sink ≡ a.sink → b.size ≡ a.size → b.whole_writes ≡ a.whole_writes
     → b.held ≡ a.held ++ text → Pushes a text b
-holds_pushes h1 h2 h3 h4 h5 h6 h7 = grind (arith, nat_tests, common_steps)
+holds_pushes {a = a} {b = b} {text = text} h1 h2 h3 h4 h5 h6 h7 h8 h9 = record { somehow = grind (arith, nat_tests, common_steps); few = rw (h8, h9) (omega arith) }
 
 pub nothing_pushed : {a : LineModel} → Pushes a [] a
-nothing_pushed {a = a} = holds_pushes refl refl refl refl refl refl (sym (append-nil a.held))
+nothing_pushed {a = a} = holds_pushes refl refl refl refl refl refl refl refl (sym (append-nil a.held))
+
+-- two writes where the text did not fit, and one of a page
+few_through : (x y g size h k : ℕ) → y ≤ x + 2 → g ≤ size → size < h → k ≡ 0 → y * g + 2 * k ≤ x * g + 2 * h
+few_through x y g size h k few least past none =
+    let most : y * g ≤ (x + 2) * g = mul-le-mul_right g few in
+    omega (arith, most, add-mul x 2 g)
+
+pub through_pushes : {a b : LineModel} {text : List ℕ} → PushesSomehow a text b → b.held ≡ [] → b.whole_writes ≤ a.whole_writes + 2 → a.size < length (a.held ++ text) → Pushes a text b
+through_pushes {a = a} {b = b} {text = text} somehow none few past = record {
+  somehow = somehow;
+  few = few_through a.whole_writes b.whole_writes (gathered_by a.size) a.size (length (a.held ++ text)) (length b.held) few (omega arith) past (ap length none);
+}
+
+few_page : (x y g h k : ℕ) → y ≤ x + 1 → g ≤ 131072 → 65536 ≤ h → k ≡ 0 → y * g + 2 * k ≤ x * g + 2 * h
+few_page x y g h k few short page none =
+    let most : y * g ≤ (x + 1) * g = mul-le-mul_right g few in
+    omega (arith, most, add-mul x 1 g)
+
+pub page_pushes : {a b : LineModel} → PushesSomehow a [] b → b.held ≡ [] → b.whole_writes ≤ a.whole_writes + 1 → 65536 ≤ length a.held → Pushes a [] b
+page_pushes {a = a} {b = b} somehow none few page = record {
+  somehow = somehow;
+  few = few_page a.whole_writes b.whole_writes (gathered_by a.size) (length (a.held ++ [])) (length b.held) few (omega arith) (rw (append-nil a.held) page) (ap length none);
+}
+
+pub retold_somehow : {a b : LineModel} {s t : List ℕ} → PushesSomehow a s b → s ≡ t → PushesSomehow a t b
+retold_somehow {a = a} {b = b} h is = subst (λ l. PushesSomehow a l b) is h
 
 -- the same text in other words
 pub retold : {a b : LineModel} {s t : List ℕ} → Pushes a s b → s ≡ t → Pushes a t b
@@ -133,9 +172,18 @@ missing_line item row fxy entry value =
     rw (fxy, entry, value)
     (ap (λ l. row_line_start row ++ l) (ap (λ l. text ++ l) (sym (comment_line row)) ∙ sym (append_assoc text (comment_text (Some row)) (10 ∷ []))))
 
-pub all_written : {a b c : LineModel} {text : List ℕ} {r : Result Unit RunFault} {old new : Option (List ℕ)} (x : Unit) → Pushes a text b → Pushes b [] c → a.status ≡ Ok x → a.held ≡ [] → c.held ≡ []
+moved_all : (r : Result Unit RunFault) (old new : Option (List ℕ)) (text held : List ℕ) → held ≡ [] → Moves old new text held r → Writes old new text r
+moved_all (Ok x) old new text held none moves = subst (λ l. Appends old new l) (sym (moves.parts ∙ ap (λ h. moves.prefix ++ h) none ∙ append-nil moves.prefix)) moves.gains
+moved_all (Err f) old new text held none moves = moves
+
+pub all_written : {a b c : LineModel} {text : List ℕ} {r : Result Unit RunFault} {old new : Option (List ℕ)} (x : Unit) → Pushes a text b → PushesSomehow b [] c → a.status ≡ Ok x → a.held ≡ []
+    → c.held ≡ []
     → a.taken ≡ old → new ≡ c.taken → r ≡ c.status → Writes old new text r
-all_written x h1 h2 h3 h4 h5 h6 h7 h8 = grind (arith, nat_tests, common_steps)
+all_written {a = a} {c = c} {text = text} x first handed ok none empty h6 h7 h8 =
+    let all = somehow_then first.somehow handed in
+    let from = rw ok at all.from in
+    let moves = rw (none, append-nil text) at from.moves in
+    rw (h8, ← h6, h7) (moved_all c.status a.taken c.taken text c.held empty moves)
 
 -- what is held with a prefix of the free octets filled
 pub held_filled : (octets free text : List ℕ) (len n k : ℕ) → len ≤ length octets → n ≤ length free → take n free ≡ text → take (len + n) (put_mid len k octets free) ≡ take len octets ++ text
@@ -232,18 +280,19 @@ moved (Ok x) old new octets held held' e f writes = rw (e, f) (record { prefix =
 moved (Err why) old new octets held held' e f writes = rw e writes
 
 written_through : {b c : LineModel} {octets : List ℕ} → b.status ≡ Ok tt → b.held ≡ [] → c.held ≡ [] → Writes b.taken c.taken octets c.status
-    → CountsWrites b.failures c.failures b.empty_writes c.empty_writes c.status → c.flushes ≡ b.flushes → c.sink ≡ b.sink → Pushes b octets c
-written_through {b = b} {c = c} {octets = octets} ok none none' writes counts flushes sink = record {
+    → CountsWrites b.failures c.failures b.empty_writes c.empty_writes c.status → c.flushes ≡ b.flushes → c.sink ≡ b.sink → c.size ≡ b.size → PushesSomehow b octets c
+written_through {b = b} {c = c} {octets = octets} ok none none' writes counts flushes sink size = record {
   from = rw ok (record { moves = moved c.status b.taken c.taken octets b.held c.held none none' writes; counts = counts });
   flushes = flushes;
   sink = sink;
+  size = size;
 }
 
-pub pushed_through : {a b mid c : LineModel} {octets : List ℕ} → Pushes a [] mid → b ≡ mid → mid.held ≡ [] → b.status ≡ Ok tt → Writes b.taken c.taken octets c.status
-    → CountsWrites b.failures c.failures b.empty_writes c.empty_writes c.status → c.held ≡ [] → c.flushes ≡ b.flushes → c.sink ≡ b.sink → Pushes a octets c
-pushed_through {b = b} {c = c} {octets = octets} first is none ok writes counts none' flushes sink =
-    let B : LineModel → Type 0 = λ b. Pushes b octets c in
-    first ⨾ subst B is (written_through ok (ap (λ x. x.held) is ∙ none) none' writes counts flushes sink)
+pub pushed_through : {a b mid c : LineModel} {octets : List ℕ} → PushesSomehow a [] mid → b ≡ mid → mid.held ≡ [] → b.status ≡ Ok tt → Writes b.taken c.taken octets c.status
+    → CountsWrites b.failures c.failures b.empty_writes c.empty_writes c.status → c.held ≡ [] → c.flushes ≡ b.flushes → c.sink ≡ b.sink → c.size ≡ b.size → PushesSomehow a octets c
+pushed_through {b = b} {c = c} {octets = octets} first is none ok writes counts none' flushes sink size =
+    let B : LineModel → Type 0 = λ b. PushesSomehow b octets c in
+    somehow_then first (subst B is (written_through ok (ap (λ x. x.held) is ∙ none) none' writes counts flushes sink size))
 
 pub fails_pushes : {a b : LineModel} {s : List ℕ} (t : List ℕ) (f : RunFault) → Pushes a s b → b.status ≡ Err f → Pushes a (s ++ t) b
 fails_pushes t f h1 h2 = grind (arith, nat_tests, common_steps)
@@ -253,7 +302,7 @@ pub record PushesPrefix (before : LineModel) (text : List ℕ) (after : LineMode
   pub prefix : List ℕ
   pub suffix : List ℕ
   pub parts : text ≡ prefix ++ suffix
-  pub pushes : Pushes before prefix after
+  pub pushes : PushesSomehow before prefix after
 
 -- the first fault: that of a write, else want of memory
 abbrev pub IsFirstFault : Result Unit RunFault → RunFault → Type 0
@@ -274,13 +323,13 @@ calls-on a mid b line text (Err show.Memory) one more = record {
   prefix = line ++ more.prefix;
   suffix = more.suffix;
   parts = ap (λ l. line ++ l) more.parts ∙ sym (append_assoc line more.prefix more.suffix);
-  pushes = one ⨾ more.pushes;
+  pushes = somehow_then one.somehow more.pushes;
 }
 
 -- the call that ends them
 calls-end : (a b : LineModel) (t : Timed) (text : List ℕ) (why : ShowFault RunFault) → EndsAt PushesCall a t.call why b → PushesCalls a ((call_line t.call ++ 10 ∷ []) ++ text) (Err why) b
 calls-end a b t text (show.Visitor f) here = (fails_pushes text f here.pushes (sym here.status), sym here.status)
-calls-end a b t text show.Memory here = rw here.0 (record { prefix = []; suffix = (call_line t.call ++ 10 ∷ []) ++ text; parts = refl; pushes = nothing_pushed })
+calls-end a b t text show.Memory here = rw here.0 (record { prefix = []; suffix = (call_line t.call ++ 10 ∷ []) ++ text; parts = refl; pushes = nothing_pushed.somehow })
 
 pub calls-pushed : (a : LineModel) (calls : List Timed) (turns : ℕ) (r : Result (Unit {0}) (ShowFault RunFault)) (b : LineModel) (steps : ℕ) → Shows PushesCall a calls turns r b steps
     → PushesCalls a (calls_text calls) r b
@@ -326,7 +375,7 @@ no-steps r = by (each_subset r.source.subsets (values_read r))
 prefix-longer : {a b : LineModel} {s : List ℕ} (t : List ℕ) → PushesPrefix a s b → PushesPrefix a (s ++ t) b
 prefix-longer t h1 = grind (arith, nat_tests, common_steps)
 
-whole-prefix : {a b : LineModel} (s : List ℕ) → Pushes a s b → PushesPrefix a s b
+whole-prefix : {a b : LineModel} (s : List ℕ) → PushesSomehow a s b → PushesPrefix a s b
 whole-prefix s all = record { prefix = s; suffix = []; parts = sym (append-nil s); pushes = all }
 
 -- what a writer that held nothing wrote
@@ -353,7 +402,7 @@ only-write a b text held (Err f) moves g is = let same : f ≡ g = cc in sym sam
 module _ {a b c : LineModel} {head : List ℕ} (rest : List ℕ) (ok : a.status ≡ Ok tt) (none : a.held ≡ []) (first : Pushes a head b) where
   leaves-prefix : (fault : RunFault) → PushesPrefix b rest c → IsFirstFault c.status fault → LeavesSink {X = Unit} a (head ++ rest) (Err fault) c
   leaves-prefix fault more is =
-      let whole = first ⨾ more.pushes in
+      let whole = somehow_then first.somehow more.pushes in
       let from = rw ok at whole.from in
       let grown = rw none at (prefix-moved a c (head ++ more.prefix) c.status from.moves) in
       let parts : head ++ rest ≡ (head ++ more.prefix) ++ more.suffix = ap (λ l. head ++ l) more.parts ∙ sym (append_assoc head more.prefix more.suffix) in
@@ -369,12 +418,12 @@ module _ {a b c : LineModel} {head : List ℕ} (rest : List ℕ) (ok : a.status 
         sink = whole.sink;
       }
 
-  leaves-end : (r : Result Unit RunFault) → Pushes b rest c → c.held ≡ [] → r ≡ c.status → LeavesSink a (head ++ rest) r c
+  leaves-end : (r : Result Unit RunFault) → PushesSomehow b rest c → c.held ≡ [] → r ≡ c.status → LeavesSink a (head ++ rest) r c
   leaves-end (Ok x) more empty is =
-      let whole = first ⨾ more in
+      let whole = somehow_then first.somehow more in
       let from = rw ok at whole.from in
       record {
-        writes = all_written {r = Ok tt} tt whole nothing_pushed ok none empty refl refl is;
+        writes = moved_all (Ok x) a.taken c.taken (head ++ rest) c.held empty (rw (none, sym is) at from.moves);
         counts = rw (sym is) at from.counts;
         flushes = whole.flushes;
         sink = whole.sink;
@@ -392,12 +441,12 @@ Left s r a q c steps =
 -- the head was pushed, and then the calls of a showing: all and the last line, up to a failed write,
 -- or up to where memory ran out
 module _ {a b c : LineModel} (s : Sections) (r : outcome.Read) (steps : ℕ) (ok : a.status ≡ Ok tt) (none : a.held ≡ []) (head : Pushes a (text_of_lines (head_lines s)) b) where
-  pub left-whole : {d e : LineModel} (q : Result Unit RunFault) → Shown r b (Ok tt) c steps → Pushes c (codes "end\n") d → Pushes d [] e → e.held ≡ [] → q ≡ e.status → Left s r a q e steps
+  pub left-whole : {d e : LineModel} (q : Result Unit RunFault) → Shown r b (Ok tt) c steps → Pushes c (codes "end\n") d → PushesSomehow d [] e → e.held ≡ [] → q ≡ e.status → Left s r a q e steps
   left-whole q shown last handed empty is =
       let calls = calls_of r in
       let turns = turns_shown r in
-      let all = calls-pushed b calls turns (Ok tt) c steps shown ⨾ last ⨾ handed in (
-        leaves-end (calls_text calls ++ codes "end\n") ok none head q (retold all (append-nil (calls_text calls ++ codes "end\n"))) empty is,
+      let all = somehow_then (calls-pushed b calls turns (Ok tt) c steps shown ⨾ last).somehow handed in (
+        leaves-end (calls_text calls ++ codes "end\n") ok none head q (retold_somehow all (append-nil (calls_text calls ++ codes "end\n"))) empty is,
         steps-of calls turns steps q (calls-steps b calls turns (Ok tt) c steps shown),
       )
 
@@ -406,7 +455,7 @@ module _ {a b c : LineModel} (s : Sections) (r : outcome.Read) (steps : ℕ) (ok
       let calls = calls_of r in
       let here = rw is at shown in
       let all = calls-pushed b calls (turns_shown r) (Err (show.Visitor fault)) c steps here in (
-        leaves-prefix (calls_text calls ++ codes "end\n") ok none head fault (prefix-longer (codes "end\n") (whole-prefix (calls_text calls) all.0)) (rw all.1 refl),
+        leaves-prefix (calls_text calls ++ codes "end\n") ok none head fault (prefix-longer (codes "end\n") (whole-prefix (calls_text calls) all.0.somehow)) (rw all.1 refl),
         calls-steps b calls (turns_shown r) (Err (show.Visitor fault)) c steps here,
       )
 

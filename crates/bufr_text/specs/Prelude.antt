@@ -4,7 +4,7 @@ unfoldable pub use Rattle.bufr_text.specs.Line.{runs_after, descriptors_text, he
 pub use Rattle.bufr_text.specs.Dump.{zero_padded, counts_texts, ls_line, source_texts, time_texts, local1_line, section2_line, descriptors_line, subset_line, item_text, dump_value_of, IsOctet, IsDescriptorWord, IsItem, header_of, head_lines, dump_lines, dump_text_of, document_of, lines_before, IsDumpable, items_shown, text_of_lines, dump_items, IsValue, IsComment, comment_text, form_text}
 unfoldable pub use Rattle.bufr_text.specs.Dump.{header_lines, subset_lines, item_entries, subset_entries}
 pub use Rattle.bufr_text.specs.Reader.{NeedsLine, GivesHeldDocument, has_no_feed, ReaderPosition, ContinuesParse, TakesWholeLines, TakesEndLine, ReaderModel, position_of, position_after, IsMissingFeed, ReadsLines, EndsAtEndLine, parse, parse_open, new_reader, HasNoMoreLines, KeepsUnread, ReadsOnlyIfNoLine, ReturnsNextDocument, HasNoWholeLine, unfed, parse_results, ReadsDocument, LeavesReader, failures_by, line_report, number_of_read_fault}
-pub use Rattle.bufr_text.specs.Writing.{MovesPrefix, Writes, GrowsByPrefix, CountsWrites, LineModel, Moves, MovesOn, StaysFailed, PushesFrom, Pushes, Puts, Stays, Fails, CountsFaults, MakesSteps, StepsWithin, WritesPrefix, call_line, PushesCall}
+pub use Rattle.bufr_text.specs.Writing.{MovesPrefix, Writes, GrowsByPrefix, CountsWrites, LineModel, Moves, MovesOn, StaysFailed, PushesFrom, Pushes, PushesSomehow, gathered_by, Puts, Stays, Fails, CountsFaults, MakesSteps, StepsWithin, WritesPrefix, call_line, PushesCall}
 pub use Rattle.bufr_text.specs.Alike.{item_lines, lines_between, PushesAlike, IsStretch, AreStretches, AreGathered}
 unfoldable pub use Rattle.bufr_text.specs.Line.{leasts, mosts}
 pub use Rattle.bufr_text.specs.Documents.{max_line, most_entries, Document, DocumentHeader, header_in, Parsing, between, LineStep, may_be_local1, may_be_section2, in_range, heading, beginning, closing, with_entry, read_line, parsing_after, reported_at, reported_at_end, documents_of, blank, Complete, ParseResult, Refused, open_documents_of, IsHeaded, section2_in, Split, onto_split, before_subsets, in_subset, are_in_range, adds}

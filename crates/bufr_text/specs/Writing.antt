@@ -1,6 +1,6 @@
 -- What a writer takes of the texts that are written to it. (own)
 -- Cited by public contracts.
-use Rattle.std.specs.Prelude.{◌≡◌, ◌≤◌, ◌⊎◌, ℕ, List, [], ◌∷◌, ◌++◌, Option, Result, Ok, Err, IfSome, length, take}
+use Rattle.std.specs.Prelude.{◌≡◌, ◌≤◌, ◌+◌, ◌*◌, ◌⊎◌, min, ℕ, List, [], ◌∷◌, ◌++◌, Option, Result, Ok, Err, IfSome, length, take}
 use Rattle.std.specs.Io.KnownBytes.{Appends}
 use Rattle.bufr_bits.specs.Prelude.{Flushes, counted}
 use Rattle.bufr_frame.specs.declared.fault.RunFault.{RunFault}
@@ -43,14 +43,16 @@ Puts old at text new result =
 
 -- ---- What a writer of lines holds, and what a text does to it. (own)
 
--- what the sink took and counted, what the block holds after that, and whether a write failed; the
--- sink goes by its ghost name
+-- what the sink took and counted, what the block holds after that and how many octets it has room
+-- for, and whether a write failed; the sink goes by its ghost name
 pub record LineModel : Type 0 where
   pub taken : Option (List ℕ)
   pub failures : ℕ
   pub empty_writes : ℕ
+  pub whole_writes : ℕ
   pub flushes : Flushes
   pub held : List ℕ
+  pub size : ℕ
   pub status : Result Unit RunFault
   pub sink : ℕ
 
@@ -87,11 +89,24 @@ abbrev pub PushesFrom : Result Unit RunFault → (before : LineModel) → List �
 PushesFrom (Ok x) before text after = MovesOn before text after
 PushesFrom (Err fault) before text after = StaysFailed fault before after
 
--- a text was pushed
-pub record Pushes (before : LineModel) (text : List ℕ) (after : LineModel) : Type 0 where
+-- a text was pushed, by any number of writes
+pub record PushesSomehow (before : LineModel) (text : List ℕ) (after : LineModel) : Type 0 where
   pub from : PushesFrom before.status before text after
   pub flushes : after.flushes ≡ before.flushes
   pub sink : after.sink ≡ before.sink
+  pub size : after.size ≡ before.size
+
+-- the octets that are gathered for two writes, at least: as many as the block has room for, or twice
+-- those of a page
+abbrev pub gathered_by : (size : ℕ) → ℕ
+gathered_by size = min size 131072
+
+-- A text was pushed. Lines are gathered: the sink takes all that it is given at most twice for each
+-- so many octets.
+pub record Pushes (before : LineModel) (text : List ℕ) (after : LineModel) : Type 0 where
+  pub somehow : PushesSomehow before text after
+  pub few : after.whole_writes * gathered_by before.size + 2 * length after.held
+      ≤ before.whole_writes * gathered_by before.size + 2 * length (before.held ++ text)
 
 -- ---- What a dump leaves on its writer, and the steps that are made for it.
 

@@ -1,8 +1,8 @@
 //! A writer of lines: octets put into a block of memory, and handed on to a sink.
-ghost use Rattle.std.specs.Prelude.{◌≡◌, ◌≤◌, ◌++◌, [], Ok, length, take, decimal, replicate, ◌<◌, Some, drop, codes, true};
+ghost use Rattle.std.specs.Prelude.{◌≡◌, ◌≤◌, ◌+◌, ◌++◌, [], Ok, length, take, decimal, replicate, ◌<◌, Some, drop, codes, true};
 ghost use Rattle.bufr_bits.specs.Prelude.{counted, decimal_text_of};
 ghost use Rattle.bufr_tables.specs.Prelude.{row_of_entry, row_comment, row_line_start};
-ghost use Rattle.bufr_text.specs.Prelude.{Pushes, Writes, CountsWrites, zero_padded, Puts, escaped, hex_digit, hex_text, is_unescaped, quoted};
+ghost use Rattle.bufr_text.specs.Prelude.{Pushes, PushesSomehow, Writes, CountsWrites, zero_padded, Puts, escaped, hex_digit, hex_text, is_unescaped, quoted};
 
 use crate::line::is_unescaped;
 use crate::numbers::{fill_missing_line, fill_named, fill_number_line, put};
@@ -37,8 +37,10 @@ impl<'b, 'w, W: Sink> Model for LineWriter<'b, 'w, W> {
       taken = W.taken a.w.now;
       failures = W.failures a.w.now;
       empty_writes = W.empty_writes a.w.now;
+      whole_writes = W.whole_writes a.w.now;
       flushes = W.flushes a.w.now;
       held = take a.len a.octets.now;
+      size = length a.octets.now;
       status = a.status;
       sink = a.w.ghost_name;
     } };
@@ -78,6 +80,7 @@ fn write_prefix<W: Sink>(octets: &mut [u8], at: usize, w: &mut W) -> Result<(), 
     ensures writes { Writes (W.taken w.old) (W.taken w.new) (take at octets.old) result }
     ensures counts { CountsWrites (W.failures w.old) (W.failures w.new) (W.empty_writes w.old)
         (W.empty_writes w.new) result }
+    ensures whole { W.whole_writes w.new ≤ counted (W.whole_writes w.old) 1 }
     ensures flushes { W.flushes w.new ≡ W.flushes w.old }
 {
     write_all(&octets[..at], w)
@@ -114,7 +117,9 @@ impl<'b, 'w, W: Sink> LineWriter<'b, 'w, W> {
         ensures taken { result.taken ≡ W.taken w.old }
         ensures failures { result.failures ≡ W.failures w.old }
         ensures empty { result.empty_writes ≡ W.empty_writes w.old }
+        ensures whole { result.whole_writes ≡ W.whole_writes w.old }
         ensures flushes { result.flushes ≡ W.flushes w.old }
+        ensures size { result.size ≡ length octets.old }
         ensures status { result.status ≡ Ok tt }
         ensures sink { result.sink ≡ w.entry.ghost_name }
     {
@@ -129,7 +134,9 @@ impl<'b, 'w, W: Sink> LineWriter<'b, 'w, W> {
     /// Writes what is held and a text after it. Where a write fails, both are let go.
     #[inline(never)]
     fn push_through(&mut self, octets: &[u8])
-        ensures { Pushes self.old octets.now self.new }
+        ensures pushes { PushesSomehow self.old octets.now self.new }
+        ensures none { self.new.held ≡ [] }
+        ensures whole { self.new.whole_writes ≤ self.old.whole_writes + 2 }
     {
         self.hand_on();
         if self.status.is_ok() {
@@ -140,8 +147,9 @@ impl<'b, 'w, W: Sink> LineWriter<'b, 'w, W> {
     /// Writes what is held. Where a write fails, it is let go.
     #[inline(never)]
     pub fn hand_on(&mut self)
-        ensures pushes { Pushes self.old [] self.new }
+        ensures pushes { PushesSomehow self.old [] self.new }
         ensures none { self.new.held ≡ [] }
+        ensures whole { self.new.whole_writes ≤ self.old.whole_writes + 1 }
     {
         let len = self.len;
         self.len = 0;
@@ -153,7 +161,8 @@ impl<'b, 'w, W: Sink> LineWriter<'b, 'w, W> {
     /// Writes what is held where that is at least [`PAGE`] octets, at the end of a line.
     #[inline(always)]
     pub(crate) fn end_line(&mut self)
-        ensures { Pushes self.old [] self.new }
+        ensures pushes { Pushes self.old [] self.new }
+        ensures page { 65536 ≤ length self.old.held → self.new.held ≡ [] }
     {
         if self.len >= PAGE {
             self.hand_on();
@@ -174,6 +183,14 @@ impl<'b, 'w, W: Sink> LineWriter<'b, 'w, W> {
         }
     }
 
+    /// Pushes octets, and is not inlined.
+    #[inline(never)]
+    fn push_out_of_line(&mut self, octets: &[u8])
+        ensures { Pushes self.old octets.now self.new }
+    {
+        self.push(octets);
+    }
+
     /// Pushes a few octets.
     #[tactic(auto, using(crate::proofs::PushLemmas::held_steps))]
     #[inline(always)]
@@ -182,7 +199,7 @@ impl<'b, 'w, W: Sink> LineWriter<'b, 'w, W> {
     {
         match put(octets, &mut self.octets[self.len..], 0) {
             Some(len) => self.len += len,
-            None => self.push_through(&octets),
+            None => self.push_out_of_line(&octets),
         }
     }
 
@@ -202,17 +219,17 @@ impl<'b, 'w, W: Sink> LineWriter<'b, 'w, W> {
     {
         match fill_named(name, value, &mut self.octets[self.len..]) {
             Some(len) => self.len += len,
-            None => self.push_named_through(name, value),
+            None => self.push_named_parts(name, value),
         }
     }
 
-    /// Writes what is held, then a name and a number after it.
+    /// Pushes a name and a number after it, text by text.
     #[inline(never)]
-    fn push_named_through(&mut self, name: &[u8], value: u64)
+    fn push_named_parts(&mut self, name: &[u8], value: u64)
         ensures { Pushes self.old (name.now ++ decimal value) self.new }
     {
-        self.push_through(name);
-        self.push_through(Buffer::new().format(value).as_bytes());
+        self.push(name);
+        self.push(Buffer::new().format(value).as_bytes());
     }
 
     /// Pushes the line of a number that was read by an entry.

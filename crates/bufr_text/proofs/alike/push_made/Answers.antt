@@ -12,11 +12,11 @@ returns-then-is_empty g c =
 pub returns-in-Ok : goal.returns-in-Ok
 returns-in-Ok g c =
     let some : 1 ≤ length c.args.text.now = search rules in
-    let all : Pushes c.args.lines.now c.args.text.now c.end_line.new.self = retold (c.push.ensures ⨾ c.end_line.ensures) (append-nil c.args.text.now) in
+    let all : Pushes c.args.lines.now c.args.text.now c.end_line.new.self = retold (c.push.ensures ⨾ c.end_line.ensures.pushes) (append-nil c.args.text.now) in
     made-shown c.args.text.now c.args.lines.now c.end_line.new.self (Ok tt) some c.requires all (sym c.status.ensures ∙ c.in-Ok.is)
 
 pub returns-in-Err : goal.returns-in-Err
 returns-in-Err g c =
     let some : 1 ≤ length c.args.text.now = search rules in
-    let all : Pushes c.args.lines.now c.args.text.now c.end_line.new.self = retold (c.push.ensures ⨾ c.end_line.ensures) (append-nil c.args.text.now) in
+    let all : Pushes c.args.lines.now c.args.text.now c.end_line.new.self = retold (c.push.ensures ⨾ c.end_line.ensures.pushes) (append-nil c.args.text.now) in
     made-shown c.args.text.now c.args.lines.now c.end_line.new.self (Err c.in-Err.fault) some c.requires all (sym c.status.ensures ∙ c.in-Err.is)

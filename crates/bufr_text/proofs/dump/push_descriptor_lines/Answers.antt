@@ -17,7 +17,7 @@ loop-words-preserved g c =
     let some = some-left c.is_empty.result (words_left c.loop-words.words) c.is_empty.ensures c.loop-words-test.true in
     let next = lines-next descriptors_line 7 (words_left c.loop-words.words) some
     ∙ ap (λ l. (descriptors_line (take 8 (words_left c.loop-words.words)) ++ 10 ∷ []) ++ text_of_lines (map descriptors_line (runs_of 8 l))) (sym c.push_descriptors.ensures.words) in
-    so_far_on c.loop-words.invariant next (rw append-nil at (c.push.ensures ⨾ c.push_descriptors.ensures.pushes ⨾ c.push-in-loop-words.ensures ⨾ c.end_line.ensures))
+    so_far_on c.loop-words.invariant next (rw append-nil at (c.push.ensures ⨾ c.push_descriptors.ensures.pushes ⨾ c.push-in-loop-words.ensures ⨾ c.end_line.ensures.pushes))
 
 pub returns : goal.returns
 returns g c = grind (arith, common_steps, none-left, so_far_end, lines-none)

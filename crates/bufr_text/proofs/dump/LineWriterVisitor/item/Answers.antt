@@ -15,4 +15,4 @@ returns g c =
           (missing_line (seen c.args.item.now) (row_of_entry w.in-Some-entry.entry) (search rules) (ap (option_map row_of_entry) w.in-Some-entry.is) (search rules)))
       | in_default+in_default-2 w ↦ rw w.self-is w.push_any_item.ensures
     ] in
-    record { pushes = rw append-nil at (pushed ⨾ c.end_line.ensures); status = c.status.ensures }
+    record { pushes = rw append-nil at (pushed ⨾ c.end_line.ensures.pushes); status = c.status.ensures }
