@@ -263,7 +263,7 @@ def _table_of_levels(part: Part, columns: Sequence[str], keep: Sequence[str], ga
     for index, cell in zip(factors.tolist(), _cells(part, items[factors])):
         counts[index] = int(cell or 0)
     ends = numpy.searchsorted(row[places], numpy.arange(len(message) + 1)).tolist()
-    numbers = part.accepted + numpy.cumsum(part.messages["fault"] == 0)[message]
+    offsets = part.messages["offset"][message]
     rows: List[int] = []
     found: List[List[int]] = []
     for at, (begin, end) in enumerate(zip(ends, ends[1:])):
@@ -271,8 +271,7 @@ def _table_of_levels(part: Part, columns: Sequence[str], keep: Sequence[str], ga
         try:
             passes = bufr_text.passes(own, counts[begin:end], _FACTORS)
         except bufr_text.Ambiguous as twice:
-            fxy = bufr_calls.fxy(twice.args[0])
-            gaps.skip(bufr_text.AMBIGUOUS, int(numbers[at]), int(subset[at]), part.name, fxy)
+            gaps.skip(bufr_text.AMBIGUOUS, int(subset[at]), int(offsets[at]), part.name, fxy=bufr_calls.fxy(twice.args[0]))
             continue
         gaps.look(own, passes, asked)
         kept = [begin + own.index(word) if word in own else -1 for word in asked_kept]
@@ -283,7 +282,7 @@ def _table_of_levels(part: Part, columns: Sequence[str], keep: Sequence[str], ga
                 rows.append(at)
                 found.append(kept + values)
         if len(rows) == before:
-            gaps.skip(bufr_text.BARE, int(numbers[at]), int(subset[at]), part.name)
+            gaps.skip(bufr_text.BARE, int(subset[at]), int(offsets[at]), part.name)
     indices = numpy.array(found, "i8").reshape(len(found), len(keep) + len(columns))
     indices = numpy.where(indices < 0, -1, numpy.append(places, -1)[indices])
     chosen = numpy.array(rows, "i8")

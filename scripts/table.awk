@@ -49,6 +49,8 @@ function fail(text) {
 
 # Prints a note about skipped subsets. In a feed, a note is printed only for the first of them, with the count 0.
 function tell_skipped(count, kind, where) {
+    if (kind ~ /ambiguous/)
+        where = where "; to get " (count > 1 ? "their" : "its") " items, run " all_items
     kind = count > 1 ? count " subsets " kind "; the first is" : "a subset " kind ":"
     print name ": skipped " kind " message " where (count ? "" : "; others will not be reported") | "cat >&2"
     close("cat >&2")
@@ -300,13 +302,16 @@ function item(fxy) {
     if (fxy in in_levels) {
         if (open && !(fxy in values))
             values[fxy] = field()
-        if (!open && !(fxy in place))
+        if (!open && fxy in place)
+            several[fxy] = 1
+        else if (!open)
             place[fxy] = 1
     }
 }
 
 BEGIN {
     kept_by = name == "" ? "-v keep=" : "--keep "
+    all_items = name == "" ? "table.awk without levels= and columns=" : name " without --levels and -c"
     if (name == "")
         name = "table.awk"
     by_item = columns == ""
@@ -426,7 +431,8 @@ END {
     for (column = 1; column <= level_count; column++) {
         word = level[column]
         if (place_of[word] == 1)
-            tell_empty(word, word " occurs only outside the levels; pass " kept_by word " instead")
+            tell_empty(word, word " occurs only outside the levels; " \
+                (word in several ? "for its first two values, pass " kept_by word "," word ":2" : "pass " kept_by word " instead"))
         else if (place_of[word] < 3 && (has_rows || !place_of[word]))
             tell_empty(word, "no row has an item for it")
     }
