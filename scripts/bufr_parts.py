@@ -195,7 +195,8 @@ def pieces(files: Union[Path, Iterable[Path]], size: int = 1 << 26, *, faults: F
     """Divides files into pieces of about `size` bytes. Returns the pieces in order; together, they cover every byte.
 
     A piece begins and ends between messages. If a file contains strays, a piece can be up to 16 MB longer. If a file contains
-    no messages, `pieces` itself warns about this or, with `faults="raise"`, raises `BufrError`. Pass each piece to a function
+    no messages, or if there are no files, `pieces` itself warns about this or, with `faults="raise"`, raises `BufrError`. With
+    `size=1`, each piece contains a single message unless there are strays. Pass each piece to a function
     of this module, for example in another process:
 
         >>> from concurrent.futures import ProcessPoolExecutor

@@ -137,10 +137,10 @@ class RunError(RuntimeError):
 
 
 class BufrError(RuntimeError):
-    """Raised by the module `bufr` for a rejected message, a stray, a file without messages, or an invalid table.
+    """Raised by the module `bufr` for a rejected message, a stray, a file without messages, no files, or an invalid table.
 
     `file`, `offset`, `number` and `text` have the same meaning as in `Fault`. For a file without messages, only `file` is
-    set; for an invalid table, all four are `None`.
+    set; for an invalid table or an empty list of files, all four are `None`.
     """
 
     def __init__(
@@ -492,12 +492,14 @@ def levels(
     """Yields a tuple for each level of a sounding: header values, then the values for `keep`, then column values.
 
     A level is one repetition (pass) of a delayed replication. A level is left out unless it contains the descriptor of the
-    first column and, if there are other columns, at least one of their descriptors. Each column selects the first item
+    first column and, if there are other columns, at least one of their descriptors. If a subset contains several delayed
+    replications, put first a column that occurs only in the one that you want. Each column selects the first item
     with that descriptor in the level, and each descriptor in `keep` selects the first one in the whole subset. In all
     other respects, `levels` works like `rows`.
 
     A subset is skipped if it has no levels, or if its levels are ambiguous because the descriptor that begins a level
-    occurs again in the same level. A `DumpWarning` at the end says how many subsets were skipped for each of these reasons.
+    occurs again in the same level. A `DumpWarning` at the end says how many subsets were skipped for each of these reasons,
+    and where the first one is.
     """
     columns, header, keep = checked(columns, header, keep, has_levels=True)
     found = _by_library("levels", messages, faults, where, columns, header, keep)
@@ -787,9 +789,9 @@ class Gaps:
             (self.warn_of_columns if is_whole else self.warn_of_undefined)(text)
         for kind in filter(self.skipped.get, (BARE, AMBIGUOUS)):
             count, first = self.skipped[kind]
-            text = f"skipped a subset {kind}: {first}" if count == 1 else f"skipped {count} subsets {kind}; the first is {first}"
-            advice = f"; to get {'its' if count == 1 else 'their'} items, use {_ALL_ITEMS}"
-            warn(text + advice * (kind == AMBIGUOUS))
+            advice = f"; to get {'its' if count == 1 else 'their'} items, use {_ALL_ITEMS}" if kind == AMBIGUOUS else ""
+            told = f"a subset {kind}: {first}" if count == 1 else f"{count} subsets {kind}; the first is {first}"
+            warn(f"skipped {told}{advice}")
 
     def warn_of_columns(self, text: str) -> None:
         # Without rows, nothing is known about columns that apply to the whole subset, or that other levels contain.
@@ -800,8 +802,8 @@ class Gaps:
             if at in self.outside - self.inside:
                 advice = f"pass keep=['{word}'] instead"
                 if at in self.several:
-                    advice = f"for its first value, pass keep=['{word}']; for all of its values, pass '{word}:1', '{word}:2' and so on"
-                    advice += f" as columns of a table of subsets, or use {_ALL_ITEMS}"
+                    advice = f"for its first value, pass keep=['{word}']; for all of its values, pass '{word}:1', '{word}:2'"
+                    advice += f" and so on as columns of a table of subsets, or use {_ALL_ITEMS}"
                 warn(f"column {word} is empty, because {word} occurs only outside the levels; {advice}")
             elif at not in self.with_item:
                 is_unknown = defined and word[0] == "0" and word[:6] not in defined
@@ -811,7 +813,7 @@ class Gaps:
 
 
     def warn_of_undefined(self, _text: str) -> None:
-        """Warns about elements without items in a piece that no table set defines, or that Table B does not, if one was passed."""
+        """Warns about elements without items that no table set defines or, if a Table B was passed, that it does not define."""
         words = [word[:6] for at, word in enumerate(self.columns) if at not in self.with_item and word[0] == "0"]
         words = [word for word in dict.fromkeys(words) if word not in names(self.table_b)[1]]
         known = _all_elements() if words and self.table_b is None else set()

@@ -15,7 +15,8 @@
 #
 # With levels=1, each level has a row. A level is one repetition (pass) of a delayed replication, whose factor (031000 to
 # 031002) is in the data. A level has a row only if it contains an item for the first column and, if there are other
-# columns, for at least one of them. The columns in `keep` apply to the whole subset and come first.
+# columns, for at least one of them. If a subset contains several delayed replications, put first a column that occurs only
+# in the one that you want. The columns in `keep` apply to the whole subset and come first.
 #
 # A dump does not mark where passes begin. The first pass begins after the factor. Each later pass begins at the next item
 # with the descriptor that began the first pass, so a pass with two equal halves counts as two passes. A replication inside
@@ -431,8 +432,8 @@ END {
     for (column = 1; column <= level_count; column++) {
         word = level[column]
         if (place_of[word] == 1)
-            tell_empty(word, word " occurs only outside the levels; " \
-                (word in several ? "for its first two values, pass " kept_by word "," word ":2" : "pass " kept_by word " instead"))
+            tell_empty(word, word " occurs only outside the levels; " (word in several ? \
+                "for its first two values, pass " kept_by word "," word ":2" : "pass " kept_by word " instead"))
         else if (place_of[word] < 3 && (has_rows || !place_of[word]))
             tell_empty(word, "no row has an item for it")
     }
