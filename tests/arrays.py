@@ -1058,7 +1058,9 @@ def read_by_dask(folder: str) -> None:
     with dask.config.set(dict.fromkeys(times, f"{DASK_SECONDS}s")), distributed.Client(local_directory=folder, **local):
         whole = dask.dataframe.from_map(read, pieces, mark=mark, meta=meta).compute()
         # as the guide has it
-        frame = dask.dataframe.from_map(bufr.frame, pieces, columns=["001015", "012101"], faults="ignore")
+        columns = ["001015", "012101"]
+        meta = bufr.frame([], columns, faults="ignore")
+        frame = dask.dataframe.from_map(bufr.frame, pieces, columns=columns, meta=meta, faults="ignore")
         found = pickle.dumps((whole, frame["012101"].mean().compute()))
         pathlib.Path(folder, "writing").write_bytes(found)
         os.replace(pathlib.Path(folder, "writing"), pathlib.Path(folder, "found"))
