@@ -13,25 +13,29 @@
 divides files into pieces that several processes can read at the same time.
 
 Each function takes a source: the name of a file, `"-"` for standard input, bytes, an open binary file, a `Piece`, or a list
-of these. A source is read in parts of a few MB, so it can be larger than the available memory. Each message is read with the
-table set that bufr-auto would choose, unless you pass the file names of Table B and Table D as `tables=(B, D)`. To select
-messages, set `where` to a list of conditions of the form `KEY=VALUE` or `KEY!=VALUE`, as in bufr-extract.
+of these. Several bytes objects are called `bytes 1`, `bytes 2` and so on in results and faults. A source is read in parts of
+a few MB, so it can be larger than the available memory. Each message is read with the table set that bufr-auto would choose,
+unless you pass the file names of Table B and Table D as `tables=(B, D)`. To select messages, set `where` to a list of
+conditions of the form `KEY=VALUE` or `KEY!=VALUE`, as in bufr-extract.
 
 A fault is a rejected message or a stray (the word `BUFR` outside any complete message, for example at the start of a message
 that is cut off). `faults` determines how faults are reported:
 
 - `"warn"` (default): at the end of each file, a `DumpWarning` says how many faults there were.
-- `"raise"`: the first fault, or a file without messages, raises `BufrError`. A `Piece` without messages does not.
-- `"ignore"`: faults and files without messages are not reported, but `messages` still returns a row for each fault.
+- `"raise"`: the first fault, a file without messages, or an empty list of files raises `BufrError`. A `Piece` without messages
+  does not.
+- `"ignore"`: faults, files without messages, and empty lists are not reported, but `messages` still returns a row for each
+  fault.
 - a list: for each fault, a `Fault` with the members `offset`, `number`, `text` and `file` is appended to the list.
 
-A `DumpWarning` also reports files without messages, messages whose tables are missing, columns without items or values,
-conditions that no message meets, subsets without levels, and elements whose unit depends on the table set. If the source
-contains a `Piece`, columns and conditions are not reported, because other pieces may contain what this one lacks.
+A `DumpWarning` also reports files without messages, an empty list of files, messages whose tables are missing, columns without
+items or values, conditions that no message meets, subsets without levels, and elements whose unit depends on the table set. If
+the source contains a `Piece`, conditions are not reported, because other pieces may contain what this one lacks. For the same
+reason, a column without items is then reported only if no table set defines it.
 
 This module needs NumPy, and `frame` needs pandas. The library is the file libbufr.so.0 next to this module, or in the
 directory `lib` of the installation or clone. To use another file, set the environment variable BUFR_LIBRARY to its path. If
-there is no library, importing this module raises `ImportError`.
+the library cannot be loaded, importing this module raises `ImportError`.
 """
 from __future__ import annotations
 
@@ -263,7 +267,7 @@ def _table_of_levels(part: Part, columns: Sequence[str], keep: Sequence[str], ga
     for index, cell in zip(factors.tolist(), _cells(part, items[factors])):
         counts[index] = int(cell or 0)
     ends = numpy.searchsorted(row[places], numpy.arange(len(message) + 1)).tolist()
-    numbers = part.accepted + numpy.cumsum(part.messages["fault"] == 0)[message]
+    offsets = part.messages["offset"][message]
     rows: List[int] = []
     found: List[List[int]] = []
     for at, (begin, end) in enumerate(zip(ends, ends[1:])):
@@ -271,8 +275,7 @@ def _table_of_levels(part: Part, columns: Sequence[str], keep: Sequence[str], ga
         try:
             passes = bufr_text.passes(own, counts[begin:end], _FACTORS)
         except bufr_text.Ambiguous as twice:
-            fxy = bufr_calls.fxy(twice.args[0])
-            gaps.skip(bufr_text.AMBIGUOUS, int(numbers[at]), int(subset[at]), part.name, fxy)
+            gaps.skip(bufr_text.AMBIGUOUS, int(subset[at]), int(offsets[at]), part.name, fxy=bufr_calls.fxy(twice.args[0]))
             continue
         gaps.look(own, passes, asked)
         kept = [begin + own.index(word) if word in own else -1 for word in asked_kept]
@@ -283,7 +286,7 @@ def _table_of_levels(part: Part, columns: Sequence[str], keep: Sequence[str], ga
                 rows.append(at)
                 found.append(kept + values)
         if len(rows) == before:
-            gaps.skip(bufr_text.BARE, int(numbers[at]), int(subset[at]), part.name)
+            gaps.skip(bufr_text.BARE, int(subset[at]), int(offsets[at]), part.name)
     indices = numpy.array(found, "i8").reshape(len(found), len(keep) + len(columns))
     indices = numpy.where(indices < 0, -1, numpy.append(places, -1)[indices])
     chosen = numpy.array(rows, "i8")
@@ -377,7 +380,13 @@ def frame(
         [836.0, 98520.0, 258.55]
 
     With `levels=True`, a level has a row only if it contains the first column and, if there are other columns, at least one
-    of them. To add an element that occurs once in a subset, such as the station number 001002, pass it in `keep`.
+    of them. If a subset contains several delayed replications, put first a column that occurs only in the one that you want.
+    To add an element that occurs once in a subset, such as the station number 001002, pass it in `keep`. The repetitions of
+    a group whose count is fixed by the template are not levels; to get their values, use columns such as `"013011:2"`
+    without `levels=True`, or `items`.
+
+    For an empty list of files, the result has no rows. With `faults="ignore"`, there is no warning, so you can use
+    `bufr.frame([], columns, header, faults="ignore")` as `meta` in Dask.
 
     With `exact=True`, all numbers, even codes, are `Decimal` or `None`, and their columns have the type `object`. Header values
     do not change. Calculations with these columns are slow, and some pandas methods, such as `std`, `round` and `plot`, fail.

@@ -37,6 +37,8 @@ ITEM = numpy.dtype(
     [("value", "i8"), ("message", "u4"), ("length", "u4"), ("subset", "u2"), ("fxy", "u2"), ("scale", "i2")]
     + [("kind", "u1"), ("reserved", "u1")]
 )
+# The functions of the library that this module calls.
+FUNCTIONS = "bufr_version", "bufr_list", "bufr_dump", "bufr_items"
 # The initial size of the outputs, in rows or in bytes.
 ROOM = 1 << 20
 OUT_OF_MEMORY, NO_ROOM = 73, 74
@@ -87,19 +89,27 @@ class Counts(ctypes.Structure):
 
 
 def loaded() -> ctypes.CDLL:
-    """Loads the library. Raises `ImportError` if there is no library, or if its version does not match this module."""
+    """Loads the library. Raises `ImportError` if it cannot be loaded, or if its version does not match this module."""
     named = os.environ.get("BUFR_LIBRARY")
     here = pathlib.Path(__file__).resolve().parent
     # Next to this file (in a wheel), in a clone or an unpacked release, or in an installation.
     places = [f"{folder}/libbufr.so.0" for folder in (here, here.parent / "lib", here.parent.parent / "lib")]
     for path in places if named is None else [named]:
         if os.path.isfile(path):
-            library = ctypes.CDLL(path)
+            try:
+                library = ctypes.CDLL(path)
+            except OSError as error:
+                raise ImportError(f"cannot load the library for C: {error}") from None
+            lacking = [name for name in FUNCTIONS if not hasattr(library, name)]
+            if lacking:
+                raise ImportError(f"{path} is not the library for C: it lacks the function {lacking[0]}")
             if library.bufr_version() != 1000:
                 raise ImportError(f"{path} and bufr.py have different versions; install both from the same release")
             return library
     missing = "libbufr.so.0 is not installed" if named is None else f"BUFR_LIBRARY is '{named}', which is not a file"
-    raise ImportError(f"{missing}; install a proved release, or build the library with library/build.sh")
+    advice = "install a proved release, or build the library with library/build.sh"
+    elsewhere = "; if it is elsewhere, set BUFR_LIBRARY to its path" if named is None else ""
+    raise ImportError(f"{missing}; {advice}{elsewhere}")
 
 
 LIBRARY = loaded()

@@ -12,6 +12,7 @@ import io
 import itertools
 import operator
 import os
+import reprlib
 import sys
 from dataclasses import dataclass
 from typing import IO, Any, Callable, Collection, Dict, Iterable, Iterator, List, NamedTuple, Optional, Sequence, Tuple
@@ -32,7 +33,9 @@ Source = Union[_One, Iterable[_One]]
 TwoTables = Optional[Tuple[Path, Path]]
 Faults = Union[str, List[Fault]]
 
+_BYTES = bytes, bytearray, memoryview
 _SOURCES = "expected a file name, bytes, an open binary file, a Piece or a list of these"
+_NO_FILES = "no files were given: the list is empty, for example because a glob pattern matches no files"
 _TEXT = "the source is a text file; open it with mode 'rb'"
 _BLOCK = 1 << 20
 # The approximate number of bytes in a part, if only some items are wanted, and if all of them are.
@@ -108,14 +111,17 @@ class _Stream:
         return f"{self.name}: the file contains no messages{looks(self.start)}"
 
 
-def _opened(source: Source) -> Iterator[_Stream]:
-    """Yields the streams of a source, and closes the files that it has opened."""
+def _opened(source: Source, numbers: Optional[Iterator[int]] = None) -> Iterator[_Stream]:
+    """Yields the streams of a source, and closes the files that it has opened.
+
+    The names of bytes objects contain numbers from `numbers`, or no numbers if it is `None`.
+    """
     if isinstance(source, Piece):
         with open(source.file, "rb") as file:
             file.seek(source.begin)
             yield _Stream(source.file, file, source.begin, source.end - source.begin, is_whole=False)
-    elif isinstance(source, (bytes, bytearray, memoryview)):
-        yield _Stream("bytes", io.BytesIO(source))
+    elif isinstance(source, _BYTES):
+        yield _Stream("bytes" if numbers is None else f"bytes {next(numbers)}", io.BytesIO(source))
     elif isinstance(source, str) and source == "-":
         yield _Stream("-", sys.stdin.buffer)
     elif isinstance(source, (str, os.PathLike)):
@@ -133,7 +139,16 @@ def _opened(source: Source) -> Iterator[_Stream]:
             if isinstance(one, (int, numpy.integer)):
                 array = "if it is an array of bytes, pass array.tobytes()"
                 raise TypeError(f"{_SOURCES}, found a list that contains the number {one}; {array}")
-            yield from _opened(one)
+            yield from _opened(one, numbers)
+
+
+def _bytes_objects(source: Source) -> int:
+    """Returns the number of bytes objects in a source. An iterator counts as several, because it can be read only once."""
+    if isinstance(source, _BYTES):
+        return 1
+    if isinstance(source, (str, os.PathLike, Piece)) or not hasattr(source, "__iter__") or hasattr(source, "read"):
+        return 0
+    return sum(map(_bytes_objects, source)) if isinstance(source, Collection) else 2
 
 
 def _size(source: Source) -> int:
@@ -142,7 +157,7 @@ def _size(source: Source) -> int:
         return source.end - source.begin
     if isinstance(source, (str, os.PathLike)):
         return os.path.getsize(source) if os.path.isfile(source) else 0
-    if isinstance(source, (bytes, bytearray, memoryview)):
+    if isinstance(source, _BYTES):
         return len(source)
     return sum(map(_size, source)) if isinstance(source, Collection) else 0
 
@@ -180,7 +195,8 @@ def pieces(files: Union[Path, Iterable[Path]], size: int = 1 << 26, *, faults: F
     """Divides files into pieces of about `size` bytes. Returns the pieces in order; together, they cover every byte.
 
     A piece begins and ends between messages. If a file contains strays, a piece can be up to 16 MB longer. If a file contains
-    no messages, `pieces` itself warns about this or, with `faults="raise"`, raises `BufrError`. Pass each piece to a function
+    no messages, or if there are no files, `pieces` itself warns about this or, with `faults="raise"`, raises `BufrError`. With
+    `size=1`, each piece contains a single message unless there are strays. Pass each piece to a function
     of this module, for example in another process:
 
         >>> from concurrent.futures import ProcessPoolExecutor
@@ -195,17 +211,21 @@ def pieces(files: Union[Path, Iterable[Path]], size: int = 1 << 26, *, faults: F
     checked_faults(faults)
     if not isinstance(size, (int, float, numpy.number)) or not size > 0:
         raise ValueError(f"size must be a positive number of bytes, not {size!r}")
-    is_one = isinstance(files, (str, bytes, os.PathLike)) or hasattr(files, "read") or not isinstance(files, Iterable)
+    is_one = isinstance(files, (str, os.PathLike, *_BYTES)) or hasattr(files, "read") or not isinstance(files, Iterable)
     for file in cast(Iterable[Path], [files] if is_one else files):
         if not isinstance(file, (str, os.PathLike)) or file == "-":
-            raise TypeError(f"expected the name of a file that other processes can open, found {file!r}")
+            # The object may contain a whole file.
+            told = repr(bytes(file[:40])) + "..." * (len(file) > 40) if isinstance(file, _BYTES) else reprlib.repr(file)
+            raise TypeError(f"expected the name of a file that other processes can open, found {told}")
         begin = 0
         for stream in _opened(file):
             for end, _ in _divided(stream, size, are_pieces=True):
                 found.append(Piece(stream.name, begin, end))
                 begin = end
             if not stream.has_message:
-                report_bare(stream, faults)
+                report_bare(stream.no_message(), faults, stream.name)
+    if not found:
+        report_bare(_NO_FILES, faults)
     return found
 
 
@@ -215,12 +235,12 @@ def checked_faults(faults: Faults) -> Faults:
     return faults
 
 
-def report_bare(stream: _Stream, faults: Faults) -> None:
-    """Reports a file without messages."""
+def report_bare(text: str, faults: Faults, file: Optional[str] = None) -> None:
+    """Reports a file without messages, or that there are no files."""
     if faults == "raise":
-        raise BufrError(stream.no_message(), file=stream.name)
+        raise BufrError(text, file=file)
     if faults != "ignore":
-        warn(stream.no_message())
+        warn(text)
 
 
 class Reader:
@@ -252,7 +272,7 @@ class Reader:
         progress, done = bufr_guard.Progress(_size(self.source), False), 0
         is_empty = True
         try:
-            for stream in _opened(self.source):
+            for stream in _opened(self.source, itertools.count(1) if _bytes_objects(self.source) > 1 else None):
                 self.begin_file(stream.name)
                 self.is_whole = self.is_whole and stream.is_whole
                 for end, found in _divided(stream, self.size):
@@ -261,10 +281,11 @@ class Reader:
                     progress.at(done + end - stream.begin)
                 done += end - stream.begin
                 if self.is_bare and stream.is_whole:
-                    report_bare(stream, self.faults)
+                    report_bare(stream.no_message(), self.faults, stream.name)
                 self.end_file()
             if is_empty:
-                yield self.part([])  # an empty list of sources
+                report_bare(_NO_FILES, self.faults)
+                yield self.part([])
             if self.is_whole and self.conditions.unmet():
                 warn(self.conditions.unmet())
         finally:

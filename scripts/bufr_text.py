@@ -137,10 +137,10 @@ class RunError(RuntimeError):
 
 
 class BufrError(RuntimeError):
-    """Raised by the module `bufr` for a rejected message, a stray, a file without messages, or an invalid table.
+    """Raised by the module `bufr` for a rejected message, a stray, a file without messages, no files, or an invalid table.
 
     `file`, `offset`, `number` and `text` have the same meaning as in `Fault`. For a file without messages, only `file` is
-    set; for an invalid table, all four are `None`.
+    set; for an invalid table or an empty list of files, all four are `None`.
     """
 
     def __init__(
@@ -492,12 +492,14 @@ def levels(
     """Yields a tuple for each level of a sounding: header values, then the values for `keep`, then column values.
 
     A level is one repetition (pass) of a delayed replication. A level is left out unless it contains the descriptor of the
-    first column and, if there are other columns, at least one of their descriptors. Each column selects the first item
+    first column and, if there are other columns, at least one of their descriptors. If a subset contains several delayed
+    replications, put first a column that occurs only in the one that you want. Each column selects the first item
     with that descriptor in the level, and each descriptor in `keep` selects the first one in the whole subset. In all
     other respects, `levels` works like `rows`.
 
     A subset is skipped if it has no levels, or if its levels are ambiguous because the descriptor that begins a level
-    occurs again in the same level. A `DumpWarning` at the end says how many subsets were skipped for each of these reasons.
+    occurs again in the same level. A `DumpWarning` at the end says how many subsets were skipped for each of these reasons,
+    and where the first one is.
     """
     columns, header, keep = checked(columns, header, keep, has_levels=True)
     found = _by_library("levels", messages, faults, where, columns, header, keep)
@@ -505,7 +507,7 @@ def levels(
         return found
     file = os.fsdecode(messages) if isinstance(messages, (str, os.PathLike)) else ""
     messages = _messages(messages, faults, where)
-    return _levels(_subsets(messages, [*header, "message", "subset"]), columns, keep, file)
+    return _levels(_subsets(messages, [*header, "message", "subset", "offset"]), columns, keep, file)
 
 
 def _by_library(
@@ -635,6 +637,14 @@ def names(table_b: Optional[_Path] = None) -> Tuple[str, Dict[str, Tuple[str, st
         return name, {}
 
 
+def _all_elements() -> Set[str]:
+    """Returns the descriptors of the elements that at least one table set defines."""
+    import bufr_sets
+
+    every = (tables for sets in bufr_sets.TableSets().sets.values() for tables in sets.values())
+    return {fxy for tables in every for [fxy] in tables.rows("B.csv", "fxy")}
+
+
 def _messages(
     messages: Union[_Path, Iterable[Message]], faults: Optional[List[Fault]], where: Sequence[str]
 ) -> Iterable[Message]:
@@ -689,12 +699,12 @@ def _levels(
     subsets: Iterable[Tuple[List[Cell], List[Item]]], columns: Sequence[str], keep: Sequence[str], file: str
 ) -> Iterator[Tuple[Cell, ...]]:
     gaps = Gaps(columns, keep)
-    for (*header, message, count), subset in subsets:
+    for (*header, message, count, offset), subset in subsets:
         items = [item for item in subset if not item.reference]
         try:
             found_passes = _passes(items)
         except Ambiguous as twice:
-            gaps.skip(AMBIGUOUS, message, count, file, twice)
+            gaps.skip(AMBIGUOUS, count, offset, file, message, twice)
             continue
         gaps.look([item.fxy for item in items], found_passes, columns)
         kept = [find(items, fxy) for fxy in keep]
@@ -706,7 +716,7 @@ def _levels(
                 gaps.add([*kept, *found])
                 yield (*header, *map(_cell, [*kept, *found]))
         if not has_levels:
-            gaps.skip(BARE, message, count, file)
+            gaps.skip(BARE, count, offset, file, message)
     gaps.warn()
 
 
@@ -718,6 +728,7 @@ def _passes(items: List[Item]) -> List[Tuple[int, int]]:
 
 # Why subsets have no levels.
 AMBIGUOUS, BARE = "with ambiguous levels", "without levels"
+_ALL_ITEMS = "bufr.items or bufr_text.dump"
 
 
 class Gaps:
@@ -733,6 +744,8 @@ class Gaps:
         # The indices of the columns that occur in a level, and of those that occur in a subset, but not in its levels.
         self.inside: Set[int] = set()
         self.outside: Set[int] = set()
+        # The indices of the columns that occur several times in a subset.
+        self.several: Set[int] = set()
         # The indices of the columns with an item, and of those with a value.
         self.with_item: Set[int] = set()
         self.with_value: Set[int] = set()
@@ -754,23 +767,31 @@ class Gaps:
             if at not in self.inside and word in words:
                 is_inside = any(word in words[begin:end] for begin, end in found)
                 (self.inside if is_inside else self.outside).add(at)
+                self.several.update([at] * (words.count(word) > 1))
 
-    def skip(self, kind: str, message: Cell, subset: Cell, file: str, fxy: object = None) -> None:
-        why = f" of {file}" if file else ""
-        why += "" if fxy is None else f" ({fxy} begins a level and occurs again in it)"
-        count, first = self.skipped.get(kind, (0, f"message {message}, subset {subset}{why}"))
+    def skip(
+        self, kind: str, subset: Cell, offset: Cell, file: str, message: Cell = None, fxy: object = None
+    ) -> None:
+        """Records that a subset is skipped. `message` is the number of its message, and is used only if `offset` is `None`."""
+        place = f"subset {subset} of the message at offset {offset}" + (f" of {file}" if file else "")
+        place = f"message {message}, subset {subset}" if offset is None else place
+        why = "" if fxy is None else f" ({fxy} begins a level and occurs again in it)"
+        count, first = self.skipped.get(kind, (0, place + why))
         self.skipped[kind] = count + 1, first
 
     def warn(self, is_whole: bool = True, text: str = "column {} is empty, because no row has an item for it") -> None:
-        """Issues a warning for each gap. If `is_whole` is false, other pieces may contain columns, so they are not reported.
+        """Issues a warning for each gap.
 
-        `text` is the warning for a column without items; `{}` stands for the column.
+        If `is_whole` is false, other pieces may contain columns that this piece lacks. Columns are then reported only if no
+        table set defines them. `text` is the warning for a column without items; `{}` stands for the column.
         """
-        if is_whole and (self.has_rows or self.skipped):
-            self.warn_of_columns(text)
+        if self.has_rows or self.skipped:
+            (self.warn_of_columns if is_whole else self.warn_of_undefined)(text)
         for kind in filter(self.skipped.get, (BARE, AMBIGUOUS)):
             count, first = self.skipped[kind]
-            warn(f"skipped a subset {kind}: {first}" if count == 1 else f"skipped {count} subsets {kind}; the first is {first}")
+            advice = f"; to get {'its' if count == 1 else 'their'} items, use {_ALL_ITEMS}" if kind == AMBIGUOUS else ""
+            told = f"a subset {kind}: {first}" if count == 1 else f"{count} subsets {kind}; the first is {first}"
+            warn(f"skipped {told}{advice}")
 
     def warn_of_columns(self, text: str) -> None:
         # Without rows, nothing is known about columns that apply to the whole subset, or that other levels contain.
@@ -779,12 +800,27 @@ class Gaps:
         name, defined = names(self.table_b) if not {at for at, _ in asked} <= self.with_item else ("", {})
         for at, word in asked:
             if at in self.outside - self.inside:
-                warn(f"column {word} is empty, because {word} occurs only outside the levels; pass keep=['{word}'] instead")
+                advice = f"pass keep=['{word}'] instead"
+                if at in self.several:
+                    advice = f"for its first value, pass keep=['{word}']; for all of its values, pass '{word}:1', '{word}:2'"
+                    advice += f" and so on as columns of a table of subsets, or use {_ALL_ITEMS}"
+                warn(f"column {word} is empty, because {word} occurs only outside the levels; {advice}")
             elif at not in self.with_item:
                 is_unknown = defined and word[0] == "0" and word[:6] not in defined
                 warn(text.format(word) + f"; {name} does not define {word[:6]}" * bool(is_unknown))
             elif at not in self.with_value:
                 warn(f"column {word} is empty, because all of its values are missing")
+
+
+    def warn_of_undefined(self, _text: str) -> None:
+        """Warns about elements without items that no table set defines or, if a Table B was passed, that it does not define."""
+        words = [word[:6] for at, word in enumerate(self.columns) if at not in self.with_item and word[0] == "0"]
+        words = [word for word in dict.fromkeys(words) if word not in names(self.table_b)[1]]
+        known = _all_elements() if words and self.table_b is None else set()
+        by = f"{os.fspath(self.table_b)} does not define it" if self.table_b is not None else "no table set defines it"
+        for word in words:
+            if word not in known:
+                warn(f"this piece contains no item for {word}, and {by}")
 
 
 class Ambiguous(ValueError):

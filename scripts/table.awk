@@ -15,7 +15,8 @@
 #
 # With levels=1, each level has a row. A level is one repetition (pass) of a delayed replication, whose factor (031000 to
 # 031002) is in the data. A level has a row only if it contains an item for the first column and, if there are other
-# columns, for at least one of them. The columns in `keep` apply to the whole subset and come first.
+# columns, for at least one of them. If a subset contains several delayed replications, put first a column that occurs only
+# in the one that you want. The columns in `keep` apply to the whole subset and come first.
 #
 # A dump does not mark where passes begin. The first pass begins after the factor. Each later pass begins at the next item
 # with the descriptor that began the first pass, so a pass with two equal halves counts as two passes. A replication inside
@@ -49,6 +50,8 @@ function fail(text) {
 
 # Prints a note about skipped subsets. In a feed, a note is printed only for the first of them, with the count 0.
 function tell_skipped(count, kind, where) {
+    if (kind ~ /ambiguous/)
+        where = where "; to get " (count > 1 ? "their" : "its") " items, run " all_items
     kind = count > 1 ? count " subsets " kind "; the first is" : "a subset " kind ":"
     print name ": skipped " kind " message " where (count ? "" : "; others will not be reported") | "cat >&2"
     close("cat >&2")
@@ -300,13 +303,16 @@ function item(fxy) {
     if (fxy in in_levels) {
         if (open && !(fxy in values))
             values[fxy] = field()
-        if (!open && !(fxy in place))
+        if (!open && fxy in place)
+            several[fxy] = 1
+        else if (!open)
             place[fxy] = 1
     }
 }
 
 BEGIN {
     kept_by = name == "" ? "-v keep=" : "--keep "
+    all_items = name == "" ? "table.awk without levels= and columns=" : name " without --levels and -c"
     if (name == "")
         name = "table.awk"
     by_item = columns == ""
@@ -426,7 +432,8 @@ END {
     for (column = 1; column <= level_count; column++) {
         word = level[column]
         if (place_of[word] == 1)
-            tell_empty(word, word " occurs only outside the levels; pass " kept_by word " instead")
+            tell_empty(word, word " occurs only outside the levels; " (word in several ? \
+                "for its first two values, pass " kept_by word "," word ":2" : "pass " kept_by word " instead"))
         else if (place_of[word] < 3 && (has_rows || !place_of[word]))
             tell_empty(word, "no row has an item for it")
     }

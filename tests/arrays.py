@@ -225,13 +225,22 @@ class Same(WithFolder):
             bits.put(number, width)
         octets = lib.message(bits.octets(), lib.words("103000 031001 008002 020011 008002"))
         self.alike("ambiguous levels", octets, TABLES)
-        said = "^skipped 2 subsets with ambiguous levels; the first is message 1, subset 1 of {} .008002 begins a level"
+        said = "^skipped 2 subsets with ambiguous levels; the first is subset 1 of the message at offset 0 of {} .008002 begins a level"
+        said += " and occurs again in it.; to get their items, use bufr.items or bufr_text.dump$"
         self.stream.write_bytes(octets)
         # of pieces too, because soundings are lost
-        for source, name in (([octets, octets], "bytes"), (bufr.pieces([self.stream] * 2), self.stream)):
+        for source, name in (([octets, octets], "bytes 1"), (bufr.pieces([self.stream] * 2), self.stream)):
             with self.assertWarnsRegex(bufr.DumpWarning, said.format(name)) as one:
                 self.assertEqual(list(bufr.levels(source, ["008002"])), [])
             self.assertEqual(one.filename, __file__)
+        # the place in the file depends neither on the conditions nor on the piece
+        self.stream.write_bytes(SYNOP.read_bytes() + octets)
+        told = f"skipped a subset with ambiguous levels: subset 1 of the message at offset 595 of {self.stream} (008002 begins a level"
+        told += " and occurs again in it); to get its items, use bufr.items or bufr_text.dump"
+        calls = [lambda: [*bufr.levels(bufr.pieces(self.stream, 1)[1], ["008002"])]]
+        calls += [lambda call=call: [*call(self.stream, ["008002"], where=["centre!=78"])] for call in (bufr.levels, bufr_text.levels)]
+        for call in calls:
+            self.assertEqual(told_by(call)[1][-1], told)
 
     def test_parts_of_any_size(self):
         self.without_warnings()
@@ -313,8 +322,6 @@ class Sources(WithFolder):
             self.assertEqual(list(bufr.rows(source, ["001015", "012101"], ["offset", "time"])), wanted * 2)
         rows = list(bufr.rows([SYNOP, io.BytesIO(octets), octets], [], ["file", "message", "subset"]))
         self.assertEqual(rows[::3], [(str(SYNOP), 1, 1), ("stream", 2, 1), ("bytes", 3, 1)])
-        for source in (pandas.Series([], dtype=object), numpy.array([]), iter([])):
-            self.assertEqual(bufr.frame(source, ["012101"], ["time"]).shape, (0, 2))
         self.assertEqual(len(bufr.pieces(pandas.Series(paths))), 2)
         with tempfile.TemporaryFile() as file:  # its name is a number
             file.write(octets)
@@ -322,6 +329,25 @@ class Sources(WithFolder):
             self.assertEqual(next(bufr.rows(file, [], ["file"])), ("stream",))
         with open(os.fsencode(SYNOP), "rb") as file:
             self.assertEqual(next(bufr.rows(file, [], ["file"])), (str(SYNOP),))
+
+    def test_names_of_several_bytes_objects(self):
+        octets, three = SYNOP.read_bytes(), ["bytes 1", "bytes 2", "bytes 3"]
+        one, two, stream = [octets], [octets, bytearray(octets)], io.BytesIO(octets)
+        for source, names in [
+            (octets, ["bytes"]),
+            ([octets], ["bytes"]),
+            ([SYNOP, [octets]], [str(SYNOP), "bytes"]),
+            ([*two, memoryview(octets)], three),
+            ([stream, one, SYNOP, two], ["stream", "bytes 1", str(SYNOP), *three[1:]]),
+            (pandas.Series(two), three[:2]),
+            # how many there are is not known before they are read
+            (iter(one), three[:1]),
+        ]:
+            self.assertEqual([*dict.fromkeys(file for [file] in bufr.rows(source, [], ["file"]))], names)
+        faults = []
+        frame, told = told_by(lambda: bufr.frame([octets, b"BUFR" + octets, b""], [], ["file"], faults=faults))
+        self.assertEqual((frame["file"][3], [fault.file for fault in faults]), ("bytes 2", ["bytes 2"]))
+        self.assertEqual(told, ["bytes 3: the file contains no messages: it is empty"])
 
     def test_standard_input(self):
         code = "import sys; sys.path.insert(0, sys.argv[1]); import bufr; print(len(bufr.frame('-', ['012101'])))"
@@ -364,6 +390,25 @@ class Sources(WithFolder):
         self.assertEqual(len(bufr.items(SYNOP, []).items), 0)
         twice = bufr.frame(SYNOP, ["012101", "012101"])
         self.assertEqual(twice["012101"].shape, (3, 2))
+
+    def test_an_empty_list_of_files_is_warned_of(self):
+        told = "no files were given: the list is empty, for example because a glob pattern matches no files"
+        for call in (bufr.messages, bufr.items, lambda *source, **named: bufr.frame(*source, ["012101"], ["time"], **named)):
+            for source in ([], (), [[], ()], pandas.Series([], dtype=object), numpy.array([]), iter([])):
+                self.assertEqual(told_by(lambda: call(source))[1], [told])
+        with self.assertWarns(bufr.DumpWarning) as warned:
+            self.assertEqual(bufr.frame([], ["012101"], ["time"]).shape, (0, 2))
+        self.assertEqual(warned.filename, __file__)
+        calls = [bufr.pieces, bufr.messages, lambda source, faults: [*bufr.levels(source, ["007004"], faults=faults)]]
+        for call in calls:
+            self.assertEqual(told_by(lambda: len(call([], faults="warn")))[1], [told])
+            self.assertEqual(told_by(lambda: len(call([], faults=[])))[1], [told])
+            self.assertEqual(told_by(lambda: len(call([], faults="ignore"))), (0, []))
+            with self.assertRaisesRegex(bufr.BufrError, f"^{told}$") as error:
+                call([], faults="raise")
+            self.assertEqual((error.exception.file, error.exception.offset), (None, None))
+        # a list of pieces is not empty, even if they contain no messages
+        self.assertEqual(told_by(lambda: len(bufr.messages([bufr.Piece(str(SYNOP), 0, 0)]))), (0, []))
 
     def test_a_file_without_messages_is_warned_of(self):
         gzip = b"\x1f\x8b\0", ": it looks like gzip data (use zcat)"
@@ -411,6 +456,11 @@ class Sources(WithFolder):
                 bufr.pieces(files)
         for files, found in ((None, "None"), (5, "5"), (b"BUFR", "b'BUFR'"), (bufr.Piece("x", 0, 1), "Piece.*"), (io.BytesIO(b"BUFR"), "<.*>")):
             with self.assertRaisesRegex(TypeError, f"expected the name of a file that other processes can open, found {found}$"):
+                bufr.pieces(files)
+        long = SYNOP.read_bytes() * 9
+        for files in (long, bytearray(long), [memoryview(long)]):
+            told = r"^expected the name of a file that other processes can open, found b.BUFR\\x00.{80,140}\.\.\.$"
+            with self.assertRaisesRegex(TypeError, told):
                 bufr.pieces(files)
         for size in (0, -1, "64MB", None, float("nan")):
             with self.assertRaisesRegex(ValueError, f"size must be a positive number of bytes, not {size!r}$"):
@@ -863,8 +913,27 @@ class Faults(WithFolder):
                     self.assertEqual(told_by(lambda: bufr.items(source, ["001015", "001006"]))[1], [])
         # nothing is known of the columns without messages, and other pieces may have what one lacks
         pieces = bufr.pieces(SYNOP)
-        for source in ([], pieces, [*pieces, SYNOP]):
+        for source in (pieces, [*pieces, SYNOP]):
             self.assertEqual(told_by(lambda: [bufr.frame(source, ["012104"]), bufr.items(source, ["012104"])])[1], [])
+        # but not a descriptor that no table set defines; 002192 is in a local set, and 012030 only in an old one
+        folder = self.folder / "sets"
+        for name in ("wmo-39", "wmo-13", "wmo-13+98-7"):
+            shutil.copytree(TOP / "tables" / name[:6], folder / name)
+        with open(folder / "wmo-13+98-7/B.csv", "a") as table:
+            table.write("002192,LOCAL,M,0,0,8\n")
+        with open(folder / "wmo-13/B.csv", "a") as table:
+            table.write("002191,OLD,M,0,0,8\n")
+        words = ["012104", "002191", "002192", "063255", "205004"]
+        unknown = "this piece contains no item for 063255, and no table set defines it"
+        with unittest.mock.patch.dict(os.environ, BUFR_TABLES=str(folder)):
+            for call in (bufr.frame, bufr.items, lambda *given: [*bufr.rows(*given)]):
+                for source in (pieces, [*pieces, SYNOP]):
+                    self.assertEqual(told_by(lambda: call(source, words))[1], [unknown])
+        for call in (bufr.frame, bufr.items):
+            _, told = told_by(lambda: call(pieces, ["012104", "063255"], tables=TABLES))
+            self.assertEqual(told, [f"this piece contains no item for 063255, and {TABLES[0]} does not define it"])
+            # nothing is known without messages
+            self.assertEqual(told_by(lambda: call([bufr.Piece(str(SYNOP), 0, 0)], ["063255"]))[1], [])
         for call in (bufr.frame, bufr.items):
             _, told = told_by(lambda: call(SYNOP, ["012104"], where=["centre=1"]))
             self.assertEqual(told, ["no message meets the conditions in where="])
@@ -881,12 +950,20 @@ class Faults(WithFolder):
         sounding = TOP / "examples/sounding.bufr"
         empty = "column {} is empty, because no row has an item for it"
         outside = "column {0} is empty, because {0} occurs only outside the levels; pass keep=['{0}'] instead"
-        one = f"skipped a subset without levels: message 1, subset 1 of {sounding}"
-        three = "skipped 3 subsets without levels; the first is message {}, subset 1 of {}"
+        bits = lib.Bits()
+        for number, width in ((1, 7), (2, 7), (3, 10), (2, 8), (4, 14), (5, 14)):
+            bits.put(number, width)
+        self.stream.write_bytes(lib.message(bits.octets(), lib.words("001001 001001 001002 101000 031001 007004")))
+        several = f"{outside.partition(';')[0]}; for its first value, pass keep=['{{0}}']; for all of its values, pass '{{0}}:1', '{{0}}:2'"
+        several += " and so on as columns of a table of subsets, or use bufr.items or bufr_text.dump"
+        one = f"skipped a subset without levels: subset 1 of the message at offset 0 of {sounding}"
+        three = "skipped 3 subsets without levels; the first is subset 1 of the message at offset {} of {}"
         for call in (bufr.levels, bufr_text.levels, lambda *words: bufr.frame(*words[:2], keep=words[3], levels=True)):
             for source, columns, keep, wanted in [
                 # without a row, nothing is known of what applies to the whole subset
-                (SYNOP, ["012104"], ["012103"], [empty.format("012104"), three.format(1, SYNOP)]),
+                (SYNOP, ["012104"], ["012103"], [empty.format("012104"), three.format(0, SYNOP)]),
+                # 001001 occurs twice before the levels, and 001002 once
+                (self.stream, ["007004", "001001", "001002"], [], [several.format("001001"), outside.format("001002"), one.replace(str(sounding), str(self.stream))]),
                 (sounding, ["012104"], ["001002"], [empty.format("012104"), one]),
                 # other columns are not called empty, because they have values in other levels
                 (sounding, ["001002", "007004", "012101"], [], [outside.format("001002"), one]),
@@ -900,13 +977,13 @@ class Faults(WithFolder):
             with unittest.mock.patch.multiple(bufr_parts, _PART_OF_ALL=size):
                 octets = sounding.read_bytes() + b"BUFR\0\0\1" + sounding.read_bytes() + SYNOP.read_bytes()
                 told = told_by(lambda: [*bufr.levels(octets, ["007004"], faults="ignore")])[1]
-                self.assertEqual(told, [three.format(3, "bytes")])
+                self.assertEqual(told, [three.format(1395, "bytes")])
 
     def test_notes_on_tables(self):
         later = lib.asking(SYNOP.read_bytes(), 45)
         _, told = told_by(lambda: bufr.frame([later * 2, later], ["012101"]))
         places = [text.partition(": table")[0] for text in told]
-        self.assertEqual(places, ["bytes: 2 messages, the first at offset 0", "bytes: 1 message, at offset 0"])
+        self.assertEqual(places, ["bytes 1: 2 messages, the first at offset 0", "bytes 2: 1 message, at offset 0"])
         self.assertIn("table version 45 is later than that of the table set wmo-39; get newer tables", told[0])
 
     def test_invalid_tables(self):
@@ -931,8 +1008,20 @@ class Faults(WithFolder):
                 bufr.messages(SYNOP)
 
     def test_no_library(self):
-        for name, told in (("/none", "BUFR_LIBRARY is '/none', which is not a file"), (str(SYNOP), "invalid ELF header")):
-            with unittest.mock.patch.dict(os.environ, BUFR_LIBRARY=name), self.assertRaisesRegex((ImportError, OSError), told):
+        other = re.search(r"/\S*/libc[.-]\S*", pathlib.Path("/proc/self/maps").read_text())[0]
+        for name, told in [
+            ("/none", "^BUFR_LIBRARY is '/none', which is not a file; "),
+            (str(SYNOP), f"^cannot load the library for C: {SYNOP}: .*invalid ELF header$"),
+            (other, f"^{other} is not the library for C: it lacks the function bufr_version$"),
+        ]:
+            with unittest.mock.patch.dict(os.environ, BUFR_LIBRARY=str(name)), self.assertRaisesRegex(ImportError, told):
+                bufr_calls.loaded()
+        with unittest.mock.patch.dict(os.environ), unittest.mock.patch("os.path.isfile", lambda _: False):
+            del os.environ["BUFR_LIBRARY"]
+            with self.assertRaisesRegex(ImportError, "^libbufr.so.0 is not installed; .*; if it is elsewhere, set BUFR_LIBRARY to its path$"):
+                bufr_calls.loaded()
+        with unittest.mock.patch("ctypes.CDLL", lambda _: unittest.mock.Mock(spec=["bufr_version", "bufr_list"])):
+            with self.assertRaisesRegex(ImportError, " is not the library for C: it lacks the function bufr_dump$"):
                 bufr_calls.loaded()
         with unittest.mock.patch("ctypes.CDLL") as library, self.assertRaisesRegex(ImportError, "have different versions"):
             library.return_value.bufr_version.return_value = 2000
@@ -969,7 +1058,9 @@ def read_by_dask(folder: str) -> None:
     with dask.config.set(dict.fromkeys(times, f"{DASK_SECONDS}s")), distributed.Client(local_directory=folder, **local):
         whole = dask.dataframe.from_map(read, pieces, mark=mark, meta=meta).compute()
         # as the guide has it
-        frame = dask.dataframe.from_map(bufr.frame, pieces, columns=["001015", "012101"], faults="ignore")
+        columns = ["001015", "012101"]
+        meta = bufr.frame([], columns, faults="ignore")
+        frame = dask.dataframe.from_map(bufr.frame, pieces, columns=columns, meta=meta, faults="ignore")
         found = pickle.dumps((whole, frame["012101"].mean().compute()))
         pathlib.Path(folder, "writing").write_bytes(found)
         os.replace(pathlib.Path(folder, "writing"), pathlib.Path(folder, "found"))

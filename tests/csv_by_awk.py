@@ -242,7 +242,8 @@ def tries_levels(awk: list, sounding: bytes, synop: bytes) -> None:
     first = run(awk, NESTED, levels="1", columns="011001,007004")
     want(first == (0, "message,subset,011001,007004\n1,1,1,100\n", ""), f"{awk}: levels by an inner descriptor are {first}")
     behind = run(awk, NESTED, levels="1", columns="007004,012103")
-    told = "table.awk: column 012103 is empty, because 012103 occurs only outside the levels; pass -v keep=012103 instead\n"
+    told = "table.awk: column 012103 is empty, because 012103 occurs only outside the levels; "
+    told += "for its first two values, pass -v keep=012103,012103:2\n"
     told += "table.awk: skipped a subset without levels: message 1, subset 1\n"
     wanted = (0, "message,subset,007004,012103\n", told)
     want(behind == wanted, f"{awk}: an item behind all passes is in a row: {behind}")
@@ -260,12 +261,13 @@ def tries_levels(awk: list, sounding: bytes, synop: bytes) -> None:
     wanted = (0, "message,subset,012101\n", outside + bare.format(two))
     want(empty == wanted, f"{awk}: passes without items give {empty}")
     _, _, errors = run(awk, ODD, levels="1", keep="001015", columns="012101")
-    told = outside + bare.format(one)
+    several = outside.partition("; ")[0] + "; for its first two values, pass -v keep=012101,012101:2\n"
+    told = several + bare.format(one)
     want(errors == told, f"{awk}: without a level, a kept column is told as {errors}")
     # the descriptor that begins a pass comes twice before an inner group
     again = b"message\nsubset 1\n031001 3\n" + b"007004 1\n007004 2\n031001 1\n011001 3\n" * 3 + b"end\n"
     status, output, errors = run(awk, again, levels="1", columns="007004")
-    is_so = (status, output.count("\n")) == (1, 1) and "ambiguous levels: message 1, subset 1 (007004 begins a level and occurs again in it)\n" in errors
+    is_so = (status, output.count("\n")) == (1, 1) and "ambiguous levels: message 1, subset 1 (007004 begins a level and occurs again in it); to get its items, run " in errors
     want(is_so, f"{awk}: a descriptor that comes again gives {status}, {output}, {errors}")
     # ambiguous passes between others: the rest is given
     good = BEHIND.splitlines(True)
@@ -273,7 +275,8 @@ def tries_levels(awk: list, sounding: bytes, synop: bytes) -> None:
     between = both + NESTED + ENCLOSED % 2 + ODD + NESTED
     status, output, errors = run(awk, between, levels="1", columns="007004,012101")
     told = "table.awk: skipped a subset without levels: message 4, subset 1\n"
-    told += "table.awk: skipped 2 subsets with ambiguous levels; the first is message 1, subset 1 (008002 begins a level and occurs again in it)\n"
+    told += "table.awk: skipped 2 subsets with ambiguous levels; the first is message 1, subset 1 (008002 begins a level and occurs again in it)"
+    told += "; to get their items, run table.awk without levels= and columns=\n"
     want((status, errors) == (1, told), f"{awk}: ambiguous passes give {status}, {errors}")
     rows = [line.split(",")[0] for line in output.splitlines()[1:]]
     want(rows == ["2"] * 5 + ["5"] * 5, f"{awk}: beside ambiguous passes there are {output}")

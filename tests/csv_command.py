@@ -372,6 +372,16 @@ def notes(folder: pathlib.Path) -> None:
         for options in ([], ["--json"]):
             done = run("--levels", "-c", columns, *(["--keep", keep] if keep else []), *options, SOUNDING)
             holds(f"--levels -c {columns} {options}: the notes", done.stderr.decode() == wanted, (done.stderr, wanted))
+    several = outside.partition(";")[0] + "; for its first two values, pass --keep {0},{0}:2\n"
+    bits = lib.Bits()
+    for number, width in ((1, 7), (2, 7), (3, 10), (2, 8), (4, 14), (5, 14)):
+        bits.put(number, width)
+    octets = lib.message(bits.octets(), lib.words("001001 001001 001002 101000 031001 007004")) * 2
+    done = run("--levels", "-c", "007004,001001,001002", input=octets)
+    wanted = several.format("001001") + outside.format("001002")
+    holds("a column that occurs twice outside the levels", done.stderr.decode().endswith(wanted), (done.stderr, wanted))
+    done = run("--levels", "-c", "007004", "--keep", "001001,001001:2", input=octets)
+    holds("the columns that are advised", done.stdout.splitlines()[1] == b"1,1,1,2,40", done)
     bits = lib.Bits()
     bits.put(2, 8)
     for _ in range(2):
@@ -380,7 +390,8 @@ def notes(folder: pathlib.Path) -> None:
     twice = lib.message(bits.octets(), lib.words("103000 031001 008002 020011 008002"))
     done = run("--levels", "-c", "020011", input=twice)
     (folder / "twice").write_bytes(twice)
-    told = b"bufr-csv: skipped a subset with ambiguous levels: message 1, subset 1 (008002 begins a level and occurs again in it)%s\n"
+    told = b"bufr-csv: skipped a subset with ambiguous levels: message 1, subset 1 (008002 begins a level and occurs again in it)"
+    told += b"; to get its items, run bufr-csv without --levels and -c%s\n"
     of_file = run("--levels", "-c", "020011", folder / "twice")
     column = empty.format("020011").encode()
     for what, done, wanted in (

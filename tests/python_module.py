@@ -320,7 +320,10 @@ class Tables(unittest.TestCase):
 
     def notes(self, told: list) -> list:
         """Warnings as table.awk prints them, without those that it lacks."""
-        return [f"table.awk: {one.message}" for one in told if "all of its values are missing" not in str(one.message)]
+        texts = [f"table.awk: {one.message}" for one in told if "all of its values are missing" not in str(one.message)]
+        texts = [text.replace("use bufr.items or bufr_text.dump", "run table.awk without levels= and columns=") for text in texts]
+        several = r"for its first value, pass keep=\['(\d+)'\]; for all of its values, .*"
+        return [re.sub(several, r"for its first two values, pass -v keep=\1,\1:2", text) for text in texts]
 
     def alike(self, rows) -> list:
         """The cells of a table, with all spellings of a number as one."""
@@ -437,7 +440,8 @@ class Tables(unittest.TestCase):
             unclear += done.returncode
         self.assertGreater(count, 100)
         self.assertGreater(unclear, 0)
-        said = r"^skipped a subset with ambiguous levels: message 1, subset 1 \(008002 begins a level and occurs again in it\)$"
+        said = r"^skipped a subset with ambiguous levels: message 1, subset 1 \(008002 begins a level and occurs again in it\); "
+        said += "to get its items, use bufr.items or bufr_text.dump$"
         with self.assertWarnsRegex(bufr_text.DumpWarning, said):
             list(bufr_text.levels(bufr_text.read(io.BytesIO(texts[-5])), ["020011"]))
         with warnings.catch_warnings():
@@ -588,7 +592,8 @@ class Runs(unittest.TestCase):
         faults = []
         levels = list(bufr_text.levels(self.stream, ["007004"], ["offset"], faults=faults, where=["category=2"]))
         self.assertEqual((len(levels), {offset for offset, _ in levels}, faults), (29, {0}, strays))
-        with self.assertWarnsRegex(bufr_text.DumpWarning, "^skipped 25 subsets without levels; the first is message 2, subset 1$"):
+        told = "^skipped 25 subsets without levels; the first is subset 1 of the message at offset 701$"
+        with self.assertWarnsRegex(bufr_text.DumpWarning, told):
             self.assertEqual(levels, list(bufr_text.levels(bufr_text.dump(self.stream, faults=[]), ["007004"], ["offset"])))
         for call in (bufr_text.rows, bufr_text.levels):
             for given in ({"faults": []}, {"where": ["category=0"]}):
