@@ -70,11 +70,11 @@ class Conditions:
             raise ValueError(f"the value in '{word}' can never match; use only digits, T, colons, slashes and hyphens")
         values = text.split(",")
         if key == "time" and not all(map(TIME, values)):
-            raise ValueError(f"the value in '{word}' can never match; write the time as in time=2023-03-14T18")
+            raise ValueError(f"the value in '{word}' can never match; write the time in the form time=2023-03-14T18")
         example = EXAMPLES.get(key, "1")
         numbers = re.compile("(0|[1-9][0-9]*)(/(0|[1-9][0-9]*)){0,%d}" % example.count("/")).fullmatch
         if key != "time" and not all(map(numbers, values)):
-            raise ValueError(f"the value in '{word}' can never match; write it as in {key}={example}, without leading zeros")
+            raise ValueError(f"the value in '{word}' can never match; write it in the form {key}={example}, without leading zeros")
         pattern = f"(^| ){key}=({'|'.join(values)})([ T:/-]|$)"
         if key == "time" and not negated:
             of_century = [f"00{year[2:]}" for year in values if f"00{year[2:4]}" not in {value[:4] for value in values}]
@@ -111,10 +111,10 @@ class Conditions:
         """Returns a note that says how many edition 3 messages were left out, or an empty string if none were."""
         if not self.left_out:
             return ""
-        messages = "1 message" if self.left_out == 1 else f"{self.left_out} messages"
+        messages = "1 edition 3 message" if self.left_out == 1 else f"{self.left_out} edition 3 messages"
         both = f"{self.asked},{','.join(self.of_century)}"
         advice = f"to select messages in editions 3 and 4, use {both}"
-        return f"left out {messages}{so_far} in edition 3, which has only two-digit years; {advice}"
+        return f"left out {messages}{so_far}, because edition 3 has only two-digit years; {advice}"
 
     def new_note(self, so_far: str) -> List[str]:
         """Returns the note in a list, which is empty if there is no note or if the note has already been returned."""

@@ -94,7 +94,7 @@ _CAUSES = [
         (rb"[^\"#]* -?[\d.]+[Ee].*", "an exponent in a number"),
         (rb"[^\"#]* -?\d*,.*", "a decimal comma"),
         (rb"[^\"#]* -?(?:[Nn][Aa][Nn]|[Ii]nf)\b.*", "a value that is not a number; write MISSING for a missing value"),
-        (rb"[^\"#]* (?!MISSING)(?i:missing)\b.*", "the word MISSING, but not in capitals"),
+        (rb"[^\"#]* (?!MISSING)(?i:missing)\b.*", "the word MISSING not in capitals"),
         (rb"[^\"#]* -?(?:\d+\.|\.\d+)(?: .*)?", "a decimal point without a digit on each side"),
         (rb"\d{6} ?", "no value; write MISSING for a missing value"),
         (rb".* ", "a space at the end"),

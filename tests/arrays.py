@@ -493,7 +493,7 @@ class Sources(WithFolder):
             rows = bufr.messages(self.stream, where=where, faults="ignore")
             self.assertEqual(rows["offset"][rows["fault"] == 0].tolist(), wanted)
             self.assertTrue(wanted)
-        never, list_of = "can never match; write it as in", "where must be a list of conditions such as .'category=0'., not "
+        never, list_of = "can never match; write it in the form", "where must be a list of conditions such as .'category=0'., not "
         for where, error, told in [
             (["categori=0"], ValueError, "unknown key 'categori'"),
             ("category=0", ValueError, f"{list_of}'category=0'$"),
@@ -532,7 +532,7 @@ class Sources(WithFolder):
         one = next(one for one in bufr_text.listing(self.stream, []) if one.edition == 3)
         old.write_bytes(octets[one.offset :][: one.length])
         _, told = told_by(lambda: bufr.frame([old, SYNOP, old], ["012101"], where=["time=2006"]))
-        self.assertEqual([text.partition(" in ")[0] for text in told], [f"{old}: left out 1 message"] * 2)
+        self.assertEqual([text.partition(",")[0] for text in told], [f"{old}: left out 1 edition 3 message"] * 2)
 
 
 class Values(WithFolder):

@@ -63,14 +63,14 @@ REFUSED = [
     (["category="], "the value in 'category=' can never match"),
     (["category=0x"], "the value in 'category=0x' can never match"),
     (["category=0,"], "the value in 'category=0,' can never match"),
-    (["centre=078"], "the value in 'centre=078' can never match; write it as in centre=98/0, without leading zeros"),
-    (["category!=2,02"], "the value in 'category!=2,02' can never match; write it as in category=0/2/0, without leading zeros"),
-    (["edition=3/4"], "the value in 'edition=3/4' can never match; write it as in edition=1"),
+    (["centre=078"], "the value in 'centre=078' can never match; write it in the form centre=98/0, without leading zeros"),
+    (["category!=2,02"], "the value in 'category!=2,02' can never match; write it in the form category=0/2/0, without leading zeros"),
+    (["edition=3/4"], "the value in 'edition=3/4' can never match; write it in the form edition=1"),
     (["time=2024-1"], "the value in 'time=2024-1' can never match"),
     (["time=2024-01-2"], "the value in 'time=2024-01-2' can never match"),
     (["time=2024-01-02T03:4"], "the value in 'time=2024-01-02T03:4' can never match"),
     (["time=2024-01-02T03:04:5"], "the value in 'time=2024-01-02T03:04:5' can never match"),
-    (["time=18"], "the value in 'time=18' can never match; write the time as in time=2023-03-14T18"),
+    (["time=18"], "the value in 'time=18' can never match; write the time in the form time=2023-03-14T18"),
     (["time!=2024,2024-01-02T3"], "the value in 'time!=2024,2024-01-02T3' can never match"),
     (["category", SYNOP], "the key 'category' has no value; write category=VALUE"),
     ([SYNOP, "time"], "the key 'time' has no value; write time=VALUE"),
@@ -216,18 +216,18 @@ def tells_years_of_the_century(folder: pathlib.Path) -> None:
     path = folder / "years.bufr"
     path.write_bytes(b"".join(messages.values()))
     first, second, next_year, whole, of_14, whole_next = dates
-    two_digits = "in edition 3, which has only two-digit years; to select messages in editions 3 and 4, use"
+    two_digits = ", because edition 3 has only two-digit years; to select messages in editions 3 and 4, use"
     for words, taken, told in (
-        (["time=2014"], [whole], f"2 messages {two_digits} time=2014,0014"),
-        (["time=2014-06"], [], f"1 message {two_digits} time=2014-06,0014-06"),
-        (["time=2014-05-02T03"], [whole], f"1 message {two_digits} time=2014-05-02T03,0014-05-02T03"),
+        (["time=2014"], [whole], f"2 edition 3 messages{two_digits} time=2014,0014"),
+        (["time=2014-06"], [], f"1 edition 3 message{two_digits} time=2014-06,0014-06"),
+        (["time=2014-05-02T03"], [whole], f"1 edition 3 message{two_digits} time=2014-05-02T03,0014-05-02T03"),
         (["time=2014,0014"], [first, second, whole, of_14], ""),
         (["time=2014,0014-05"], [first, whole, of_14], ""),
         (["time=2015", "edition=4"], [whole_next], ""),
         (["time=2013"], [], ""),
         (["time!=2014"], [first, second, next_year, of_14, whole_next], ""),
         (["time=0014", "edition=3"], [first, second], ""),
-        (["time=2014,0015", "time=2015,0014"], [], f"3 messages {two_digits} time=2014,0015,0014,0015"),
+        (["time=2014,0015", "time=2015,0014"], [], f"3 edition 3 messages{two_digits} time=2014,0015,0014,0015"),
         (["time!=2014,0014"], [next_year, whole_next], ""),
     ):
         done = run([*words, path])
@@ -325,8 +325,8 @@ def tells_a_feed() -> None:
     """The note on messages that are left out comes in a pause of a feed, or after a minute, and once."""
     message = lib.message(b"\x14", edition=3)
     year = 2000 + message[8 + 12]
-    rest = f" in edition 3, which has only two-digit years; to select messages in editions 3 and 4, use time={year},00{year - 2000:02}\n"
-    note = f"bufr-extract: left out 2 messages so far{rest}".encode()
+    rest = f", because edition 3 has only two-digit years; to select messages in editions 3 and 4, use time={year},00{year - 2000:02}\n"
+    note = f"bufr-extract: left out 2 edition 3 messages so far{rest}".encode()
     with subprocess.Popen([sys.executable, EXTRACT, f"time={year}"], stdin=subprocess.PIPE, stderr=subprocess.PIPE, bufsize=0) as feed:
         begin = time.monotonic()
         feed.stdin.write(message * 2)
@@ -348,7 +348,7 @@ def tells_a_feed() -> None:
     """
     words = [sys.executable, "-c", script, str(EXTRACT), f"time={year}"]
     done = subprocess.run(words, input=message * 20_000, stdout=subprocess.PIPE, stderr=subprocess.PIPE)
-    want(b" so far " in done.stderr, f"a feed without a pause: {done.stderr}")
+    want(b" so far" in done.stderr, f"a feed without a pause: {done.stderr}")
 
 
 def serves_a_feed(folder: pathlib.Path) -> None:
