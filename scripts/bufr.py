@@ -13,10 +13,10 @@
 divides files into pieces that several processes can read at the same time.
 
 Each function takes a source: the name of a file, `"-"` for standard input, bytes, an open binary file, a `Piece`, or a list
-of these. Several bytes objects are called `bytes 1`, `bytes 2` and so on in results and faults. A source is read in parts of
-a few MB, so it can be larger than the available memory. Each message is read with the table set that bufr-auto would choose,
-unless you pass the file names of Table B and Table D as `tables=(B, D)`. To select messages, set `where` to a list of
-conditions of the form `KEY=VALUE` or `KEY!=VALUE`, as in bufr-extract.
+of these. If a source contains several bytes objects, results and faults call them `bytes 1`, `bytes 2` and so on. A source is
+read in parts of a few MB, so it can be larger than the available memory. Each message is read with the table set that
+bufr-auto would choose, unless you pass the file names of Table B and Table D as `tables=(B, D)`. To select messages, set
+`where` to a list of conditions of the form `KEY=VALUE` or `KEY!=VALUE`, as in bufr-extract.
 
 A fault is a rejected message or a stray (the word `BUFR` outside any complete message, for example at the start of a message
 that is cut off). `faults` determines how faults are reported:
@@ -366,8 +366,8 @@ def frame(
     contains all of them, and a `DumpWarning` says which table sets they come from.
 
     Strings have one character for each byte, as in ISO 8859-1. Unlike the strings from `rows`, they contain no escapes. If the
-    time of a message does not exist, it is NaT. In edition 3, years have two digits: 69 to 99 stand for 1969 to 1999, and 0 to
-    68 for 2000 to 2068.
+    time in a header is invalid, the value is NaT. In edition 3, years have two digits: 69 to 99 stand for 1969 to 1999, and 0
+    to 68 for 2000 to 2068.
 
         >>> frame = bufr.frame("synop.bufr", ["001015", "001001", "012101"], header=["time"])
         >>> frame.attrs["012101"]

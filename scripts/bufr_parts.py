@@ -38,7 +38,7 @@ _SOURCES = "expected a file name, bytes, an open binary file, a Piece or a list 
 _NO_FILES = "no files were given: the list is empty, for example because a glob pattern matches no files"
 _TEXT = "the source is a text file; open it with mode 'rb'"
 _BLOCK = 1 << 20
-# The approximate number of bytes in a part, if only some items are wanted, and if all of them are.
+# The approximate number of bytes in a part: first if only some items are wanted, and then if all of them are.
 _PART, _PART_OF_ALL = 1 << 23, 1 << 20
 
 
@@ -163,7 +163,7 @@ def _size(source: Source) -> int:
 
 
 def _divided(stream: _Stream, size: int, are_pieces: bool = False) -> Iterator[Tuple[int, List[_Found]]]:
-    """For each part of a stream, yields the offset at which the part ends and a list of the messages and strays in it.
+    """Yields, for each part of a stream, the offset at which the part ends, and a list of the messages and strays in it.
 
     Each part except the last contains at least `size` bytes. With `are_pieces`, the lists are empty, and each part extends at
     least to the declared end of each stray in it, so that the stray has the same fault if the part is read as a piece.
@@ -194,10 +194,10 @@ def _divided(stream: _Stream, size: int, are_pieces: bool = False) -> Iterator[T
 def pieces(files: Union[Path, Iterable[Path]], size: int = 1 << 26, *, faults: Faults = "warn") -> List[Piece]:
     """Divides files into pieces of about `size` bytes. Returns the pieces in order; together, they cover every byte.
 
-    A piece begins and ends between messages. If a file contains strays, a piece can be up to 16 MB longer. If a file contains
-    no messages, or if there are no files, `pieces` itself warns about this or, with `faults="raise"`, raises `BufrError`. With
-    `size=1`, each piece contains a single message unless there are strays. Pass each piece to a function
-    of this module, for example in another process:
+    A piece begins and ends between messages. If a file contains strays, a piece can be up to 16 MB longer than `size`. If a
+    file contains no messages, or if there are no files, `pieces` itself warns about this or, with `faults="raise"`, raises
+    `BufrError`. With `size=1`, each piece contains a single message unless there are strays. Pass each piece to a function of
+    this module, for example in another process:
 
         >>> from concurrent.futures import ProcessPoolExecutor
         >>> from functools import partial
@@ -236,7 +236,7 @@ def checked_faults(faults: Faults) -> Faults:
 
 
 def report_bare(text: str, faults: Faults, file: Optional[str] = None) -> None:
-    """Reports a file without messages, or that there are no files."""
+    """Reports that a file contains no messages, or that there are no files."""
     if faults == "raise":
         raise BufrError(text, file=file)
     if faults != "ignore":
@@ -308,7 +308,7 @@ class Reader:
             warn(f"{self.name}: {text}")
 
     def part(self, found: List[_Found]) -> Part:
-        """Reads a part. Messages that need the same tables are read together, and the items are then sorted by message."""
+        """Reads a part. Reads messages that need the same tables together, and then sorts the items by message."""
         every, found = found, self.selected(found)
         groups: Dict[Tables, List[int]] = {}
         notes: Dict[int, List[bufr_auto.Reason]] = {}
@@ -387,7 +387,10 @@ class Reader:
 
 
 def guarded(call: Callable[[], Any]) -> Any:
-    """Returns the result of a call. If the call raises `Failed`, as it does without table sets, raises `BufrError`."""
+    """Returns the result of a call. If the call raises `Failed`, raises `BufrError` instead.
+
+    The call raises `Failed` if there are no table sets, for example.
+    """
     try:
         return call()
     except bufr_guard.Failed as failed:
