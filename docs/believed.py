@@ -52,7 +52,7 @@ PRIMER = """\
 
 `f : A → B` gives the type of f. Equations follow, and the first one that matches applies. `f x y` applies f to x and y.
 Every definition has a value for all arguments, even for arguments that never occur. `abbrev`, `unfoldable`, `rec` and
-`infixl` only matter to the checker. In a block `module _ (how : T) where`, every indented definition also takes the argument
+`infixl` matter only to the checker. In a block `module _ (how : T) where`, every indented definition also takes the argument
 `how`. A `record` has named fields, and `record s { x = 1 }` is s with 1 in the field x. A `data` type has the constructors
 that are listed below it. A `Bool` is computed. A `Type 0` is a type or a statement: `×` means "and" or a pair (its parts
 are `.0` and `.1`), `⊎` "or", `→` "implies" or a function, `≡` "equals", `¬` "not", `(x : A) →` "for each x", and `(x : A) ×`
@@ -70,7 +70,7 @@ type: `cause_report` lists those of `Cause`.
 Rust types and traits are printed, too. Their `ghost` items exist only in proofs. A `Model` defines the value to which clauses
 refer instead of the Rust value, and `source.Ghosts R` contains the ghost items that the type R has as a `Source`. A `Bor` is
 a reference. `x.now` is the value behind a reference x, and `x.old` and `x.new` are that value before and after a call. In
-examples, `assert_eq!(rt; ..)` is checked when they run.
+examples, `assert_eq!(rt; ..)` is checked when the examples run.
 
 What is known about the octets of a device is a list, or `None` if nothing is known. The following relations describe what is
 known before and after a call. If nothing is known before the call, they always hold:
@@ -325,7 +325,7 @@ def contract(name):
 
 
 def reach(item, seen, house):
-    """Adds an item to a list, and all items that it uses, directly or indirectly."""
+    """Adds an item, and all items that it uses directly or indirectly, to a list."""
     if item in seen:
         return
     seen.append(item)
@@ -334,7 +334,7 @@ def reach(item, seen, house):
 
 
 def headed():
-    """Returns a dictionary with the number of each file's heading, and the position of the file."""
+    """Returns a dictionary that gives the number of each file's heading and the position of the file."""
     order = {}
     for number, files in enumerate(HEADINGS.values()):
         for part in filter(None, files.split("; ")):

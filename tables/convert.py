@@ -248,7 +248,7 @@ def shown(words: list) -> str:
 
 
 def taken(folder: pathlib.Path, entries, refused) -> tuple:
-    """Returns the valid entries, by descriptor, and the number of entries that were left out. Reports each of the latter."""
+    """Returns the valid entries, by descriptor, and the number of invalid ones. Reports each invalid entry."""
     found, left_out = {}, 0
     for entry in entries:
         found.setdefault(entry[0], []).append(entry)
