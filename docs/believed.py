@@ -7,7 +7,7 @@
 The output begins with an explanation of the notation. The contracts come next, followed by the definitions under headings:
 first those of the format, then those of how a run uses its devices, and last what the kit's crates csv and clap guarantee.
 Most definitions come after those that they use. The name of each file of definitions is followed by its first lines. A law
-that justifies a file is printed after the file, and definitions that only the laws need come at the end. Types and traits
+that justifies a file is printed after the file, and definitions that only the laws need come last. Types and traits
 in a signature are printed with their ghost items. Imports, tags and derives are left out. An enum of faults is also left
 out if its report, which lists the number and the text of each fault, is printed. The report is printed before the first
 definition that names a fault of the enum.
@@ -105,7 +105,7 @@ class Item:
         self.path, self.line, self.name, self.lines, self.scope = path, line, name, lines, scope
 
     def code(self):
-        """Returns the text without comments and attributes."""
+        """Returns the text without comments or attributes."""
         return "\n".join(one for one in self.lines if not re.match(r"\s*(?:--|//|#\[)", one))
 
 
@@ -387,7 +387,7 @@ def put_reports_first(enums, key, house):
 
 
 def size(items):
-    """Returns a phrase with the numbers of definitions and lines."""
+    """Returns a phrase that gives the number of definitions and the number of lines."""
     return f"{len(items)} definitions, {sum(text(item).count(chr(10)) + 1 for item in items)} lines"
 
 

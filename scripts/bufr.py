@@ -21,7 +21,7 @@ bufr-auto would choose, unless you pass the file names of Table B and Table D as
 A fault is a rejected message or a stray (the word `BUFR` outside any complete message, for example at the start of a message
 that is cut off). `faults` determines how faults are reported:
 
-- `"warn"` (default): at the end of each file, a `DumpWarning` says how many faults there were.
+- `"warn"` (default): after each file, a `DumpWarning` says how many faults it contained.
 - `"raise"`: the first fault, a file without messages, or an empty list of files raises `BufrError`. A `Piece` without messages
   does not.
 - `"ignore"`: faults, files without messages, and empty lists are not reported, but `messages` still returns a row for each
@@ -146,7 +146,7 @@ def _times(messages: Array) -> Array:
 
 
 def _optional(part: Part) -> Array:
-    """Returns 1 for each message that has a section 2, and 0 for the others."""
+    """Returns 1 for each message that has a section 2, and 0 for each message that does not."""
     flags = (octets[17 if octets[7] == 4 else 15] if len(octets) > 17 else 0 for octets in part.octets)
     return numpy.array([flag >> 7 for flag in flags], "i8") * (part.messages["edition"] > 0)
 
@@ -243,7 +243,7 @@ def _table_of_subsets(part: Part, columns: Sequence[str]) -> _Table:
 
 
 def _tables(reader: Reader, columns: Sequence[str], keep: Sequence[str] = (), has_levels: bool = False) -> Iterator[_Table]:
-    """Yields a table for each part, and then warns about gaps."""
+    """Yields a table for each part and then warns about gaps."""
     gaps = bufr_text.Gaps(columns, keep, reader.table_b)
     for part in reader:
         table = _table_of_levels(part, columns, keep, gaps) if has_levels else _table_of_subsets(part, columns)
@@ -379,8 +379,9 @@ def frame(
         >>> bufr.frame("sounding.bufr", ["007004", "012101"], levels=True, keep=["001002"]).iloc[0].tolist()
         [836.0, 98520.0, 258.55]
 
-    With `levels=True`, a level has a row only if it contains the first column and, if there are other columns, at least one
-    of them. If a subset contains several delayed replications, put first a column that occurs only in the one that you want.
+    With `levels=True`, a level has a row only if it contains an item for the first column and, if there are other columns,
+    for at least one of them. If a subset contains several delayed replications, put first a column that occurs only in the
+    one that you want.
     To add an element that occurs once in a subset, such as the station number 001002, pass it in `keep`. The repetitions of
     a group whose count is fixed by the template are not levels; to get their values, use columns such as `"013011:2"`
     without `levels=True`, or `items`.

@@ -390,7 +390,7 @@ class Run:
         self.output = open(copied, "rb", 0) if output is None else None
 
     def finish(self) -> None:
-        """Waits for the program to exit, and then reads the first fault line."""
+        """Waits for the program to exit and then reads the first fault line."""
         self.status = bufr_guard.wait(self.process)
         self.others: List[bytes] = []  # lines that do not report faults in pieces
         self.passed = 0  # the total size of all previous pieces, in bytes or lines
@@ -546,7 +546,7 @@ class Notes:
     def known(self, reason: Reason) -> Reason:
         """Records a reason, unless one with the same text has already been recorded, and returns the recorded reason.
 
-        If the maximum number of reasons has already been recorded, returns the reason that stands for all others.
+        If the maximum number of reasons has already been recorded, returns the reason that stands for all further ones.
         """
         if reason.text not in self.reasons and len(self.reasons) >= KINDS_OF_NOTES:
             return self.others
@@ -583,7 +583,7 @@ def reasons(asked: Tables, tables: bufr_sets.TableSet) -> List[Reason]:
 
 
 class Chooser:
-    """Chooses the table set for each message or document, and records the notes on sets that do not match exactly."""
+    """Chooses the table set for each message or document and records the notes on sets that do not match exactly."""
 
     def __init__(self, kind: Type[Run]) -> None:
         self.kind, self.sets, self.notes = kind, bufr_sets.TableSets(), Notes()
@@ -619,7 +619,7 @@ class Chooser:
 
 
 class Work:
-    """Dumps or encodes the files. Records the exit status so far, and the lines to print at the end."""
+    """Dumps or encodes the files. Records the exit status so far, and the lines to print after the last file."""
 
     def __init__(self, kind: Type[Run], files: Sequence[Optional[str]], output: int = 1) -> None:
         self.kind, self.files, self.chooser, self.target = kind, files, Chooser(kind), bufr_guard.output(output)
@@ -696,7 +696,9 @@ class Work:
         feed.close()
 
     def parts(self, feed: Feed) -> Iterator[Optional[Part]]:
-        """Yields the parts of a file, and yields None when they must be written: before a read that may block, and at the end.
+        """Yields the parts of a file. Also yields None whenever the parts before it must be written.
+
+        This is the case before a read that may block, and at the end of the file.
 
         This function must be short: to leave a `try` block that ends more than 256 instructions into a function, Python
         3.11 must allocate an integer, which fails if memory has run out.

@@ -1,4 +1,4 @@
-"""Calls the library for C through ctypes, and returns its rows as NumPy arrays.
+"""Calls the library for C through ctypes and returns its rows as NumPy arrays.
 
     tables = bufr_calls.Tables("B.csv", "D.csv")
     items, messages, texts = tables.items(stream, bufr_calls.words(["012101"]))

@@ -36,8 +36,8 @@ class Conditions:
     """Conditions that a line must meet.
 
     For each condition, `patterns` contains a pair: whether the condition is negated, and the pattern to search for. The
-    patterns work both with grep -E and with `re`. Edition 3 messages contain only a two-digit year: `bufr ls` prints 2024 as
-    0024, so time=2024 does not match these messages. `left_out` counts the messages that are left out for this reason.
+    patterns work with grep -E as well as with `re`. Edition 3 messages contain only a two-digit year: `bufr ls` prints 2024
+    as 0024, so time=2024 does not match these messages. `left_out` counts the messages that are left out for this reason.
     """
 
     def __init__(self, words: Iterable[str]) -> None:

@@ -135,7 +135,7 @@ def guarded(work: Callable[[List[str]], int], text: str) -> int:
 
 
 def end_badly(told: str) -> None:
-    """Flushes the output, and then reports why the script stops. Ignores any errors along the way."""
+    """Flushes the output and then reports why the script stops. Ignores any errors along the way."""
     Progress.clear()
     for file in written():
         try:
@@ -376,7 +376,7 @@ def start(words: Sequence[str], given: int = 0, output: int = 1, errors: int = 2
 
 
 def wait(process: int) -> int:
-    """Waits for a program to exit, and returns its exit status, or 128 plus the number of the signal that killed it."""
+    """Waits for a program to exit. Returns its exit status, or 128 plus the number of the signal that killed it."""
     os.waitid(os.P_PID, process, os.WEXITED | os.WNOWAIT)
     RUNNING.remove([process])
     status = os.waitstatus_to_exitcode(os.waitpid(process, 0)[1])
@@ -386,7 +386,7 @@ def wait(process: int) -> int:
 def lines_from(
     pipe: int, progress: Progress, place: Callable[[], int], report: Optional[Callable[[], None]] = None
 ) -> Iterator[bytes]:
-    """Yields blocks of whole lines from a pipe and, at the end, the incomplete last line, if any.
+    """Yields blocks of whole lines from a pipe, and then the incomplete last line, if there is one.
 
     While waiting, displays `place()` as the progress. Calls `report()` if no block arrives for a second, and otherwise once
     a minute.
@@ -432,7 +432,7 @@ def stop() -> None:
 
 
 def leave(number: int, _frame: Optional[FrameType]) -> None:
-    """Kills the programs that are still running, and then ends this script with the signal that it received."""
+    """Kills the programs that are still running and then ends this script with the signal that it received."""
     signal.signal(signal.SIGUSR1, signal.SIG_IGN)  # bufr-csv uses it to report that awk has stopped
     stop()
     Progress.clear()
@@ -444,7 +444,7 @@ def leave(number: int, _frame: Optional[FrameType]) -> None:
 
 
 def opened(file: Optional[str]) -> int:
-    """Opens a file for reading at any offset, and returns its descriptor. None stands for standard input.
+    """Opens a file for reading at any offset and returns its descriptor. None stands for standard input.
 
     If the file is not a regular file, returns the descriptor of a temporary copy instead.
     """
@@ -453,7 +453,7 @@ def opened(file: Optional[str]) -> int:
 
 
 def to_read(file: Optional[str]) -> int:
-    """Opens a file for reading, and returns its descriptor. None stands for standard input."""
+    """Opens a file for reading and returns its descriptor. None stands for standard input."""
     try:
         return 0 if file is None else os.open(file, os.O_RDONLY)
     except OSError as error:
@@ -470,7 +470,7 @@ def is_regular(descriptor: int) -> bool:
 
 
 def temporary() -> int:
-    """Creates an unnamed file in TMPDIR, and returns its descriptor."""
+    """Creates an unnamed file in TMPDIR and returns its descriptor."""
     try:
         return os.open(folder_of_temporary(), os.O_TMPFILE | os.O_RDWR, 0o600)
     except OSError as error:

@@ -96,7 +96,7 @@ class _Stream:
         self.start, self.has_message = b"", False
 
     def block(self) -> bytes:
-        """Returns the next block of bytes, which is empty at the end."""
+        """Returns the next block of bytes, which is empty at the end of the range."""
         octets = self.file.read(int(min(_BLOCK, self.left)))
         if isinstance(octets, str):
             raise TypeError(_TEXT)
@@ -112,9 +112,9 @@ class _Stream:
 
 
 def _opened(source: Source, numbers: Optional[Iterator[int]] = None) -> Iterator[_Stream]:
-    """Yields the streams of a source, and closes the files that it has opened.
+    """Yields the streams of a source and closes the files that it has opened.
 
-    The names of bytes objects contain numbers from `numbers`, or no numbers if it is `None`.
+    The names of bytes objects contain numbers from `numbers`, or no numbers if `numbers` is `None`.
     """
     if isinstance(source, Piece):
         with open(source.file, "rb") as file:
@@ -244,7 +244,7 @@ def report_bare(text: str, faults: Faults, file: Optional[str] = None) -> None:
 
 
 class Reader:
-    """Reads a source in parts, and reports faults and notes. If `columns` is `None`, all items are read."""
+    """Reads a source in parts and reports faults and notes. If `columns` is `None`, all items are read."""
 
     def __init__(
         self,
@@ -308,7 +308,7 @@ class Reader:
             warn(f"{self.name}: {text}")
 
     def part(self, found: List[_Found]) -> Part:
-        """Reads a part. Reads messages that need the same tables together, and then sorts the items by message."""
+        """Reads a part. Messages that need the same tables are read in one call, and the items are then sorted by message."""
         every, found = found, self.selected(found)
         groups: Dict[Tables, List[int]] = {}
         notes: Dict[int, List[bufr_auto.Reason]] = {}

@@ -541,7 +541,7 @@ def _by_library(
 
 
 def _reported(told: _Told, found: Iterator[Tuple[Cell, ...]]) -> Iterator[Tuple[Cell, ...]]:
-    """Yields rows, and reports the faults as `dump` does."""
+    """Yields rows and reports the faults as `dump` does."""
     try:
         yield from found
     except BufrError as error:
@@ -610,7 +610,7 @@ def _meant(word: str, keys: Sequence[str]) -> str:
 
 
 def _refuse_valueless(word: str) -> None:
-    """Raises `ValueError` if no item can have the descriptor in a column, because only elements have values."""
+    """Raises `ValueError` if no item can have the descriptor in a column, for example because it is a sequence."""
     import bufr_sets
 
     if not bufr_sets.can_have_value(word):
@@ -989,7 +989,7 @@ class _Told:
             self.stray = next(self.strays, None)
 
     def of_part(self, errors: bytes, part: List[Listed]) -> Dict[int, Fault]:
-        """Returns the faults in a part, by offset. Counts the notes, which are reported at the end."""
+        """Returns the faults in a part, by offset. Counts the notes, which are reported after the last part."""
         begins = itertools.accumulate((place.length for place in part), initial=0)
         offsets = {begin: place.offset for begin, place in zip(begins, part)}
         refused = {}

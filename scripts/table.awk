@@ -137,7 +137,7 @@ function is_descriptor(word, of_subset) {
     return word ~ /^[0-3][0-9][0-9][0-9][0-9][0-9]$/ && substr(word, 2, 2) < 64 && substr(word, 4, 3) < 256
 }
 
-# Splits a list of columns, and returns their number. `keys` lists the words that are allowed in addition to descriptors.
+# Splits a list of columns and returns their number. `keys` lists the words that are allowed in addition to descriptors.
 function split_columns(words, list, keys,   count, column, word) {
     count = split(words, list, /[ ,]+/)
     for (column = 1; column <= count; column++) {
