@@ -103,7 +103,7 @@ def strange(python: str, folder: pathlib.Path) -> None:
     want(radius in drawn and radius not in draw(stations(101))[0], "101 points are as large as 100")
     drawn, told = draw(stations(101), "--value", "012101")
     want("281.5" not in drawn, "101 values have labels")
-    want(told == "bufr-plot: did not label the points, because there are 101 values, but at most 100 can be shown\n", f"of 101 values it tells {told}")
+    want(told == "bufr-plot: did not label the points: there are 101 values, but at most 100 can be shown\n", f"of 101 values it tells {told}")
     drawn, told = draw(stations(2, name=b"$x^{..$ \\\\$\\x07\\xFF"), "--value", "001015")
     want("$x^{..$ \\$?\ufffd" in drawn and "[$y$]" in drawn, "a text is taken for a formula")
     want(told == "", f"of a text it tells {told}")
