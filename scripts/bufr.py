@@ -168,7 +168,10 @@ class _Elements:
         return [unit for _, unit in defined.values()]
 
     def element(self, word: str, table_b: Optional[Path]) -> Dict[str, str]:
-        """Returns the name and unit of an element. If no item has it, they come from `table_b` or else the latest set."""
+        """Returns the name and unit of an element.
+
+        If no item has this element, they come from `table_b` or, if it is `None`, from the latest table set.
+        """
         found = [*self.found.get(word[:6], {}).values()] or [bufr_text.names(table_b)[1].get(word[:6], ("", ""))]
         return {"name": found[0][0], "unit": " or ".join(dict.fromkeys(unit for _, unit in found))}
 
@@ -313,7 +316,10 @@ def _kind_of(units: Iterable[str], is_exact: bool) -> str:
 
 
 def _column(part: Part, indices: Array, elements: _Elements, fxy: str, is_exact: bool) -> Any:
-    """Returns the values for a data frame column: floats, `Int64`, or objects. Without items, returns the number of rows."""
+    """Returns the values for a data frame column: floats, `Int64`, or objects.
+
+    If the part has no items for the column, returns the number of rows instead.
+    """
     import pandas  # type: ignore[import]
 
     is_there = indices >= 0

@@ -50,7 +50,7 @@ INTERVAL = 60
 NOWHERE = float("inf")
 # The processes that were started but have not been waited for.
 RUNNING: list[list[int]] = []
-# The first bytes of files that contain no messages, and their types, some with a program that can read the type.
+# Types of files that contain no messages, by the first bytes of the file. Some texts name a program that reads the type.
 KINDS_OF_FILES = {
     b"\x1f\x8b": "gzip data (use zcat)",
     b"BZh": "bzip2 data (use bzcat)",

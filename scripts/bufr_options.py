@@ -87,7 +87,7 @@ class Asked:
     def files(self, skipped: int = 0) -> list[Optional[str]]:
         """Returns all operands after the first `skipped` ones as file names.
 
-        None stands for standard input. It replaces the operand `-`, and is the only name if there are no operands.
+        None stands for standard input. It replaces the operand `-`, and is the only name if no operands remain.
         """
         return [None if file == "-" else file for file in self.operands[skipped:]] or [None]
 

@@ -524,7 +524,8 @@ def _by_library(
 ) -> Optional[Iterator[Tuple[Cell, ...]]]:
     """Returns the rows from the module `bufr`, which is faster than the program.
 
-    Returns `None` if the module is not available, or if the environment variable `BUFR` names a program.
+    Returns `None` if the module is not available, if `file` is not the name of a file, or if the environment variable `BUFR`
+    is set.
     """
     # the module would read standard input if the name is -
     if not isinstance(file, (str, os.PathLike)) or file == "-" or os.environ.get("BUFR"):
@@ -771,7 +772,10 @@ class Gaps:
                     self.with_value.add(at)
 
     def look(self, words: Sequence[_Word], found: Sequence[Tuple[int, int]], columns: Sequence[_Word]) -> None:
-        """Records which columns occur in a subset, and which of them in its levels (the passes `found` in `words`)."""
+        """Records which columns occur in a subset, and which of these columns occur in its levels.
+
+        `words` contains the descriptors of the items in the subset, and `found` the start and end of each level.
+        """
         for at, word in enumerate(columns, self.kept):
             if at not in self.inside and word in words:
                 is_inside = any(word in words[begin:end] for begin, end in found)
@@ -781,7 +785,7 @@ class Gaps:
     def skip(
         self, kind: str, subset: Cell, offset: Cell, file: str, message: Cell = None, fxy: object = None
     ) -> None:
-        """Records that a subset is skipped. `message` is the number of its message, and is used only if `offset` is `None`."""
+        """Records that a subset is skipped. `message` is the number of its message, which is needed only without `offset`."""
         place = f"subset {subset} of the message at offset {offset}" + (f" of {file}" if file else "")
         place = f"message {message}, subset {subset}" if offset is None else place
         why = "" if fxy is None else f" ({fxy} begins a level and occurs again in it)"
@@ -791,8 +795,9 @@ class Gaps:
     def warn(self, is_whole: bool = True, text: str = "column {} is empty because no row has an item for it") -> None:
         """Issues a warning for each gap.
 
-        If `is_whole` is false, other pieces may contain columns that this piece lacks. Columns are then reported only if no
-        table set defines them. `text` is the warning for a column without items; `{}` stands for the column.
+        If `is_whole` is false, the rows come from a piece of a file, and other pieces may contain items that this piece lacks.
+        A column without items is then reported only if no table set defines it. `text` is the warning for a column without
+        items, in which `{}` stands for the column.
         """
         if self.has_rows or self.skipped:
             (self.warn_of_columns if is_whole else self.warn_of_undefined)(text)
