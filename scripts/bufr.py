@@ -140,7 +140,7 @@ def _times(messages: Array) -> Array:
     day = month.astype("M8[M]").astype("M8[D]") + (messages["day"].astype("i8") - 1)
     seconds = (messages["hour"].astype("i8") * 60 + messages["minute"]) * 60 + messages["second"]
     is_time = (year > 1677) & (year < 2262) & (messages["month"] >= 1) & (messages["month"] <= 12)
-    is_time &= day.astype("M8[M]").astype("i8") == month  # the month has that many days
+    is_time &= day.astype("M8[M]").astype("i8") == month  # the day exists in that month
     is_time &= (messages["hour"] < 24) & (messages["minute"] < 60) & (messages["second"] < 60)
     return numpy.where(is_time, day.astype("M8[s]") + seconds, numpy.datetime64("NaT"))
 

@@ -393,7 +393,7 @@ class Run:
         """Waits for the program to exit and then reads the first fault line."""
         self.status = bufr_guard.wait(self.process)
         self.others: List[bytes] = []  # lines that do not report faults in pieces
-        self.passed = 0  # the total size of all previous pieces, in bytes or lines
+        self.passed = 0  # the total size of the pieces so far, in bytes or lines
         self.errors.seek(0)
         self.take_fault()
         if self.output is not None:
@@ -823,7 +823,7 @@ class Work:
                 self.status = max(self.status, 1)
                 continue
             fault = one.fault(place, size)
-            if fault.partition(b": ")[2][:1] != b"1":  # otherwise, the piece is not a message
+            if fault.partition(b": ")[2][:1] != b"1":  # a fault from 10 to 19 means that the piece is not a message
                 for reason in notes:
                     reason.count += 1
                     reason.first = reason.first or f"{within}at {one.PLACE.decode()}{place}"

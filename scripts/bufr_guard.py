@@ -188,7 +188,7 @@ def build() -> str:
         if digest == known["program"]:
             return f"commit {known['commit'][:12]}, {known['proof']}"
     except (OSError, ValueError, KeyError):
-        pass  # the program was not installed with install.sh
+        pass  # for example, the program was not installed with install.sh
     return "unknown build"
 
 
@@ -433,7 +433,7 @@ def stop() -> None:
 
 def leave(number: int, _frame: Optional[FrameType]) -> None:
     """Kills the programs that are still running and then ends this script with the signal that it received."""
-    signal.signal(signal.SIGUSR1, signal.SIG_IGN)  # bufr-csv uses it to report that awk has stopped
+    signal.signal(signal.SIGUSR1, signal.SIG_IGN)  # bufr-csv uses this signal to report that awk has stopped
     stop()
     Progress.clear()
     signal.signal(number, signal.SIG_DFL)

@@ -296,7 +296,7 @@ class Reader:
         self.conditions.left_out = 0
         if self.chooser is not None:
             self.chooser.notes = bufr_auto.Notes()
-            self.chooser.known.clear()  # it contains the counts of the previous notes
+            self.chooser.known.clear()  # the cached reasons contain the counts of the previous file
 
     def end_file(self) -> None:
         """Warns about faults in a file, table sets that may not match its messages, and messages that were left out."""
@@ -339,7 +339,7 @@ class Reader:
         self.is_bare = self.is_bare and len(found) == len(every) and not messages["edition"].any()
         self.report(found, messages["fault"], groups)
         for index, reasons in notes.items():
-            if str(messages["fault"][index])[0] != "1":  # otherwise, it is not a message
+            if str(messages["fault"][index])[0] != "1":  # a fault from 10 to 19 means that it is not a message
                 for reason in reasons:
                     reason.count += 1
                     reason.first = reason.first or f"at offset {found[index].offset}"

@@ -684,7 +684,7 @@ def _cell(item: Optional[Item]) -> Cell:
         return None
     if isinstance(item.value, bytes):
         return text_cell(item.value)
-    # not str, which writes 0.0000003 as 3E-7
+    # `str` would write 0.0000003 as 3E-7
     return float(item.value) if "." in format(item.value, "f") else int(item.value)
 
 
