@@ -132,7 +132,7 @@ def read(path):
 
 
 def comment_before(lines, at):
-    """Returns the index at which the lines that belong to a line begin: comments, attributes and an operator's precedence."""
+    """Returns the index at which the comments, attributes and operator precedences directly before the line `at` begin."""
     while at and re.match(r"\s*(?:--(?! ----)|//(?!!)|#\[|infix)", lines[at - 1]):
         at -= 1
     return at
@@ -145,7 +145,7 @@ def own_lines(lines):
 
 
 def block(lines, at):
-    """Returns the index of the line after the item in a file of src/ that begins at a line."""
+    """Returns the index of the line after the item that begins at the line `at` of a file in src/."""
     indent = re.match(" *", lines[at])[0]
     return next(n for n in range(at, len(lines)) if re.match(indent + r"(?:\}|\S.*(?:;|\{\})$)", lines[n])) + 1
 

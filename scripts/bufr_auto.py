@@ -34,7 +34,7 @@ if TYPE_CHECKING:
 # growing with the stream.
 PART, PIECES = 1 << 22, 1 << 14
 BLOCK = 1 << 18
-# The maximum length of a line, and that of the beginning of a document, up to its last descriptor line.
+# The maximum length of a line, and the maximum length of a document up to its last descriptor line.
 LINE, HEADER = 4096, 1 << 20
 END = b"\nend\n"
 # The maximum number of different notes, and the maximum number of descriptor lists whose results are cached.

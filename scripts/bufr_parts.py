@@ -214,7 +214,7 @@ def pieces(files: Union[Path, Iterable[Path]], size: int = 1 << 26, *, faults: F
     is_one = isinstance(files, (str, os.PathLike, *_BYTES)) or hasattr(files, "read") or not isinstance(files, Iterable)
     for file in cast(Iterable[Path], [files] if is_one else files):
         if not isinstance(file, (str, os.PathLike)) or file == "-":
-            # The object may contain a whole file.
+            # The bytes may be those of a whole file, so the message shows only the first 40.
             told = repr(bytes(file[:40])) + "..." * (len(file) > 40) if isinstance(file, _BYTES) else reprlib.repr(file)
             raise TypeError(f"expected the name of a file that other processes can open, found {told}")
         begin = 0

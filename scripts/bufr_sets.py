@@ -89,7 +89,7 @@ cache: List[TableSet] = []
 
 
 def rows_of(file: str, *columns: str) -> Iterator[List[str]]:
-    """Yields the values in these columns for each row of a table. Skips rows that are too short, which `bufr` reports."""
+    """Yields the values in these columns for each row of a table. Skips rows that are too short; `bufr` reports these rows."""
     import csv
 
     csv.field_size_limit(1 << 30)
