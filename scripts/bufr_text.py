@@ -180,7 +180,7 @@ class Fault(NamedTuple):
     file: str = ""
 
     def line(self) -> str:
-        """Returns the fault line that `bufr` prints, which does not contain the name of the file."""
+        """Returns the fault line that `bufr` prints, without the name of the file."""
         return f"offset {self.offset}: {self.number} {self.text}"
 
     def __str__(self) -> str:
