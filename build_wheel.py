@@ -50,7 +50,7 @@ def linked_files():
 
 
 def write_wheel(folder: str, contents) -> str:
-    """Writes a wheel with these files to a directory, and returns its name. The same files always make the same wheel."""
+    """Writes a wheel with these files to a directory and returns its name. The same files always make the same wheel."""
     contents = [*contents]
     is_pure = all(path != "libbufr.so.0" for path, _ in contents)
     tag = PURE if is_pure else WITH_LIBRARY

@@ -7,7 +7,7 @@
 #                                                 it is unproved
 #
 # The files are written to the directory DIST (default: dist). If a step fails or is interrupted, the files there remain
-# unchanged. With the same commit, program and linker, every run makes identical files, regardless of directory or user.
+# unchanged. With the same commit, program and linker, every run makes identical files, in any directory and for any user.
 # Uncommitted changes are left out. The proof needs a few GB in TMPDIR (default: /tmp), and the library needs a C compiler.
 set -eu -o pipefail
 export LC_ALL=C
@@ -35,7 +35,7 @@ commit=$(git rev-parse HEAD) || die 'this directory is not a clone of the reposi
 [ -z "$(git status --porcelain)" ] || echo "$0: the release does not contain the uncommitted changes in this directory" >&2
 
 # leave: stops any command that is still running, and removes the temporary files. A process that rt started may exit a
-# moment later, and create a file while rm removes its directory. The second rm then succeeds.
+# moment later than rt and create a file in a directory that the first rm is removing. In that case, the second rm succeeds.
 leave() {
     trap '' HUP INT TERM
     kill -- "-$running" 2> /dev/null && wait || true

@@ -7,7 +7,7 @@
 The output begins with an explanation of the notation. The contracts come next, followed by the definitions under headings:
 first those of the format, then those of how a run uses its devices, and last what the kit's crates csv and clap guarantee.
 Most definitions come after those that they use. The name of each file of definitions is followed by its first lines. A law
-that justifies a file is printed after the file, and definitions that only the laws need come at the end. Types and traits
+that justifies a file is printed after the file, and definitions that only the laws need come last. Types and traits
 in a signature are printed with their ghost items. Imports, tags and derives are left out. An enum of faults is also left
 out if its report, which lists the number and the text of each fault, is printed. The report is printed before the first
 definition that names a fault of the enum.
@@ -52,7 +52,7 @@ PRIMER = """\
 
 `f : A → B` gives the type of f. Equations follow, and the first one that matches applies. `f x y` applies f to x and y.
 Every definition has a value for all arguments, even for arguments that never occur. `abbrev`, `unfoldable`, `rec` and
-`infixl` only matter to the checker. In a block `module _ (how : T) where`, every indented definition also takes the argument
+`infixl` matter only to the checker. In a block `module _ (how : T) where`, every indented definition also takes the argument
 `how`. A `record` has named fields, and `record s { x = 1 }` is s with 1 in the field x. A `data` type has the constructors
 that are listed below it. A `Bool` is computed. A `Type 0` is a type or a statement: `×` means "and" or a pair (its parts
 are `.0` and `.1`), `⊎` "or", `→` "implies" or a function, `≡` "equals", `¬` "not", `(x : A) →` "for each x", and `(x : A) ×`
@@ -70,7 +70,7 @@ type: `cause_report` lists those of `Cause`.
 Rust types and traits are printed, too. Their `ghost` items exist only in proofs. A `Model` defines the value to which clauses
 refer instead of the Rust value, and `source.Ghosts R` contains the ghost items that the type R has as a `Source`. A `Bor` is
 a reference. `x.now` is the value behind a reference x, and `x.old` and `x.new` are that value before and after a call. In
-examples, `assert_eq!(rt; ..)` is checked when they run.
+examples, `assert_eq!(rt; ..)` is checked when the examples run.
 
 What is known about the octets of a device is a list, or `None` if nothing is known. The following relations describe what is
 known before and after a call. If nothing is known before the call, they always hold:
@@ -105,7 +105,7 @@ class Item:
         self.path, self.line, self.name, self.lines, self.scope = path, line, name, lines, scope
 
     def code(self):
-        """Returns the text without comments and attributes."""
+        """Returns the text without comments or attributes."""
         return "\n".join(one for one in self.lines if not re.match(r"\s*(?:--|//|#\[)", one))
 
 
@@ -132,7 +132,7 @@ def read(path):
 
 
 def comment_before(lines, at):
-    """Returns the index at which the lines that belong to a line begin: comments, attributes and an operator's precedence."""
+    """Returns the index at which the comments, attributes and operator precedences directly before the line `at` begin."""
     while at and re.match(r"\s*(?:--(?! ----)|//(?!!)|#\[|infix)", lines[at - 1]):
         at -= 1
     return at
@@ -145,7 +145,7 @@ def own_lines(lines):
 
 
 def block(lines, at):
-    """Returns the index of the line after the item in a file of src/ that begins at a line."""
+    """Returns the index of the line after the item that begins at the line `at` of a file in src/."""
     indent = re.match(" *", lines[at])[0]
     return next(n for n in range(at, len(lines)) if re.match(indent + r"(?:\}|\S.*(?:;|\{\})$)", lines[n])) + 1
 
@@ -325,7 +325,7 @@ def contract(name):
 
 
 def reach(item, seen, house):
-    """Adds an item to a list, and all items that it uses, directly or indirectly."""
+    """Adds an item, and all items that it uses directly or indirectly, to a list."""
     if item in seen:
         return
     seen.append(item)
@@ -334,7 +334,7 @@ def reach(item, seen, house):
 
 
 def headed():
-    """Returns a dictionary with the number of each file's heading, and the position of the file."""
+    """Returns a dictionary that gives the number of each file's heading and the position of the file."""
     order = {}
     for number, files in enumerate(HEADINGS.values()):
         for part in filter(None, files.split("; ")):
@@ -387,7 +387,7 @@ def put_reports_first(enums, key, house):
 
 
 def size(items):
-    """Returns a phrase with the numbers of definitions and lines."""
+    """Returns a phrase that gives the number of definitions and the number of lines."""
     return f"{len(items)} definitions, {sum(text(item).count(chr(10)) + 1 for item in items)} lines"
 
 

@@ -70,7 +70,7 @@ build() {
 if [ -n "$archive" ]; then
     cp "$archive" "$work/libbufr_c.a"
 else
-    build || die 'bufr_c was not built'
+    build || die 'bufr_c was not built; see the output above'
 fi
 cd "$work"
 # A single object contains the library and the toolchain's allocator, which calls malloc, realloc and free. Only the library's

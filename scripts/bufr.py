@@ -13,15 +13,15 @@
 divides files into pieces that several processes can read at the same time.
 
 Each function takes a source: the name of a file, `"-"` for standard input, bytes, an open binary file, a `Piece`, or a list
-of these. Several bytes objects are called `bytes 1`, `bytes 2` and so on in results and faults. A source is read in parts of
-a few MB, so it can be larger than the available memory. Each message is read with the table set that bufr-auto would choose,
-unless you pass the file names of Table B and Table D as `tables=(B, D)`. To select messages, set `where` to a list of
-conditions of the form `KEY=VALUE` or `KEY!=VALUE`, as in bufr-extract.
+of these. If a source contains several bytes objects, results and faults call them `bytes 1`, `bytes 2` and so on. A source is
+read in parts of a few MB, so it can be larger than the available memory. Each message is read with the table set that
+bufr-auto would choose, unless you pass the file names of Table B and Table D as `tables=(B, D)`. To select messages, set
+`where` to a list of conditions of the form `KEY=VALUE` or `KEY!=VALUE`, as in bufr-extract.
 
 A fault is a rejected message or a stray (the word `BUFR` outside any complete message, for example at the start of a message
 that is cut off). `faults` determines how faults are reported:
 
-- `"warn"` (default): at the end of each file, a `DumpWarning` says how many faults there were.
+- `"warn"` (default): after each file, a `DumpWarning` says how many faults it contained.
 - `"raise"`: the first fault, a file without messages, or an empty list of files raises `BufrError`. A `Piece` without messages
   does not.
 - `"ignore"`: faults, files without messages, and empty lists are not reported, but `messages` still returns a row for each
@@ -140,13 +140,13 @@ def _times(messages: Array) -> Array:
     day = month.astype("M8[M]").astype("M8[D]") + (messages["day"].astype("i8") - 1)
     seconds = (messages["hour"].astype("i8") * 60 + messages["minute"]) * 60 + messages["second"]
     is_time = (year > 1677) & (year < 2262) & (messages["month"] >= 1) & (messages["month"] <= 12)
-    is_time &= day.astype("M8[M]").astype("i8") == month  # the month has that many days
+    is_time &= day.astype("M8[M]").astype("i8") == month  # the day exists in that month
     is_time &= (messages["hour"] < 24) & (messages["minute"] < 60) & (messages["second"] < 60)
     return numpy.where(is_time, day.astype("M8[s]") + seconds, numpy.datetime64("NaT"))
 
 
 def _optional(part: Part) -> Array:
-    """Returns 1 for each message that has a section 2, and 0 for the others."""
+    """Returns 1 for each message that has a section 2, and 0 for each message that does not."""
     flags = (octets[17 if octets[7] == 4 else 15] if len(octets) > 17 else 0 for octets in part.octets)
     return numpy.array([flag >> 7 for flag in flags], "i8") * (part.messages["edition"] > 0)
 
@@ -168,7 +168,10 @@ class _Elements:
         return [unit for _, unit in defined.values()]
 
     def element(self, word: str, table_b: Optional[Path]) -> Dict[str, str]:
-        """Returns the name and unit of an element. If no item has it, they come from `table_b` or else the latest set."""
+        """Returns the name and unit of an element.
+
+        If no item has this element, they come from `table_b` or, if it is `None`, from the latest table set.
+        """
         found = [*self.found.get(word[:6], {}).values()] or [bufr_text.names(table_b)[1].get(word[:6], ("", ""))]
         return {"name": found[0][0], "unit": " or ".join(dict.fromkeys(unit for _, unit in found))}
 
@@ -243,7 +246,7 @@ def _table_of_subsets(part: Part, columns: Sequence[str]) -> _Table:
 
 
 def _tables(reader: Reader, columns: Sequence[str], keep: Sequence[str] = (), has_levels: bool = False) -> Iterator[_Table]:
-    """Yields a table for each part, and then warns about gaps."""
+    """Yields a table for each part and then warns about gaps."""
     gaps = bufr_text.Gaps(columns, keep, reader.table_b)
     for part in reader:
         table = _table_of_levels(part, columns, keep, gaps) if has_levels else _table_of_subsets(part, columns)
@@ -313,7 +316,10 @@ def _kind_of(units: Iterable[str], is_exact: bool) -> str:
 
 
 def _column(part: Part, indices: Array, elements: _Elements, fxy: str, is_exact: bool) -> Any:
-    """Returns the values for a data frame column: floats, `Int64`, or objects. Without items, returns the number of rows."""
+    """Returns the values for a data frame column: floats, `Int64`, or objects.
+
+    If the part has no items for the column, returns the number of rows instead.
+    """
     import pandas  # type: ignore[import]
 
     is_there = indices >= 0
@@ -366,8 +372,8 @@ def frame(
     contains all of them, and a `DumpWarning` says which table sets they come from.
 
     Strings have one character for each byte, as in ISO 8859-1. Unlike the strings from `rows`, they contain no escapes. If the
-    time of a message does not exist, it is NaT. In edition 3, years have two digits: 69 to 99 stand for 1969 to 1999, and 0 to
-    68 for 2000 to 2068.
+    time in a header is invalid, the value is NaT. In edition 3, years have two digits: 69 to 99 stand for 1969 to 1999, and 0
+    to 68 for 2000 to 2068.
 
         >>> frame = bufr.frame("synop.bufr", ["001015", "001001", "012101"], header=["time"])
         >>> frame.attrs["012101"]
@@ -379,8 +385,9 @@ def frame(
         >>> bufr.frame("sounding.bufr", ["007004", "012101"], levels=True, keep=["001002"]).iloc[0].tolist()
         [836.0, 98520.0, 258.55]
 
-    With `levels=True`, a level has a row only if it contains the first column and, if there are other columns, at least one
-    of them. If a subset contains several delayed replications, put first a column that occurs only in the one that you want.
+    With `levels=True`, a level has a row only if it contains an item for the first column and, if there are other columns,
+    for at least one of them. If a subset contains several delayed replications, put first a column that occurs only in the
+    one that you want.
     To add an element that occurs once in a subset, such as the station number 001002, pass it in `keep`. The repetitions of
     a group whose count is fixed by the template are not levels; to get their values, use columns such as `"013011:2"`
     without `levels=True`, or `items`.

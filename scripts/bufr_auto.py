@@ -2,8 +2,9 @@
 
     status = bufr_auto.dump(["a.bufr", None], output=pipe)  # None is standard input
 
-This module finds the messages itself, instead of waiting for a listing. It runs `bufr` once for each table set that a part
-of the stream needs. The output for each part is written, in order, before the next read that may block.
+This module finds the messages itself instead of waiting for `bufr ls` to list them. It divides the stream into parts. For
+each part, it runs `bufr` once for each table set that the part needs, and writes the output in the order of the messages
+before the next read that may block.
 """
 from __future__ import annotations
 
@@ -26,19 +27,20 @@ if TYPE_CHECKING:
     # A message, a document or a stray: its place (an offset or a line number), its bytes, and, for a stray, its fault.
     Piece = Tuple[int, Octets, bytes]
     Bytes = bufr_sets.Bytes
-    # The numbers in a header that determine the table set: centre, master table, version and local version.
+    # The numbers in a header that determine the table set: centre, master table number, table version and local version.
     Tables = Tuple[int, int, int, int]
 
-# The approximate maximum numbers of bytes and of pieces in a part. They keep buffers from growing with the stream.
+# The approximate maximum number of bytes in a part, and the maximum number of pieces. These limits keep buffers from
+# growing with the stream.
 PART, PIECES = 1 << 22, 1 << 14
 BLOCK = 1 << 18
-# The maximum length of a line, and of the first part of a document, up to the end of the descriptor lines.
+# The maximum length of a line, and the maximum length of a document up to its last descriptor line.
 LINE, HEADER = 4096, 1 << 20
 END = b"\nend\n"
-# The maximum numbers of different notes, and of descriptor lists with cached results.
+# The maximum number of different notes, and the maximum number of descriptor lists whose results are cached.
 KINDS_OF_NOTES = 1000
 REMEMBERED = 1 << 8
-# The descriptors whose definitions differ between version 13 and versions up to 6.
+# The descriptors whose definitions in version 13 differ from those in versions up to 6.
 CHANGED_SINCE_6 = set(
     """
     001003 001022 002028 002160 004024 008006 008065 008066 012073 015003 015004 021017 022004 022062 025030 029002
@@ -102,8 +104,8 @@ class Finder:
 
     def __init__(self, longest: Optional[int] = None) -> None:
         self.longest = 1 << 24 if longest is None else longest
-        # The buffered bytes end at `end`, the search continues at `at`, and held[0] is the byte at offset `passed`.
-        # The buffer never shrinks: freeing and allocating it again would fragment the heap.
+        # `held[:end]` contains the buffered bytes, which begin at offset `passed` in the stream. The search continues at
+        # `held[at]`. The buffer never shrinks, because freeing and allocating it again would fragment the heap.
         self.held, self.at, self.end, self.passed, self.has_ended = bytearray(), 0, 0, 0, False
 
     def put(self, octets: bytes) -> None:
@@ -119,7 +121,8 @@ class Finder:
     def find(self) -> Optional[Tuple[int, int, bytes]]:
         """Returns the start, the end and the fault of the next message or stray, or None if more bytes are needed.
 
-        A stray is an occurrence of `BUFR` that is not the start of a complete message. A complete message has an empty fault.
+        A stray is an occurrence of `BUFR` that is not the start of a complete message. For a complete message, the fault is
+        empty.
         """
         at = self.held.find(b"BUFR", self.at, self.end)
         if at < 0:
@@ -163,7 +166,10 @@ class Masker:
         self.finder, self.count = Finder(longest), 0
 
     def take(self, octets: bytes) -> Iterator[bytes]:
-        """Adds the next block of the stream (an empty block at the end), and yields the bytes that can now be passed on."""
+        """Adds the next block of the stream, and yields the bytes that can now be passed on.
+
+        An empty block marks the end of the stream.
+        """
         finder = self.finder
         finder.put(octets)
         first = finder.at
@@ -222,7 +228,7 @@ class Messages(Source):
 class Documents(Source):
     """The documents in a dump, with their line numbers.
 
-    Each piece includes the lines before its document. Any lines after the last document form a separate piece.
+    Each piece includes any lines that precede its document. Any lines after the last document form a separate piece.
     """
 
     def __init__(self, feed: Feed, _longest: Optional[int]) -> None:
@@ -234,7 +240,8 @@ class Documents(Source):
         while True:
             begin = begin_of(held)
             if begin > BLOCK:
-                # Drop most of the comments before a document, so that its first HEADER bytes contain the descriptors.
+                # Drop most of the comments before a document, so that the first HEADER bytes of the piece contain the
+                # descriptors.
                 number += held.count(b"\n", 1, begin)
                 del held[1:begin]
                 at = 0
@@ -267,7 +274,7 @@ class Documents(Source):
         held, self.lines, found = self.held, 0, -1
         while found < 0:
             found = held.find(END)
-            # Until the end line is found, keep the bytes that may be its beginning, and the byte before them.
+            # Until the `end` line is found, keep any bytes that may be its beginning, and the byte before them.
             kept = 0 if found >= 0 or self.has_ended else len(END) - 1
             end = found + len(END) if found >= 0 else max(1, len(held) - kept)
             text = bytes(held[1:end])
@@ -290,7 +297,7 @@ def begin_of(text: bytearray) -> int:
 
 
 def may_begin(text: bytearray) -> bool:
-    """Returns whether `text` can be the beginning of a dump, rather than of BUFR data, for example."""
+    """Returns whether `text` can be the beginning of a dump. If not, it may be BUFR data, for example."""
     at = begin_of(text)
     end = text.find(b"\n", at)
     return len(text) - at <= LINE if end < 0 else text[at:end] == b"message"
@@ -383,10 +390,10 @@ class Run:
         self.output = open(copied, "rb", 0) if output is None else None
 
     def finish(self) -> None:
-        """Waits for the program to exit, and then reads the first fault line."""
+        """Waits for the program to exit and then reads the first fault line."""
         self.status = bufr_guard.wait(self.process)
         self.others: List[bytes] = []  # lines that do not report faults in pieces
-        self.passed = 0  # the total size of all previous pieces, in bytes or lines
+        self.passed = 0  # the total size of the pieces so far, in bytes or lines
         self.errors.seek(0)
         self.take_fault()
         if self.output is not None:
@@ -508,7 +515,7 @@ class Encode(Run):
 
 
 class Part:
-    """A series of pieces, with a run for each table set.
+    """A series of pieces, with a run for each table set that they need.
 
     Each piece has a place, a size, either a run or a fault, and the reasons for any notes. If there are conditions, the
     pieces are first added to `candidates`, without a run.
@@ -530,7 +537,7 @@ class Part:
 
 
 class Notes:
-    """The reasons why no table set matches exactly, each with the number of affected pieces and the place of the first."""
+    """The reasons why no table set matches exactly. Each has the number of affected pieces and the place of the first one."""
 
     def __init__(self) -> None:
         self.reasons: Dict[str, Reason] = {}
@@ -539,7 +546,7 @@ class Notes:
     def known(self, reason: Reason) -> Reason:
         """Records a reason, unless one with the same text has already been recorded, and returns the recorded reason.
 
-        If there are already too many reasons, returns the reason that stands for all others.
+        If the maximum number of reasons has already been recorded, returns the reason that stands for all further ones.
         """
         if reason.text not in self.reasons and len(self.reasons) >= KINDS_OF_NOTES:
             return self.others
@@ -576,7 +583,7 @@ def reasons(asked: Tables, tables: bufr_sets.TableSet) -> List[Reason]:
 
 
 class Chooser:
-    """Chooses the table set for each message or document, and records the notes on sets that do not match exactly."""
+    """Chooses the table set for each message or document and records the notes on sets that do not match exactly."""
 
     def __init__(self, kind: Type[Run]) -> None:
         self.kind, self.sets, self.notes = kind, bufr_sets.TableSets(), Notes()
@@ -612,7 +619,7 @@ class Chooser:
 
 
 class Work:
-    """Dumps or encodes the files. Records the exit status so far, and the lines to print at the end."""
+    """Dumps or encodes the files. Records the exit status so far, and the lines to print after the last file."""
 
     def __init__(self, kind: Type[Run], files: Sequence[Optional[str]], output: int = 1) -> None:
         self.kind, self.files, self.chooser, self.target = kind, files, Chooser(kind), bufr_guard.output(output)
@@ -689,7 +696,9 @@ class Work:
         feed.close()
 
     def parts(self, feed: Feed) -> Iterator[Optional[Part]]:
-        """Yields the parts of a file, and yields None when they must be written: before a read that may block, and at the end.
+        """Yields the parts of a file. Also yields None whenever the parts before it must be written.
+
+        This is the case before a read that may block, and at the end of the file.
 
         This function must be short: to leave a `try` block that ends more than 256 instructions into a function, Python
         3.11 must allocate an integer, which fails if memory has run out.
@@ -776,7 +785,10 @@ class Work:
         return chosen
 
     def refused(self, candidates: int) -> FrozenSet[int]:
-        """Returns the offsets (in the file of candidates) of the messages that do not meet the conditions."""
+        """Returns the offsets of the messages that do not meet the conditions.
+
+        `candidates` is the descriptor of a file that contains the messages, and the offsets are positions in that file.
+        """
         assert self.conditions
         (listing, target), nothing = os.pipe(), os.open(os.devnull, os.O_WRONLY)
         process = bufr_guard.start([bufr_guard.program(), "ls"], candidates, target, nothing)
@@ -811,7 +823,7 @@ class Work:
                 self.status = max(self.status, 1)
                 continue
             fault = one.fault(place, size)
-            if fault.partition(b": ")[2][:1] != b"1":  # otherwise, the piece is not a message
+            if fault.partition(b": ")[2][:1] != b"1":  # a fault from 10 to 19 means that the piece is not a message
                 for reason in notes:
                     reason.count += 1
                     reason.first = reason.first or f"{within}at {one.PLACE.decode()}{place}"
@@ -836,7 +848,7 @@ class Work:
             self.end(worst, is_whole)
 
     def end(self, run: Run, is_whole: bool) -> None:
-        """Records the exit status of a run, and any lines that the program printed in addition to fault lines."""
+        """Records the exit status of a run, and any lines other than fault lines that the program printed."""
         self.last += run.others
         for line in run.others:
             if line.startswith((b"table B: ", b"table D: ")):
@@ -857,12 +869,12 @@ def dump(
     has_places: bool = False,
     more_notes: Callable[[], bytes] = bytes,
 ) -> int:
-    """Dumps files to a descriptor, and returns the exit status. None stands for standard input.
+    """Dumps files, writes the dumps to the descriptor `output`, and returns the exit status.
 
-    Fault lines, notes and progress go to standard error, as in bufr-auto. A message is skipped if it declares more than
-    `longest` bytes or does not meet the conditions. With `has_places`, a comment before each document gives the place of
-    its message: `# offset=595 length=422 file=NAME`. `more_notes` is called whenever notes on a feed are printed, and
-    returns additional lines to print.
+    A name of None stands for standard input. Fault lines, notes and progress go to standard error, as in bufr-auto. A
+    message is skipped if it declares more than `longest` bytes or does not meet the conditions. With `has_places`, a comment
+    before each document gives the place of its message: `# offset=595 length=422 file=NAME`. Whenever notes on a feed are
+    printed, `more_notes` is called, and the lines that it returns are printed as well.
     """
     work = Work(Dump, files, output)
     work.more_notes = more_notes

@@ -1,4 +1,4 @@
-"""Calls the library for C through ctypes, and returns its rows as NumPy arrays.
+"""Calls the library for C through ctypes and returns its rows as NumPy arrays.
 
     tables = bufr_calls.Tables("B.csv", "D.csv")
     items, messages, texts = tables.items(stream, bufr_calls.words(["012101"]))
@@ -89,7 +89,7 @@ class Counts(ctypes.Structure):
 
 
 def loaded() -> ctypes.CDLL:
-    """Loads the library. Raises `ImportError` if it cannot be loaded, or if its version does not match this module."""
+    """Loads the library. Raises `ImportError` if it cannot be loaded, or if its version does not match that of this module."""
     named = os.environ.get("BUFR_LIBRARY")
     here = pathlib.Path(__file__).resolve().parent
     # Next to this file (in a wheel), in a clone or an unpacked release, or in an installation.

@@ -8,8 +8,8 @@
 
 A condition has the form KEY=VALUE or KEY!=VALUE. KEY is the name of a field. VALUE must match the whole field, or the
 beginning of the field up to a separator (/, -, T or :). For example, category=0 matches 0/2/0, and time=2024-01-02 matches
-any time on that day. To accept several values, separate them with commas. A line must meet every condition. An invalid
-condition raises `ValueError`.
+any time on that day. To match any of several values, separate them with commas. A line must meet every condition.
+`Conditions` raises `ValueError` if a condition is invalid.
 """
 from __future__ import annotations
 
@@ -21,7 +21,7 @@ KEYS = (
 )
 # Examples of the values for keys with several numbers.
 EXAMPLES = {"centre": "98/0", "category": "0/2/0", "tables": "0/39/0"}
-# For header keys that are not fields in the output of `bufr ls`, the fields that contain them.
+# Header keys that are not fields in the output of `bufr ls`, and the fields that contain them.
 FIELDS = {
     **dict.fromkeys("year month day hour minute second".split(), "time, as in time=2023-03"),
     "subcentre": "centre, as in centre=98/0",
@@ -36,8 +36,8 @@ class Conditions:
     """Conditions that a line must meet.
 
     For each condition, `patterns` contains a pair: whether the condition is negated, and the pattern to search for. The
-    patterns work both with grep -E and with `re`. Edition 3 messages contain only a two-digit year: `bufr ls`
-    prints 2024 as 0024, so time=2024 does not match. `left_out` counts the messages that are left out for this reason.
+    patterns work with grep -E as well as with `re`. Edition 3 messages contain only a two-digit year: `bufr ls` prints 2024
+    as 0024, so time=2024 does not match these messages. `left_out` counts the messages that are left out for this reason.
     """
 
     def __init__(self, words: Iterable[str]) -> None:
@@ -46,7 +46,8 @@ class Conditions:
         self.asked = ""
         self.of_century: List[str] = []
         self.left_out, self.is_told = 0, False
-        # The numbers of lines that were checked, and of lines that meet the conditions, including those that are left out.
+        # The number of lines that were checked, and the number of those that meet the conditions. Both include the lines of
+        # messages that are left out.
         self.seen = self.met = 0
         if isinstance(words, str) or not isinstance(words, Iterable):
             error = ValueError if isinstance(words, str) else TypeError
@@ -74,7 +75,8 @@ class Conditions:
         example = EXAMPLES.get(key, "1")
         numbers = re.compile("(0|[1-9][0-9]*)(/(0|[1-9][0-9]*)){0,%d}" % example.count("/")).fullmatch
         if key != "time" and not all(map(numbers, values)):
-            raise ValueError(f"the value in '{word}' can never match; write it in the form {key}={example}, without leading zeros")
+            form = f"{key}={example}, without leading zeros"
+            raise ValueError(f"the value in '{word}' can never match; write it in the form {form}")
         pattern = f"(^| ){key}=({'|'.join(values)})([ T:/-]|$)"
         if key == "time" and not negated:
             of_century = [f"00{year[2:]}" for year in values if f"00{year[2:4]}" not in {value[:4] for value in values}]

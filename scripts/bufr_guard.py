@@ -16,8 +16,9 @@ function raises `Failed` if it cannot continue.
   `run` prints the help or the version. For any other exception, it prints one line and exits with status 2.
 - `start` and `wait` run a program. A signal that ends the script also ends the program. `checked` raises `Failed` if the
   program crashed.
-- `opened`, `temporary` and `copied` return file descriptors. They raise `Failed` if there is no space for temporary
-  files. `output` returns an object that writes to a descriptor (by default, standard output) in large blocks.
+- `opened`, `temporary` and `copied` return file descriptors. They raise `Failed` if a file cannot be opened, or if there
+  is no space for temporary files. `output` returns an object that writes to a descriptor (by default, standard output) in
+  large blocks.
 - `say` writes lines to standard error, and `Progress` displays a temporary progress line. `bare` returns the note for a
   file that contains no messages.
 
@@ -49,7 +50,7 @@ INTERVAL = 60
 NOWHERE = float("inf")
 # The processes that were started but have not been waited for.
 RUNNING: list[list[int]] = []
-# Types of files that contain no messages, by their first bytes, and programs that can read them.
+# Types of files that contain no messages, by the first bytes of the file. Some texts name a program that reads the type.
 KINDS_OF_FILES = {
     b"\x1f\x8b": "gzip data (use zcat)",
     b"BZh": "bzip2 data (use bzcat)",
@@ -75,10 +76,10 @@ class Question(Exception):
 
 
 def run(work: Callable[[List[str]], int], text: Optional[str], ends_by_pipe: bool = False) -> NoReturn:
-    """Calls `work` with the script's command-line arguments, and exits. `text` is the script's help text.
+    """Calls `work` with the script's command-line arguments, and exits with the status that `work` returns.
 
-    A signal ends the script and the programs that it runs. If the program that reads the script's output exits, the
-    script reports a failed write or, with `ends_by_pipe`, exits silently.
+    `text` is the script's help text. A signal ends the script and the programs that it runs. If the program that reads the
+    script's output exits early, the script reports a failed write or, with `ends_by_pipe`, ends silently.
     """
     status = 2
     try:
@@ -98,7 +99,7 @@ def run(work: Callable[[List[str]], int], text: Optional[str], ends_by_pipe: boo
 def take_descriptors() -> None:
     """Opens any of the descriptors 0 to 2 that are closed. Otherwise, another file could get one of these numbers.
 
-    Reading from descriptor 0, or writing to 1 or 2, still fails.
+    Reading from a descriptor 0 that was closed, or writing to a descriptor 1 or 2 that was closed, still fails.
     """
     for number, mode in ((0, os.O_WRONLY), (1, os.O_RDONLY), (2, os.O_RDONLY)):
         try:
@@ -134,7 +135,7 @@ def guarded(work: Callable[[List[str]], int], text: str) -> int:
 
 
 def end_badly(told: str) -> None:
-    """Flushes the output, and then reports why the script stops. Ignores any errors along the way."""
+    """Flushes the output and then reports why the script stops. Ignores any errors along the way."""
     Progress.clear()
     for file in written():
         try:
@@ -174,7 +175,7 @@ def answer(question: str, text: str) -> int:
 def build() -> str:
     """Returns the commit from which the program was built, and whether the program is proved.
 
-    install.sh records both, along with the SHA-256 of the program, in a file next to the documentation.
+    install.sh records both, along with the program's SHA-256 checksum, in the file BUILD next to the documentation.
     """
     import hashlib
     import shutil
@@ -187,7 +188,7 @@ def build() -> str:
         if digest == known["program"]:
             return f"commit {known['commit'][:12]}, {known['proof']}"
     except (OSError, ValueError, KeyError):
-        pass  # the program was not installed with install.sh
+        pass  # for example, the program was not installed with install.sh
     return "unknown build"
 
 
@@ -205,7 +206,7 @@ def reason(error: BaseException) -> str:
         is_write = error.errno in (errno.EPIPE, errno.ENOSPC, errno.EFBIG)
         return f"write failed: {error.strerror}" if is_write else error.strerror
     if isinstance(error, RuntimeError) and str(error) == "can't start new thread":
-        return "cannot start a thread; free some memory, or raise the limit on processes (ulimit -u)"
+        return "cannot start a thread; free some memory, or raise the process limit (ulimit -u)"
     place, where = error.__traceback__, ""
     while place:
         where = f" ({os.path.basename(place.tb_frame.f_code.co_filename)}, line {place.tb_lineno})"
@@ -250,7 +251,7 @@ OUTPUTS: Dict[int, Output] = {}
 
 
 def output(descriptor: int = 1) -> Output:
-    """Returns the `Output` for a descriptor (by default, standard output). `run` flushes it at the end."""
+    """Returns the `Output` for a descriptor (by default, standard output). `run` flushes it before the script exits."""
     if descriptor not in OUTPUTS:
         OUTPUTS[descriptor] = Output(descriptor)
     return OUTPUTS[descriptor]
@@ -284,7 +285,10 @@ def say(lines: bytes) -> None:
 
 
 def bare(file: Optional[str], begin: bytes, piece: str = "message") -> bytes:
-    """Returns the note for a file without messages or documents (`piece`), including a guess at the type of the file."""
+    """Returns the note for a file that contains no messages or, if `piece` is "document", no documents.
+
+    If possible, the note names the likely type of the file.
+    """
     head = begin.lstrip()
     if head[:1] == b"<":
         head = head.lower()
@@ -335,13 +339,16 @@ class Progress:
 
 
 def program() -> str:
-    """Returns the path of `bufr`: the value of BUFR, or else the program next to the script, on PATH or in the repository."""
+    """Returns the path of `bufr`: the value of BUFR or, if it is not set, the first `bufr` that is found.
+
+    The search covers the script's directory, the directories on PATH, and the repository, in this order.
+    """
     named = os.environ.get("BUFR")
     if named:
         return named
     here = os.path.dirname(os.path.realpath(__file__))
     beside = os.path.join(os.path.dirname(os.path.realpath(sys.argv[0])), "bufr")
-    # An installed script never runs any program but the one that was installed with it, even if that one is now missing.
+    # An installed script runs only the program that was installed with it, even if that program is now missing.
     if is_program(beside) or beside == os.path.normpath(f"{here}/../../bin/bufr"):
         return beside
     built = os.path.join(here, "../crates/bufr/out/bufr")
@@ -369,7 +376,7 @@ def start(words: Sequence[str], given: int = 0, output: int = 1, errors: int = 2
 
 
 def wait(process: int) -> int:
-    """Waits for a program to exit, and returns its exit status, or 128 plus the number of the signal that killed it."""
+    """Waits for a program to exit. Returns its exit status, or 128 plus the number of the signal that killed it."""
     os.waitid(os.P_PID, process, os.WEXITED | os.WNOWAIT)
     RUNNING.remove([process])
     status = os.waitstatus_to_exitcode(os.waitpid(process, 0)[1])
@@ -379,7 +386,7 @@ def wait(process: int) -> int:
 def lines_from(
     pipe: int, progress: Progress, place: Callable[[], int], report: Optional[Callable[[], None]] = None
 ) -> Iterator[bytes]:
-    """Yields blocks of whole lines from a pipe and, at the end, the incomplete last line, if any.
+    """Yields blocks of whole lines from a pipe, and then the incomplete last line, if there is one.
 
     While waiting, displays `place()` as the progress. Calls `report()` if no block arrives for a second, and otherwise once
     a minute.
@@ -404,7 +411,10 @@ def lines_from(
 
 
 def checked(status: int, has_told: bool = True, what: str = "bufr") -> int:
-    """Returns the exit status of a program. Raises `Failed` if it is over 2, or if it is 2 but no reason was reported."""
+    """Returns the exit status of a program.
+
+    Raises `Failed` if the status is over 2, or if it is 2 but the program has not reported a reason (`has_told`).
+    """
     if status > 128:
         raise Failed(f"{what} was killed (signal {status - 128}); output is incomplete")
     if status not in (0, 1, 2) or (status == 2 and not has_told):
@@ -422,8 +432,8 @@ def stop() -> None:
 
 
 def leave(number: int, _frame: Optional[FrameType]) -> None:
-    """Kills the programs that are still running, and then ends this script with the same signal."""
-    signal.signal(signal.SIGUSR1, signal.SIG_IGN)  # bufr-csv uses it to report that awk has stopped
+    """Kills the programs that are still running and then ends this script with the signal that it received."""
+    signal.signal(signal.SIGUSR1, signal.SIG_IGN)  # bufr-csv uses this signal to report that awk has stopped
     stop()
     Progress.clear()
     signal.signal(number, signal.SIG_DFL)
@@ -434,7 +444,7 @@ def leave(number: int, _frame: Optional[FrameType]) -> None:
 
 
 def opened(file: Optional[str]) -> int:
-    """Opens a file for reading at any offset, and returns its descriptor. None stands for standard input.
+    """Opens a file for reading at any offset and returns its descriptor. None stands for standard input.
 
     If the file is not a regular file, returns the descriptor of a temporary copy instead.
     """
@@ -443,7 +453,7 @@ def opened(file: Optional[str]) -> int:
 
 
 def to_read(file: Optional[str]) -> int:
-    """Opens a file for reading, and returns its descriptor. None stands for standard input."""
+    """Opens a file for reading and returns its descriptor. None stands for standard input."""
     try:
         return 0 if file is None else os.open(file, os.O_RDONLY)
     except OSError as error:
@@ -460,7 +470,7 @@ def is_regular(descriptor: int) -> bool:
 
 
 def temporary() -> int:
-    """Creates an unnamed file in TMPDIR, and returns its descriptor."""
+    """Creates an unnamed file in TMPDIR and returns its descriptor."""
     try:
         return os.open(folder_of_temporary(), os.O_TMPFILE | os.O_RDWR, 0o600)
     except OSError as error:
@@ -481,7 +491,7 @@ def folder_of_temporary() -> str:
 
 
 def keep(descriptor: int, octets: Union[bytes, bytearray, memoryview]) -> None:
-    """Writes bytes to a temporary file. Raises `Failed` if they cannot be written."""
+    """Writes bytes to a temporary file. Raises `Failed` if the bytes cannot be written."""
     try:
         write_all(descriptor, octets)
     except OSError:
@@ -509,7 +519,10 @@ def copied(source: int, name: str) -> int:
 
 
 def read_at(descriptor: int, offset: int, length: int) -> bytes:
-    """Reads bytes of a message that was found earlier. Raises `Failed` if the file has since been truncated."""
+    """Reads bytes of a message that was found earlier.
+
+    Raises `Failed` if the bytes cannot be read, for example because the file has since been truncated.
+    """
     pieces, end = [], offset + length
     while offset < end:
         try:
@@ -539,7 +552,8 @@ def fault_lines(errors: int) -> Iterator[tuple[float, bytes]]:
 class Faults:
     """The lines that `bufr` wrote to the file `errors`. Fault lines can be printed between the dumps of messages.
 
-    Lines that do not report faults in messages are printed at the end. `has_told` is then true if there were any.
+    Lines that do not report faults in messages are printed last, by `tell_rest`. `has_told` is then true if there were any
+    such lines.
     """
 
     def __init__(self, errors: int) -> None:

@@ -10,10 +10,10 @@
 
 `-c VALUE` means the same as `-cVALUE`, and `--name VALUE` means the same as `--name=VALUE`. Options can follow operands.
 After `--`, every word is an operand. `values` contains a function for each option that takes a value. The function converts
-the word to a value, or raises a `ValueError` that says what it expected.
+the word to a value, or raises a `ValueError` that says what was expected.
 
-An invalid command line raises `bufr_guard.Failed`, with a message that refers to --help. The options --help and --version
-raise `bufr_guard.Question`, which `run` handles.
+If the command line is invalid, `Asked` raises `bufr_guard.Failed` with a message that refers to --help. If the command line
+contains --help or --version, `Asked` raises `bufr_guard.Question`, which `bufr_guard.run` handles.
 """
 from __future__ import annotations
 
@@ -85,9 +85,9 @@ class Asked:
         return [default, *self.all(name)][-1]
 
     def files(self, skipped: int = 0) -> list[Optional[str]]:
-        """Skips the first `skipped` operands, and returns the others as file names.
+        """Returns all operands after the first `skipped` ones as file names.
 
-        None stands for standard input, which is read if an operand is `-` or if there are no file names.
+        None stands for standard input. It replaces the operand `-`, and is the only name if no operands remain.
         """
         return [None if file == "-" else file for file in self.operands[skipped:]] or [None]
 

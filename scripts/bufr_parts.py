@@ -38,7 +38,7 @@ _SOURCES = "expected a file name, bytes, an open binary file, a Piece or a list 
 _NO_FILES = "no files were given: the list is empty, for example because a glob pattern matches no files"
 _TEXT = "the source is a text file; open it with mode 'rb'"
 _BLOCK = 1 << 20
-# The approximate number of bytes in a part, if only some items are wanted, and if all of them are.
+# The approximate number of bytes in a part: first if only some items are wanted, and then if all of them are.
 _PART, _PART_OF_ALL = 1 << 23, 1 << 20
 
 
@@ -96,7 +96,7 @@ class _Stream:
         self.start, self.has_message = b"", False
 
     def block(self) -> bytes:
-        """Returns the next block of bytes, which is empty at the end."""
+        """Returns the next block of bytes, which is empty at the end of the range."""
         octets = self.file.read(int(min(_BLOCK, self.left)))
         if isinstance(octets, str):
             raise TypeError(_TEXT)
@@ -112,9 +112,9 @@ class _Stream:
 
 
 def _opened(source: Source, numbers: Optional[Iterator[int]] = None) -> Iterator[_Stream]:
-    """Yields the streams of a source, and closes the files that it has opened.
+    """Yields the streams of a source and closes the files that it has opened.
 
-    The names of bytes objects contain numbers from `numbers`, or no numbers if it is `None`.
+    The names of bytes objects contain numbers from `numbers`, or no numbers if `numbers` is `None`.
     """
     if isinstance(source, Piece):
         with open(source.file, "rb") as file:
@@ -163,7 +163,7 @@ def _size(source: Source) -> int:
 
 
 def _divided(stream: _Stream, size: int, are_pieces: bool = False) -> Iterator[Tuple[int, List[_Found]]]:
-    """For each part of a stream, yields the offset at which the part ends and a list of the messages and strays in it.
+    """Yields, for each part of a stream, the offset at which the part ends, and a list of the messages and strays in it.
 
     Each part except the last contains at least `size` bytes. With `are_pieces`, the lists are empty, and each part extends at
     least to the declared end of each stray in it, so that the stray has the same fault if the part is read as a piece.
@@ -194,10 +194,10 @@ def _divided(stream: _Stream, size: int, are_pieces: bool = False) -> Iterator[T
 def pieces(files: Union[Path, Iterable[Path]], size: int = 1 << 26, *, faults: Faults = "warn") -> List[Piece]:
     """Divides files into pieces of about `size` bytes. Returns the pieces in order; together, they cover every byte.
 
-    A piece begins and ends between messages. If a file contains strays, a piece can be up to 16 MB longer. If a file contains
-    no messages, or if there are no files, `pieces` itself warns about this or, with `faults="raise"`, raises `BufrError`. With
-    `size=1`, each piece contains a single message unless there are strays. Pass each piece to a function
-    of this module, for example in another process:
+    A piece begins and ends between messages. If a file contains strays, a piece can be up to 16 MB longer than `size`. If a
+    file contains no messages, or if there are no files, `pieces` itself warns about this or, with `faults="raise"`, raises
+    `BufrError`. With `size=1`, each piece contains a single message unless there are strays. Pass each piece to a function of
+    this module, for example in another process:
 
         >>> from concurrent.futures import ProcessPoolExecutor
         >>> from functools import partial
@@ -214,7 +214,7 @@ def pieces(files: Union[Path, Iterable[Path]], size: int = 1 << 26, *, faults: F
     is_one = isinstance(files, (str, os.PathLike, *_BYTES)) or hasattr(files, "read") or not isinstance(files, Iterable)
     for file in cast(Iterable[Path], [files] if is_one else files):
         if not isinstance(file, (str, os.PathLike)) or file == "-":
-            # The object may contain a whole file.
+            # The bytes may be those of a whole file, so the message shows only the first 40.
             told = repr(bytes(file[:40])) + "..." * (len(file) > 40) if isinstance(file, _BYTES) else reprlib.repr(file)
             raise TypeError(f"expected the name of a file that other processes can open, found {told}")
         begin = 0
@@ -236,7 +236,7 @@ def checked_faults(faults: Faults) -> Faults:
 
 
 def report_bare(text: str, faults: Faults, file: Optional[str] = None) -> None:
-    """Reports a file without messages, or that there are no files."""
+    """Reports that a file contains no messages, or that there are no files."""
     if faults == "raise":
         raise BufrError(text, file=file)
     if faults != "ignore":
@@ -244,7 +244,7 @@ def report_bare(text: str, faults: Faults, file: Optional[str] = None) -> None:
 
 
 class Reader:
-    """Reads a source in parts, and reports faults and notes. If `columns` is `None`, all items are read."""
+    """Reads a source in parts and reports faults and notes. If `columns` is `None`, all items are read."""
 
     def __init__(
         self,
@@ -296,7 +296,7 @@ class Reader:
         self.conditions.left_out = 0
         if self.chooser is not None:
             self.chooser.notes = bufr_auto.Notes()
-            self.chooser.known.clear()  # it contains the counts of the previous notes
+            self.chooser.known.clear()  # the cached reasons contain the counts of the previous file
 
     def end_file(self) -> None:
         """Warns about faults in a file, table sets that may not match its messages, and messages that were left out."""
@@ -308,7 +308,7 @@ class Reader:
             warn(f"{self.name}: {text}")
 
     def part(self, found: List[_Found]) -> Part:
-        """Reads a part. Messages that need the same tables are read together, and the items are then sorted by message."""
+        """Reads a part. Messages that need the same tables are read in one call, and the items are then sorted by message."""
         every, found = found, self.selected(found)
         groups: Dict[Tables, List[int]] = {}
         notes: Dict[int, List[bufr_auto.Reason]] = {}
@@ -339,7 +339,7 @@ class Reader:
         self.is_bare = self.is_bare and len(found) == len(every) and not messages["edition"].any()
         self.report(found, messages["fault"], groups)
         for index, reasons in notes.items():
-            if str(messages["fault"][index])[0] != "1":  # otherwise, it is not a message
+            if str(messages["fault"][index])[0] != "1":  # a fault from 10 to 19 means that it is not a message
                 for reason in reasons:
                     reason.count += 1
                     reason.first = reason.first or f"at offset {found[index].offset}"
@@ -387,7 +387,10 @@ class Reader:
 
 
 def guarded(call: Callable[[], Any]) -> Any:
-    """Returns the result of a call. If the call raises `Failed`, as it does without table sets, raises `BufrError`."""
+    """Returns the result of a call. If the call raises `Failed`, raises `BufrError` instead.
+
+    The call raises `Failed` if there are no table sets, for example.
+    """
     try:
         return call()
     except bufr_guard.Failed as failed:

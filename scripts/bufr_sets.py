@@ -89,7 +89,7 @@ cache: List[TableSet] = []
 
 
 def rows_of(file: str, *columns: str) -> Iterator[List[str]]:
-    """Yields the values in these columns for each row of a table. Skips rows that are too short, which `bufr` reports."""
+    """Yields the values in these columns for each row of a table. Skips rows that are too short; `bufr` reports these rows."""
     import csv
 
     csv.field_size_limit(1 << 30)
@@ -106,8 +106,8 @@ def rows_of(file: str, *columns: str) -> Iterator[List[str]]:
 class TableSets:
     """The table sets in a directory.
 
-    Their names are, for example, `wmo-13` or, with local rows, `wmo-13+98-102` (centre 98, local version 102). Sets that lack a
-    table are ignored, and reported in `notes`.
+    Their names are, for example, `wmo-13` or, with local rows, `wmo-13+98-102` (centre 98, local version 102). Sets that lack
+    one of the two tables are ignored and are reported in `notes`.
     """
 
     def __init__(self) -> None:
@@ -123,7 +123,7 @@ class TableSets:
                 missing = next((table for table in ("B.csv", "D.csv") if not os.path.exists(tables.file(table))), "")
                 if missing:
                     advice = "add this file, or remove the directory"
-                    self.notes.append(f"ignored {tables.folder}, because it does not contain {missing}; {advice}")
+                    self.notes.append(f"ignored {tables.folder} because it does not contain {missing}; {advice}")
                 else:
                     self.sets.setdefault(key, {})[tables.version] = tables
         if None not in self.sets:
@@ -136,7 +136,7 @@ class TableSets:
     def asked(self, centre: int, version: int, local: int) -> TableSet:
         """Returns the set for a centre, a version and a local version.
 
-        This is WMO's set for the version; if there is none, it is the set for the next later version, or else the latest.
+        This is WMO's set for the version or, if there is none, WMO's set for the next later version, or else the latest one.
         A set with the centre's local rows takes precedence if its version is between `version` and the version of WMO's set.
         """
         of_wmo = self.sets[None]
@@ -163,7 +163,7 @@ def folder_of_sets() -> str:
             return os.path.abspath(place)
     if named:
         raise bufr_guard.Failed(f"BUFR_TABLES is {named}, which is not a directory")
-    raise bufr_guard.Failed(f"there is no directory {places[0]}; set BUFR_TABLES to the directory with the table sets")
+    raise bufr_guard.Failed(f"there is no directory {places[0]}; set BUFR_TABLES to the directory that contains the table sets")
 
 
 def words_of(message: Bytes) -> bytes:

@@ -94,7 +94,7 @@ _CAUSES = [
         (rb"[^\"#]* -?[\d.]+[Ee].*", "an exponent in a number"),
         (rb"[^\"#]* -?\d*,.*", "a decimal comma"),
         (rb"[^\"#]* -?(?:[Nn][Aa][Nn]|[Ii]nf)\b.*", "a value that is not a number; write MISSING for a missing value"),
-        (rb"[^\"#]* (?!MISSING)(?i:missing)\b.*", "the word MISSING not in capitals"),
+        (rb"[^\"#]* (?!MISSING)(?i:missing)\b.*", "MISSING in lower or mixed case"),
         (rb"[^\"#]* -?(?:\d+\.|\.\d+)(?: .*)?", "a decimal point without a digit on each side"),
         (rb"\d{6} ?", "no value; write MISSING for a missing value"),
         (rb".* ", "a space at the end"),
@@ -137,10 +137,11 @@ class RunError(RuntimeError):
 
 
 class BufrError(RuntimeError):
-    """Raised by the module `bufr` for a rejected message, a stray, a file without messages, no files, or an invalid table.
+    """Raised by the module `bufr` if a message is rejected, if there is a stray, or if a table is invalid.
 
-    `file`, `offset`, `number` and `text` have the same meaning as in `Fault`. For a file without messages, only `file` is
-    set; for an invalid table or an empty list of files, all four are `None`.
+    Also raised for a file without messages and for an empty list of files. `file`, `offset`, `number` and `text` have the
+    same meaning as in `Fault`. For a file without messages, only `file` is set; for an invalid table or an empty list of
+    files, all four are `None`.
     """
 
     def __init__(
@@ -156,7 +157,7 @@ class BufrError(RuntimeError):
 
 
 class DumpWarning(UserWarning):
-    """Warns, for example, that a file has no messages, that messages were rejected or left out, or that a column is empty."""
+    """Issued, for example, if a file contains no messages, if messages were rejected or left out, or if a column is empty."""
 
 
 def warn(text: str) -> None:
@@ -179,7 +180,7 @@ class Fault(NamedTuple):
     file: str = ""
 
     def line(self) -> str:
-        """Returns the fault line that `bufr` prints, which does not contain the name of the file."""
+        """Returns the fault line that `bufr` prints, without the name of the file."""
         return f"offset {self.offset}: {self.number} {self.text}"
 
     def __str__(self) -> str:
@@ -190,7 +191,7 @@ STRAY = "the word BUFR outside any complete message, for example at the start of
 
 
 class FaultCounts:
-    """The numbers of rejected messages and strays in a file, and the first fault."""
+    """The number of rejected messages and the number of strays in a file, and the first fault."""
 
     def __init__(self) -> None:
         self.refused = self.strays = 0
@@ -281,7 +282,10 @@ class Message:
 
 
 class _Lines:
-    """The lines of a dump, without empty lines and comments. `line` is the current line, and `number` is its number."""
+    """The lines of a dump, excluding empty lines and comments.
+
+    `line` is the current line. `number` is its line number in the dump, where every line counts, and the first is line 1.
+    """
 
     def __init__(self, stream: Iterable[bytes]) -> None:
         self.rest = iter(stream)
@@ -303,7 +307,7 @@ class _Lines:
         return None
 
     def inside(self, expected: str) -> bytes:
-        """Returns the next line. Raises `TextError` at the end of the input, because the message is then incomplete."""
+        """Returns the next line. Raises `TextError` if there is none, because the message is then incomplete."""
         line = self.take()
         if line is None:
             raise self.refused(expected)
@@ -317,7 +321,11 @@ class _Lines:
         return TextError(self.number, expected, cause)
 
     def count(self, key: str) -> int:
-        """Returns the number after the key in the next line. Raises `TextError` if the number has more than five digits."""
+        """Returns the number after the key in the next line.
+
+        Raises `TextError` if there is no next line, or if it does not consist of the key and a number. The number can have
+        at most five digits, not counting leading zeros.
+        """
         found = re.fullmatch(key.encode() + rb" 0*(\d{1,5})", self.inside(key))
         if not found:
             raise self.refused(f"'{key}' and a number")
@@ -327,9 +335,9 @@ class _Lines:
 def read(stream: Iterable[bytes]) -> Iterator[Message]:
     """Yields the messages in a dump. `stream` yields the lines of the dump as bytes, like a file opened in mode "rb".
 
-    Raises `TextError` at the first invalid line. `read` does not check whether header values are in range or whether the
-    items match the descriptors; `bufr encode` does. For a number such as `1.`, `read` raises `TextError`, whereas
-    `bufr encode` reports fault 52.
+    Raises `TextError` at the first invalid line, and `TypeError` if a line is not bytes. `read` does not check whether header
+    values are in range or whether the items match the descriptors; `bufr encode` does. For a number such as `1.`, `read`
+    raises `TextError`, whereas `bufr encode` reports fault 52.
     """
     lines = _Lines(stream)
     line = lines.take()
@@ -474,7 +482,8 @@ def rows(
     A number is an `int` if its scale does not allow decimal places, and otherwise the nearest `float`. A string contains the
     same escapes as in a dump, but no trailing spaces. A value is `None` if it is missing or if the subset does not contain
     the item. Raises `ValueError` for a word that is not a column. If the word occurs in the names of elements in Table B,
-    the error lists their descriptors. A `DumpWarning` at the end names each column that has no items or no values.
+    the error lists their descriptors. After the last row, a `DumpWarning` is issued for each column that has no items or
+    no values.
     """
     columns, header, _ = checked(columns, header, has_counts=True)
     found = _by_library("rows", messages, faults, where, columns, header)
@@ -491,15 +500,15 @@ def levels(
 ) -> Iterator[Tuple[Cell, ...]]:
     """Yields a tuple for each level of a sounding: header values, then the values for `keep`, then column values.
 
-    A level is one repetition (pass) of a delayed replication. A level is left out unless it contains the descriptor of the
-    first column and, if there are other columns, at least one of their descriptors. If a subset contains several delayed
-    replications, put first a column that occurs only in the one that you want. Each column selects the first item
-    with that descriptor in the level, and each descriptor in `keep` selects the first one in the whole subset. In all
+    A level is one repetition (pass) of a delayed replication. A level has a row only if it contains an item for the first
+    column and, if there are other columns, for at least one of them. If a subset contains several delayed replications, put
+    first a column that occurs only in the one that you want. Each column contains the value of the first item with its
+    descriptor in the level, and each column in `keep` that of the first item with its descriptor in the whole subset. In all
     other respects, `levels` works like `rows`.
 
     A subset is skipped if it has no levels, or if its levels are ambiguous because the descriptor that begins a level
-    occurs again in the same level. A `DumpWarning` at the end says how many subsets were skipped for each of these reasons,
-    and where the first one is.
+    occurs again in the same level. After the last row, a `DumpWarning` for each of these two reasons says how many subsets
+    were skipped and where the first of them is.
     """
     columns, header, keep = checked(columns, header, keep, has_levels=True)
     found = _by_library("levels", messages, faults, where, columns, header, keep)
@@ -515,7 +524,8 @@ def _by_library(
 ) -> Optional[Iterator[Tuple[Cell, ...]]]:
     """Returns the rows from the module `bufr`, which is faster than the program.
 
-    Returns `None` if the module is not available, or if the environment variable `BUFR` names a program.
+    Returns `None` if the module is not available, if `file` is not the name of a file, or if the environment variable `BUFR`
+    is set.
     """
     # the module would read standard input if the name is -
     if not isinstance(file, (str, os.PathLike)) or file == "-" or os.environ.get("BUFR"):
@@ -532,7 +542,7 @@ def _by_library(
 
 
 def _reported(told: _Told, found: Iterator[Tuple[Cell, ...]]) -> Iterator[Tuple[Cell, ...]]:
-    """Yields rows, and reports the faults as `dump` does."""
+    """Yields rows and reports the faults as `dump` does."""
     try:
         yield from found
     except BufrError as error:
@@ -601,7 +611,7 @@ def _meant(word: str, keys: Sequence[str]) -> str:
 
 
 def _refuse_valueless(word: str) -> None:
-    """Raises `ValueError` if the descriptor in a column is not that of an element, so that no item can have it."""
+    """Raises `ValueError` if no item can have the descriptor in a column, for example because it is a sequence."""
     import bufr_sets
 
     if not bufr_sets.can_have_value(word):
@@ -674,7 +684,7 @@ def _cell(item: Optional[Item]) -> Cell:
         return None
     if isinstance(item.value, bytes):
         return text_cell(item.value)
-    # not str, which writes 0.0000003 as 3E-7
+    # `str` would write 0.0000003 as 3E-7
     return float(item.value) if "." in format(item.value, "f") else int(item.value)
 
 
@@ -726,7 +736,7 @@ def _passes(items: List[Item]) -> List[Tuple[int, int]]:
     return passes([item.fxy for item in items], counts, FACTORS)
 
 
-# Why subsets have no levels.
+# The two reasons why subsets are skipped.
 AMBIGUOUS, BARE = "with ambiguous levels", "without levels"
 _ALL_ITEMS = "bufr.items or bufr_text.dump"
 
@@ -762,7 +772,10 @@ class Gaps:
                     self.with_value.add(at)
 
     def look(self, words: Sequence[_Word], found: Sequence[Tuple[int, int]], columns: Sequence[_Word]) -> None:
-        """Records which columns occur in a subset, and which of them in its levels (the passes `found` in `words`)."""
+        """Records which columns occur in a subset, and which of these columns occur in its levels.
+
+        `words` contains the descriptors of the items in the subset, and `found` the start and end of each level.
+        """
         for at, word in enumerate(columns, self.kept):
             if at not in self.inside and word in words:
                 is_inside = any(word in words[begin:end] for begin, end in found)
@@ -772,18 +785,19 @@ class Gaps:
     def skip(
         self, kind: str, subset: Cell, offset: Cell, file: str, message: Cell = None, fxy: object = None
     ) -> None:
-        """Records that a subset is skipped. `message` is the number of its message, and is used only if `offset` is `None`."""
+        """Records that a subset is skipped. `message` is the number of its message, which is needed only without `offset`."""
         place = f"subset {subset} of the message at offset {offset}" + (f" of {file}" if file else "")
         place = f"message {message}, subset {subset}" if offset is None else place
         why = "" if fxy is None else f" ({fxy} begins a level and occurs again in it)"
         count, first = self.skipped.get(kind, (0, place + why))
         self.skipped[kind] = count + 1, first
 
-    def warn(self, is_whole: bool = True, text: str = "column {} is empty, because no row has an item for it") -> None:
+    def warn(self, is_whole: bool = True, text: str = "column {} is empty because no row has an item for it") -> None:
         """Issues a warning for each gap.
 
-        If `is_whole` is false, other pieces may contain columns that this piece lacks. Columns are then reported only if no
-        table set defines them. `text` is the warning for a column without items; `{}` stands for the column.
+        If `is_whole` is false, the rows come from a piece of a file, and other pieces may contain items that this piece lacks.
+        A column without items is then reported only if no table set defines it. `text` is the warning for a column without
+        items, in which `{}` stands for the column.
         """
         if self.has_rows or self.skipped:
             (self.warn_of_columns if is_whole else self.warn_of_undefined)(text)
@@ -794,7 +808,7 @@ class Gaps:
             warn(f"skipped {told}{advice}")
 
     def warn_of_columns(self, text: str) -> None:
-        # Without rows, nothing is known about columns that apply to the whole subset, or that other levels contain.
+        # Without rows, nothing is known about columns that apply to the whole subset, or about those that occur in levels.
         asked = list(enumerate(self.columns))[0 if self.has_rows else self.kept :]
         asked = [(at, word) for at, word in asked if self.has_rows or at not in self.inside]
         name, defined = names(self.table_b) if not {at for at, _ in asked} <= self.with_item else ("", {})
@@ -804,16 +818,19 @@ class Gaps:
                 if at in self.several:
                     advice = f"for its first value, pass keep=['{word}']; for all of its values, pass '{word}:1', '{word}:2'"
                     advice += f" and so on as columns of a table of subsets, or use {_ALL_ITEMS}"
-                warn(f"column {word} is empty, because {word} occurs only outside the levels; {advice}")
+                warn(f"column {word} is empty because {word} occurs only outside the levels; {advice}")
             elif at not in self.with_item:
                 is_unknown = defined and word[0] == "0" and word[:6] not in defined
                 warn(text.format(word) + f"; {name} does not define {word[:6]}" * bool(is_unknown))
             elif at not in self.with_value:
-                warn(f"column {word} is empty, because all of its values are missing")
+                warn(f"column {word} is empty because all of its values are missing")
 
 
     def warn_of_undefined(self, _text: str) -> None:
-        """Warns about elements without items that no table set defines or, if a Table B was passed, that it does not define."""
+        """Warns about each element that has no items and that no table set defines.
+
+        If a Table B was passed, only this table is searched.
+        """
         words = [word[:6] for at, word in enumerate(self.columns) if at not in self.with_item and word[0] == "0"]
         words = [word for word in dict.fromkeys(words) if word not in names(self.table_b)[1]]
         known = _all_elements() if words and self.table_b is None else set()
@@ -907,10 +924,11 @@ def dump(
     results of `listing` as `places`.
 
     Faults are appended to the list `faults`, in order: when you get a message, the list contains all earlier faults.
-    Without a list, faults are printed to `sys.stderr`, and a `DumpWarning` at the end says how many there were. There is
-    also a `DumpWarning` for each note from `bufr-auto`, and for a file without messages.
+    Without a list, faults are printed to `sys.stderr`, and after the last message, a `DumpWarning` says how many there
+    were. There is also a `DumpWarning` for each note from `bufr-auto`, and for a file without messages.
 
-    `dump` lists the file before it reads any messages. If the file is a pipe, `dump` first copies it to a temporary file.
+    `dump` runs `bufr ls` on the whole file before it dumps any messages. If the file is a pipe, `dump` first copies it to a
+    temporary file.
     Raises `ValueError` for an invalid condition, `RunError` if a program exits with a status over 1, and `OSError` if a
     file cannot be read. To use a different `bufr`, set the environment variable `BUFR` to its path.
     """
@@ -976,7 +994,7 @@ class _Told:
             self.stray = next(self.strays, None)
 
     def of_part(self, errors: bytes, part: List[Listed]) -> Dict[int, Fault]:
-        """Returns the faults in a part, by offset. Counts the notes, which are reported at the end."""
+        """Returns the faults in a part, by offset. Counts the notes, which are reported after the last part."""
         begins = itertools.accumulate((place.length for place in part), initial=0)
         offsets = {begin: place.offset for begin, place in zip(begins, part)}
         refused = {}
@@ -1109,8 +1127,8 @@ def _run(words: List[str], source: IO[bytes], target: IO[bytes]) -> subprocess.C
 def _failure(status: int, words: List[str], errors: Iterable[bytes]) -> RunError:
     """Returns the error for a failed program.
 
-    The text of the error is what the program printed or, if it printed nothing, the exit status. If the disk is full, the
-    text says so.
+    The text of the error consists of the lines that the program printed, except for fault lines, or states the exit status
+    if there are no such lines. If the disk is full, the text says so.
     """
     told = b"".join(line for line in errors if not _FAULT.match(line)).decode(errors="replace").strip()
     told = told or f"{words[0]} " + (f"was killed (signal {-status})" if status < 0 else f"exited with status {status}")

@@ -13,13 +13,13 @@
 # column 012101 contains the value of the first item with this descriptor in the subset, and 012101:2 contains the value of
 # the second such item. If a subset does not contain the item, the field is empty.
 #
-# With levels=1, each level has a row. A level is one repetition (pass) of a delayed replication, whose factor (031000 to
-# 031002) is in the data. A level has a row only if it contains an item for the first column and, if there are other
-# columns, for at least one of them. If a subset contains several delayed replications, put first a column that occurs only
-# in the one that you want. The columns in `keep` apply to the whole subset and come first.
+# With levels=1, the rows are for levels instead of subsets. A level is one repetition (pass) of a delayed replication, whose
+# factor (031000 to 031002) is in the data. A level has a row only if it contains an item for the first column and, if there
+# are other columns, for at least one of them. If a subset contains several delayed replications, put first a column that
+# occurs only in the one that you want. The columns in `keep` apply to the whole subset and come before the others.
 #
-# A dump does not mark where passes begin. The first pass begins after the factor. Each later pass begins at the next item
-# with the descriptor that began the first pass, so a pass with two equal halves counts as two passes. A replication inside
+# A dump does not mark where passes begin. The first pass begins right after the factor. Each later pass begins at the next
+# item with the descriptor that began the first pass, so a pass with two equal halves counts as two passes. A replication inside
 # a pass belongs to that pass. A subset is skipped if it has no levels, or if its levels are ambiguous because the
 # descriptor that begins a pass also occurs inside one.
 #
@@ -34,35 +34,38 @@
 #     bufr dump -B B.csv -D D.csv FILE 2> faults |
 #       awk -v columns=offset,012101 -v listing=listing -v faults=faults -f scripts/table.awk
 #
-# Notes on standard error report columns for which there are no items, columns for levels whose items occur only outside the
+# Notes on standard error report columns for which there are no items, columns of levels whose items occur only outside the
 # levels, and the number of skipped subsets. The exit status is 1 if a subset was skipped because its levels were ambiguous.
 # It is 2 if a column is neither a header key nor the descriptor of an element, if the dump ends inside a message, or if the
 # listing and the fault lines do not match the dump. The script works with any awk.
 #
-# bufr-csv sets three more variables. Each note begins with `name`. With placed=1, a comment before each message gives the
-# message's offset, length and file, which can then be used as columns. With feed=0, rows are not flushed after each
-# message. bufr-csv also sets the environment variable BUFR_CSV_LABELS to the column headings, one per line.
+# bufr-csv also sets the variables `name`, `placed` and `feed`. Each note begins with the value of `name`. With placed=1, a
+# comment before each message gives the message's offset, length and file, which can then be used as columns. With feed=0,
+# rows are not flushed after each message. In addition, bufr-csv sets the environment variable BUFR_CSV_LABELS to the column
+# headings, one per line.
 
 function fail(text) {
     print name ": " text | "cat >&2"
     exit failed = 2
 }
 
-# Prints a note about skipped subsets. In a feed, a note is printed only for the first of them, with the count 0.
+# Prints a note about skipped subsets. In a feed, only the first skipped subset of each kind is reported, with the count 0.
 function tell_skipped(count, kind, where) {
     if (kind ~ /ambiguous/)
         where = where "; to get " (count > 1 ? "their" : "its") " items, run " all_items
+    if (!count)
+        where = where "; further subsets " kind " will not be reported"
     kind = count > 1 ? count " subsets " kind "; the first is" : "a subset " kind ":"
-    print name ": skipped " kind " message " where (count ? "" : "; others will not be reported") | "cat >&2"
+    print name ": skipped " kind " message " where | "cat >&2"
     close("cat >&2")
 }
 
 function tell_empty(column, why) {
-    print name ": column " column " is empty, because " why | "cat >&2"
+    print name ": column " column " is empty because " why | "cat >&2"
 }
 
-# Quotes a string. A string from an item contains escapes: JSON has the same \" and \\, but \u00HH for \xHH. A plain string
-# contains no escapes.
+# Quotes a string. A string from an item contains escapes. JSON uses the same escapes \" and \\, but \u00HH instead of \xHH. A
+# plain string (`is_plain`) contains no escapes.
 function quoted(text, is_plain,   parts, count, part) {
     if (!json)
         gsub(/"/, "\"\"", text)
@@ -105,7 +108,8 @@ function take_place(   words) {
     header["file"] = quoted(substr($0, index($0, " file=") + 6), 1)
 }
 
-# Finds the offset and length of the next message in the listing that has no fault line. Returns whether there is one.
+# Finds the offset and length of the next message in the listing that has no fault line. Returns whether there is such a
+# message.
 function next_listed(   line, words, is_read) {
     do {
         if ((is_read = (getline line < listing)) <= 0)
@@ -133,7 +137,7 @@ function is_descriptor(word, of_subset) {
     return word ~ /^[0-3][0-9][0-9][0-9][0-9][0-9]$/ && substr(word, 2, 2) < 64 && substr(word, 4, 3) < 256
 }
 
-# Splits a list of columns, and returns their number. `keys` lists the words that are allowed in addition to descriptors.
+# Splits a list of columns and returns their number. `keys` lists the words that are allowed in addition to descriptors.
 function split_columns(words, list, keys,   count, column, word) {
     count = split(words, list, /[ ,]+/)
     for (column = 1; column <= count; column++) {
@@ -216,7 +220,7 @@ function end_subset(   row, column, line) {
     if (subset && !by_item) {
         end_pass()
         if (levels) {
-            # 1 for a column that has occurred only outside the levels, 2 for one in a level without a row, 3 for one in a row
+            # 1: the column has occurred only outside the levels; 2: in a level without a row; 3: in a level with a row
             for (column in place)
                 if (!twice && place_of[column] < place[column])
                     place_of[column] = place[column]
@@ -312,7 +316,7 @@ function item(fxy) {
 
 BEGIN {
     kept_by = name == "" ? "-v keep=" : "--keep "
-    all_items = name == "" ? "table.awk without levels= and columns=" : name " without --levels and -c"
+    all_items = name == "" ? "table.awk without levels= or columns=" : name " without --levels or -c"
     if (name == "")
         name = "table.awk"
     by_item = columns == ""

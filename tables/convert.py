@@ -196,21 +196,21 @@ def whole(text: str) -> int:
 
 
 def no_descriptor(fxy: str, first: str) -> str:
-    """Returns why a string is not a descriptor that begins with `first`, or an empty string if it is."""
+    """Returns the reason why a string is not a descriptor that begins with `first`, or an empty string if it is one."""
     if not re.fullmatch(f"[{first}][0-9]{{5}}", fxy):
         return f"expected six digits, beginning with {first}"
     return "X is over 63" if int(fxy[1:3]) > 63 else "Y is over 255" if int(fxy[3:]) > 255 else ""
 
 
 def no_text(what: str, text: str) -> str:
-    """Returns why `bufr` rejects this name or unit, or an empty string if `bufr` accepts it."""
+    """Returns the reason why `bufr` rejects this name or unit, or an empty string if `bufr` accepts it."""
     if len(octets(text)) > 512:
         return f"the {what} is longer than 512 bytes"
     return f"the {what} contains a control character" if re.search(r"[\0-\x1f\x7f]", text) else ""
 
 
 def no_numbers(is_text: bool, scale: str, reference: str, width: str) -> str:
-    """Returns why `bufr` rejects the numbers in a row of Table B, or an empty string if `bufr` accepts them."""
+    """Returns the reason why `bufr` rejects the numbers in a row of Table B, or an empty string if `bufr` accepts them."""
     if not width:
         return "no width"
     if not is_whole(scale, -127, 127):
@@ -223,7 +223,7 @@ def no_numbers(is_text: bool, scale: str, reference: str, width: str) -> str:
 
 
 def no_element(row: list) -> str:
-    """Returns why `bufr` rejects this row of Table B, or an empty string if `bufr` accepts it."""
+    """Returns the reason why `bufr` rejects this row of Table B, or an empty string if `bufr` accepts it."""
     fxy, name, unit, *numbers = row
     is_text = octets(unit).upper() == b"CCITT IA5"
     reason = no_descriptor(fxy, "0") or no_text("name", name) or no_text("unit", unit) or no_numbers(is_text, *numbers)
@@ -233,7 +233,7 @@ def no_element(row: list) -> str:
 
 
 def no_sequence(sequence: list) -> str:
-    """Returns why `bufr` rejects this sequence, or an empty string if `bufr` accepts it."""
+    """Returns the reason why `bufr` rejects this sequence, or an empty string if `bufr` accepts it."""
     fxy, *members = sequence
     if no_descriptor(fxy, "3") or not members:
         return no_descriptor(fxy, "3") or "no members"
@@ -248,7 +248,7 @@ def shown(words: list) -> str:
 
 
 def taken(folder: pathlib.Path, entries, refused) -> tuple:
-    """Returns the valid entries, by descriptor, and the number of entries that were left out. Reports each of the latter."""
+    """Returns the valid entries, by descriptor, and the number of invalid ones. Reports each invalid entry."""
     found, left_out = {}, 0
     for entry in entries:
         found.setdefault(entry[0], []).append(entry)

@@ -672,7 +672,7 @@ class Values(WithFolder):
         for count in (10, 1 << 31, 1 << 63, 10**30):
             for call in (bufr.rows, bufr_text.rows):
                 rows, told = told_by(lambda: list(call(SYNOP, [f"012101:{count}"])))
-                self.assertEqual((rows, told), ([(None,)] * 3, [f"column 012101:{count} is empty, because no row has an item for it"]))
+                self.assertEqual((rows, told), ([(None,)] * 3, [f"column 012101:{count} is empty because no row has an item for it"]))
 
     def test_columns_from_iterators(self):
         octets = SYNOP.read_bytes()
@@ -893,7 +893,7 @@ class Faults(WithFolder):
                 bufr.messages(self.stream, faults=faults)
 
     def test_gaps_are_warned_of(self):
-        empty = "column {} is empty, because no row has an item for it"
+        empty = "column {} is empty because no row has an item for it"
         words = ["012104", "012101", "020012:9", "063255"]
         unknown = f"{empty.format('063255')}; the table set wmo-39 does not define 063255"
         wanted = [empty.format("012104"), empty.format("020012:9"), unknown]
@@ -942,14 +942,14 @@ class Faults(WithFolder):
         for call in (bufr.rows, bufr.frame, bufr_text.rows):
             self.stream.write_bytes(lib.message(b"\xfe\x14", lib.words("001001 001001")))
             _, told = told_by(lambda: len([*call(self.stream, ["001001", "001001:2"])]))
-            self.assertEqual(told, ["column 001001 is empty, because all of its values are missing"])
+            self.assertEqual(told, ["column 001001 is empty because all of its values are missing"])
             self.stream.write_bytes(lib.message(b"\xfe\x14", lib.words("001001 001001")) + lib.message(b"\x14"))
             self.assertEqual(told_by(lambda: len([*call(self.stream, ["001001"])]))[1], [])
 
     def test_subsets_without_levels_are_warned_of(self):
         sounding = TOP / "examples/sounding.bufr"
-        empty = "column {} is empty, because no row has an item for it"
-        outside = "column {0} is empty, because {0} occurs only outside the levels; pass keep=['{0}'] instead"
+        empty = "column {} is empty because no row has an item for it"
+        outside = "column {0} is empty because {0} occurs only outside the levels; pass keep=['{0}'] instead"
         bits = lib.Bits()
         for number, width in ((1, 7), (2, 7), (3, 10), (2, 8), (4, 14), (5, 14)):
             bits.put(number, width)

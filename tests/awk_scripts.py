@@ -128,7 +128,7 @@ def main() -> None:
             told = b"table.awk: '%b' is not an element, so no item has this descriptor\n" % words[-1][-6:].encode()
             wrongs += [f"{awk}: {words} is {done}"] * (done != (2, b"", told))
         done = run([*awk, "-v", "levels=1", "-v", "columns=012101,001002", *SCRIPT], FEED)
-        told = b"table.awk: column 001002 is empty, because 001002 occurs only outside the levels; pass -v keep=001002 instead\n"
+        told = b"table.awk: column 001002 is empty because 001002 occurs only outside the levels; pass -v keep=001002 instead\n"
         wrongs += [f"{awk}: of a column outside the levels: {done}"] * (done[2].splitlines(True)[0] != told)
         for script in (SCRIPT, ["-v", "columns=012101:2", *SCRIPT], ["-v", "levels=1", "-v", "columns=012101", *SCRIPT]):
             wrongs += [f"{awk}: of a feed the rows of {script} are not written"] * (not serves([*awk, *script]))

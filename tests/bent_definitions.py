@@ -2,7 +2,7 @@
 """Makes one rule in the definitions wrong at a time, and checks that an example, a vector, a test or a law then fails.
 
     tests/bent_definitions.py [PROGRAM]                      try a sample of the entries
-    tests/bent_definitions.py --all [PROGRAM]                try every entry, and fail if a comparison has none
+    tests/bent_definitions.py --all [PROGRAM]                try every entry, and fail if a comparison has no entry
     tests/bent_definitions.py --crate NAME | --only WORD     try the entries of a crate, or those that contain WORD
     tests/bent_definitions.py --list [--crate NAME]          try nothing, and list each comparison with its entries
 

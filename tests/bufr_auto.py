@@ -161,7 +161,7 @@ class Trial:
         (tables / "wmo-17/D.csv").unlink()
         done = self.auto(stream=stream, BUFR_TABLES=str(tables))
         notes = b"".join(
-            b"bufr-auto: ignored %s/%s, because it does not contain %s.csv; add this file, or remove the directory\n" % (shown.encode(), *missing)
+            b"bufr-auto: ignored %s/%s because it does not contain %s.csv; add this file, or remove the directory\n" % (shown.encode(), *missing)
             for missing in ((b"wmo-17", b"D"), (b"wmo-21", b"B"), (b"wmo-25", b"B"), (b"wmo-36", b"B"), (b"wmo-40", b"B"))
         )
         whole = (done.stdout.count(b"message\n"), done.stderr == faults + notes, done.returncode)
@@ -173,7 +173,7 @@ class Trial:
         self.holds("a set of version 6", b"012073" in done.stdout and b"version 6" not in done.stderr, done)
         (self.place / "none/wmo-40").mkdir(parents=True)
         done = self.auto(stream=stream, BUFR_TABLES=str(self.place / "none"))
-        self.holds("no complete set", done.returncode == 2 and b"wmo-40, because it does not contain B.csv" in done.stderr, done)
+        self.holds("no complete set", done.returncode == 2 and b"wmo-40 because it does not contain B.csv" in done.stderr, done)
         with open("/dev/full", "w") as full:
             done = subprocess.run(AUTO, input=before, stdout=full, stderr=subprocess.PIPE, env=self.environment)
         told = done.stderr.endswith(b"bufr-auto: write failed: No space left on device\n")
@@ -330,7 +330,7 @@ class Trial:
         sets = self.place / "incomplete"
         (sets / "wmo-40").mkdir(parents=True)
         (sets / "wmo-39").symlink_to(TABLES / "wmo-39")
-        note = b"bufr-auto: ignored %s/wmo-40, because it does not contain B.csv; add this file, or remove the directory\n" % bytes(sets)
+        note = b"bufr-auto: ignored %s/wmo-40 because it does not contain B.csv; add this file, or remove the directory\n" % bytes(sets)
         self.environment["BUFR_TABLES"] = str(sets)
         synop, text = ((TOP / f"examples/synop.{kind}").read_bytes() for kind in ("bufr", "txt"))
         self.feed("an incomplete set", [], [(synop, text, note), (synop, text, b"")], (b"", b""), 0)

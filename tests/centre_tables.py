@@ -151,10 +151,10 @@ def limits(script, holds) -> None:
     kinds = b"".join(made(13, 1, centre, "063255", b"") for centre in range(1, 1004)) * 2
     status, output, errors = script("bufr-lacks", kinds)
     holds("the kinds that are listed", (status, output.count("\n"), output.count("2 messages")), (1, 1000, 1000))
-    first = "bufr-lacks: left out 6 messages, because bufr-lacks lists at most 1,000 combinations of centre and table versions"
+    first = "bufr-lacks: left out 6 messages because bufr-lacks lists at most 1,000 combinations of centre and table versions"
     holds("the notes on kinds", (errors.splitlines()[0], errors.count("\n")), (first, 1001))
     _, _, errors = script("bufr-lacks", b"".join(made(13, 1, centre, "063255", b"") for centre in range(1, 1002)))
-    holds("one message of too many kinds", errors.startswith("bufr-lacks: left out 1 message, "), True)
+    holds("one message of too many kinds", errors.startswith("bufr-lacks: left out 1 message because "), True)
     # Two kinds whose missing set is the same.
     _, output, errors = script("bufr-lacks", made(12, 1, 7, "063255", b"") + made(13, 1, 7, "063255", b""))
     holds("one note for a set", (output.count("\n"), errors.count("\n")), (2, 1))
@@ -164,7 +164,7 @@ def limits(script, holds) -> None:
     many = " ".join(f"0{x}{y:03}" for x in range(48, 64) for y in range(256))
     status, output, errors = script("bufr-lacks", b"".join(made(13, 1, centre, many, b"") for centre in range(1, 15)))
     rows = sum(len(line.partition("lacks")[2].split()) for line in output.splitlines())
-    told = errors.startswith("bufr-lacks: left out further rows, because bufr-lacks lists at most 50,000 missing rows\n")
+    told = errors.startswith("bufr-lacks: left out further rows because bufr-lacks lists at most 50,000 missing rows\n")
     holds("the rows that are listed", (status, rows, told), (1, 50_000, True))
 
 
@@ -280,11 +280,11 @@ def main() -> None:
         (place / "odd \x1b").symlink_to("tables")
         environment["BUFR_TABLES"], shown = str(place / "odd \x1b"), f"{place}/odd \\x1B"
         (tables / "wmo-40").mkdir()
-        told = f"bufr-lacks: ignored {shown}/wmo-40, because it does not contain B.csv; add this file, or remove the directory\n"
+        told = f"bufr-lacks: ignored {shown}/wmo-40 because it does not contain B.csv; add this file, or remove the directory\n"
         holds("an incomplete set", script("bufr-lacks", synop), (0, "", told))
         shutil.copytree(TOP / "tables/wmo-39", tables / "wmo-40", dirs_exist_ok=True)
         (tables / "wmo-40/D.csv").write_text("no table\n")
-        told = f"table D: 40 header\nbufr-lacks: cannot use the table set {shown}/wmo-40, because bufr rejected it (see above)\n"
+        told = f"table D: 40 header\nbufr-lacks: cannot use the table set {shown}/wmo-40 because bufr rejected it (see above)\n"
         holds("an invalid set", script("bufr-lacks", made(40, 0, 98, "001191", b"\1")), (2, "", told))
         shutil.rmtree(tables / "wmo-40")
         # A byte order mark, which `bufr` skips too.

@@ -353,13 +353,13 @@ def several_files(folder: pathlib.Path) -> None:
 def notes(folder: pathlib.Path) -> None:
     """Columns without a value, subsets without levels, and those with ambiguous levels."""
     done = run("-c", "012101,012104", SYNOP)
-    holds("an empty column", (done.returncode, done.stderr) == (0, b"bufr-csv: column 012104 is empty, because no row has an item for it\n"), done)
+    holds("an empty column", (done.returncode, done.stderr) == (0, b"bufr-csv: column 012104 is empty because no row has an item for it\n"), done)
     done = run("--levels", "-c", "020013,020011", SYNOP)
     told = b"bufr-csv: skipped a subset without levels: message 1, subset 1\n"
     holds("a subset without levels", (done.returncode, done.stderr) == (0, told), done)
     # Columns that occur only outside the levels, and columns without rows, as bufr.levels warns of them.
-    outside = "bufr-csv: column {0} is empty, because {0} occurs only outside the levels; pass --keep {0} instead\n"
-    empty = "bufr-csv: column {} is empty, because no row has an item for it\n"
+    outside = "bufr-csv: column {0} is empty because {0} occurs only outside the levels; pass --keep {0} instead\n"
+    empty = "bufr-csv: column {} is empty because no row has an item for it\n"
     one = "bufr-csv: skipped a subset without levels: message 1, subset 1\n"
     for columns, keep, wanted in [
         ("001002,007004,012101", "", outside.format("001002") + one),
@@ -391,12 +391,12 @@ def notes(folder: pathlib.Path) -> None:
     done = run("--levels", "-c", "020011", input=twice)
     (folder / "twice").write_bytes(twice)
     told = b"bufr-csv: skipped a subset with ambiguous levels: message 1, subset 1 (008002 begins a level and occurs again in it)"
-    told += b"; to get its items, run bufr-csv without --levels and -c%s\n"
+    told += b"; to get its items, run bufr-csv without --levels or -c%s\n"
     of_file = run("--levels", "-c", "020011", folder / "twice")
     column = empty.format("020011").encode()
     for what, done, wanted in (
         ("a file", of_file, column + told % b""),
-        ("a pipe", done, told % b"; others will not be reported" + column),
+        ("a pipe", done, told % b"; further subsets with ambiguous levels will not be reported" + column),
     ):
         holds(f"ambiguous levels of {what}", (done.returncode, done.stderr) == (1, wanted), done)
     done = run("--levels", "-c", "020011", folder / "nosuch", folder / "twice")
@@ -530,7 +530,7 @@ def failures(folder: pathlib.Path) -> None:
         holds(f"AWK={word!r}", (done.returncode, done.stdout.count(b"\n")) == (0, 4), done)
     (folder / "no-tables/wmo-39").mkdir(parents=True)
     done = run("-c", "AIR TEMPERATURE", SYNOP, environment={"BUFR_TABLES": str(folder / "no-tables")})
-    told = f"does not contain a table set such as wmo-39; ignored {folder}/no-tables/wmo-39, because it does not contain B.csv".encode()
+    told = f"does not contain a table set such as wmo-39; ignored {folder}/no-tables/wmo-39 because it does not contain B.csv".encode()
     holds("there is no table", done.returncode == 2 and told in done.stderr, done)
     done = run("-c", "AIR TEMPERATURE", SYNOP, environment={"BUFR_TABLES": "/nosuch"})
     holds("there are no tables", done.returncode == 2 and b"/nosuch" in done.stderr, done)
@@ -568,12 +568,13 @@ def feed(awk: list, _folder: pathlib.Path) -> None:
         while told.count(b"\n") < 2 and select.select([process.stderr], [], [], 20)[0]:
             told += os.read(process.stderr.fileno(), 1 << 16)
         is_right = told.startswith(b"bufr-csv: 1 message so far, at offset 0: table version 45 ") and told.endswith(
-            b"\nbufr-csv: skipped a subset without levels: message 1, subset 1; others will not be reported\n"
+            b"\nbufr-csv: skipped a subset without levels: message 1, subset 1;"
+            b" further subsets without levels will not be reported\n"
         )
         holds(f"{awk}: the notes of a live feed", is_right, told)
         process.stdin.close()
         told = process.stderr.read()
-        holds(f"{awk}: the notes of a live feed at its end", told == b"bufr-csv: column 020011 is empty, because no row has an item for it\n", told)
+        holds(f"{awk}: the notes of a live feed at its end", told == b"bufr-csv: column 020011 is empty because no row has an item for it\n", told)
 
 
 def note_on_years(_folder: pathlib.Path) -> None:

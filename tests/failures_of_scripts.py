@@ -179,7 +179,7 @@ def memory(trial: Trial) -> None:
     if trial.name in ("bufr-csv", "bufr-extract", "bufr-parallel"):
         trial.words[2] = THREADLESS.format(TOP / "scripts")
         done = trial.run(input=SYNOP.read_bytes())
-        trial.fails("no thread", done, "cannot start a thread; free some memory, or raise the limit on processes (ulimit -u)")
+        trial.fails("no thread", done, "cannot start a thread; free some memory, or raise the process limit (ulimit -u)")
 
 
 def least_memory(words: list, most: int):

@@ -1,5 +1,5 @@
 #!/usr/bin/env bash
-# Tests outputs that are longer than a pipe and than the program's buffers: their reader exits early, they go to the same
+# Tests outputs that fit neither in a pipe nor in the program's buffers: their reader exits early, both outputs go to the same
 # file, or a signal arrives.
 # rule: output-held-back, signals, reader-gone
 set -eu

@@ -6,8 +6,8 @@
 Each command first runs without failures. Then its Nth allocation fails, for each N up to one more than the number of
 allocations, so that the last run produces the complete output. Every other run must exit with status 2. Its output must be
 a prefix of the complete output, and its errors must be a prefix of the fault lines, followed by `bufr: 73 out of memory`. A
-run may also succeed although one allocation fails, if the program then tries a smaller one: std's `collect` does so when it
-first requests a large buffer for the arguments.
+run may also succeed although one allocation fails, if the program then tries a smaller one. For example, `collect` in std
+does so after it has requested a large buffer for the arguments.
 
 The output consists of pieces: the lines of `ls`, the texts of `dump`, or the messages of `encode`. The program must write
 whole pieces, and at least as many as when an earlier allocation failed. `dump` may also write whole lines of an incomplete

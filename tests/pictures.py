@@ -1,6 +1,6 @@
 #!/usr/bin/env python3
-"""Tests scripts/bufr-plot: maps with unusual positions and strings, soundings, the messages if there is nothing to draw or
-matplotlib is missing, and that failures leave no files behind.
+"""Tests scripts/bufr-plot: maps with unusual positions and strings, soundings, and the messages if there is nothing to draw
+or matplotlib is missing. Failures must leave no files behind.
 
     tests/pictures.py [PROGRAM]
 
@@ -103,7 +103,7 @@ def strange(python: str, folder: pathlib.Path) -> None:
     want(radius in drawn and radius not in draw(stations(101))[0], "101 points are as large as 100")
     drawn, told = draw(stations(101), "--value", "012101")
     want("281.5" not in drawn, "101 values have labels")
-    want(told == "bufr-plot: did not label the points, because there are 101 values; at most 100 can be shown\n", f"of 101 values it tells {told}")
+    want(told == "bufr-plot: did not label the points: there are 101 values, but at most 100 can be shown\n", f"of 101 values it tells {told}")
     drawn, told = draw(stations(2, name=b"$x^{..$ \\\\$\\x07\\xFF"), "--value", "001015")
     want("$x^{..$ \\$?\ufffd" in drawn and "[$y$]" in drawn, "a text is taken for a formula")
     want(told == "", f"of a text it tells {told}")
@@ -241,7 +241,7 @@ def draws(python: str, program: str, folder: pathlib.Path) -> None:
         (["sounding", folder / "b.png"], b"# a note\n", 1, "bufr-plot: the input contains no messages"),
         (["map", "--value", "", folder / "b.png"], texts["synop"], 2, "--value '': expected a descriptor such as 012101, found ''"),
         (["map", "--value", "T", folder / "b.png"], texts["synop"], 2, "--value 'T': expected a descriptor such as 012101, found 'T'"),
-        (["map", ""], texts["synop"], 2, "PICTURE must end in .png, .svg or .pdf, but it is ''"),
+        (["map", ""], texts["synop"], 2, "expected a PICTURE whose name ends in .png, .svg or .pdf, found ''"),
         (["map", folder / "b.png", ""], b"", 2, "cannot open ''"),
         (["sounding", "--message", "x", folder / "b.png"], b"", 2, "--message 'x': expected a whole number of at least 1"),
         (["sounding", "--subset", "0", folder / "b.png"], b"", 2, "--subset '0': expected a whole number of at least 1"),
@@ -253,9 +253,9 @@ def draws(python: str, program: str, folder: pathlib.Path) -> None:
         (["map", folder / "b.png"], b"no dump\n", 2, "line 1: expected 'message'"),
         (["map", folder / "b.png", folder / "nosuch"], b"", 2, "nosuch"),
         (["map", folder / "no" / "b.png"], texts["synop"], 2, f"cannot write {folder / 'no' / 'b.png'}: No such file"),
-        (["map", folder / "b.text"], texts["synop"], 2, "must end in .png, .svg or .pdf, but it is '"),
-        (["map", folder / "b.png.old"], texts["synop"], 2, "must end in .png, .svg or .pdf, but it is '"),
-        (["map", folder / "bpng"], texts["synop"], 2, "must end in .png, .svg or .pdf, but it is '"),
+        (["map", folder / "b.text"], texts["synop"], 2, "expected a PICTURE whose name ends in .png, .svg or .pdf, found '"),
+        (["map", folder / "b.png.old"], texts["synop"], 2, "expected a PICTURE whose name ends in .png, .svg or .pdf, found '"),
+        (["map", folder / "bpng"], texts["synop"], 2, "expected a PICTURE whose name ends in .png, .svg or .pdf, found '"),
         (["picture", folder / "b.png"], b"", 2, "expected 'map' or 'sounding' as the first argument"),
     ]:
         done = run(python, words, text)

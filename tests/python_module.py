@@ -80,8 +80,8 @@ MISTAKES = [
     (24, b"012101 282,55  # NAME [K]\n", "a decimal comma"),
     (24, b"012101 NaN\n", "a value that is not a number; write MISSING for a missing value"),
     (24, b"012101 -inf\n", "a value that is not a number; write MISSING for a missing value"),
-    (24, b"012101 missing  # NAME [K]\n", "the word MISSING not in capitals"),
-    (24, b"012101 missing  # A +B 2.8E2 NaN, A#B\n", "the word MISSING not in capitals"),
+    (24, b"012101 missing  # NAME [K]\n", "MISSING in lower or mixed case"),
+    (24, b"012101 missing  # A +B 2.8E2 NaN, A#B\n", "MISSING in lower or mixed case"),
     (24, b"012101 282.  # NAME [K]\n", "a decimal point without a digit on each side"),
     (24, b"012101 .5\n", "a decimal point without a digit on each side"),
     (24, b"012101\n", "no value; write MISSING for a missing value"),
@@ -321,7 +321,7 @@ class Tables(unittest.TestCase):
     def notes(self, told: list) -> list:
         """Warnings as table.awk prints them, without those that it lacks."""
         texts = [f"table.awk: {one.message}" for one in told if "all of its values are missing" not in str(one.message)]
-        texts = [text.replace("use bufr.items or bufr_text.dump", "run table.awk without levels= and columns=") for text in texts]
+        texts = [text.replace("use bufr.items or bufr_text.dump", "run table.awk without levels= or columns=") for text in texts]
         several = r"for its first value, pass keep=\['(\d+)'\]; for all of its values, .*"
         return [re.sub(several, r"for its first two values, pass -v keep=\1,\1:2", text) for text in texts]
 
@@ -353,7 +353,7 @@ class Tables(unittest.TestCase):
                 for call in (bufr_text.rows, bufr_text.levels):
                     [[cell]] = call(messages, ["012101"])
                     self.assertEqual((cell, type(cell)), (wanted, type(wanted)), text)
-            said = ["column 012101 is empty, because all of its values are missing"] * (wanted is None)
+            said = ["column 012101 is empty because all of its values are missing"] * (wanted is None)
             self.assertEqual([str(one.message) for one in told], said * 2)
 
     def test_rows(self):
