@@ -53,7 +53,7 @@ enum bufr_status {
     BUFR_TABLE_D_CSV = 145
 };
 
-/* Why a message was refused, or is a stray. A fault line contains the same number. */
+/* Why a message was rejected, or is a stray. A fault line contains the same number. */
 enum bufr_fault {
     BUFR_FAULT_NONE = 0,                  /* The message was accepted. */
     BUFR_FAULT_CUT = 1,                   /* The input ends before the message does. */
@@ -110,7 +110,7 @@ struct bufr_texts {
     size_t output_needed; /* after BUFR_NO_ROOM: octets that the next message needs in the first buffer */
     size_t errors_needed; /* after BUFR_NO_ROOM: octets that it needs in the second buffer */
     uint64_t accepted;    /* messages that this call accepted */
-    uint64_t refused;     /* messages that this call refused, and strays that it found */
+    uint64_t refused;     /* messages that this call rejected, and strays that it found */
     uint64_t reserved;    /* 0 */
 };
 
@@ -158,7 +158,7 @@ struct bufr_message { /* 64 octets */
     uint64_t offset;  /* where the message begins in the stream */
     uint64_t length;  /* the length in octets; 4 for a stray */
     size_t first;     /* the index of the first item */
-    size_t items;     /* the number of items; 0 if the message was refused */
+    size_t items;     /* the number of items; 0 if the message was rejected */
     uint16_t centre;
     uint16_t subcentre;
     uint16_t year; /* in edition 3, the year of the century, 0 to 100 */
@@ -206,7 +206,7 @@ struct bufr_counts {
 };
 
 /* Reads the values of messages. Writes a row for each wanted item to rows->items, the octets of strings to rows->texts, and
- * a row for each message or stray to rows->messages. A refused message has no items. */
+ * a row for each message or stray to rows->messages. A rejected message has no items. */
 int32_t bufr_items(const struct bufr_input *input, const struct bufr_rows *rows, struct bufr_counts *counts);
 
 #ifdef __cplusplus

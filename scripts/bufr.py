@@ -386,8 +386,8 @@ def frame(
         [836.0, 98520.0, 258.55]
 
     With `levels=True`, a level has a row only if it contains an item for the first column and, if there are other columns,
-    for at least one of them. If a subset contains several delayed replications, put first a column that occurs only in the
-    one that you want.
+    for at least one of them. If a subset contains several delayed replications, give as the first column a descriptor that
+    occurs only in the replication that you want.
     To add an element that occurs once in a subset, such as the station number 001002, pass it in `keep`. The repetitions of
     a group whose count is fixed by the template are not levels; to get their values, use columns such as `"013011:2"`
     without `levels=True`, or `items`.

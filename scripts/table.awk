@@ -15,8 +15,9 @@
 #
 # With levels=1, the rows are for levels instead of subsets. A level is one repetition (pass) of a delayed replication, whose
 # factor (031000 to 031002) is in the data. A level has a row only if it contains an item for the first column and, if there
-# are other columns, for at least one of them. If a subset contains several delayed replications, put first a column that
-# occurs only in the one that you want. The columns in `keep` apply to the whole subset and come before the others.
+# are other columns, for at least one of them. If a subset contains several delayed replications, give as the first column a
+# descriptor that occurs only in the replication that you want. The columns in `keep` apply to the whole subset and come
+# before the other columns.
 #
 # A dump does not mark where passes begin. The first pass begins right after the factor. Each later pass begins at the next
 # item with the descriptor that began the first pass, so a pass with two equal halves counts as two passes. A replication inside
