@@ -107,8 +107,8 @@ def loaded() -> ctypes.CDLL:
                 raise ImportError(f"{path} and bufr.py have different versions; install both from the same release")
             return library
     missing = "libbufr.so.0 is not installed" if named is None else f"BUFR_LIBRARY is '{named}', which is not a file"
-    advice = "install a proved release, or build the library with library/build.sh"
-    elsewhere = "; if it is elsewhere, set BUFR_LIBRARY to its path" if named is None else ""
+    advice = "install a release that contains it, or build it with library/build.sh"
+    elsewhere = "; if libbufr.so.0 is elsewhere, set BUFR_LIBRARY to its path" if named is None else ""
     raise ImportError(f"{missing}; {advice}{elsewhere}")
 
 
@@ -183,7 +183,7 @@ def word(fxy: str) -> int:
 
 
 def words(columns: Optional[Sequence[str]]) -> Array:
-    """Converts the descriptors of columns to the form that `Tables.items` expects. `None` stands for all items."""
+    """Converts the column descriptors to the form that `Tables.items` expects. If `columns` is `None`, all items are selected."""
     found = [] if columns is None else sorted({*map(word, columns)}) or [NOTHING]
     # The array is created with one additional descriptor, so that it has an address even if it is empty.
     return numpy.array([*found, 0], "u2")[: len(found)]
