@@ -848,7 +848,7 @@ class Work:
             self.end(worst, is_whole)
 
     def end(self, run: Run, is_whole: bool) -> None:
-        """Records the exit status of a run, and any lines other than fault lines that the program printed."""
+        """Records the exit status of a run and the lines that it printed other than fault lines."""
         self.last += run.others
         for line in run.others:
             if line.startswith((b"table B: ", b"table D: ")):

@@ -81,7 +81,7 @@ _CAUSES = [
     (re.compile(pattern, re.DOTALL), cause)
     for pattern, cause in [
         (rb"\xef\xbb\xbf.*", "a byte order mark"),
-        (rb"(?:\x01|[A-Z]{4}\d\d [A-Z]{4} |BUFR).*", "BUFR data, which is not a dump; to dump it, use bufr-auto"),
+        (rb"(?:\x01|[A-Z]{4}\d\d [A-Z]{4} |BUFR).*", "BUFR data instead of a dump; to dump it, use bufr-auto"),
         (rb".*\r", "a carriage return at the end"),
         (rb">.*", "a > from a quoted email"),
         (rb"[^\"#]*\t.*", "a tab instead of a space"),

@@ -60,9 +60,9 @@ def with_line(number: int, lines: bytes) -> bytes:
 # How lines are refused by mistake, and what is told of it. Line 24 of the document is an item, line 22 descriptors.
 MISTAKES = [
     (1, b"\xef\xbb\xbfmessage\n", "a byte order mark"),
-    (1, (TOP / "examples/synop.bufr").read_bytes().partition(b"\n")[0] + b"\n", "BUFR data, which is not a dump; to dump it, use bufr-auto"),
-    (1, b"IUAA01 EGRR 120700\r\r\n", "BUFR data, which is not a dump; to dump it, use bufr-auto"),
-    (1, b"\x01\r\r\n", "BUFR data, which is not a dump; to dump it, use bufr-auto"),
+    (1, (TOP / "examples/synop.bufr").read_bytes().partition(b"\n")[0] + b"\n", "BUFR data instead of a dump; to dump it, use bufr-auto"),
+    (1, b"IUAA01 EGRR 120700\r\r\n", "BUFR data instead of a dump; to dump it, use bufr-auto"),
+    (1, b"\x01\r\r\n", "BUFR data instead of a dump; to dump it, use bufr-auto"),
     (24, b"001001 10\r\n", "a carriage return at the end"),
     (24, b"> 001001 10\n", "a > from a quoted email"),
     (24, b"001001\t10\n", "a tab instead of a space"),
