@@ -60,9 +60,8 @@ consumes (delayed factor body rest) = true
 -- ---- Which operators a template may hold, and with which operands (WMO-No. 306, Volume I.2,
 -- FM 94: Table C; these seven and the bounds are our choice)
 
--- Whether the operator 2 X Y is supported. The others of Table C (2 04 and 2 21 to 2 43) are
--- refused (own), and so is 2 07 Y above 18 (own): 2 07 019 would add 64 bits, and a quantity has at
--- most 63.
+-- Whether the operator 2 X Y is supported. The other operators of Table C, such as 2 04, are refused
+-- (own), and so is 2 07 Y above 18 (own): 2 07 019 would add 64 bits, and a quantity has at most 63.
 --   X = 1, 2, 8  any Y
 --   X = 3        Y is 1 to 63 (the width of redefined references), 255 (end) or 0 (cancel)
 --   X = 5, 6     Y is at least 1

@@ -143,8 +143,8 @@ unsigned_field fxy width =
       listed = false;
     }
 
--- An element of a code or flag table: 2 01, 2 02 and 2 07 do not apply to it (Table C), but a
--- redefined reference does (own).
+-- An element of a code or flag table: 2 01, 2 02 and 2 07 do not apply to it, but a redefined
+-- reference does. (own)
 -- rule: new-reference-of-figures, figures-unchanged
 abbrev pub coded_spec : OperatorModel → Row → FieldSpec
 coded_spec s row = record (unsigned_field row.fxy row.width) {
