@@ -76,6 +76,8 @@ impl BitWriter {
         ensures grows { (self.new.room ≡ self.old.room)
             ⊎ (min (length self.old.bits + self.old.room) (2 ^ 63 - length self.old.bits)
             ≤ self.new.room + 64) }
+        // If there is already room for 128 bits more than requested, nothing changes.
+        ensures stays { bits + 128 ≤ self.old.room → self.new.room ≡ self.old.room }
     {
         if bits <= u64::from(self.free) {
             return Ok(());

@@ -264,6 +264,7 @@ pub record NeedsRead (old new : FinderModel) : Type 0 where
   pub reads : new.reads ≡ old.reads
   pub near : new.at < 2 ^ 63
   pub few : length new.rest < max min_held new.longest
+  pub longest : new.longest ≡ max old.longest (length_here new.rest)
 
 -- what is held shows the next event, without a read, or that one is needed; a fault comes again
 abbrev pub GivesHeldEvent : FinderModel → FinderModel → Option (Result Event RunFault) → Type 0

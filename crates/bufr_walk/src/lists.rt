@@ -1,5 +1,5 @@
 //! The last lists of descriptors, each with its template and the specs that its cells were read by.
-ghost use Rattle.std.specs.Prelude.{◌≡◌, ◌<◌, Ok, IfSome, ◌≢◌, ◌≤◌, [], length, true, false, IfErr, OnOk, List, Err, Contains, IfNone, get_or};
+ghost use Rattle.std.specs.Prelude.{◌≡◌, ◌<◌, Ok, IfSome, ◌≢◌, ◌≤◌, [], drop, length, true, false, IfErr, OnOk, List, Err, Contains, IfNone, get_or};
 ghost use Rattle.bufr_tables.specs.Prelude.{Row, Sequence, tree_of, tables_of};
 ghost use Rattle.std.specs.List.{All};
 ghost use Rattle.bufr_walk.specs.Prelude.{MayStay, IsSlotBy, IsOther, IsKept};
@@ -83,6 +83,8 @@ fn index_of(slots: &[Slot<'_>], descriptors: &[Fxy]) -> Option<usize>
 fn drop_first(slots: &mut Vec<Slot<'_>>)
     requires { length slots.old.items ≤ 127 }
     ensures few { length slots.new.items ≤ 126 }
+    ensures stay { length slots.old.items < 127 → slots.new.items ≡ slots.old.items }
+    ensures first { length slots.old.items ≡ 127 → slots.new.items ≡ drop 1 slots.old.items }
     ensures others { (b : List Row) (d : List Sequence) → All (IsOther b d) slots.old.items
         → All (IsOther b d) slots.new.items }
 {
