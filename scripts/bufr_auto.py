@@ -323,7 +323,7 @@ class Store:
         self.block.clear()
 
     def descriptor(self) -> int:
-        """Returns the file's descriptor, positioned at the start of the file."""
+        """Moves to the start of the file and returns the file's descriptor."""
         self.flush()
         os.lseek(self.file, 0, os.SEEK_SET)
         return self.file
@@ -361,7 +361,7 @@ class Run:
 
     @staticmethod
     def asked_by(piece: Bytes) -> Tables:
-        """Returns the numbers in the header of a piece that determine its table set."""
+        """Returns the numbers that determine the table set for a piece. They come from its header."""
         raise NotImplementedError
 
     @staticmethod

@@ -954,8 +954,8 @@ class Faults(WithFolder):
         for number, width in ((1, 7), (2, 7), (3, 10), (2, 8), (4, 14), (5, 14)):
             bits.put(number, width)
         self.stream.write_bytes(lib.message(bits.octets(), lib.words("001001 001001 001002 101000 031001 007004")))
-        several = f"{outside.partition(';')[0]}; for its first value, pass keep=['{{0}}']; for all of its values, pass '{{0}}:1', '{{0}}:2'"
-        several += " and so on as columns of a table of subsets, or use bufr.items or bufr_text.dump"
+        several = f"{outside.partition(';')[0]}; to get its first value, pass keep=['{{0}}']; to get all of its values, pass '{{0}}:1', '{{0}}:2'"
+        several += " and so on to rows(), or use bufr.items or bufr_text.dump"
         one = f"skipped a subset without levels: subset 1 of the message at offset 0 of {sounding}"
         three = "skipped 3 subsets without levels; the first is subset 1 of the message at offset {} of {}"
         for call in (bufr.levels, bufr_text.levels, lambda *words: bufr.frame(*words[:2], keep=words[3], levels=True)):

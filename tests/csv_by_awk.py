@@ -243,7 +243,7 @@ def tries_levels(awk: list, sounding: bytes, synop: bytes) -> None:
     want(first == (0, "message,subset,011001,007004\n1,1,1,100\n", ""), f"{awk}: levels by an inner descriptor are {first}")
     behind = run(awk, NESTED, levels="1", columns="007004,012103")
     told = "table.awk: column 012103 is empty because 012103 occurs only outside the levels; "
-    told += "for its first two values, pass -v keep=012103,012103:2\n"
+    told += "to get its first two values, pass -v keep=012103,012103:2\n"
     told += "table.awk: skipped a subset without levels: message 1, subset 1\n"
     wanted = (0, "message,subset,007004,012103\n", told)
     want(behind == wanted, f"{awk}: an item behind all passes is in a row: {behind}")
@@ -261,7 +261,7 @@ def tries_levels(awk: list, sounding: bytes, synop: bytes) -> None:
     wanted = (0, "message,subset,012101\n", outside + bare.format(two))
     want(empty == wanted, f"{awk}: passes without items give {empty}")
     _, _, errors = run(awk, ODD, levels="1", keep="001015", columns="012101")
-    several = outside.partition("; ")[0] + "; for its first two values, pass -v keep=012101,012101:2\n"
+    several = outside.partition("; ")[0] + "; to get its first two values, pass -v keep=012101,012101:2\n"
     told = several + bare.format(one)
     want(errors == told, f"{awk}: without a level, a kept column is told as {errors}")
     # the descriptor that begins a pass comes twice before an inner group

@@ -372,7 +372,7 @@ def notes(folder: pathlib.Path) -> None:
         for options in ([], ["--json"]):
             done = run("--levels", "-c", columns, *(["--keep", keep] if keep else []), *options, SOUNDING)
             holds(f"--levels -c {columns} {options}: the notes", done.stderr.decode() == wanted, (done.stderr, wanted))
-    several = outside.partition(";")[0] + "; for its first two values, pass --keep {0},{0}:2\n"
+    several = outside.partition(";")[0] + "; to get its first two values, pass --keep {0},{0}:2\n"
     bits = lib.Bits()
     for number, width in ((1, 7), (2, 7), (3, 10), (2, 8), (4, 14), (5, 14)):
         bits.put(number, width)
