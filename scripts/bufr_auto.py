@@ -86,7 +86,7 @@ class Feed:
         except OSError as error:
             raise Unread(f"cannot read {self.name}: {error.strerror}") from None
         if not octets and self.taken < self.length:
-            raise Unread(f"{self.name} was truncated while it was being read")
+            raise Unread(f"{self.name} was truncated while it was being read; try again")
         self.taken += len(octets)
         self.begin += octets[: 256 - len(self.begin)]
         return octets

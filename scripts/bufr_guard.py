@@ -405,7 +405,8 @@ def lines_from(
         block = os.read(pipe, BLOCK)
         lines, end, rest = (rest + block).rpartition(b"\n")
         if len(rest) > BLOCK:
-            raise Failed("a line in the listing is longer than 1 MB, so it cannot have come from 'bufr ls'")
+            what = "a line in the listing is longer than 1 MB, so it cannot have come from 'bufr ls'"
+            raise Failed(f"{what}; check BUFR and any --awk condition")
         yield lines + end
     yield rest
 
@@ -530,7 +531,7 @@ def read_at(descriptor: int, offset: int, length: int) -> bytes:
         except OSError as error:
             raise Failed(f"cannot read the input: {error.strerror}") from None
         if not pieces[-1]:
-            raise Failed("the input was truncated while it was being read")
+            raise Failed("the input was truncated while it was being read; try again")
         offset += len(pieces[-1])
     return b"".join(pieces)
 

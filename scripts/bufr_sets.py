@@ -127,7 +127,8 @@ class TableSets:
                 else:
                     self.sets.setdefault(key, {})[tables.version] = tables
         if None not in self.sets:
-            raise bufr_guard.Failed("; ".join([f"{self.folder} does not contain a table set such as wmo-39", *self.notes]))
+            what = f"{self.folder} does not contain a table set such as wmo-39"
+            raise bufr_guard.Failed("; ".join([what, "set BUFR_TABLES to a directory that contains one", *self.notes]))
 
     def latest(self) -> TableSet:
         """Returns the latest set without local rows."""

@@ -1045,7 +1045,7 @@ def _opened(file: _Path) -> IO[bytes]:
 def _octets(stream: IO[bytes], place: Listed) -> bytes:
     octets = os.pread(stream.fileno(), place.length, place.offset)
     if len(octets) < place.length:
-        raise RunError(2, f"the file changed: the message at offset {place.offset} is now incomplete")
+        raise RunError(2, f"the file changed while it was being read: the message at offset {place.offset} is now incomplete")
     return octets
 
 

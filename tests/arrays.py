@@ -363,7 +363,7 @@ class Sources(WithFolder):
             bufr.frame(file, ["012101"])
         idle, end = os.pipe()
         os.set_blocking(idle, False)
-        with open(idle, "rb", 0) as file, self.assertRaisesRegex(BlockingIOError, "the source is in non-blocking mode and has no data yet"):
+        with open(idle, "rb", 0) as file, self.assertRaisesRegex(BlockingIOError, "the source is in non-blocking mode and has no data yet; use blocking mode"):
             bufr.frame(file, ["012101"])
         os.close(end)
         told = "^expected a file name, bytes, an open binary file, a Piece or a list of these, found "

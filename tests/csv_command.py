@@ -530,7 +530,7 @@ def failures(folder: pathlib.Path) -> None:
         holds(f"AWK={word!r}", (done.returncode, done.stdout.count(b"\n")) == (0, 4), done)
     (folder / "no-tables/wmo-39").mkdir(parents=True)
     done = run("-c", "AIR TEMPERATURE", SYNOP, environment={"BUFR_TABLES": str(folder / "no-tables")})
-    told = f"does not contain a table set such as wmo-39; ignored {folder}/no-tables/wmo-39 because it does not contain B.csv".encode()
+    told = f"set BUFR_TABLES to a directory that contains one; ignored {folder}/no-tables/wmo-39 because it does not contain B.csv".encode()
     holds("there is no table", done.returncode == 2 and told in done.stderr, done)
     done = run("-c", "AIR TEMPERATURE", SYNOP, environment={"BUFR_TABLES": "/nosuch"})
     holds("there are no tables", done.returncode == 2 and b"/nosuch" in done.stderr, done)
