@@ -265,7 +265,7 @@ def taken(folder: pathlib.Path, entries, refused) -> tuple:
 
 
 def write(path: pathlib.Path, aside: pathlib.Path, header: list, rows) -> None:
-    """Writes a table to the temporary file `aside`. Error messages name `path`, which this file will replace."""
+    """Writes a table to the temporary file `aside`. Error messages refer to `path`, which `aside` will replace."""
     try:
         with open(aside, "w", newline="", **AS_IT_IS) as file:
             table = csv.writer(file, lineterminator="\n")
