@@ -502,9 +502,9 @@ def levels(
 
     A level is one repetition (pass) of a delayed replication. A level has a row only if it contains an item for the first
     column and, if there are other columns, for at least one of them. If a subset contains several delayed replications,
-    choose a first column that occurs only in the replication that you want. Each column contains the value of the first item
-    with its descriptor in the level. Each column in `keep` contains the value of the first item with its descriptor in the
-    whole subset. In all other respects, `levels` works like `rows`.
+    choose a first column whose descriptor occurs only in the replication that you want. Each column contains the value of the
+    first item with its descriptor in the level. Each column in `keep` contains the value of the first item with its descriptor
+    in the whole subset. In all other respects, `levels` works like `rows`.
 
     A subset is skipped if it has no levels, or if its levels are ambiguous because the descriptor that begins a level
     occurs again in the same level. After the last row, a `DumpWarning` for each of these two reasons says how many subsets
@@ -792,7 +792,7 @@ class Gaps:
         count, first = self.skipped.get(kind, (0, place + why))
         self.skipped[kind] = count + 1, first
 
-    def warn(self, is_whole: bool = True, text: str = "column {} is empty because no row has an item for it") -> None:
+    def warn(self, is_whole: bool = True, text: str = "column {} is empty because no row contains this item") -> None:
         """Issues a warning for each gap.
 
         If `is_whole` is false, the rows come from a piece of a file, and other pieces may contain items that this piece lacks.

@@ -672,7 +672,7 @@ class Values(WithFolder):
         for count in (10, 1 << 31, 1 << 63, 10**30):
             for call in (bufr.rows, bufr_text.rows):
                 rows, told = told_by(lambda: list(call(SYNOP, [f"012101:{count}"])))
-                self.assertEqual((rows, told), ([(None,)] * 3, [f"column 012101:{count} is empty because no row has an item for it"]))
+                self.assertEqual((rows, told), ([(None,)] * 3, [f"column 012101:{count} is empty because no row contains this item"]))
 
     def test_columns_from_iterators(self):
         octets = SYNOP.read_bytes()
@@ -893,7 +893,7 @@ class Faults(WithFolder):
                 bufr.messages(self.stream, faults=faults)
 
     def test_gaps_are_warned_of(self):
-        empty = "column {} is empty because no row has an item for it"
+        empty = "column {} is empty because no row contains this item"
         words = ["012104", "012101", "020012:9", "063255"]
         unknown = f"{empty.format('063255')}; the table set wmo-39 does not define 063255"
         wanted = [empty.format("012104"), empty.format("020012:9"), unknown]
@@ -948,7 +948,7 @@ class Faults(WithFolder):
 
     def test_subsets_without_levels_are_warned_of(self):
         sounding = TOP / "examples/sounding.bufr"
-        empty = "column {} is empty because no row has an item for it"
+        empty = "column {} is empty because no row contains this item"
         outside = "column {0} is empty because {0} occurs only outside the levels; pass keep=['{0}'] instead"
         bits = lib.Bits()
         for number, width in ((1, 7), (2, 7), (3, 10), (2, 8), (4, 14), (5, 14)):

@@ -353,13 +353,13 @@ def several_files(folder: pathlib.Path) -> None:
 def notes(folder: pathlib.Path) -> None:
     """Columns without a value, subsets without levels, and those with ambiguous levels."""
     done = run("-c", "012101,012104", SYNOP)
-    holds("an empty column", (done.returncode, done.stderr) == (0, b"bufr-csv: column 012104 is empty because no row has an item for it\n"), done)
+    holds("an empty column", (done.returncode, done.stderr) == (0, b"bufr-csv: column 012104 is empty because no row contains this item\n"), done)
     done = run("--levels", "-c", "020013,020011", SYNOP)
     told = b"bufr-csv: skipped a subset without levels: message 1, subset 1\n"
     holds("a subset without levels", (done.returncode, done.stderr) == (0, told), done)
     # Columns that occur only outside the levels, and columns without rows, as bufr.levels warns of them.
     outside = "bufr-csv: column {0} is empty because {0} occurs only outside the levels; pass --keep {0} instead\n"
-    empty = "bufr-csv: column {} is empty because no row has an item for it\n"
+    empty = "bufr-csv: column {} is empty because no row contains this item\n"
     one = "bufr-csv: skipped a subset without levels: message 1, subset 1\n"
     for columns, keep, wanted in [
         ("001002,007004,012101", "", outside.format("001002") + one),
@@ -574,7 +574,7 @@ def feed(awk: list, _folder: pathlib.Path) -> None:
         holds(f"{awk}: the notes of a live feed", is_right, told)
         process.stdin.close()
         told = process.stderr.read()
-        holds(f"{awk}: the notes of a live feed at its end", told == b"bufr-csv: column 020011 is empty because no row has an item for it\n", told)
+        holds(f"{awk}: the notes of a live feed at its end", told == b"bufr-csv: column 020011 is empty because no row contains this item\n", told)
 
 
 def note_on_years(_folder: pathlib.Path) -> None:
