@@ -246,7 +246,7 @@ def _table_of_subsets(part: Part, columns: Sequence[str]) -> _Table:
 
 
 def _tables(reader: Reader, columns: Sequence[str], keep: Sequence[str] = (), has_levels: bool = False) -> Iterator[_Table]:
-    """Yields a table for each part and then warns about gaps."""
+    """Yields a table for each part, and then issues warnings about empty columns and skipped subsets."""
     gaps = bufr_text.Gaps(columns, keep, reader.table_b)
     for part in reader:
         table = _table_of_levels(part, columns, keep, gaps) if has_levels else _table_of_subsets(part, columns)

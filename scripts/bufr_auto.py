@@ -411,7 +411,7 @@ class Run:
         self.place = bufr_guard.NOWHERE
 
     def fault(self, place: int, size: int) -> bytes:
-        """Returns the fault line for the next piece, or empty bytes if the piece has no fault."""
+        """Returns the fault line for the next piece, or an empty bytes object if the piece has no fault."""
         begin, self.passed = self.passed, self.passed + size
         if self.place >= self.passed:
             return b""
