@@ -385,11 +385,11 @@ def frame(
         >>> bufr.frame("sounding.bufr", ["007004", "012101"], levels=True, keep=["001002"]).iloc[0].tolist()
         [836.0, 98520.0, 258.55]
 
-    With `levels=True`, a level has a row only if it contains an item for the first column and, if there are other columns,
-    for at least one of them. If a subset contains several delayed replications, choose a first column whose descriptor
-    occurs only in the replication that you want. To add an element that occurs once in a subset, such as the station number
-    001002, pass it in `keep`. The repetitions of a group whose count is fixed by the template are not levels; to get their
-    values, use columns such as `"013011:2"` without `levels=True`, or use `items`.
+    With `levels=True`, a level has a row only if it contains an item for the first column. If there are other columns, the
+    level must also contain an item for at least one of them. If a subset contains several delayed replications, choose a first
+    column whose descriptor occurs only in the replication that you want. To add an element that occurs once in a subset, such
+    as the station number 001002, pass it in `keep`. The repetitions of a group whose count is fixed by the template are not
+    levels; to get their values, use columns such as `"013011:2"` without `levels=True`, or use `items`.
 
     For an empty list of files, the result has no rows. With `faults="ignore"`, there is no warning, so you can use
     `bufr.frame([], columns, header, faults="ignore")` as `meta` in Dask.

@@ -501,10 +501,10 @@ def levels(
     """Yields a tuple for each level of a sounding: header values, then the values for `keep`, then column values.
 
     A level is one repetition (pass) of a delayed replication. A level has a row only if it contains an item for the first
-    column and, if there are other columns, for at least one of them. If a subset contains several delayed replications,
-    choose a first column whose descriptor occurs only in the replication that you want. Each column contains the value of the
-    first item with its descriptor in the level. Each column in `keep` contains the value of the first item with its descriptor
-    in the whole subset. In all other respects, `levels` works like `rows`.
+    column. If there are other columns, the level must also contain an item for at least one of them. If a subset contains
+    several delayed replications, choose a first column whose descriptor occurs only in the replication that you want. Each
+    column contains the value of the first item with its descriptor in the level. Each column in `keep` contains the value of
+    the first item with its descriptor in the whole subset. In all other respects, `levels` works like `rows`.
 
     A subset is skipped if it has no levels, or if its levels are ambiguous because the descriptor that begins a level
     occurs again in the same level. After the last row, a `DumpWarning` for each of these two reasons says how many subsets

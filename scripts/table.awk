@@ -14,10 +14,10 @@
 # the second such item. If a subset does not contain the item, the field is empty.
 #
 # With levels=1, the rows are for levels instead of subsets. A level is one repetition (pass) of a delayed replication, whose
-# factor (031000 to 031002) is in the data. A level has a row only if it contains an item for the first column and, if there
-# are other columns, for at least one of them. If a subset contains several delayed replications, choose a first column
-# whose descriptor occurs only in the replication that you want. The columns in `keep` apply to the whole subset and come
-# before the other columns.
+# factor (031000 to 031002) is in the data. A level has a row only if it contains an item for the first column. If there
+# are other columns, the level must also contain an item for at least one of them. If a subset contains several delayed
+# replications, choose a first column whose descriptor occurs only in the replication that you want. The columns in `keep`
+# apply to the whole subset and come before the other columns.
 #
 # A dump does not mark where passes begin. The first pass begins right after the factor. Each later pass begins at the next
 # item with the descriptor that began the first pass, so a pass with two equal halves counts as two passes. A replication inside
