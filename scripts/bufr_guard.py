@@ -405,7 +405,8 @@ def lines_from(
         block = os.read(pipe, BLOCK)
         lines, end, rest = (rest + block).rpartition(b"\n")
         if len(rest) > BLOCK:
-            raise Failed("a line in the listing is longer than 1 MB, so it cannot have come from 'bufr ls'")
+            what = "a line in the listing is longer than 1 MB, so it cannot have come from 'bufr ls'"
+            raise Failed(f"{what}; check BUFR and any --awk condition")
         yield lines + end
     yield rest
 
@@ -503,7 +504,7 @@ def no_room() -> Failed:
 
 
 def copied(source: int, name: str) -> int:
-    """Copies the data from a descriptor to a temporary file. Returns the descriptor of that file, positioned at the start."""
+    """Copies the data from a descriptor to a temporary file, moves to the start of that file, and returns its descriptor."""
     descriptor, octets, progress, size = temporary(), b" ", Progress(has_texts=False), 0
     while octets:
         try:
@@ -530,7 +531,7 @@ def read_at(descriptor: int, offset: int, length: int) -> bytes:
         except OSError as error:
             raise Failed(f"cannot read the input: {error.strerror}") from None
         if not pieces[-1]:
-            raise Failed("the input was truncated while it was being read")
+            raise Failed("the input was truncated while it was being read; try again")
         offset += len(pieces[-1])
     return b"".join(pieces)
 

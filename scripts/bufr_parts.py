@@ -101,7 +101,7 @@ class _Stream:
         if isinstance(octets, str):
             raise TypeError(_TEXT)
         if octets is None:
-            raise BlockingIOError("the source is in non-blocking mode and has no data yet")
+            raise BlockingIOError("the source is in non-blocking mode and has no data yet; use blocking mode")
         self.left -= len(octets)
         self.start = self.start or octets[:256]
         return octets

@@ -127,7 +127,8 @@ class TableSets:
                 else:
                     self.sets.setdefault(key, {})[tables.version] = tables
         if None not in self.sets:
-            raise bufr_guard.Failed("; ".join([f"{self.folder} does not contain a table set such as wmo-39", *self.notes]))
+            what = f"{self.folder} does not contain a table set such as wmo-39"
+            raise bufr_guard.Failed("; ".join([what, "set BUFR_TABLES to a directory that contains one", *self.notes]))
 
     def latest(self) -> TableSet:
         """Returns the latest set without local rows."""
@@ -151,7 +152,7 @@ def is_number(word: str) -> bool:
 
 
 def folder_of_sets() -> str:
-    """Returns the directory that contains the table sets: the value of BUFR_TABLES, or else the installed directory."""
+    """Returns the directory that contains the table sets: the value of BUFR_TABLES if it is set, or the installed one."""
     named = os.environ.get("BUFR_TABLES")
     if named:
         places = [named]
