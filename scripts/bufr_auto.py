@@ -356,7 +356,7 @@ class Run:
 
     @staticmethod
     def size_of(octets: Octets) -> int:
-        """Returns the size of a piece, in the unit that fault lines use: bytes or lines."""
+        """Returns the size of a piece in bytes or lines, whichever unit its fault lines use."""
         raise NotImplementedError
 
     @staticmethod

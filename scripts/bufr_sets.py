@@ -89,7 +89,7 @@ cache: List[TableSet] = []
 
 
 def rows_of(file: str, *columns: str) -> Iterator[List[str]]:
-    """Yields the values in these columns for each row of a table. Skips rows that are too short; `bufr` reports these rows."""
+    """Yields the values in the given columns for each row of a table. Skips rows that are too short, because `bufr` reports them."""
     import csv
 
     csv.field_size_limit(1 << 30)
