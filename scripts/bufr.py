@@ -34,7 +34,7 @@ the source contains a `Piece`, conditions are not reported, because other pieces
 reason, a column without items is then reported only if no table set defines it.
 
 This module needs NumPy, and `frame` needs pandas. The library is the file libbufr.so.0 next to this module, or in the
-directory `lib` of the installation or clone. To use another file, set the environment variable BUFR_LIBRARY to its path. If
+`lib` directory of the installation or clone. To use another file, set the BUFR_LIBRARY environment variable to its path. If
 the library cannot be loaded, importing this module raises `ImportError`.
 """
 from __future__ import annotations

@@ -175,7 +175,7 @@ def answer(question: str, text: str) -> int:
 def build() -> str:
     """Returns the commit from which the program was built, and whether the program is proved.
 
-    install.sh records both, along with the program's SHA-256 checksum, in the file BUILD next to the documentation.
+    install.sh records both, along with the program's SHA-256 checksum, in a file named BUILD next to the documentation.
     """
     import hashlib
     import shutil
@@ -537,7 +537,7 @@ def read_at(descriptor: int, offset: int, length: int) -> bytes:
 
 
 def fault_lines(errors: int) -> Iterator[tuple[float, bytes]]:
-    """Yields each line that `bufr` wrote to the file `errors`, with the offset that the line reports.
+    """Yields each line that `bufr` wrote to the `errors` file, with the offset that the line reports.
 
     Lines that do not report faults in messages come last, with the offset `NOWHERE`.
     """
@@ -551,7 +551,7 @@ def fault_lines(errors: int) -> Iterator[tuple[float, bytes]]:
 
 
 class Faults:
-    """The lines that `bufr` wrote to the file `errors`. Fault lines can be printed between the dumps of messages.
+    """The lines that `bufr` wrote to the `errors` file. Fault lines can be printed between the dumps of messages.
 
     Lines that do not report faults in messages are printed last, by `tell_rest`. `has_told` is then true if there were any
     such lines.

@@ -1,4 +1,4 @@
-"""Reads a source in parts, for the module `bufr`.
+"""Reads a source in parts, for the `bufr` module.
 
     for part in bufr_parts.Reader("synop.bufr", ["012101"]):
         print(part.messages["offset"], part.items["value"])

@@ -10,7 +10,7 @@
 
 `rows` and `levels` yield the rows of a table as tuples. `dump` yields messages, `listing` yields the place and the header
 of each message, and `encode` converts messages to BUFR. These functions run the program `bufr`, except that `rows` and
-`levels` use the module `bufr` instead if Python can import it. `read` and `write` convert between dumps and messages.
+`levels` use the `bufr` module instead if Python can import it. `read` and `write` convert between dumps and messages.
 
 Messages are read one at a time, so memory use depends on the longest message in a file, not on the length of the file:
 48 MB including Python, plus 1 KB for each item in that message, plus twice the length of its dump. The list of faults and
@@ -137,7 +137,7 @@ class RunError(RuntimeError):
 
 
 class BufrError(RuntimeError):
-    """Raised by the module `bufr` if a message is rejected, if there is a stray, or if a table is invalid.
+    """Raised by the `bufr` module if a message is rejected, if there is a stray, or if a table is invalid.
 
     Also raised for a file without messages and for an empty list of files. `file`, `offset`, `number` and `text` have the
     same meaning as in `Fault`. For a file without messages, only `file` is set; for an invalid table or an empty list of
@@ -161,7 +161,7 @@ class DumpWarning(UserWarning):
 
 
 def warn(text: str) -> None:
-    """Issues a `DumpWarning` for the line that called this module or the module `bufr`."""
+    """Issues a `DumpWarning` for the line that called this module or the `bufr` module."""
     level, frame = 2, sys._getframe(1)
     while frame.f_globals["__name__"] in ("bufr", "bufr_parts", "bufr_text") and frame.f_back:
         level, frame = level + 1, frame.f_back
@@ -522,9 +522,9 @@ def levels(
 def _by_library(
     call: str, file: Any, faults: Optional[List[Fault]], where: Sequence[str], *words: Sequence[str]
 ) -> Optional[Iterator[Tuple[Cell, ...]]]:
-    """Returns the rows from the module `bufr`, which is faster than the program.
+    """Returns the rows from the `bufr` module, which is faster than the program.
 
-    Returns `None` if the module is not available, if `file` is not the name of a file, or if the environment variable `BUFR`
+    Returns `None` if the module is not available, if `file` is not the name of a file, or if the `BUFR` environment variable
     is set.
     """
     # the module would read standard input if the name is -
@@ -930,7 +930,7 @@ def dump(
     `dump` runs `bufr ls` on the whole file before it dumps any messages. If the file is a pipe, `dump` first copies it to a
     temporary file.
     Raises `ValueError` for an invalid condition, `RunError` if a program exits with a status over 1, and `OSError` if a
-    file cannot be read. To use a different `bufr`, set the environment variable `BUFR` to its path.
+    file cannot be read. To use a different `bufr`, set the `BUFR` environment variable to its path.
     """
     words = _words("dump", table_b, table_d)
     if where and places is not None:

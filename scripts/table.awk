@@ -42,7 +42,7 @@
 #
 # bufr-csv also sets the variables `name`, `placed` and `feed`. Each note begins with the value of `name`. With placed=1, a
 # comment before each message gives the message's offset, length and file, which can then be used as columns. With feed=0,
-# rows are not flushed after each message. In addition, bufr-csv sets the environment variable BUFR_CSV_LABELS to the column
+# rows are not flushed after each message. In addition, bufr-csv sets the BUFR_CSV_LABELS environment variable to the column
 # headings, one per line.
 
 function fail(text) {
