@@ -21,7 +21,7 @@ use Rattle.bufr_cli.specs.declared.program.Command.TheVariants as command
 use Rattle.bufr_cli.specs.declared.outcome.Tally.{Tally}
 use Rattle.std.specs.Io.KnownBytes.{Appends, Consumes}
 use Rattle.clap.specs.Words.{Text, fault_of, subcommand_of}
-use Rattle.bufr_frame.specs.declared.fault.RunFault.TheVariants as ended
+use Rattle.bufr_frame.specs.declared.fault.RunFault.TheVariants as run_fault
 use Rattle.bufr_text.specs.Prelude.{GrowsByPrefix}
 use Rattle.bufr_cli.specs.Line.{IsJobOf, SaysWhy, bufr_app}
 use Rattle.bufr_cli.specs.declared.job.LineFault.{LineFault}
@@ -67,7 +67,7 @@ command_pieces (command.Encode form b d) = document_pieces form b.now d.now
 -- memory ran out.
 abbrev pub IsClosed : (named : List ℕ → Option (List ℕ)) → (name : Bor (List ℕ)) → Outcome → Type 0
 IsClosed named name outcome =
-    ((outcome ≡ CannotOpen name) × (named name.now ≡ None)) ⊎ (outcome ≡ Run ended.Memory)
+    ((outcome ≡ CannotOpen name) × (named name.now ≡ None)) ⊎ (outcome ≡ Run run_fault.Memory)
 
 -- the outcome of a run with this result
 abbrev pub ran_outcome : Result Tally RunFault → Outcome
@@ -95,7 +95,7 @@ pub data RunOutcome {Standard File : Type 0} (pieces : RunPieces) (inputs : Know
   IsNotOpened : (name : Bor (List ℕ)) → file ≡ Some name → outcome ≡ CannotOpen name
       → inputs.named name.now ≡ None → after ≡ before
       → RunOutcome pieces inputs file before after outcome
-  WantsMemory : outcome ≡ Run ended.Memory → after ≡ before
+  WantsMemory : outcome ≡ Run run_fault.Memory → after ≡ before
       → RunOutcome pieces inputs file before after outcome
   Runs : (ran : Result Tally RunFault) → outcome ≡ ran_outcome ran
       → RunsOverInput inputs file (λ from to. EndsRun pieces from to before after ran)
@@ -107,11 +107,11 @@ pub record FailsToRead (fault : RunFault) (from to : Input) : Type 0 where
   pub octets : List ℕ
   pub read : Consumes from.left to.left octets
   -- a file is only read
-  pub none : fault ≢ ended.Write
+  pub none : fault ≢ run_fault.Write
   -- the file counts a `Read` fault; X does not matter, since the result is a fault
   pub failures : to.failures ≡ read_failures_after {X = Unit {0}} from.failures (Err fault)
   pub reads : ReadsAtMost {X = Unit {0}} from.reads to.reads (Err fault)
-  pub fewer : fault ≡ ended.Memory → ReadsFewer from.reads to.reads
+  pub fewer : fault ≡ run_fault.Memory → ReadsFewer from.reads to.reads
 
 -- The file with these octets is not read to its end, for this fault.
 -- rule: table-not-read
@@ -192,7 +192,7 @@ pub data WritesHelp (text : List ℕ) (before after : Writers) (status : ℕ) : 
       → after.errors ≡ before.errors → status ≡ 0 → WritesHelp text before after status
   InPart : GrowsByPrefix before.output.taken after.output.taken text
       → HasFailed before.output after.output
-      → WritesLine before.errors after.errors (run_line ended.Write) → status ≡ 2
+      → WritesLine before.errors after.errors (run_line run_fault.Write) → status ≡ 2
       → WritesHelp text before after status
 
 -- What is written if the command line is not a job: only help goes to the output.
@@ -203,7 +203,7 @@ AnswersFault (Usage text) before after status =
     × (status ≡ 2)
 AnswersFault Memory before after status =
     (after.output ≡ before.output)
-    × WritesLine before.errors after.errors (run_line ended.Memory) × (status ≡ 2)
+    × WritesLine before.errors after.errors (run_line run_fault.Memory) × (status ≡ 2)
 
 -- What a call of the program does. Either the command line is a job, and the last line and the
 -- status report its outcome; or it is not, the program writes why not, and no input is opened.

@@ -6,7 +6,7 @@ use Rattle.bufr_frame.specs.declared.fault.Cause.TheVariants as cause
 use Rattle.bufr_frame.specs.declared.fault.SectionFault.{SectionFault}
 use Rattle.bufr_frame.specs.declared.fault.SectionFault.TheVariants as section
 use Rattle.bufr_frame.specs.declared.fault.RunFault.{RunFault}
-use Rattle.bufr_frame.specs.declared.fault.RunFault.TheVariants as run
+use Rattle.bufr_frame.specs.declared.fault.RunFault.TheVariants as run_fault
 use Rattle.bufr_frame.specs.declared.fault.WriteFault.{WriteFault}
 use Rattle.bufr_frame.specs.declared.fault.WriteFault.TheVariants as write
 
@@ -34,10 +34,10 @@ section_report section.Edition3Long = (14, codes "edition 3 length" ∷ [])
 -- memory ran out
 -- rule: fault-70, fault-71, fault-72, fault-73
 abbrev pub run_report : RunFault → ℕ × List (List ℕ)
-run_report run.Read = (70, codes "read failed" ∷ [])
-run_report run.Write = (71, codes "write failed" ∷ [])
-run_report run.InputTooLong = (72, codes "input too long" ∷ [])
-run_report run.Memory = (73, codes "out of memory" ∷ [])
+run_report run_fault.Read = (70, codes "read failed" ∷ [])
+run_report run_fault.Write = (71, codes "write failed" ∷ [])
+run_report run_fault.InputTooLong = (72, codes "input too long" ∷ [])
+run_report run_fault.Memory = (73, codes "out of memory" ∷ [])
 
 -- the number of a fault of writing a message
 abbrev pub number_of_write_fault : WriteFault → ℕ
