@@ -31,7 +31,6 @@ number_of bits = number_after_bits 0 bits
 abbrev pub bits_at : (octets : List ℕ) (at width : ℕ) → List Bool
 bits_at octets at width = take width (drop at (bits_of octets))
 
--- whether all bits are ones
 abbrev pub are_all_ones : List Bool → Bool
 are_all_ones bits = list_all (λ bit. bit) bits
 

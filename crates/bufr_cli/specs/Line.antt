@@ -55,8 +55,7 @@ name_of Ls = codes "ls"
 name_of (Dump tables) = codes "dump"
 name_of (Encode tables form) = codes "encode"
 
--- The names of the tables are the values of `-B` and `-D` among what the command line gives
--- (`rows`, which are not rows of a table).
+-- The names of the tables are the values of `-B` and `-D` in the rows of the command line.
 abbrev pub AreNamed : List Row → TableNames → Type 0
 AreNamed rows tables =
     (Some tables.table_b.now ≡ first_of (codes "B") rows)

@@ -43,14 +43,13 @@ Opens (Some before) (Some after) names = after ≡ before ++ names
 pub record Known (Standard File : Type 0) : Type 0 where
   -- the octets of standard input, if they are known
   pub standard : Option (List ℕ)
-  -- the octets of the file with a name, if it is known that it can be opened and what it contains
+  -- the octets of the file with a name, if they are known (see `Inputs`)
   pub named : List ℕ → Option (List ℕ)
   -- the state of standard input
   pub of_standard : Standard → Input
   -- the state of a file
   pub of_file : File → Input
 
--- what is known of the inputs, from these parts
 abbrev pub known : {Standard File : Type 0} → (standard : Option (List ℕ))
     → (named : List ℕ → Option (List ℕ)) → (Standard → Input) → (File → Input)
     → Known Standard File
@@ -207,7 +206,6 @@ AnswersFault Memory before after status =
 
 -- What a call of the program does. Either the command line is a job, and the last line and the
 -- status report its outcome; or it is not, the program writes why not, and no input is opened.
--- (`fault_of` and `subcommand_of` are clap's.)
 -- rule: status-of-help
 pub data RunsProgram {Standard File : Type 0} (words : List Text) (inputs : Known Standard File)
     (opened opened' : Option (List InputName)) (before after : Writers) (status : ℕ) : Type 0 where

@@ -58,7 +58,6 @@ writer_of ghosts w =
       all_flushed = ghosts.all_flushed w;
     }
 
--- the states of both writers, taken from their ghost items
 abbrev pub writers_of : {W E : Type 0} → sink.Ghosts W → W → sink.Ghosts E → E → Writers
 writers_of output w errors e =
     record { output = writer_of output w; errors = writer_of errors e }
@@ -305,18 +304,19 @@ NoFlushFails before after =
 -- rule: input-not-read, fault-line-not-written, reader-gone, fault-70
 abbrev pub RunEnds : {pieces : RunPieces} → {from to : Input} → {before after : Writers}
     → ReadsAndWrites pieces from to before after → Result Tally RunFault → Type 0
--- The run completed: at the end of the input, or after a refused piece that stops it. It wrote and
--- counted the pieces of the whole input, whatever its remaining octets (t) are: none after the end,
--- and any after a refused piece that stops the run.
+-- It completed, at the end of the input or after a refused piece that stops it. The pieces of the
+-- whole input were written and counted. t is what the run did not read: nothing if it reached the
+-- end, and otherwise any octets, since they do not change the pieces.
 RunEnds {pieces} {from} {to} {before} {after} so (Ok tally) =
     (pieces.stops ≡ false → so.ended ≡ true) × IsAllWritten so.written
     × ((t : List ℕ) → (so.ended ≡ true → t ≡ [])
     → WritesWhole pieces before after tally (so.octets ++ t))
--- A write failed, or a flush did. A flush only fails after all pieces were written.
+-- A write or a flush failed. If it was a flush, all pieces had been written.
 RunEnds {pieces} {from} {to} {before} {after} so (Err Write) =
     ¬ NoFlushFails before after → IsAllWritten so.written
--- Memory ran out, but not after a refused piece that stops the run. In a run that no refused piece
--- stops, memory was needed to write a piece (`next`), or fewer than 2^32 reads had been made.
+-- Memory ran out before any refused piece that stops the run. In a run that refused pieces do not
+-- stop, it was needed to write a piece (`next`), or fewer than 2^32 reads had been made: after that
+-- many, the fault is `InputTooLong`.
 RunEnds {pieces} {from} {to} {before} {after} so (Err Memory) =
     IsUnrefused pieces so.written.given
     × (pieces.stops ≡ false → so.written.next ≡ None → ReadsFewer from.reads to.reads)

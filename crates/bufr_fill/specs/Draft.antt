@@ -42,7 +42,6 @@ pub record Draft : Type 0 where
   pub fxy : ℕ
   pub form : DraftValue
 
--- an item of these parts
 abbrev pub draft : (line fxy : ℕ) → DraftValue → Draft
 draft line fxy form = record { line = line; fxy = fxy; form = form }
 
@@ -101,19 +100,23 @@ expected_text (expected.Item fxy) = fxy_text fxy ∷ []
 expected_text (expected.Reference fxy) = codes "R " ∷ fxy_text fxy ∷ []
 expected_text expected.EndOfSubset = codes "end of subset" ∷ []
 
--- A fault of an item: another item is expected (51); the value is not a decimal, not whole at the
--- field's scale, or not of the field's kind (52); the number does not fit, or the value would be
--- read as missing (53); the text is longer than the field (54); the field cannot be missing (55); a
--- factor differs between subsets (58); a redefined reference differs between subsets, or texts need
--- more than 63 octets each (59); or the walk refuses the item (62).
+-- a fault of an item
 abbrev pub item_report : ItemFault → ℕ × List (List ℕ)
+-- another item is expected
 item_report (item_fault.WrongDescriptor e) = (51, codes "expected " ∷ expected_text e)
+-- the value is not a decimal, not whole at the field's scale, or not of the field's kind
 item_report item_fault.Number = (52, codes "number" ∷ [])
+-- the number does not fit, or the value would be read as missing
 item_report item_fault.OutOfRange = (53, codes "out of range" ∷ [])
+-- the text is longer than the field
 item_report item_fault.TextLong = (54, codes "text long" ∷ [])
+-- the field cannot be missing
 item_report item_fault.MissingForbidden = (55, codes "missing forbidden" ∷ [])
+-- a factor differs between subsets
 item_report item_fault.UnequalFactor = (58, codes "unequal factor" ∷ [])
+-- a redefined reference differs between subsets, or texts need more than 63 octets each
 item_report item_fault.Increment = (59, codes "increment" ∷ [])
+-- the walk refuses the item
 item_report (item_fault.Walk why) =
     let refused = refusal_parts why in
     (62, codes "walk " ∷ decimal refused.0 ∷ codes " descriptor " ∷ fxy_text refused.1 ∷ [])

@@ -44,7 +44,6 @@ pub record ExpandedPart : Type 0 where
   pub tree : Tree
   pub taken : ℕ
 
--- an expanded part with these nodes and this number of descriptors
 abbrev pub part : Tree → ℕ → ExpandedPart
 part tree taken = record { tree = tree; taken = taken }
 
@@ -77,16 +76,16 @@ operator_part places d after = do
   Ok (part (operator d bare) 0)
 
 -- The body of group d: the first X descriptors of `after`, which must all be in the same list
--- (own). `own` is the number of places that the group itself takes. Some node of the body must take
--- bits of the data (own).
+-- (own). `frame` is the number of places that the group takes besides those of its body. Some node
+-- of the body must take bits of the data (own).
 -- rule: replication-before-expansion, replication-nested, replication-in-one-list, fault-23
 -- rule: order-at-a-replication
-abbrev pub body_of : Option Expansion → (places own d : ℕ) → List ℕ → Result Tree TemplateFault
-body_of inner places own d after = do
+abbrev pub body_of : Option Expansion → (places frame d : ℕ) → List ℕ → Result Tree TemplateFault
+body_of inner places frame d after = do
   _ ← unless (nat_le (x_of d) (length after)) (template.GroupShape d)
   expand ← opened inner d
-  _ ← with_places places own d
-  body ← expand (places + own) (take (x_of d) after)
+  _ ← with_places places frame d
+  body ← expand (places + frame) (take (x_of d) after)
   _ ← unless (consumes body) (template.EmptyGroup d)
   Ok body
 
@@ -140,7 +139,8 @@ part_of tables inner width_given places d after =
 -- part of a replication before them; `width_given` means that 2 06 Y comes directly before the
 -- list.
 -- rule: first-descriptor-decides
-unfoldable pub level : Tables → Option Expansion → Bool → ℕ → Expansion
+unfoldable pub level : Tables → Option Expansion → (width_given : Bool) → (skip places : ℕ)
+    → List ℕ → Result Tree TemplateFault
 level tables inner width_given skip places [] = Ok bare
 level tables inner width_given (suc skip) places (d ∷ after) =
     level tables inner width_given skip places after

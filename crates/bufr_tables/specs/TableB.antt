@@ -92,7 +92,6 @@ factor_width fxy =
     if is_factor fxy then Some (if y_of fxy == 0 then 1 else if y_of fxy == 1 then 8 else 16)
     else None
 
--- whether a kind is text
 abbrev pub is_character : Kind → Bool
 is_character Character = true
 is_character _ = false

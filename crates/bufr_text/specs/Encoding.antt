@@ -42,14 +42,15 @@ abbrev pub document_fault : DraftFault → DocumentFault
 document_fault (draft_fault.Item line why) = document.Item line why
 document_fault draft_fault.Memory = document.Memory
 
--- A fault of a document: of an item (`item_report`), of its template (56, then the number and the
--- text of `template_report`), or the message would have more than 16,777,215 octets. `Memory` has
--- no text: it stops a run, and the last line of the run reports it.
+-- a fault of a document
 abbrev pub document_report : DocumentFault → ℕ × List (List ℕ)
 document_report (document.Item line why) = item_report why
+-- its template has a fault: 56, and then the number and the text of that fault
 document_report (document.Template line why) =
     (56, codes "template " ∷ decimal (template_report why).0 ∷ codes " " ∷ (template_report why).1)
+-- the message would have more than 16,777,215 octets
 document_report (document.TooLong line) = (60, codes "too long" ∷ [])
+-- no text, since it stops a run, and the last line of the run reports it
 document_report document.Memory = (73, [])
 
 -- the line of a fault; `Memory` has none
@@ -82,7 +83,6 @@ parts_as compressed d payload =
       payload = payload;
     }
 
--- whether the data of a document are compressed in a form
 -- rule: form-option
 abbrev pub compressed_as : Form → Document → Bool
 compressed_as form d = compressed_by form (header_in d).compressed
