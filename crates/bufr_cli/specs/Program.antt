@@ -120,14 +120,14 @@ IsUnread counts octets outcome =
     (fault : RunFault) × (outcome ≡ Run fault) × RunsOver counts octets (FailsToRead fault)
 
 -- A table is not available: its file is not opened, it is not read to its end, or the table has a
--- fault. `reads` relates records to the result of reading the table from them, and `says` is the
--- outcome for a fault of the table.
+-- fault. `reads` relates records to the result of reading the table from them, and
+-- `outcome_of` gives the outcome for a fault of the table.
 abbrev pub TableOutcome : {X File : Type 0} → (counts : File → Input)
-    → (reads : List Record → Result X TableFault → Type 0) → (says : TableFault → Outcome)
+    → (reads : List Record → Result X TableFault → Type 0) → (outcome_of : TableFault → Outcome)
     → (named : List ℕ → Option (List ℕ)) → (name : Bor (List ℕ)) → Outcome → Type 0
-TableOutcome counts reads says named name outcome =
+TableOutcome counts reads outcome_of named name outcome =
     (IsClosed named name outcome ⊎ IsUnread counts (named name.now) outcome)
-    ⊎ ((fault : TableFault) × (outcome ≡ says fault)
+    ⊎ ((fault : TableFault) × (outcome ≡ outcome_of fault)
     × IfSome (named name.now) (λ text. reads (records_of text) (Err fault)))
 
 -- Tables B and D are those in the files with these names, if the octets of the files are known.
