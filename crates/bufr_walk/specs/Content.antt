@@ -163,7 +163,6 @@ coding_by role.Reference _ spec = references
 coding_by _ kind.Character spec = texts (spec.width / 8)
 coding_by _ _ spec = numbers spec.width spec.may_be_missing
 
--- the coding of a field
 abbrev pub coding_of : FieldSpec → Coding
 coding_of spec = coding_by spec.role spec.kind spec
 
@@ -175,7 +174,6 @@ said (numbers width m) bits = if are_all_ones bits && m then missing else number
 said (texts octets) bits = if are_all_ones bits then missing else text (octets_in octets bits)
 said references bits = reference (signed_by bits)
 
--- the content of the bits of a field
 abbrev pub content_in : FieldSpec → List Bool → Content
 content_in spec bits = said (coding_of spec) bits
 
@@ -202,13 +200,12 @@ abbrev pub reference_in : Content → ℤ
 reference_in (reference value) = value
 reference_in _ = pos 0
 
--- the part of a content that affects the walk, which depends on the role of the field
+-- the answer of a field: the part of its content that affects the walk, depending on its role
 abbrev pub answer_by_role : Role → Content → Taken
 answer_by_role role.Factor c = taken.Count (count_in c)
 answer_by_role role.Reference c = taken.Reference (reference_in c)
 answer_by_role _ c = taken.Plain
 
--- the part of a field's content that affects the walk
 abbrev pub answer_of : FieldSpec → Content → Taken
 answer_of spec c = answer_by_role spec.role c
 
@@ -230,8 +227,7 @@ shown spec (reference value) = shown_reference value
 
 -- ---- One field of data that are not compressed.
 
--- why a field cannot be read: the data end inside it, an increment is invalid, or a factor differs
--- between subsets
+-- why a field cannot be read (the report of the faults of data explains each)
 pub data FieldFault : Type 0 where
   data_end : FieldFault
   increment : FieldFault
@@ -242,7 +238,6 @@ pub record FieldRead (C : Type 0) : Type 0 where
   pub content : C
   pub suffix : List Bool
 
--- a field with this content and these bits after it
 abbrev pub found : {C : Type 0} → C → List Bool → FieldRead C
 found content suffix = record { content = content; suffix = suffix }
 
@@ -346,8 +341,8 @@ packed_field n spec bits =
       equal ← if_equal spec.role contents
       Ok (found equal (drop used suffix))
 
--- the part of an item's contents that affects the walk: that of the first subset, since factors and
--- redefined references are the same in all subsets
+-- the answer of an item: that of the first subset, since factors and redefined references are the
+-- same in all subsets
 abbrev pub answer_first : FieldSpec → List Content → Taken
 answer_first spec [] = taken.Plain
 answer_first spec (c ∷ cs) = answer_of spec c
