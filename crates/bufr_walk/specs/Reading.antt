@@ -181,10 +181,14 @@ spot subset fxy bit = record { subset = subset; fxy = fxy; bit = bit }
 abbrev pub fault_at : WalkStop DataFault → (subset bit : ℕ) → WalkFault
 fault_at (stops.Width fxy) subset bit = walk_fault.Width (spot subset fxy bit)
 fault_at (stops.Defining fxy) subset bit = walk_fault.Defining (spot subset fxy bit)
-fault_at (stops.Field (data_fault.DataEnd fxy)) subset bit = walk_fault.DataEnd (spot subset fxy bit)
-fault_at (stops.Field (data_fault.Increment fxy)) subset bit = walk_fault.Increment (spot subset fxy bit)
-fault_at (stops.Field (data_fault.UnequalFactor f)) subset bit = walk_fault.UnequalFactor (spot subset f bit)
-fault_at (stops.Field (data_fault.TooManyValues f)) subset bit = walk_fault.TooManyValues (spot subset f bit)
+fault_at (stops.Field (data_fault.DataEnd fxy)) subset bit =
+    walk_fault.DataEnd (spot subset fxy bit)
+fault_at (stops.Field (data_fault.Increment fxy)) subset bit =
+    walk_fault.Increment (spot subset fxy bit)
+fault_at (stops.Field (data_fault.UnequalFactor f)) subset bit =
+    walk_fault.UnequalFactor (spot subset f bit)
+fault_at (stops.Field (data_fault.TooManyValues f)) subset bit =
+    walk_fault.TooManyValues (spot subset f bit)
 fault_at (stops.Field data_fault.Memory) subset bit = walk_fault.Memory
 fault_at stops.Memory subset bit = walk_fault.Memory
 
