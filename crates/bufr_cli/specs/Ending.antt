@@ -53,7 +53,6 @@ pub record EndsRun (pieces : RunPieces) (from to : Input) (before after : Writer
   pub rest : FlushesRest between.output after.output ran
   pub errors : after.errors ≡ between.errors
 
--- the line of a fault that stops a run
 abbrev pub run_line : RunFault → List ℕ
 run_line fault = report_line (codes "bufr: " ∷ []) (run_report fault)
 

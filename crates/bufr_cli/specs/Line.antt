@@ -49,7 +49,6 @@ bufr_app =
     (with_rule (new_app (codes "ls")) (new_rule (codes "FILE"))).top)
     (tables_app (codes "dump")).top) (with_rule (tables_app (codes "encode")) form_rule).top
 
--- the name of a subcommand
 abbrev pub name_of : Subcommand → Text
 name_of Ls = codes "ls"
 name_of (Dump tables) = codes "dump"

@@ -68,7 +68,6 @@ abbrev pub IsClosed : (named : List ℕ → Option (List ℕ)) → (name : Bor (
 IsClosed named name outcome =
     ((outcome ≡ CannotOpen name) × (named name.now ≡ None)) ⊎ (outcome ≡ Run run_fault.Memory)
 
--- the outcome of a run with this result
 abbrev pub ran_outcome : Result Tally RunFault → Outcome
 ran_outcome (Ok tally) = Ran tally
 ran_outcome (Err fault) = Run fault

@@ -37,7 +37,6 @@ pub record Writer : Type 0 where
   pub flushes : Flushes
   pub all_flushed : Bool
 
--- the output and the errors of a run
 pub record Writers : Type 0 where
   pub output : Writer
   pub errors : Writer
@@ -139,12 +138,10 @@ pub record WrittenInPart (before after : Writers) (pieces : List Piece) : Type 0
   pub whole : WritesPieces before between given
   pub prefix : WritesPrefixes between after (option_to_list next)
 
--- All of the pieces were written.
 abbrev pub IsAllWritten : {before after : Writers} → {pieces : List Piece}
     → WrittenInPart before after pieces → Type 0
 IsAllWritten part = (part.next ≡ None) × (part.rest ≡ [])
 
--- The tally counts the pieces for each writer.
 pub record Tallies (tally : Tally) (pieces : List Piece) : Type 0 where
   pub accepted : tally.accepted ≡ count_by is_accepted pieces
   pub refused : tally.refused ≡ count_by is_refused pieces
@@ -199,7 +196,6 @@ HandsOn before after (Err Read) =
 -- after other faults, `FlushesRest` applies to the output
 HandsOn before after (Err fault) = Unit {0}
 
--- Each writer was flushed at most n times.
 abbrev pub FlushesAtMost : (n : ℕ) → (before after : Writers) → Type 0
 FlushesAtMost n before after =
     (after.output.flushes.made ≤ counted before.output.flushes.made n)

@@ -71,7 +71,6 @@ subsets_of [] = []
 subsets_of (Holds item ∷ more) = prepend_to_subset item (subsets_of more)
 subsets_of (Ends line ∷ more) = record { items = []; end_line = line } ∷ subsets_of more
 
--- a fault of the item on this line
 abbrev pub at_line : ℕ → ItemFault → DraftFault
 at_line line fault = draft_fault.Item line fault
 
@@ -94,7 +93,6 @@ refusal_parts (walk_refusal.Width fxy) = (31, fxy)
 refusal_parts (walk_refusal.Defining fxy) = (32, fxy)
 refusal_parts (walk_refusal.TooManyValues fxy) = (35, fxy)
 
--- what was expected, as parts of a text
 abbrev pub expected_text : Expected → List (List ℕ)
 expected_text (expected.Item fxy) = fxy_text fxy ∷ []
 expected_text (expected.Reference fxy) = codes "R " ∷ fxy_text fxy ∷ []

@@ -80,7 +80,6 @@ subset_lines subset [] = []
 subset_lines subset (items ∷ more) =
     subset_line subset ∷ (map item_text items ++ subset_lines (subset + 1) more)
 
--- the lines before the subsets
 abbrev pub head_lines : Sections → List (List ℕ)
 head_lines s = codes "message" ∷ (header_lines 0 (header_of s)
     ++ (map local1_line (runs_of 32 s.local1)

@@ -69,7 +69,6 @@ data_bits compressed course subsets = bits_of_writing (writing_of compressed cou
 abbrev pub octets_of_bits : List Bool → List ℕ
 octets_of_bits bits = octets_in ((length bits + 7) / 8) (bits ++ padding (length bits))
 
--- the parts of a document's message with this payload
 -- rule: writes-local-use
 abbrev pub parts_as : (compressed : Bool) → Document → (payload : List ℕ) → MessageParts
 parts_as compressed d payload =

@@ -91,7 +91,6 @@ unfoldable pub descriptors_text : List ℕ → List ℕ
 descriptors_text [] = []
 descriptors_text (fxy ∷ more) = 32 ∷ fxy_text fxy ++ descriptors_text more
 
--- the descriptors of a text, each after one space
 -- rule: reading-descriptor
 unfoldable pub descriptors_read : List ℕ → Option (List ℕ)
 descriptors_read [] = Some []

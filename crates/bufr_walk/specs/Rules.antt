@@ -57,8 +57,7 @@ begin =
 abbrev pub is_defining : OperatorModel → Bool
 is_defining s = nat_lt 0 s.new_reference_width
 
--- the operators after 2 03 Y: 255 ends the definition of references, 0 cancels all redefined
--- references, and every other Y begins a definition
+-- the operators after 2 03 Y: 255 ends a definition, 0 cancels all of them, any other Y begins one
 -- rule: 2-03-y, 2-03-000, 2-03-y-again, 2-03-255-alone
 abbrev pub with_references : ℕ → OperatorModel → OperatorModel
 with_references y s =
@@ -215,7 +214,6 @@ listed_by None s fxy = Err (refusal.Width fxy)
 listed_by (Some row) s fxy =
     if is_defining s then new_reference_spec row.kind s fxy else spec_by_kind row.kind s row
 
--- the specification of an element, from Table B and the operators in effect
 abbrev pub element_spec : List Row → OperatorModel → ℕ → Result FieldSpec TurnRefusal
 element_spec table s fxy =
     if nat_lt 0 s.local_width then local_width_spec (entry_of table fxy) s fxy
