@@ -77,7 +77,6 @@ module _ {D C E : Type 0} (filler : Filler D C E) where
   abbrev pub fill_pass : Course → List D → Pass (List D) (WrittenItem C) E
   fill_pass course drafts = pass filling (suc (length drafts)) course drafts
 
--- the bits of items that were written
 abbrev pub bits_written : {C : Type 0} → List (Item (WrittenItem C)) → List Bool
 bits_written {C} items = flat_map (λ (i : Item (WrittenItem C)). i.content.bits) items
 
@@ -233,7 +232,6 @@ abbrev pub cells_at : ℕ → List Subset → List RowCell
 cells_at index subsets =
     map (λ (s : Subset). record { draft = slice_get s.items index; end_line = s.end_line }) subsets
 
--- the row of all subsets at one index
 abbrev pub item_row : ℕ → List Subset → ItemRow
 item_row index subsets = record { index = index; cells = cells_at index subsets }
 
@@ -262,7 +260,6 @@ abbrev pub content_here : FieldSpec → Option Draft → (end_line : ℕ) → Re
 content_here spec None end_line = Err (at_line end_line (wrong_for spec))
 content_here spec (Some d) end_line = map_err (at_line d.line) (content_of spec d)
 
--- the contents of a row, or the first fault
 abbrev pub contents_here : FieldSpec → List RowCell → Result (List Content) DraftFault
 contents_here spec [] = Ok []
 contents_here spec (c ∷ cs) = do

@@ -86,7 +86,6 @@ IsForRole _ _ = ⊥
 abbrev pub IsFor : FieldSpec → Taken → Type 0
 IsFor spec t = IsForRole spec.role t
 
--- whether a field is a redefined reference of an element
 abbrev pub is_reference : Role → Bool
 is_reference role.Reference = Bool.true
 is_reference _ = Bool.false
@@ -149,15 +148,13 @@ abbrev pub signed_by : List Bool → ℤ
 signed_by [] = pos 0
 signed_by (sign ∷ bits) = if sign then neg_ℤ (pos (number_of bits)) else pos (number_of bits)
 
--- how a field is coded: as an unsigned number, as a text of `octets` octets, or as a redefined
--- reference
+-- how a field is coded
 pub data Coding : Type 0 where
   numbers : (width : ℕ) → (may_be_missing : Bool) → Coding
   texts : (octets : ℕ) → Coding
   references : Coding
 
--- the coding of a field, from its role and kind: a redefined reference is recognised by its role,
--- and a text by its kind
+-- the coding of a field: a redefined reference is recognized by its role, and a text by its kind
 abbrev pub coding_by : Role → Kind → FieldSpec → Coding
 coding_by role.Reference _ spec = references
 coding_by _ kind.Character spec = texts (spec.width / 8)
@@ -195,7 +192,6 @@ abbrev pub count_in : Content → ℕ
 count_in (number raw) = raw
 count_in _ = 0
 
--- the reference that a field defines
 abbrev pub reference_in : Content → ℤ
 reference_in (reference value) = value
 reference_in _ = pos 0
@@ -259,8 +255,7 @@ abbrev pub increments : (count k : ℕ) → List Bool → List (List Bool)
 increments zero k bits = []
 increments (suc n) k bits = take k bits ∷ increments n k (drop k bits)
 
--- the number of bits of an increment: k for a number; 8 k for a text, whose k counts octets; a
--- redefined reference has none
+-- the number of bits of an increment; in a text, k counts octets
 -- rule: compressed-references
 abbrev pub step_of : Coding → ℕ → ℕ
 step_of (numbers width m) k = k
@@ -308,7 +303,6 @@ contents_across c k n base suffix =
     if k == 0 then Some (replicate n (said c base))
     else all_there (map (increased c k base) (increments n (step_of c k) suffix))
 
--- whether two contents are the same
 abbrev pub same : Content → Content → Bool
 same (number a) (number b) = a == b
 same (text a) (text b) = bytes_eq a b

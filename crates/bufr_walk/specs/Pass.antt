@@ -120,7 +120,6 @@ read_pass form many course bits =
 
 -- ---- The reading of data: a pass for each subset, or one for all where they are compressed.
 
--- a pass over data
 abbrev pub DataPass : Type 0 → Type 0
 DataPass C = Pass Place C Stop
 

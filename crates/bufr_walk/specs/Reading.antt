@@ -33,11 +33,9 @@ pub record DataCoding (C : Type 0) : Type 0 where
   -- the answer of an item
   pub gives : FieldSpec → C → Taken
 
--- the coding of plain data
 abbrev pub plain : DataCoding Content
 plain = record { field = plain_field; gives = answer_of }
 
--- the coding of compressed data of n subsets
 abbrev pub packed : ℕ → DataCoding (List Content)
 packed n = record { field = packed_field n; gives = answer_first }
 
@@ -229,7 +227,6 @@ data_report walk_fault.Memory = (73, [])
 
 -- ---- What the reading of a message returns.
 
--- the data of a message
 abbrev pub data_of : Sections → Data
 data_of m = record { compressed = m.compressed; subsets = m.subsets; bits = bits_of m.payload }
 
