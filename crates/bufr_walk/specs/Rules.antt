@@ -57,7 +57,7 @@ begin =
 abbrev pub is_defining : OperatorModel → Bool
 is_defining s = nat_lt 0 s.new_reference_width
 
--- the operators after 2 03 Y: 255 ends a definition, 0 cancels all of them, any other Y begins one
+-- the operators after 2 03 Y: 255 ends a definition of references, and 0 cancels redefined ones
 -- rule: 2-03-y, 2-03-000, 2-03-y-again, 2-03-255-alone
 abbrev pub with_references : ℕ → OperatorModel → OperatorModel
 with_references y s =
