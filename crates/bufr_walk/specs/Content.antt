@@ -223,7 +223,7 @@ shown spec (reference value) = shown_reference value
 
 -- ---- One field of data that are not compressed.
 
--- why a field cannot be read (the report of the faults of data explains each)
+-- why a field cannot be read; `data_report` explains each fault
 pub data FieldFault : Type 0 where
   data_end : FieldFault
   increment : FieldFault
