@@ -12,7 +12,7 @@ definitions that only the laws need come last. Types and traits in a signature a
 tags and derives are left out. An enum of faults is also left out if its report, which lists the number and the text of each
 fault, is printed. The report is printed before the first definition that names a fault of the enum. If two definitions have
 the same name, that of a kit's crate is printed with the crate's name, as in `clap.Row`. A definition that repeats an earlier
-one word for word is printed with a note instead of its comment.
+one word for word is printed with a note instead of its comment. Some definitions of the kit are printed with a note of ours.
 
 Names from std, and names that the checker itself derives from a contract (specs.contracts), are not followed. If any other
 imported name is not found, believed.py prints an error instead and exits with status 1. The numbers of definitions, lines
@@ -108,6 +108,23 @@ the file defines. `(own)` marks a rule that is our choice.
 LAWS = {
     "walk/specs/Rules.antt": ["elements_have_their_rows"],
     "walk/specs/Pass.antt": ["data_are_read_item_by_item"],
+}
+# Our notes on definitions of the kit, by crate and name.
+NOTES = {
+    ("csv", "step"): 'What comes after a closing quote belongs to the field: `"a"b` is ab.',
+    ("csv", "records_from"): "`length xs + 1` records are enough, since each one uses at least one byte.",
+    ("clap", "accepts"): "Whether a parser accepts a text. `ignore_case` only affects values that are listed.",
+    ("clap", "unwrap_or_range"): "The number of values of an argument: one, if it is not set. The comment below belongs to `parser_of_value`.",
+    ("clap", "check_kinds"): "`wants_help`: nothing was given, although help is shown then. `wants_subcommand` and `wants_argument`: a"
+        " subcommand, or an argument, is required but missing.",
+    ("clap", "Rule"): "`value_names` is their number, and `missing` the values of an option that is given without one. `is_simple` and"
+        " `is_free` are false if a setting changes how words are read, or relates the argument to others.",
+    ("clap", "Held"): "In the definitions printed here, `skip` is always 0.",
+    ("clap", "attached_value"): "`-B=` has an empty value, and `-B` has none.",
+    ("clap", "Shape"): "`is_leaf`: it has no subcommands. `is_built`: the arguments that `built` adds are there.",
+    ("clap", "repeat_fault"): "`again`, here and below, is `args_override_self`: whether an argument may be given again.",
+    ("clap", "level_fault"): "The first fault is that of the words, then `below` (of the subcommand), of the values of the last option, of the"
+        " defaults, and of what is missing.",
 }
 HEAD = re.compile(r"^ {0,2}(?:abbrev |unfoldable |rec )*(?:pub )?(?:record |data )?([^\s:(){}]+) *(?:\([^:]*|\{[^:]*)?:(?: |$)")
 USE = re.compile(r"^\s*(?:unfoldable |ghost |pub )*use Rattle\.(?!std\.)(\w+)\.specs\.(?!contracts\.)([\w.]+?)(?:\.\{([^}]*)\}| as ([\w-]+));?$")
@@ -419,6 +436,11 @@ def crate_of(item):
     return next(folder for folder in item.path.parents if folder.name in ("specs", "src")).parent.name
 
 
+def comment(sentence):
+    """Returns a sentence as comment lines."""
+    return textwrap.wrap(sentence, 100, initial_indent="-- ", subsequent_indent="-- ", break_on_hyphens=False)
+
+
 class Printer:
     """Prints items, and counts their lines."""
 
@@ -446,6 +468,8 @@ class Printer:
         code = re.sub(r"(?m)^\s*(?:--|//).*\n|\b(?:clap|csv)\.(?=[a-z_\d]+\b)", "", shown)
         if self.codes.setdefault(code, (section, uses))[1] == uses and section != self.codes[code][0]:
             shown = f"-- the same as in section {self.codes[code][0]}\n" + re.sub(r"^(?:--.*\n)*", "", shown)
+        if (crate_of(item), item.name) in NOTES:
+            shown = "\n".join([*comment(f"(our note) {NOTES[crate_of(item), item.name]}"), shown])
         if item.module and item.module != module:
             shown = f"{item.module}\n{shown}"
         print(f"\n{shown}")
@@ -457,7 +481,7 @@ class Printer:
         numbers = sorted({self.sections[used] for used in uses})
         lists = [", ".join(f"`{self.name(used)}`" for used in sorted(uses, key=self.name) if self.sections[used] == number) for number in numbers]
         note = "; ".join(f"{names} (section {number})" for number, names in zip(numbers, lists))
-        return textwrap.wrap(f"Defined later: {note}.", 100, initial_indent="-- ", subsequent_indent="-- ", break_on_hyphens=False) if note else []
+        return comment(f"Defined later: {note}.") if note else []
 
     def size(self, items):
         """Returns a phrase that gives the number of definitions and the number of lines."""

@@ -134,6 +134,8 @@ def main() -> None:
         wrongs.append("two definitions are called Row")
     if texts["3"].count("-- the same as in section ") != 2 or "`with_subcommand` (section 15).\n" not in texts["3"]:
         wrongs.append("a definition that is repeated, or a name that is defined later, is not noted")
+    if texts["3"].count("\n-- (our note) ") != len(runpy.run_path(str(TOP / "docs/believed.py"))["NOTES"]):
+        wrongs.append("a note on a definition of the kit is not printed")
     for calls, names in NAMED.items():
         text = printed(calls)
         wrongs += [f"{name} of {calls} is not printed" for name in names if name not in text]
