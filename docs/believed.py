@@ -59,20 +59,20 @@ PRIMER = """\
 `f : A → B` gives the type of f. Equations follow, and the first one that matches applies. `f x y` applies f to x and y.
 Every definition has a value for all arguments, even for arguments that never occur. `abbrev`, `unfoldable` and `rec` matter
 only to the checker, and `infixl` sets a precedence. In a block `module _ (how : T) where`, every indented definition also
-takes the argument `how`. A `record` has named fields, and `record s { x = 1 }` is s with 1 in the field x. A `data` type has the constructors
-that are listed below it. A `Bool` is computed. A `Type 0` is a type or a statement: `×` means "and" or a pair (its parts
-are `.0` and `.1`), `⊎` "or", `→` "implies" or a function, `≡` "equals", `¬` "not", `(x : A) →` "for each x", and `(x : A) ×`
-"for some x". `Unit` and `⊤` are always true, and `⊥` never. Arguments in braces, as in `{X = T}`, can be left out. `λ x. e`
-is a function, `x ∷ xs` is the list xs with x in front, and `++` joins lists. In `do`, a line `x ← e` stops at the first
-fault or `None`, as `>>=` does.
+takes the argument `how`. A `record` has named fields, and `record s { x = 1 }` is s with 1 in the field x. A `data` type has
+the constructors that are listed below it. A `Bool` is computed. A `Type 0` is a type or a statement: `×` means "and" or a
+pair (its parts are `.0` and `.1`), `⊎` "or", `→` "implies" or a function, `≡` "equals", `¬` "not", `(x : A) →` "for each x",
+and `(x : A) ×` "for some x". `Unit` and `⊤` are always true, and `⊥` never. Arguments in braces, as in `{X = T}`, can be left
+out. `λ x. e` is a function, `x ∷ xs` is the list xs with x in front, and `++` joins lists. In `do`, a line `x ← e` stops at
+the first fault or `None`, as `>>=` does.
 
 A number in ℕ is `zero` or `suc n` (n + 1), and one in ℤ is `pos n` (n) or `negsuc n` (-n - 1). A text is a list of octets:
 10 is a line feed, 32 a space, 34 `"`, 35 `#`, 45 `-`, 46 `.`, and 92 `\\`; 48 to 57 are the digits.
 
-A word before a constructor names its type, as in `data_fault.DataEnd`, since several types have constructors of the same
-name. Most types of faults are not printed. Instead, a report lists the number and the text of each fault of a type:
-`cause_report` lists those of `Cause`. If the kit's crates csv and clap define a name that is also defined here, the name of
-the crate comes before it, as in `clap.Row`.
+A word before a constructor, as in `data_fault.DataEnd`, stands for its type (`DataFault`), since several types have
+constructors of the same name. Most types of faults are not printed. Instead, a report lists the number and the text of each
+fault of a type: `cause_report` lists those of `Cause`. If the kit's crates csv and clap define a name that is also defined
+here, the name of the crate comes before it, as in `clap.Row`.
 
 Rust types and traits are printed, too. Their `ghost` items exist only in proofs. A `Model` defines the value to which clauses
 refer instead of the Rust value, and `source.Ghosts R` contains the ghost items that the type R has as a `Source`. A `Bor` is
@@ -95,7 +95,7 @@ Names that are not defined below come from std (rattle/std and rattle/core in th
   `get_or xs i d`, `slice_index xs i`          the element at index i, from 0; past the end, d or 0
   `slice_range xs a b`                         the elements at the indices from a up to, but not including, b
   `take_while p xs`                            the first elements, up to the one before the first that fails the test p
-  `before_first p xs`, `after_first p xs`      what comes before or after the first element that passes p; all or nothing if none does
+  `before_first p xs`, `after_first p xs`      what comes before or after the first element that passes p; all or nothing if none
   `position p xs`                              the index of that element, from 0, if there is one
   `unwrap_or o d`, `option_map_or f o d`       the value in the option o, or f of that value; d if o is `None`
   `option_and_then f o`                        f of the value in o, where f returns an option; `None` if o is `None`
@@ -514,10 +514,9 @@ def main():
     numbers = sorted({key[item][0] for item in sorted_items})
     printer.sections = {item: numbers.index(key[item][0]) + 1 for item in sorted_items}
     print(PRIMER)
-    for call in calls:
-        print(f"== The contract of {call.name}")
+    for nth, call in enumerate(calls):
+        print("\n" * bool(nth) + f"== The contract of {call.name}")
         printer.put(call, 0)
-        print()
     begun = set()
     for number, inside in itertools.groupby(sorted_items, lambda item: key[item][0]):
         section = numbers.index(number) + 1

@@ -58,7 +58,7 @@ run_line fault = report_line (codes "bufr: " ∷ []) (run_report fault)
 
 -- the line of a table that cannot be read; `Memory` is reported as it is in a run
 -- rule: status-of-table, fault-73
-abbrev pub table_line : (table : List ℕ) → TableFault → List ℕ
+abbrev pub table_line : (name : List ℕ) → TableFault → List ℕ
 table_line name table.Memory = run_line Memory
 table_line name fault = report_line (name ∷ []) (table_report fault)
 
