@@ -21,15 +21,13 @@ use Rattle.bufr_bits.specs.declared.device.Source as source
 
 -- ---- The counts of an input and of the writers, and which writer a fault comes from. (own)
 
--- The state of an input: the octets that are left (if they are known), the number of reads, and how
--- many of these failed.
+-- the state of an input, as in the ghost items of `Source`
 pub record Input : Type 0 where
   pub left : Option (List ℕ)
   pub reads : ℕ
   pub failures : ℕ
 
--- The state of a writer: the octets that it took (if they are known); the number of failed calls,
--- of empty writes and of flushes; and whether everything it took has been flushed.
+-- the state of a writer, as in the ghost items of `Sink`
 pub record Writer : Type 0 where
   pub taken : Option (List ℕ)
   pub failures : ℕ
