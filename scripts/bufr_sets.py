@@ -137,7 +137,7 @@ class TableSets:
     def asked(self, centre: int, version: int, local: int) -> TableSet:
         """Returns the set for a centre, a version and a local version.
 
-        This is WMO's set for the version or, if there is none, WMO's set for the next later version, or else the latest one.
+        This is WMO's set for the version or, if there is none, WMO's set for the next higher version, or else the latest one.
         A set with the centre's local rows takes precedence if its version is between `version` and the version of WMO's set.
         """
         of_wmo = self.sets[None]
