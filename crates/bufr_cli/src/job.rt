@@ -111,7 +111,7 @@ The first line of each table contains the column names:
   B  fxy,name,unit,scale,reference,width
   D  fxy,member
 
-WMO's tables are in share/bufr/tables, in the directory where bufr was
+WMO's tables are in share/bufr/tables under the directory where bufr was
 installed. Use the table set (a directory with both tables) for the version that
 bufr ls prints: for example, tables=0/24/0 means version 24, so use the set
 wmo-37. If you use the wrong tables, values can be wrong even though no fault is
