@@ -75,7 +75,7 @@ enum bufr_fault {
     BUFR_FAULT_LOCAL_SHAPE = 28,          /* 2 06 Y is not followed by an element. */
     BUFR_FAULT_DATA_END = 30,             /* Section 4 ends in the middle of an item. */
     BUFR_FAULT_WIDTH = 31,                /* The width of a field is less than 1 bit or more than 63 bits. */
-    BUFR_FAULT_DEFINING = 32,             /* Not allowed while 2 03 Y defines reference values. */
+    BUFR_FAULT_DEFINING = 32,             /* Not allowed while 2 03 Y is redefining reference values. */
     BUFR_FAULT_UNEQUAL_FACTOR = 33,       /* A compressed replication factor differs between subsets. */
     BUFR_FAULT_INCREMENT = 34,            /* The increments of compressed data are invalid. */
     BUFR_FAULT_TOO_MANY_VALUES = 35       /* Compressed data contains too many values. */
