@@ -115,7 +115,7 @@ WMO's tables are in share/bufr/tables under the directory where bufr was
 installed. Use the table set (a directory with both tables) for the version that
 bufr ls prints: for example, tables=0/24/0 means version 24, so use the set
 wmo-37. If you use the wrong tables, values can be wrong even though no fault is
-reported. The script bufr-auto chooses the table set for each message.
+reported. The bufr-auto script chooses the table set for each message.
 
 Exit status:
   0  no faults were reported
