@@ -287,7 +287,7 @@ def say(lines: bytes) -> None:
 def bare(file: Optional[str], begin: bytes, piece: str = "message") -> bytes:
     """Returns the note for a file that contains no messages or, if `piece` is "document", no documents.
 
-    If possible, the note names the likely type of the file.
+    If possible, the note identifies the likely format of the file.
     """
     head = begin.lstrip()
     if head[:1] == b"<":
