@@ -152,7 +152,7 @@ def is_number(word: str) -> bool:
 
 
 def folder_of_sets() -> str:
-    """Returns the directory that contains the table sets: the value of BUFR_TABLES if it is set, or the installed one."""
+    """Returns the directory that contains the table sets: the value of BUFR_TABLES or, if it is not set, the installed one."""
     named = os.environ.get("BUFR_TABLES")
     if named:
         places = [named]

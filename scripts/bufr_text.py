@@ -72,7 +72,7 @@ _LISTED = re.compile(
 )
 _FAULT = re.compile(rb"offset (\d+): (\d+) (.*)\n?")
 _NOTE = re.compile(rb"bufr-auto: (\d+) messages?(?: so far)?,(?: the first)? at offset (\d+): (.*)")
-_MESSAGES = "expected the name of a file, or messages from dump or read"
+_MESSAGES = "expected a file name, or messages from dump() or read()"
 _UNPRINTED = re.compile(rb'["\\]|[^ -~]')
 
 

@@ -850,7 +850,7 @@ class Runs(unittest.TestCase):
         [message, *_] = bufr_text.read([*dump.open("rb")])
         for source, found in (([str(synop)], "'.*/synop.bufr'"), (b"BUFR", "66"), (None, "None"), (5, "5"), ([message.subsets], r"\[.*")):
             for call in (bufr_text.rows, bufr_text.levels):
-                told = f"^expected the name of a file, or messages from dump or read, found {found}"
+                told = f"^expected a file name, or messages from dump[(][)] or read[(][)], found {found}"
                 with self.assertRaisesRegex(TypeError, told):
                     list(call(source, ["012101"]))
         for faults in ("warn", "ignore", (), True):
