@@ -573,7 +573,7 @@ def checked(
             raise TypeError(f"expected a list such as ['{example}'], found {words}")
     columns, header, keep = list(columns), list(header), list(keep)
     if has_levels and not columns:
-        raise ValueError("expected a list such as ['012101'], found an empty list; a level needs at least one column")
+        raise ValueError("expected a list such as ['012101'], found an empty list; a table of levels needs at least one column")
     form = _COLUMN if has_counts else _ELEMENT
     for word in (*columns, *keep):
         if not isinstance(word, str) or not form.fullmatch(word):
