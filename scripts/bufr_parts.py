@@ -257,7 +257,7 @@ class Reader:
         if tables is not None:
             are_names = isinstance(tables, (tuple, list)) and all(isinstance(name, (str, os.PathLike)) for name in tables)
             if not are_names or len(tables) != 2:
-                raise TypeError(f"expected tables=(B, D), the file names of Table B and Table D, found {tables!r}")
+                raise TypeError(f"expected the file names of Table B and Table D as tables=(B, D), found {tables!r}")
         self.source, self.conditions, self.faults = source, bufr_conditions.Conditions(where), checked_faults(faults)
         self.is_whole = True
         self.wanted, self.size = bufr_calls.words(columns), _PART_OF_ALL if columns is None else _PART

@@ -999,7 +999,7 @@ class Faults(WithFolder):
             self.assertRegex(done.stderr.decode(), f"^table [BD]: {fault}$")
         wrong = 5, False, (), (1, 2), iter(TABLES), (TABLES[0].encode(), TABLES[1].encode()), {"B": 1, "D": 2}
         for tables in ((TABLES[0],), "tables/wmo-39", TOP / "tables/wmo-39", "BD", *wrong):
-            with self.assertRaisesRegex(TypeError, r"^expected tables=.B, D., the file names of Table B and Table D, found "):
+            with self.assertRaisesRegex(TypeError, r"^expected the file names of Table B and Table D as tables=.B, D., found "):
                 bufr.frame(SYNOP, ["012101"], tables=tables)
         with self.assertRaises(FileNotFoundError):
             bufr.frame(SYNOP, ["012101"], tables=(TABLES[0], "none"))
