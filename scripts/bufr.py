@@ -520,7 +520,7 @@ class Items(NamedTuple):
         try:
             row = self.items[operator.index(index)]
         except TypeError:
-            raise TypeError(f"expected the index of an item in items, found {index!r}") from None
+            raise TypeError(f"expected an index into items, found {index!r}") from None
         kind, value, scale, length = row[["kind", "integer", "scale", "length"]].tolist()
         if kind == MISSING:
             return None

@@ -804,7 +804,7 @@ class Work:
         return frozenset(found)
 
     def assigned(self, part: Part, piece: Bytes) -> Tuple[Run, List[Reason]]:
-        """Returns the run for a piece, and the reasons why the table set of the run may not match the piece exactly."""
+        """Returns the run for a piece, and the reasons why the run's table set may not match the piece exactly."""
         tables, notes = self.chooser.choose(piece)
         if tables not in part.runs:
             part.runs[tables] = self.kind(tables)

@@ -152,7 +152,7 @@ def is_number(word: str) -> bool:
 
 
 def folder_of_sets() -> str:
-    """Returns the directory that contains the table sets: the value of BUFR_TABLES if it is set, or the installed one."""
+    """Returns the directory that contains the table sets: the value of BUFR_TABLES or, if it is not set, the installed one."""
     named = os.environ.get("BUFR_TABLES")
     if named:
         places = [named]
@@ -164,7 +164,7 @@ def folder_of_sets() -> str:
             return os.path.abspath(place)
     if named:
         raise bufr_guard.Failed(f"BUFR_TABLES is {named}, which is not a directory")
-    raise bufr_guard.Failed(f"there is no directory {places[0]}; set BUFR_TABLES to the directory that contains the table sets")
+    raise bufr_guard.Failed(f"the directory {places[0]} does not exist; set BUFR_TABLES to the directory with the table sets")
 
 
 def words_of(message: Bytes) -> bytes:

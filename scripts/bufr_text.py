@@ -72,7 +72,7 @@ _LISTED = re.compile(
 )
 _FAULT = re.compile(rb"offset (\d+): (\d+) (.*)\n?")
 _NOTE = re.compile(rb"bufr-auto: (\d+) messages?(?: so far)?,(?: the first)? at offset (\d+): (.*)")
-_MESSAGES = "expected the name of a file, or messages from dump or read"
+_MESSAGES = "expected a file name, or messages from dump() or read()"
 _UNPRINTED = re.compile(rb'["\\]|[^ -~]')
 
 
@@ -99,7 +99,7 @@ _CAUSES = [
         (rb"\d{6} ?", "no value; write MISSING for a missing value"),
         (rb".* ", "a space at the end"),
         (rb"[a-z][^#]*#.*", "a comment, which is allowed only after an item"),
-        (rb"\d{6} \"[^\"]*\\x(?![0-9A-F]{2}).*", "\\x without two upper-case hexadecimal digits"),
+        (rb"\d{6} \"[^\"]*\\x(?![0-9A-F]{2}).*", "\\x not followed by two uppercase hexadecimal digits"),
         (rb"\d{6} \"[^\"]*[^ -~].*", "a byte that must be escaped as \\xHH in a string"),
         (rb"\d{6} \".*", "an unescaped \" or \\ in a string, or no closing \""),
         (rb"\d{6} [^-.\d\"].*", "a string without quotes"),
@@ -360,7 +360,7 @@ def _read_message(lines: _Lines) -> Message:
         while line.startswith(word + b" "):
             digits = line[len(word) + 1 :]
             if not _HEX.fullmatch(digits):
-                raise lines.refused("hexadecimal digits for 1 to 32 bytes")
+                raise lines.refused("1 to 32 bytes in hexadecimal")
             octets += bytes.fromhex(digits.decode())
             line = lines.inside("'descriptors'")
     section2 = bytes(local_use[b"section2"]) if optional else None
@@ -542,7 +542,7 @@ def _by_library(
 
 
 def _reported(told: _Told, found: Iterator[Tuple[Cell, ...]]) -> Iterator[Tuple[Cell, ...]]:
-    """Yields rows and reports the faults as `dump` does."""
+    """Yields the rows, and reports faults in the same way as `dump`."""
     try:
         yield from found
     except BufrError as error:
@@ -573,7 +573,7 @@ def checked(
             raise TypeError(f"expected a list such as ['{example}'], found {words}")
     columns, header, keep = list(columns), list(header), list(keep)
     if has_levels and not columns:
-        raise ValueError("expected a list such as ['012101'], found an empty list; a level needs at least one column")
+        raise ValueError("expected a list such as ['012101'], found an empty list; a table of levels needs at least one column")
     form = _COLUMN if has_counts else _ELEMENT
     for word in (*columns, *keep):
         if not isinstance(word, str) or not form.fullmatch(word):
@@ -1045,7 +1045,7 @@ def _opened(file: _Path) -> IO[bytes]:
 def _octets(stream: IO[bytes], place: Listed) -> bytes:
     octets = os.pread(stream.fileno(), place.length, place.offset)
     if len(octets) < place.length:
-        raise RunError(2, f"the file changed while it was being read: the message at offset {place.offset} is now incomplete")
+        raise RunError(2, f"the message at offset {place.offset} is now incomplete because the file has changed; try again")
     return octets
 
 

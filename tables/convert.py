@@ -216,7 +216,7 @@ def no_numbers(is_text: bool, scale: str, reference: str, width: str) -> str:
     if not is_whole(scale, -127, 127):
         return "the scale must be a whole number from -127 to 127"
     if not is_whole(reference, -(2**63), 2**63 - 1):
-        return "the reference value must be a signed 64-bit number"
+        return "the reference value must be a signed 64-bit integer"
     if is_text and not (is_whole(width, 8, 2040) and whole(width) % 8 == 0):
         return "the width of a string must be a multiple of 8 bits, from 8 to 2040"
     return "" if is_text or is_whole(width, 1, 63) else "the width must be from 1 to 63 bits"

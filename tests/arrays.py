@@ -356,10 +356,10 @@ class Sources(WithFolder):
 
     def test_what_is_no_source(self):
         for source in (io.StringIO("BUFR"), open(SYNOP)):
-            with source, self.assertRaisesRegex(TypeError, "is a text file; open it with mode 'rb'"):
+            with source, self.assertRaisesRegex(TypeError, "was opened in text mode; open it with mode 'rb'"):
                 bufr.frame(source, ["012101"])
         # a text file that is not an instance of io.TextIOBase
-        with tempfile.NamedTemporaryFile("w+") as file, self.assertRaisesRegex(TypeError, "is a text file; open it with mode 'rb'"):
+        with tempfile.NamedTemporaryFile("w+") as file, self.assertRaisesRegex(TypeError, "was opened in text mode; open it with mode 'rb'"):
             bufr.frame(file, ["012101"])
         idle, end = os.pipe()
         os.set_blocking(idle, False)
@@ -392,7 +392,7 @@ class Sources(WithFolder):
         self.assertEqual(twice["012101"].shape, (3, 2))
 
     def test_an_empty_list_of_files_is_warned_of(self):
-        told = "no files were given: the list is empty, for example because a glob pattern matches no files"
+        told = "no files were given: the list is empty, for example because a glob pattern matched no files"
         for call in (bufr.messages, bufr.items, lambda *source, **named: bufr.frame(*source, ["012101"], ["time"], **named)):
             for source in ([], (), [[], ()], pandas.Series([], dtype=object), numpy.array([]), iter([])):
                 self.assertEqual(told_by(lambda: call(source))[1], [told])
@@ -723,7 +723,7 @@ class Values(WithFolder):
         self.assertEqual(repr(bufr.items(SYNOP, ["001015"])), "<bufr.Items: 3 items in 1 message>")
         self.assertEqual(len(pickle.loads(pickle.dumps(found)).items), 684)
         for index in (slice(0, 2), [0, 1], found.items["fxy"] == 12101, found.items[0], 1.0, "0"):
-            with self.assertRaisesRegex(TypeError, "^expected the index of an item in items, found "):
+            with self.assertRaisesRegex(TypeError, "^expected an index into items, found "):
                 found.exact(index)
         with self.assertRaises(IndexError):
             found.exact(684)
@@ -999,7 +999,7 @@ class Faults(WithFolder):
             self.assertRegex(done.stderr.decode(), f"^table [BD]: {fault}$")
         wrong = 5, False, (), (1, 2), iter(TABLES), (TABLES[0].encode(), TABLES[1].encode()), {"B": 1, "D": 2}
         for tables in ((TABLES[0],), "tables/wmo-39", TOP / "tables/wmo-39", "BD", *wrong):
-            with self.assertRaisesRegex(TypeError, r"^expected tables=.B, D., the file names of Table B and Table D, found "):
+            with self.assertRaisesRegex(TypeError, r"^expected the file names of Table B and Table D as tables=.B, D., found "):
                 bufr.frame(SYNOP, ["012101"], tables=tables)
         with self.assertRaises(FileNotFoundError):
             bufr.frame(SYNOP, ["012101"], tables=(TABLES[0], "none"))

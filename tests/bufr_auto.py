@@ -607,7 +607,7 @@ class Trial:
         self.holds("an empty BUFR_TABLES", done.stdout == (TOP / "examples/synop.txt").read_bytes(), done)
         shutil.copytree(TOP / "scripts", self.place / "alone")
         done = subprocess.run([self.place / "alone/bufr-auto", file], env=self.environment, capture_output=True)
-        told = f"bufr-auto: there is no directory {self.place}/alone/tables; set BUFR_TABLES"
+        told = f"bufr-auto: the directory {self.place}/alone/tables does not exist; set BUFR_TABLES"
         self.holds("no tables", done.returncode == 2 and done.stderr.decode().startswith(told), done)
         shutil.copy(file, self.place / "-dashed")
         done = subprocess.run([*AUTO, "--", "-dashed"], cwd=self.place, env=self.environment, capture_output=True)
