@@ -44,7 +44,7 @@ test ! -s "$work/modes" || fail "who did not install them cannot read: $(< "$wor
 for program in "$prefix"/bin/*; do test -x "$program" || fail "$program is no program"; done
 find "$prefix" -xtype l > "$work/links"
 test ! -s "$work/links" || fail "links to nothing: $(< "$work/links")"
-grep -q "^For completions in zsh.*fpath=($prefix/share/zsh/site-functions" "$work/told" || fail "install.sh names no fpath"
+grep -q "^To enable completions in zsh.*fpath=($prefix/share/zsh/site-functions" "$work/told" || fail "install.sh names no fpath"
 
 # The documentation has each file that its pages may refer to, and each shell finds its completions.
 for file in NOTICE *.md docs/*.md {docs/pictures,examples,library/examples}/*.* library/b* scripts/{b*,*.awk} \

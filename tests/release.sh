@@ -132,7 +132,7 @@ refuses 1 '(rt) is not on PATH' env PATH=/usr/bin:/bin "$make" "$work/first"
 fake 0123456789abcdef
 refuses 1 "README.md names logic $logic" "$make" "$work/first"
 fake "$logic"
-refuses 1 'needs a C compiler' env CC="$work/none" "$make" "$work/first"
+refuses 1 'requires a C compiler' env CC="$work/none" "$make" "$work/first"
 fake "$logic" 'echo low: not proved; exit 1'
 mkdir "$work/one/crates/bufr/out"
 touch "$work/one/crates/bufr/out/bufr"
