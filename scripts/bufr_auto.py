@@ -577,7 +577,7 @@ def reasons(asked: Tables, tables: bufr_sets.TableSet) -> List[Reason]:
         found.append(Reason(text, CHANGED_SINCE_6.__contains__))
     if local != 0 and tables.own is None:
         own = bufr_sets.own_name(tables, centre, local)
-        text = f"there is no table set {own} for local version {local} of centre {centre}"
+        text = f"the table set {own} (local version {local} of centre {centre}) is missing"
         found.append(Reason(text, bufr_sets.is_local, lambda: bufr_sets.advice(tables, centre, version, local)))
     return found
 

@@ -427,7 +427,7 @@ END {
     if (is_open)
         fail("the dump ends inside a message, so it is incomplete")
     if (is_joined && next_listed())
-        fail("the listing has more messages than the dump and the fault lines together; make all three from the same file")
+        fail("the listing has more messages than the dump and the fault lines combined; make all three from the same file")
     if (!message)
         exit
     for (column = 1; column <= kept_count; column++)
