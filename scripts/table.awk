@@ -425,7 +425,7 @@ END {
     if (failed)
         exit failed
     if (is_open)
-        fail("the dump ends inside a message, so it is incomplete")
+        fail("the dump is incomplete: it ends in the middle of a message")
     if (is_joined && next_listed())
         fail("the listing has more messages than the dump and the fault lines combined; make all three from the same file")
     if (!message)

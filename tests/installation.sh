@@ -84,7 +84,7 @@ for words in '' '--wrong p' 'p --wrong' 'p q' '--program' '--uninstall'; do
     [ "$status" -eq 2 ] && [ -s "$work/errors" ] || fail "install.sh $words: status $status"
 done
 ! (cd "$work/other" && "$top/install.sh" --program "$bufr" --unproved '') > "$work/output" 2> "$work/errors" &&
-    grep -q 'the PREFIX to install in' "$work/errors" || fail "install.sh installs to '': $(< "$work/errors")"
+    grep -q 'the installation PREFIX' "$work/errors" || fail "install.sh installs to '': $(< "$work/errors")"
 for word in -h --help; do "$top/install.sh" $word | grep -q '^usage: ' || fail "install.sh $word"; done
 ! "$top/install.sh" --uninstall "$work/nothing" 2> "$work/errors" && grep -q MANIFEST "$work/errors" ||
     fail "install.sh uninstalls what is not installed: $(< "$work/errors")"
