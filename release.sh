@@ -77,7 +77,7 @@ if [ $proof = proved ]; then
     program=crates/bufr/out/bufr
     kit=$(rt version) || die 'the toolchain (rt) is not on PATH; use --unproved PROGRAM to release an unproved program'
     [ "${kit##* }" = "$logic" ] || die "the toolchain is $kit, but README.md names logic $logic"
-    command -v "${CC:-cc}" > /dev/null || die "the library for C needs a C compiler, but ${CC:-cc} is not on PATH"
+    command -v "${CC:-cc}" > /dev/null || die "building the library for C requires a C compiler, but ${CC:-cc} is not on PATH"
     shopt -s nullglob
     proved=(crates/*/src crates/*/must-fail/*.edit)
     [ -z "$(git ls-files 'crates/*/out/*')" ] || die 'the commit contains files in crates/*/out, which only the toolchain may create; remove them from the repository'

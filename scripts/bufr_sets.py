@@ -194,11 +194,11 @@ def instead(fxy: str, tables: Optional[TableSet]) -> str:
     For a sequence, the part lists the elements of the sequence in a table set.
     """
     if fxy[0] != "3":
-        return f" but {'a replication' if fxy[0] == '1' else 'an operator'}, which has no value"
+        return f"{'a replication' if fxy[0] == '1' else 'an operator'}, not an element, so it has no value"
     members = tables.used((fxy[:6],)) if tables else iter(())
     found = [member for member in members if member[0] == "0"]
     elements = ", ".join(found[:10] + ["and others"] * (len(found) > 10))
-    return f" but a sequence; pass the descriptors of its elements{elements and ': '}{elements}"
+    return f"a sequence, not an element; pass the descriptors of its elements{elements and ': '}{elements}"
 
 
 # The table sets that can be made from public tables.

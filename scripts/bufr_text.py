@@ -615,7 +615,7 @@ def _refuse_valueless(word: str) -> None:
     import bufr_sets
 
     if not bufr_sets.can_have_value(word):
-        raise ValueError(f"'{word}' is not an element{bufr_sets.instead(word, _latest())}")
+        raise ValueError(f"'{word}' is {bufr_sets.instead(word, _latest())}")
 
 
 def _latest() -> Optional[TableSet]:

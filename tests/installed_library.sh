@@ -22,7 +22,7 @@ refuses() { # refuses TEXT: install.sh says TEXT, and installs nothing in $work/
 
 builds 'echo no proof; exit 1'
 refuses 'no proof'
-CC=$work/none refuses 'needs a C compiler'
+CC=$work/none refuses 'requires a C compiler'
 builds "exec '$PWD/library/build.sh' --archive '$work/libbufr_c.a' \"\$@\""
 
 # Two ways of linking, with what pkg-config prints.

@@ -132,7 +132,7 @@ refuses 1 '(rt) is not on PATH' env PATH=/usr/bin:/bin "$make" "$work/first"
 fake 0123456789abcdef
 refuses 1 "README.md names logic $logic" "$make" "$work/first"
 fake "$logic"
-refuses 1 'needs a C compiler' env CC="$work/none" "$make" "$work/first"
+refuses 1 'requires a C compiler' env CC="$work/none" "$make" "$work/first"
 fake "$logic" 'echo low: not proved; exit 1'
 mkdir "$work/one/crates/bufr/out"
 touch "$work/one/crates/bufr/out/bufr"
@@ -370,7 +370,7 @@ cron() {
     sed -n "s/^[0-9*]* [0-9*]* \* \* \* root \(.*$1\)/\1/p" crontab > line
     [ "$(wc -l < line)" -eq 1 ] && PATH=/home/stubs:$(sed -n 's/^PATH=//p' crontab) bash -eu line > told 2>&1 || fail "$1 of the crontab: $(cat line told)"
 }
-note='bufr-auto: 1 message, at offset 0: there is no table set wmo-99+254-9 for local version 9 of centre 254; to make it, run: true'
+note='bufr-auto: 1 message, at offset 0: the table set wmo-99+254-9 (local version 9 of centre 254) is missing; to make it, run: true'
 {
     yes 'offset 1: 1 cut' | head -n 20
     echo 'bufr-auto: offset 9: skipped a message that declares a length of 900000 bytes'
