@@ -1,4 +1,4 @@
-"""Reads BUFR messages into NumPy arrays and pandas data frames, using the library for C.
+"""Reads BUFR messages into NumPy arrays and pandas data frames, using the C library.
 
     >>> import bufr
     >>> frame = bufr.frame("synop.bufr", ["001015", "012101"], header=["time"])

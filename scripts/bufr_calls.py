@@ -1,4 +1,4 @@
-"""Calls the library for C through ctypes and returns its rows as NumPy arrays.
+"""Calls the C library through ctypes and returns its rows as NumPy arrays.
 
     tables = bufr_calls.Tables("B.csv", "D.csv")
     items, messages, texts = tables.items(stream, bufr_calls.words(["012101"]))
@@ -99,10 +99,10 @@ def loaded() -> ctypes.CDLL:
             try:
                 library = ctypes.CDLL(path)
             except OSError as error:
-                raise ImportError(f"cannot load the library for C: {error}") from None
+                raise ImportError(f"cannot load the C library: {error}") from None
             lacking = [name for name in FUNCTIONS if not hasattr(library, name)]
             if lacking:
-                raise ImportError(f"{path} is not the library for C: it lacks the function {lacking[0]}")
+                raise ImportError(f"{path} is not the C library: it lacks the function {lacking[0]}")
             if library.bufr_version() != 1000:
                 raise ImportError(f"{path} and bufr.py have different versions; install both from the same release")
             return library

@@ -406,7 +406,7 @@ def lines_from(
         lines, end, rest = (rest + block).rpartition(b"\n")
         if len(rest) > BLOCK:
             what = "a line in the listing is longer than 1 MB, so it cannot have come from 'bufr ls'"
-            raise Failed(f"{what}; check BUFR and any --awk condition")
+            raise Failed(f"{what}; check the BUFR environment variable and any --awk condition")
         yield lines + end
     yield rest
 

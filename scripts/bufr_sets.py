@@ -164,7 +164,7 @@ def folder_of_sets() -> str:
             return os.path.abspath(place)
     if named:
         raise bufr_guard.Failed(f"BUFR_TABLES is {named}, which is not a directory")
-    raise bufr_guard.Failed(f"the directory {places[0]} does not exist; set BUFR_TABLES to the directory with the table sets")
+    raise bufr_guard.Failed(f"the directory {places[0]} does not exist; set BUFR_TABLES to the directory that contains the table sets")
 
 
 def words_of(message: Bytes) -> bytes:

@@ -95,7 +95,7 @@ _CAUSES = [
         (rb"[^\"#]* -?\d*,.*", "a decimal comma"),
         (rb"[^\"#]* -?(?:[Nn][Aa][Nn]|[Ii]nf)\b.*", "a value that is not a number; write MISSING for a missing value"),
         (rb"[^\"#]* (?!MISSING)(?i:missing)\b.*", "MISSING in lower or mixed case"),
-        (rb"[^\"#]* -?(?:\d+\.|\.\d+)(?: .*)?", "a decimal point without a digit on each side"),
+        (rb"[^\"#]* -?(?:\d+\.|\.\d+)(?: .*)?", "a decimal point that is not between two digits"),
         (rb"\d{6} ?", "no value; write MISSING for a missing value"),
         (rb".* ", "a space at the end"),
         (rb"[a-z][^#]*#.*", "a comment, which is allowed only after an item"),
@@ -581,7 +581,7 @@ def checked(
                 allowed = "counts are allowed only in columns that apply to a whole subset"
                 raise ValueError(f"'{word}' has a count, but {allowed}; pass '{word[:6]}'")
             if re.fullmatch("[0-9]{6}", str(word)):
-                limits = "in a descriptor FXXYYY, F is at most 3, XX at most 63, and YYY at most 255"
+                limits = "F is at most 3, XX at most 63, and YYY at most 255 in a descriptor of the form FXXYYY"
                 raise ValueError(f"no table defines {word}, because {limits}")
             raise ValueError(f"expected a descriptor such as 012101, found {word!r}{_meant(str(word), keys)}")
         _refuse_valueless(word)

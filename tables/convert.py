@@ -65,7 +65,7 @@ def one_line(text: str) -> str:
 
 
 def of_csv(folder: pathlib.Path, pattern: str, columns: list):
-    """Yields a list with the values in these columns for each row of the matching files. Ignores byte order marks."""
+    """For each row of the matching files, yields a list of the values in the given columns. Ignores byte order marks."""
     for path in sorted(folder.glob(pattern)):
         with open(path, newline="", **{**AS_IT_IS, "encoding": "utf-8-sig"}) as file:
             rows = csv.reader(file)

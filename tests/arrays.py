@@ -5,7 +5,7 @@
 
 The comparison uses the streams in examples/ and vectors/, and random hostile streams. Other tests cover the kinds of
 sources, exact values, times, faults, several processes (one of which is killed), memory use, and the examples in
-docstrings. The tests need NumPy, pandas and the library for C, which the variable BUFR_LIBRARY names; one test needs Dask.
+docstrings. The tests need NumPy, pandas and the C library, which the variable BUFR_LIBRARY names; one test needs Dask.
 Tests whose requirements are missing are skipped.
 """
 import concurrent.futures
@@ -650,7 +650,7 @@ class Values(WithFolder):
                 call(SYNOP, ["012101:2"])
         for call in (bufr.frame, bufr.items, bufr_text.rows):
             for word in ("012999", "064001", "401001", 912101):
-                with self.assertRaisesRegex(ValueError, f"^no table defines {word}, because in a descriptor FXXYYY, "):
+                with self.assertRaisesRegex(ValueError, f"^no table defines {word}, because F is at most 3, "):
                     call(SYNOP, ["001015", word])
         for call in (bufr.levels, bufr_text.levels, lambda *words: bufr.frame(*words, levels=True)):
             for columns in ([], (), iter([])):
@@ -1011,8 +1011,8 @@ class Faults(WithFolder):
         other = re.search(r"/\S*/libc[.-]\S*", pathlib.Path("/proc/self/maps").read_text())[0]
         for name, told in [
             ("/none", "^BUFR_LIBRARY is '/none', which is not a file; "),
-            (str(SYNOP), f"^cannot load the library for C: {SYNOP}: .*invalid ELF header$"),
-            (other, f"^{other} is not the library for C: it lacks the function bufr_version$"),
+            (str(SYNOP), f"^cannot load the C library: {SYNOP}: .*invalid ELF header$"),
+            (other, f"^{other} is not the C library: it lacks the function bufr_version$"),
         ]:
             with unittest.mock.patch.dict(os.environ, BUFR_LIBRARY=str(name)), self.assertRaisesRegex(ImportError, told):
                 bufr_calls.loaded()
@@ -1021,7 +1021,7 @@ class Faults(WithFolder):
             with self.assertRaisesRegex(ImportError, "^libbufr.so.0 is not installed; .*; if libbufr.so.0 is elsewhere, set BUFR_LIBRARY to its path$"):
                 bufr_calls.loaded()
         with unittest.mock.patch("ctypes.CDLL", lambda _: unittest.mock.Mock(spec=["bufr_version", "bufr_list"])):
-            with self.assertRaisesRegex(ImportError, " is not the library for C: it lacks the function bufr_dump$"):
+            with self.assertRaisesRegex(ImportError, " is not the C library: it lacks the function bufr_dump$"):
                 bufr_calls.loaded()
         with unittest.mock.patch("ctypes.CDLL") as library, self.assertRaisesRegex(ImportError, "have different versions"):
             library.return_value.bufr_version.return_value = 2000
