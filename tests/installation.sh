@@ -35,7 +35,7 @@ exec 3> "$work/feed"
     umask 077
     PATH=$prefix/bin:$PATH PYTHONPATH=$prefix/share/bufr:$work "$top/install.sh" --program "$bufr" --unproved "$prefix"
 ) > "$work/again" || fail "install.sh fails where it installed before"
-[ "$(grep -c '^To ' "$work/told")" -eq 2 ] && ! grep '^To ' "$work/again" || fail "install.sh prints other lines for a shell profile"
+[ "$(grep -c 'to your shell profile: ' "$work/told")" -eq 2 ] && ! grep 'to your shell profile: ' "$work/again" || fail "install.sh prints other lines for a shell profile"
 exec 3>&-
 wait $!
 (cd "$prefix" && find . | sort) | diff "$work/once" - || fail "a second installation has other files"
