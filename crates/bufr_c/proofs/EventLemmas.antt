@@ -26,7 +26,7 @@ use Rattle.bufr_cli.specs.Prelude.{encode_pieces, WritesPieces, Tallies, Piece, 
 use Rattle.bufr_cli.specs.declared.outcome.Tally.{Tally}
 use Rattle.bufr_c.specs.Moving.{moved}
 use Rattle.bufr_frame.specs.declared.fault.Cause.TheVariants.{Cut, ShortLength, NoEnd}
-use Rattle.bufr_c.specs.Leaving.{HasNoRoom, HasPut, IsCycleStatus, IsMessage, IsRunStatus, IsStray, IsTableStatus, LacksRoom, Leaves, Passes, PassesOver, StopsBefore, WritesEvent, WritesNone, FindsEvent, ByTables, CallStatus, HasRun, Encodes, end_after, end_of, events_from}
+use Rattle.bufr_c.specs.Leaving.{HasNoRoom, HasPut, IsCycleStatus, IsMessage, IsRunStatus, IsStray, IsTableStatus, LacksRoom, Leaves, LeavesRest, Passes, PassesOver, StopsBefore, WritesEvent, WritesNone, FindsEvent, ByTables, CallStatus, HasRun, Encodes, end_after, end_of, events_from}
 use Rattle.bufr_c.specs.Commands.{IsTextOf, IsTextOfAll, form_by, piece_by}
 use Rattle.bufr_c.specs.declared.command.Command.{Command}
 use Rattle.bufr_c.specs.declared.command.Command.TheVariants as commands
@@ -313,6 +313,24 @@ module _ (octets : List ℕ) (from : ℕ) (passed : List StreamEvent) (at : ℕ)
   pub over-stopped : (status : ℤ) → IsRunStatus status → ¬ (status ≡ pos 0) → PassesOver octets from passed at status
   over-stopped status ran other = record { ran = ran; events = so.events; within = so.within; done = λ is. absurd (other is); stopped = λ _. so.ends }
 
+-- ---- The caller's buffers after what was written.
+
+-- what is unchanged after n elements is so after more of them
+rest-after : {X : Type 0} (old mid new : List X) (n m : ℕ) → n ≤ m → drop n mid ≡ drop n old → drop m new ≡ drop m mid → drop m new ≡ drop m old
+rest-after old mid new n m few first more =
+    let at : n + (m - n) ≡ m = omega (arith, few) in
+    let from : (l : List _) → drop (m - n) (drop n l) ≡ drop m l = λ l. drop-twice (m - n) n l ∙ ap (λ k. drop k l) at in
+    more ∙ (sym (from mid) ∙ (ap (drop (m - n)) first ∙ from old))
+
+-- more elements are written than before
+pub written-more : {X : Type 0} (n m : ℕ) (before after more : List X) → n ≤ length before → m ≤ length after → take m after ≡ take n before ++ more → n ≤ m
+written-more n m before after more fits fits' written = omega (arith, ap length written, length-take-le n before fits, length-take-le m after fits')
+
+-- after one more part
+pub rest-next : {X : Type 0} (old before after more : List X) (n m : ℕ) → n ≤ length before → m ≤ length after → take m after ≡ take n before ++ more → drop n before ≡ drop n old
+    → drop m after ≡ drop m before → drop m after ≡ drop m old
+rest-next old before after more n m fits fits' written first rest = rest-after old before after n m (written-more n m before after more fits fits' written) first rest
+
 -- The texts of the events up to `texts.at` were written.
 pub record SoFar (piece : StreamEvent → Piece) (octets : List ℕ) (from : ℕ) (output errors : List ℕ) (texts : Texts) : Type 0 where
   pub passed : List StreamEvent
@@ -465,6 +483,29 @@ so-far-no-room piece octets from output errors texts texts' place moves m text o
     } in
     rw (none.same_output, none.same_errors) (so-far-full piece octets from output errors texts' so' w.event (events_from (texts.at + place + moves) octets) (ap (λ n. events_from n
     octets) none.at ∙ next) lacks)
+
+-- The same in a loop, which leaves the rest of the buffers unchanged.
+pub record TextsLoop (piece : StreamEvent → Piece) (octets : List ℕ) (from : ℕ) (old_output old_errors output errors : List ℕ) (texts : Texts) : Type 0 where
+  pub so : SoFar piece octets from output errors texts
+  pub rest : LeavesRest old_output old_errors texts output errors
+  pub reserved : texts.reserved ≡ 0
+
+-- the text of one more event was put
+pub rest-put : (old_output old_errors output errors : List ℕ) (texts : Texts) (text : EventText) (mid texts' : Texts) (output' errors' : List ℕ) → texts.output_length ≤ length output
+    → texts.errors_length ≤ length errors → LeavesRest old_output old_errors texts output errors → HasPut text texts output errors mid output' errors'
+    → texts'.output_length ≡ mid.output_length → texts'.errors_length ≡ mid.errors_length → LeavesRest old_output old_errors texts' output' errors'
+rest-put old_output old_errors output errors texts text mid texts' output' errors' output_fits errors_fits rest put output_length errors_length = record {
+  output_rest = rw output_length (rest-next old_output output output' text.output.octets.items texts.output_length mid.output_length output_fits put.output_fits put.written rest.output_rest
+      put.rest.output_rest);
+  errors_rest = rw errors_length (rest-next old_errors errors errors' text.errors.octets.items texts.errors_length mid.errors_length errors_fits put.errors_fits put.blamed rest.errors_rest
+      put.rest.errors_rest);
+}
+
+-- there was no room for it
+pub rest-no-room : (old_output old_errors output errors : List ℕ) (texts : Texts) (text : EventText) (texts' : Texts) (output' errors' : List ℕ) → LeavesRest old_output old_errors texts output errors
+    → HasNoRoom text texts output errors texts' output' errors' → LeavesRest old_output old_errors texts' output' errors'
+rest-no-room old_output old_errors output errors texts text texts' output' errors' rest none =
+    record { output_rest = rw (none.output_length, none.same_output) rest.output_rest; errors_rest = rw (none.errors_length, none.same_errors) rest.errors_rest }
 
 -- nothing was written
 pub so-far-none : (piece : StreamEvent → Piece) (octets : List ℕ) (output errors : List ℕ) (texts : Texts) → texts.output_length ≡ 0 → texts.errors_length ≡ 0 → texts.accepted ≡ 0 → texts.refused ≡ 0
