@@ -6,7 +6,7 @@ use Rattle.std.proofs.lemmas.Slice.Eq.{bytes_eq-Decides}
 use Rattle.std.specs.List.{starts_with}
 use Rattle.std.proofs.lemmas.Fmt.{decimal_digit}
 use Rattle.std.proofs.lemmas.Grind.{common_steps}
-use Rattle.std.proofs.lemmas.List.{drop_min, length-take-le, take-append-drop, take_rest}
+use Rattle.std.proofs.lemmas.List.{drop_at, drop-drop, drop_min, length-append, length-take-le, take-append-drop, take_rest}
 use Rattle.std.proofs.Math.Seq.{take-length, drop-length}
 use Rattle.std.proofs.Math.ListN.{drop_of_length-le}
 use Rattle.memchr.specs.Find.{FindsNeedle}
@@ -319,12 +319,20 @@ module _ (octets : List ℕ) (from : ℕ) (passed : List StreamEvent) (at : ℕ)
 rest-after : {X : Type 0} (old mid new : List X) (n m : ℕ) → n ≤ m → drop n mid ≡ drop n old → drop m new ≡ drop m mid → drop m new ≡ drop m old
 rest-after old mid new n m few first more =
     let at : n + (m - n) ≡ m = omega (arith, few) in
-    let from : (l : List _) → drop (m - n) (drop n l) ≡ drop m l = λ l. drop-twice (m - n) n l ∙ ap (λ k. drop k l) at in
-    more ∙ (sym (from mid) ∙ (ap (drop (m - n)) first ∙ from old))
+    more ∙ (sym (ap (λ k. drop k mid) at) ∙ (sym (drop-drop (m - n) n mid) ∙ (ap (drop (m - n)) first ∙ (drop-drop (m - n) n old ∙ ap (λ k. drop k old) at))))
 
 -- more elements are written than before
 pub written-more : {X : Type 0} (n m : ℕ) (before after more : List X) → n ≤ length before → m ≤ length after → take m after ≡ take n before ++ more → n ≤ m
-written-more n m before after more fits fits' written = omega (arith, ap length written, length-take-le n before fits, length-take-le m after fits')
+written-more n m before after more fits fits' written =
+    omega (arith, ap length written, length-append (take n before) more, length-take-le n before fits, length-take-le m after fits')
+
+-- what the code writes into a part
+pub put-rest : {X : Type 0} (at n : ℕ) (to part : List X) → length part ≡ n → at + n ≤ length to → drop (at + n) (take at to ++ (part ++ drop (at + n - at) (drop at to))) ≡ drop (at + n) to
+put-rest at n to part long room =
+    let rest = drop (at + n - at) (drop at to) in
+    let ends : length (take at to ++ part) ≡ at + n = omega (arith, length-append (take at to) part, length-take-le at to (omega (arith, room)), long) in
+    ap (drop (at + n)) (sym (append_assoc (take at to) part rest)) ∙ (drop_at (take at to ++ part) rest (at + n) ends
+    ∙ (drop-drop (at + n - at) at to ∙ ap (λ m. drop m to) (omega arith)))
 
 -- after one more part
 pub rest-next : {X : Type 0} (old before after more : List X) (n m : ℕ) → n ≤ length before → m ≤ length after → take m after ≡ take n before ++ more → drop n before ≡ drop n old

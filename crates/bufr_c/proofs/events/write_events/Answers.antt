@@ -1,4 +1,4 @@
-use Rattle.std.proofs.Common.{◌≡◌, ◌+◌, ◌-◌, ap, drop, false, length, refl, rules, subst, take}
+use Rattle.std.proofs.Common.{◌≡◌, ◌∙◌, ◌+◌, ◌-◌, ap, drop, false, length, refl, rules, subst, take}
 use Rattle.std.proofs.lemmas.List.{take_rest}
 use Rattle.bufr_c.specs.Commands.{piece_by}
 use Rattle.bufr_c.specs.Leaving.{HasNoRoom}
