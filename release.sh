@@ -80,7 +80,7 @@ if [ $proof = proved ]; then
     command -v "${CC:-cc}" > /dev/null || die "the library for C needs a C compiler, but ${CC:-cc} is not on PATH"
     shopt -s nullglob
     proved=(crates/*/src crates/*/must-fail/*.edit)
-    [ -z "$(git ls-files 'crates/*/out/*')" ] || die 'the commit contains files in crates/*/out, which only the toolchain may create'
+    [ -z "$(git ls-files 'crates/*/out/*')" ] || die 'the commit contains files in crates/*/out, which only the toolchain may create; remove them from the repository'
     prove rt ci --anew || die 'the proofs or the tests failed (rt ci); see the output above'
     gate=$(tail -n 1 "$work/log")
     # `rt ci` succeeds even if a must-fail edit is invalid, but does not count that edit.

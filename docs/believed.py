@@ -6,22 +6,26 @@
 
 The output begins with an explanation of the notation. The contracts come next, followed by the definitions under headings:
 first those of the format, then those of how a run uses its devices, and last what the kit's crates csv and clap guarantee.
-Most definitions come after those that they use. The name of each file of definitions is followed by its first lines. A law
-that justifies a file is printed after the file, and definitions that only the laws need come last. Types and traits
-in a signature are printed with their ghost items. Imports, tags and derives are left out. An enum of faults is also left
-out if its report, which lists the number and the text of each fault, is printed. The report is printed before the first
-definition that names a fault of the enum.
+Most definitions come after those that they use. The name of each file of definitions is followed by its first lines, and by
+the names from later sections that these definitions use. A law that justifies a file is printed after the file, and
+definitions that only the laws need come last. Types and traits in a signature are printed with their ghost items. Imports,
+tags and derives are left out. An enum of faults is also left out if its report, which lists the number and the text of each
+fault, is printed. The report is printed before the first definition that names a fault of the enum. If two definitions have
+the same name, that of a kit's crate is printed with the crate's name, as in `clap.Row`. A definition that repeats an earlier
+one word for word is printed with a note instead of its comment. Some definitions of the kit are printed with a note of ours.
 
 Names from std, and names that the checker itself derives from a contract (specs.contracts), are not followed. If any other
 imported name is not found, believed.py prints an error instead and exits with status 1. The numbers of definitions, lines
 and files are printed on standard error.
 """
 import functools
+import itertools
 import pathlib
 import re
 import signal
 import subprocess
 import sys
+import textwrap
 
 TOP = pathlib.Path(__file__).resolve().parent.parent
 HEADINGS = {
@@ -32,9 +36,11 @@ HEADINGS = {
     "Expanding a descriptor list": "tables: Tree Expansion",
     "Fields and operators": "walk: spec Content Rules",
     "Reading the data of a message": "walk: fault walker Course Reading Pass",
-    "The lines of a dump": "fill: fault Draft; text: line Line",
+    "The lines of a dump": "frame: Section1.greatest Section1.values_of Section1.greatest_values; fill: Draft.DraftValue; text: line Line",
     "Writing a listing and a dump": "fill: RoundTrip; text: Dump",
-    "Building a message from a dump": "text: fault document Documents Reader; fill: Encoding; frame: Layout; text: encode Encoding",
+    "Building a message from a dump":
+        "fill: Draft.Draft Draft.draft Draft.DraftEntry; text: fault document Documents Reader; fill: fault Draft Encoding;"
+        " frame: Section1.octets_3 Section1.octets_4 Layout; text: encode Encoding",
     "Fault lines, and the pieces of output that a run writes": "cli: FaultLine Pieces",
     "Round trips": "text: Spelling RoundTrip; cli: RoundTrip laws",
     "The command line": "cli: job Line",
@@ -43,7 +49,7 @@ HEADINGS = {
     "What the kit's crate csv guarantees about the records of a table": "csv: parser Machine Records Reading",
     "What the kit's crate clap guarantees about a command line":
         "clap: error/kind builder/action builder/possible_value builder/range builder/value_parser parser/matches"
-        " Lexer Values ValueTests Takes Kinds Facts Matches Walk Simple Faults",
+        " Lexer Values ValueTests Facts Matches Walk Takes Kinds Simple Faults",
     "Definitions that only the laws need": "walk: KnownRows",
     "Other definitions": "",
 }
@@ -51,21 +57,22 @@ PRIMER = """\
 == The notation
 
 `f : A → B` gives the type of f. Equations follow, and the first one that matches applies. `f x y` applies f to x and y.
-Every definition has a value for all arguments, even for arguments that never occur. `abbrev`, `unfoldable`, `rec` and
-`infixl` matter only to the checker. In a block `module _ (how : T) where`, every indented definition also takes the argument
-`how`. A `record` has named fields, and `record s { x = 1 }` is s with 1 in the field x. A `data` type has the constructors
-that are listed below it. A `Bool` is computed. A `Type 0` is a type or a statement: `×` means "and" or a pair (its parts
-are `.0` and `.1`), `⊎` "or", `→` "implies" or a function, `≡` "equals", `¬` "not", `(x : A) →` "for each x", and `(x : A) ×`
-"for some x". `Unit` and `⊤` are always true, and `⊥` never. Arguments in braces, as in `{X = T}`, can be left out. `λ x. e`
-is a function, `x ∷ xs` is the list xs with x in front, and `++` joins lists. In `do`, a line `x ← e` stops at the first
-fault or `None`, as `>>=` does.
+Every definition has a value for all arguments, even for arguments that never occur. `abbrev`, `unfoldable` and `rec` matter
+only to the checker, and `infixl` sets a precedence. In a block `module _ (how : T) where`, every indented definition also
+takes the argument `how`. A `record` has named fields, and `record s { x = 1 }` is s with 1 in the field x. A `data` type has
+the constructors that are listed below it. A `Bool` is computed. A `Type 0` is a type or a statement: `×` means "and" or a
+pair (its parts are `.0` and `.1`), `⊎` "or", `→` "implies" or a function, `≡` "equals", `¬` "not", `(x : A) →` "for each x",
+and `(x : A) ×` "for some x". `Unit` and `⊤` are always true, and `⊥` never. Arguments in braces, as in `{X = T}`, can be left
+out. `λ x. e` is a function, `x ∷ xs` is the list xs with x in front, and `++` joins lists. In `do`, a line `x ← e` stops at
+the first fault or `None`, as `>>=` does.
 
 A number in ℕ is `zero` or `suc n` (n + 1), and one in ℤ is `pos n` (n) or `negsuc n` (-n - 1). A text is a list of octets:
 10 is a line feed, 32 a space, 34 `"`, 35 `#`, 45 `-`, 46 `.`, and 92 `\\`; 48 to 57 are the digits.
 
-A word before a constructor, as in `fault.Width`, only distinguishes constructors that have the same name; the signature
-shows their type. Most types of faults are not printed. Instead, a report lists the number and the text of each fault of a
-type: `cause_report` lists those of `Cause`.
+A word before a constructor, as in `data_fault.DataEnd`, stands for its type (`DataFault`), since several types have
+constructors of the same name. Most types of faults are not printed. Instead, a report lists the number and the text of each
+fault of a type: `cause_report` lists those of `Cause`. If the kit's crates csv and clap define a name that is also defined
+here, the name of the crate comes before it, as in `clap.Row`.
 
 Rust types and traits are printed, too. Their `ghost` items exist only in proofs. A `Model` defines the value to which clauses
 refer instead of the Rust value, and `source.Ghosts R` contains the ghost items that the type R has as a `Source`. A `Bor` is
@@ -81,14 +88,43 @@ known before and after a call. If nothing is known before the call, they always 
 `ReadConsumes` and `WriteAppends` mean `Consumes` and `Appends` for a call that returns a count, and `Keeps` for a call that
 fails. `IfSome`, `IfOk` and `IfErr` apply a statement to the value in an option or a result, if there is one.
 
-Names that are not defined below, such as `take` and `codes`, come from std (rattle/std and rattle/core in the kit, and
-rattle/ANTT.md). Names from the kit's csv and clap, and names that only the laws need, are defined after they are used. The
-first lines of each file cite the part of FM 94 that it defines. `(own)` marks a rule that is our choice.
+Names that are not defined below come from std (rattle/std and rattle/core in the kit, and rattle/ANTT.md), such as:
+  `codes "ab"`, `decimal n`                    the octets of a text; those of n in decimal digits
+  `digits_value 10 digits`                     the number that these octets, which are digits, represent
+  `nat_abs z`, `unsigned_abs z`                z without its sign, in ℕ
+  `get_or xs i d`, `slice_index xs i`          the element at index i, from 0; past the end, d or 0
+  `slice_range xs a b`                         the elements at the indices from a up to, but not including, b
+  `take_while p xs`                            the first elements, up to the one before the first that fails the test p
+  `before_first p xs`, `after_first p xs`      what comes before or after the first element that passes p; all or nothing if none
+  `position p xs`                              the index of that element, from 0, if there is one
+  `unwrap_or o d`, `option_map_or f o d`       the value in the option o, or f of that value; d if o is `None`
+  `option_and_then f o`                        f of the value in o, where f returns an option; `None` if o is `None`
+  `ok_or o e`                                  `Ok` with the value in o; `Err e` if o is `None`
+
+Names that are defined in later sections are listed after the first lines of a file. These lines cite the part of FM 94 that
+the file defines. `(own)` marks a rule that is our choice.
 """
 # The laws that justify definitions, by the file that contains the definitions.
 LAWS = {
     "walk/specs/Rules.antt": ["elements_have_their_rows"],
     "walk/specs/Pass.antt": ["data_are_read_item_by_item"],
+}
+# Our notes on definitions of the kit, by crate and name.
+NOTES = {
+    ("csv", "step"): 'What comes after a closing quote belongs to the field: `"a"b` is ab.',
+    ("csv", "records_from"): "`length xs + 1` records are enough, since each one uses at least one byte.",
+    ("clap", "accepts"): "Whether a parser accepts a text. `ignore_case` only affects values that are listed.",
+    ("clap", "unwrap_or_range"): "The number of values of an argument: one, if it is not set. The comment below belongs to `parser_of_value`.",
+    ("clap", "check_kinds"): "`wants_help`: nothing was given, although help is shown then. `wants_subcommand` and `wants_argument`: a"
+        " subcommand, or an argument, is required but missing.",
+    ("clap", "Rule"): "`value_names` is their number, and `missing` the values of an option that is given without one. `is_simple` and"
+        " `is_free` are false if a setting changes how words are read, or relates the argument to others.",
+    ("clap", "Held"): "In the definitions printed here, `skip` is always 0.",
+    ("clap", "attached_value"): "`-B=` has an empty value, and `-B` has none.",
+    ("clap", "Shape"): "`is_leaf`: it has no subcommands. `is_built`: the arguments that `built` adds are there.",
+    ("clap", "repeat_fault"): "`again`, here and below, is `args_override_self`: whether an argument may be given again.",
+    ("clap", "level_fault"): "The first fault is that of the words, then `below` (of the subcommand), of the values of the last option, of the"
+        " defaults, and of what is missing.",
 }
 HEAD = re.compile(r"^ {0,2}(?:abbrev |unfoldable |rec )*(?:pub )?(?:record |data )?([^\s:(){}]+) *(?:\([^:]*|\{[^:]*)?:(?: |$)")
 USE = re.compile(r"^\s*(?:unfoldable |ghost |pub )*use Rattle\.(?!std\.)(\w+)\.specs\.(?!contracts\.)([\w.]+?)(?:\.\{([^}]*)\}| as ([\w-]+));?$")
@@ -99,10 +135,11 @@ TOKEN = re.compile(r"[^\s()\[\]{};,:]+")
 
 
 class Item:
-    """A definition, a declared type or a function: its file, line number, name and text, and the names in its scope."""
+    """A definition, a declared type or a function: its file, line number, name and text, the names in its scope, and the line
+    `module _ (..) where` of the block that it is in, if any."""
 
-    def __init__(self, path, line, name, lines, scope):
-        self.path, self.line, self.name, self.lines, self.scope = path, line, name, lines, scope
+    def __init__(self, path, line, name, lines, scope, module=None):
+        self.path, self.line, self.name, self.lines, self.scope, self.module = path, line, name, lines, scope, module
 
     def code(self):
         """Returns the text without comments or attributes."""
@@ -139,8 +176,8 @@ def comment_before(lines, at):
 
 
 def own_lines(lines):
-    """Returns the lines of a definition, without blank lines and without the heading of the next definitions."""
-    text = re.sub(r"(?m)^(?:-- ----.*\n(?:--.*\n)*|(?:--.*\n)+(?=\n|\Z))", "", "\n".join(lines) + "\n")
+    """Returns the lines of a definition, without blank lines and without the heading or module line of the next definitions."""
+    text = re.sub(r"(?m)^(?:-- ----.*\n(?:--.*\n)*|(?:--.*\n)+(?=\n|\Z)|module .*\n)", "", "\n".join(lines) + "\n")
     return [one for one in text.split("\n") if one.strip()]
 
 
@@ -177,19 +214,19 @@ class House:
             return self.files[path]
         items = self.files[path] = {}
         lines, scope, heads = read(path), {}, []
-        in_module = False
+        module = None
         for at, line in enumerate(lines):
             if line[:1].strip():
-                in_module = line.startswith("module ")
+                module = line if line.startswith("module ") else None
             found = HEAD.match(line)
             before = re.sub(r"◌\S+◌", "", line.split(":")[0])
-            if found and (in_module or line[0] != " ") and not re.match("use |--|module ", line) and "=" not in before:
-                heads.append((comment_before(lines, at), at, found[1]))
-        for (begin, at, name), after in zip(heads, [head[0] for head in heads[1:]] + [len(lines)]):
+            if found and (module or line[0] != " ") and not re.match("use |--|module ", line) and "=" not in before:
+                heads.append((comment_before(lines, at), at, found[1], module if line[0] == " " else None))
+        for (begin, at, name, module), after in zip(heads, [head[0] for head in heads[1:]] + [len(lines)]):
             if name in items:
                 items[name].lines += lines[begin:after]
                 continue
-            items[name] = Item(path, at + 1, name, own_lines(lines[begin:after]), scope)
+            items[name] = Item(path, at + 1, name, own_lines(lines[begin:after]), scope, module)
             if re.match(r" *(?:pub )?data ", lines[at]):
                 for form in re.findall(r"(?m)^ +(\S+) : ", "\n".join(lines[at + 1 : after])):
                     items.setdefault(form, items[name])
@@ -248,23 +285,23 @@ class House:
                     return found
         return None
 
+    def named(self, item, token):
+        """Returns the item that a token in the text of an item names, if any."""
+        first, _, rest = token.partition(".")
+        place = item.scope.get(first) or item.scope.get(f"◌{'>>=' if first == 'do' else first}◌")
+        if isinstance(place, Item) or not place:
+            return place
+        crate, module, name = place
+        found = self.find(crate, module, name or rest.partition(".")[0]) if name or rest else None
+        if not found and (name or rest[:1].isupper()):
+            self.lost.add(f"{item.path}: no {token} in {crate}.specs.{module}")
+        return found
+
     @functools.cache
     def uses(self, item):
         """Returns the items that an item names."""
-        text, items = item.code(), []
-        for token in TOKEN.findall(text):
-            first, _, rest = token.partition(".")
-            place = item.scope.get(first) or item.scope.get(f"◌{'>>=' if first == 'do' else first}◌")
-            if isinstance(place, Item):
-                items.append(place)
-            elif place:
-                crate, module, name = place
-                if name or rest:
-                    found = self.find(crate, module, name or rest.partition(".")[0])
-                    if found:
-                        items.append(found)
-                    elif name or rest[0].isupper():
-                        self.lost.add(f"{item.path}: no {token} in {crate}.specs.{module}")
+        text = f"{item.code()}\n{item.module or ''}"
+        items = [found for token in TOKEN.findall(text) for found in [self.named(item, token)] if found]
         if item.path.suffix == ".rt":
             items += filter(None, (self.rust(item.path, name) for name in re.findall(r"\b[A-Z]\w*", text)))
         return items
@@ -334,14 +371,17 @@ def reach(item, seen, house):
 
 
 def headed():
-    """Returns a dictionary that gives the number of each file's heading and the position of the file."""
+    """Returns a dictionary that gives the number of the heading, and the position below it, of each file (by path) and of
+    each definition that has a heading of its own (by path and name)."""
     order = {}
     for number, files in enumerate(HEADINGS.values()):
         for part in filter(None, files.split("; ")):
             crate, names = part.split(": ")
             for name in names.split():
-                folder, ending = ("specs", "antt") if name.rpartition("/")[2][0].isupper() else ("src", "rt")
-                order[sources(crate if crate in ("csv", "clap") else f"bufr_{crate}") / f"{folder}/{name}.{ending}"] = number, len(order)
+                file, _, one = name.partition(".")
+                folder, ending = ("specs", "antt") if file.rpartition("/")[2][0].isupper() else ("src", "rt")
+                path = sources(crate if crate in ("csv", "clap") else f"bufr_{crate}") / f"{folder}/{file}.{ending}"
+                order[(path, one) if one else path] = number, len(order)
     return order
 
 
@@ -386,9 +426,66 @@ def put_reports_first(enums, key, house):
                     key[item] = (number, order, *at, item.line)
 
 
-def size(items):
-    """Returns a phrase that gives the number of definitions and the number of lines."""
-    return f"{len(items)} definitions, {sum(text(item).count(chr(10)) + 1 for item in items)} lines"
+def is_own(item):
+    """Whether an item belongs to this repository, and not to the kit."""
+    return TOP in item.path.parents
+
+
+def crate_of(item):
+    """Returns the name of the crate that contains an item."""
+    return next(folder for folder in item.path.parents if folder.name in ("specs", "src")).parent.name
+
+
+def comment(sentence):
+    """Returns a sentence as comment lines."""
+    return textwrap.wrap(sentence, 100, initial_indent="-- ", subsequent_indent="-- ", break_on_hyphens=False)
+
+
+class Printer:
+    """Prints items, and counts their lines."""
+
+    def __init__(self, house, items):
+        self.house, self.sections, self.lines, self.codes = house, {}, {}, {}
+        names = [item.name for item in items]
+        self.qualified = {item for item in items if not is_own(item) and names.count(item.name) > 1}
+
+    def name(self, item):
+        """Returns the name of an item. If it is not the only one of this name, the name of the kit's crate comes first."""
+        return f"{crate_of(item)}.{item.name}" if item in self.qualified else item.name
+
+    def text(self, item):
+        """Returns the text of an item, in which some names have the name of a crate before them."""
+        def renamed(token):
+            found = self.house.named(item, token[0])
+            return token[0].replace(found.name, self.name(found), 1) if found in self.qualified else token[0]
+
+        lines = text(item).split("\n")
+        return "\n".join(one if re.match(r"\s*(?:--|//)", one) else TOKEN.sub(renamed, one) for one in lines)
+
+    def put(self, item, section, module=None):
+        """Prints an item of a section. `module` is the module line that was printed last in the same file, if any."""
+        shown, uses = self.text(item), set(self.house.uses(item)) - {item}
+        code = re.sub(r"(?m)^\s*(?:--|//).*\n|\b(?:clap|csv)\.(?=[a-z_\d]+\b)", "", shown)
+        if self.codes.setdefault(code, (section, uses))[1] == uses and section != self.codes[code][0]:
+            shown = f"-- the same as in section {self.codes[code][0]}\n" + re.sub(r"^(?:--.*\n)*", "", shown)
+        if (crate_of(item), item.name) in NOTES:
+            shown = "\n".join([*comment(f"(our note) {NOTES[crate_of(item), item.name]}"), shown])
+        if item.module and item.module != module:
+            shown = f"{item.module}\n{shown}"
+        print(f"\n{shown}")
+        self.lines[item] = shown.count("\n") + 1
+
+    def later(self, items, section):
+        """Returns comment lines that list the items from later sections that items of this section use."""
+        uses = {used for item in items for used in self.house.uses(item) if self.sections.get(used, 0) > section}
+        numbers = sorted({self.sections[used] for used in uses})
+        lists = [", ".join(f"`{self.name(used)}`" for used in sorted(uses, key=self.name) if self.sections[used] == number) for number in numbers]
+        note = "; ".join(f"{names} (section {number})" for number, names in zip(numbers, lists))
+        return comment(f"Defined later: {note}.") if note else []
+
+    def size(self, items):
+        """Returns a phrase that gives the number of definitions and the number of lines."""
+        return f"{len(items)} definitions, {sum(self.lines[item] for item in items)} lines"
 
 
 def main():
@@ -407,32 +504,38 @@ def main():
     beside = [item for item in reached(justifying, house) if item not in [*definitions, *calls, *enums]]
     if house.lost:
         sys.exit("\n".join(f"{sys.argv[0]}: {one}" for one in sorted(house.lost)))
-    print(PRIMER)
-    for call in calls:
-        print(f"== The contract of {call.name}\n\n{text(call)}\n")
     other = len(titles) - 1
-    place = {item: order.get(item.path, (other, 0))[0] for item in definitions} | {item: other - 1 for item in beside}
-    key = {item: (place[item], order.get(item.path, (other, 0)), str(item.path), item.line, 1) for item in place}
+    positions = {item: order.get((item.path, item.name), order.get(item.path, (other, 0))) for item in [*definitions, *beside]}
+    key = {item: (number, (number, at), str(item.path), item.line, 1) for item, (number, at) in positions.items()}
+    key |= {item: (other - 1, *key[item][1:]) for item in beside}
     put_reports_first(enums, key, house)
-    number, path, count = -1, None, 0
-    for item in [*sorted(place, key=key.get), None]:
-        if path and (item is None or item.path != path):
+    sorted_items = sorted(key, key=key.get)
+    printer = Printer(house, sorted_items)
+    numbers = sorted({key[item][0] for item in sorted_items})
+    printer.sections = {item: numbers.index(key[item][0]) + 1 for item in sorted_items}
+    print(PRIMER)
+    for nth, call in enumerate(calls):
+        print("\n" * bool(nth) + f"== The contract of {call.name}")
+        printer.put(call, 0)
+    begun = set()
+    for number, inside in itertools.groupby(sorted_items, lambda item: key[item][0]):
+        section = numbers.index(number) + 1
+        print(f"\n== {section}. {titles[number]}")
+        for path, items in itertools.groupby(inside, lambda item: item.path):
+            items, module = list(items), None
+            file = f"{path.relative_to(TOP if is_own(items[0]) else kit())}{' (continued)' if path in begun else ''}"
+            print(f"\n-- {file}", *([] if path in begun else about(path)), *printer.later(items, section), sep="\n")
+            begun.add(path)
+            for item in items:
+                printer.put(item, section, module)
+                module = item.module
             for law in laws.pop(path, []):
-                print(f"\n-- a proved law that justifies these definitions\n{text(law)}")
-        if item is None:
-            break
-        if key[item][0] != number:
-            number, path = key[item][0], None
-            count += 1
-            print(f"\n== {count}. {titles[number]}")
-        if item.path != path:
-            path = item.path
-            print(f"\n-- {path.relative_to(TOP if TOP in path.parents else kit())}", *about(path), sep="\n")
-        print(f"\n{text(item)}")
-    own = calls + [item for item in definitions if TOP in item.path.parents]
-    print(f"{size(own)}, {len({item.path for item in own})} files", file=sys.stderr)
-    print(f"from the kit's crates: {size([item for item in definitions if item not in own])}", file=sys.stderr)
-    print(f"laws that justify them, and definitions that only these laws need: {size(justifying + beside)}", file=sys.stderr)
+                print("\n-- a proved law that justifies these definitions", *printer.later([law], section), sep="\n", end="")
+                printer.put(law, section)
+    own = calls + [item for item in definitions if is_own(item)]
+    print(f"{printer.size(own)}, {len({item.path for item in own})} files", file=sys.stderr)
+    print(f"from the kit's crates: {printer.size([item for item in definitions if item not in own])}", file=sys.stderr)
+    print(f"laws that justify them, and definitions that only these laws need: {printer.size(justifying + beside)}", file=sys.stderr)
 
 
 if __name__ == "__main__":

@@ -34,7 +34,7 @@ the source contains a `Piece`, conditions are not reported, because other pieces
 reason, a column without items is then reported only if no table set defines it.
 
 This module needs NumPy, and `frame` needs pandas. The library is the file libbufr.so.0 next to this module, or in the
-directory `lib` of the installation or clone. To use another file, set the environment variable BUFR_LIBRARY to its path. If
+`lib` directory of the installation or clone. To use another file, set the BUFR_LIBRARY environment variable to its path. If
 the library cannot be loaded, importing this module raises `ImportError`.
 """
 from __future__ import annotations
@@ -155,14 +155,14 @@ def _optional(part: Part) -> Array:
 
 
 class _Elements:
-    """The names and units of elements, from the Table B with which each item was read."""
+    """The names and units of elements, from the Table B that was used to read each item."""
 
     def __init__(self) -> None:
         # For each descriptor, the name and unit in each table that defines it.
         self.found: Dict[str, Dict[str, Tuple[str, str]]] = {}
 
     def add(self, fxy: str, used: Iterable[Optional[Tables]]) -> List[str]:
-        """Records the tables with which items with this descriptor were read. Returns the units in these tables."""
+        """Records which tables were used to read the items with this descriptor. Returns the units in these tables."""
         defined = {tables.files[0]: tables.elements[fxy] for tables in used if tables and fxy in tables.elements}
         self.found.setdefault(fxy, {}).update(defined)
         return [unit for _, unit in defined.values()]
@@ -246,7 +246,7 @@ def _table_of_subsets(part: Part, columns: Sequence[str]) -> _Table:
 
 
 def _tables(reader: Reader, columns: Sequence[str], keep: Sequence[str] = (), has_levels: bool = False) -> Iterator[_Table]:
-    """Yields a table for each part and then warns about gaps."""
+    """Yields a table for each part, and then issues warnings about empty columns and skipped subsets."""
     gaps = bufr_text.Gaps(columns, keep, reader.table_b)
     for part in reader:
         table = _table_of_levels(part, columns, keep, gaps) if has_levels else _table_of_subsets(part, columns)
@@ -342,7 +342,7 @@ def _column(part: Part, indices: Array, elements: _Elements, fxy: str, is_exact:
 
 
 def _joined(parts: List[Any], unit: str, is_exact: bool) -> Any:
-    """Joins the parts of a data frame column. A part without items is given as its number of rows."""
+    """Joins the parts of a data frame column. A part without items is represented by its number of rows."""
     import pandas
 
     kinds = {str(part.dtype) for part in parts if not isinstance(part, int)} or {_kind_of([unit], is_exact)}
@@ -368,8 +368,8 @@ def frame(
 
     Numbers are rounded to the nearest float, and missing numbers are NaN. Values from code tables and flag tables are `Int64`,
     strings are `str` or `None`, and the values of the header key `"time"` are `datetime64`. `frame.attrs` contains the name
-    and unit of each column, from the Table B with which its values were read. If these tables give different units, `attrs`
-    contains all of them, and a `DumpWarning` says which table sets they come from.
+    and unit of each column, from the Table B that was used to read its values. If several tables were used and their units
+    differ, `attrs` contains all of the units, and a `DumpWarning` says which table sets they come from.
 
     Strings have one character for each byte, as in ISO 8859-1. Unlike the strings from `rows`, they contain no escapes. If the
     time in a header is invalid, the value is NaT. In edition 3, years have two digits: 69 to 99 stand for 1969 to 1999, and 0
@@ -385,12 +385,11 @@ def frame(
         >>> bufr.frame("sounding.bufr", ["007004", "012101"], levels=True, keep=["001002"]).iloc[0].tolist()
         [836.0, 98520.0, 258.55]
 
-    With `levels=True`, a level has a row only if it contains an item for the first column and, if there are other columns,
-    for at least one of them. If a subset contains several delayed replications, give as the first column a descriptor that
-    occurs only in the replication that you want.
-    To add an element that occurs once in a subset, such as the station number 001002, pass it in `keep`. The repetitions of
-    a group whose count is fixed by the template are not levels; to get their values, use columns such as `"013011:2"`
-    without `levels=True`, or `items`.
+    With `levels=True`, a level has a row only if it contains an item for the first column. If there are other columns, the
+    level must also contain an item for at least one of them. If a subset contains several delayed replications, choose a first
+    column whose descriptor occurs only in the replication that you want. To add an element that occurs once in a subset, such
+    as the station number 001002, pass it in `keep`. The repetitions of a group whose count is fixed by the template are not
+    levels; to get their values, use columns such as `"013011:2"` without `levels=True`, or use `items`.
 
     For an empty list of files, the result has no rows. With `faults="ignore"`, there is no warning, so you can use
     `bufr.frame([], columns, header, faults="ignore")` as `meta` in Dask.
@@ -489,7 +488,7 @@ class Items(NamedTuple):
 
     `messages` is the result of `bufr.messages`. It also has rows for rejected messages and strays, which have no items.
     `elements` contains the name and unit of each descriptor that occurs, as in `frame.attrs`. `names` contains a dictionary
-    for each row of `messages`, with the name and unit of each element in the Table B with which the message was read.
+    for each row of `messages`, with the name and unit of each element in the Table B that was used to read the message.
 
         >>> found = bufr.items("synop.bufr")
         >>> air = found.items[found.items["fxy"] == 12101]
@@ -535,7 +534,7 @@ class Items(NamedTuple):
         `message_row` is the index of the message in `messages`, as in `items`. To add columns from `messages`, such as the
         centre, use the data frame's method `join` with `on="message_row"`.
 
-        The name and unit come from the Table B with which the item was read. New reference values, which are defined in the
+        The name and unit come from the Table B that was used to read the item. New reference values, which are defined in the
         data, have the name REFERENCE. Texts are the same as in `bufr.frame`.
 
         >>> bufr.items("synop.bufr", ["001015", "012101"]).frame().query("subset == 2")[["fxy", "value", "text", "unit"]]

@@ -86,7 +86,7 @@ class Feed:
         except OSError as error:
             raise Unread(f"cannot read {self.name}: {error.strerror}") from None
         if not octets and self.taken < self.length:
-            raise Unread(f"{self.name} was truncated while it was being read")
+            raise Unread(f"{self.name} was truncated while it was being read; try again")
         self.taken += len(octets)
         self.begin += octets[: 256 - len(self.begin)]
         return octets
@@ -323,7 +323,7 @@ class Store:
         self.block.clear()
 
     def descriptor(self) -> int:
-        """Returns the file's descriptor, positioned at the start of the file."""
+        """Moves to the start of the file and returns the file's descriptor."""
         self.flush()
         os.lseek(self.file, 0, os.SEEK_SET)
         return self.file
@@ -356,12 +356,12 @@ class Run:
 
     @staticmethod
     def size_of(octets: Octets) -> int:
-        """Returns the size of a piece, in the unit that fault lines use: bytes or lines."""
+        """Returns the size of a piece in bytes or lines, whichever unit its fault lines use."""
         raise NotImplementedError
 
     @staticmethod
     def asked_by(piece: Bytes) -> Tables:
-        """Returns the numbers in the header of a piece that determine its table set."""
+        """Returns the numbers in a piece's header that determine which table set it needs."""
         raise NotImplementedError
 
     @staticmethod
@@ -411,7 +411,7 @@ class Run:
         self.place = bufr_guard.NOWHERE
 
     def fault(self, place: int, size: int) -> bytes:
-        """Returns the fault line for the next piece, or empty bytes if the piece has no fault."""
+        """Returns the fault line for the next piece, or an empty bytes object if the piece has no fault."""
         begin, self.passed = self.passed, self.passed + size
         if self.place >= self.passed:
             return b""
@@ -443,7 +443,7 @@ class Run:
 
 
 class Dump(Run):
-    """A run of `bufr dump`. Its pieces are messages, and their places are offsets."""
+    """A run of `bufr dump`. Its pieces are messages, which are located by their offsets."""
 
     COMMAND, PLACE, FIRST, PIECE, SOURCE = "dump", b"offset ", 0, "message", Messages
     size_of, words_of = staticmethod(len), staticmethod(bufr_sets.words_of)
@@ -467,7 +467,7 @@ class Dump(Run):
 
 
 class Encode(Run):
-    """A run of `bufr encode`. Its pieces are documents, and their places are line numbers."""
+    """A run of `bufr encode`. Its pieces are documents, which are located by their line numbers."""
 
     COMMAND, PLACE, FIRST, PIECE, SOURCE = "encode", b"line ", 1, "document", Documents
 
@@ -537,7 +537,7 @@ class Part:
 
 
 class Notes:
-    """The reasons why no table set matches exactly. Each has the number of affected pieces and the place of the first one."""
+    """The reasons why no table set matches exactly. Each records how many pieces are affected and where the first one is."""
 
     def __init__(self) -> None:
         self.reasons: Dict[str, Reason] = {}
@@ -606,7 +606,7 @@ class Chooser:
         return tables, notes
 
     def is_concerned(self, tables: bufr_sets.TableSet, reason: Reason, words: bytes) -> bool:
-        """Returns whether a reason concerns any descriptor that a descriptor list uses, directly or through sequences."""
+        """Returns whether a reason applies to any descriptor that a descriptor list uses, directly or through sequences."""
         key = tables, reason.concerns, words
         if key in self.remembered:
             return self.remembered[key]
@@ -766,7 +766,7 @@ class Work:
         part.pieces.append((place, source.lines, run, notes, b""))
 
     def selected(self, part: Part) -> Part:
-        """Returns a part with the candidates that meet the conditions, and those that `bufr ls` rejects."""
+        """Returns a part that contains the candidates that meet the conditions and those that `bufr ls` rejects."""
         if part.candidates is None:
             return part
         candidates, chosen, begin = part.candidates.descriptor(), Part(), 0
@@ -848,7 +848,7 @@ class Work:
             self.end(worst, is_whole)
 
     def end(self, run: Run, is_whole: bool) -> None:
-        """Records the exit status of a run and the lines that it printed other than fault lines."""
+        """Records the exit status of a run and all lines that it printed except fault lines."""
         self.last += run.others
         for line in run.others:
             if line.startswith((b"table B: ", b"table D: ")):

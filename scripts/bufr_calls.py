@@ -183,7 +183,7 @@ def word(fxy: str) -> int:
 
 
 def words(columns: Optional[Sequence[str]]) -> Array:
-    """Converts the column descriptors to the form that `Tables.items` expects. If `columns` is `None`, all items are selected."""
+    """Converts column descriptors to the form that `Tables.items` expects. If `columns` is `None`, selects all items."""
     found = [] if columns is None else sorted({*map(word, columns)}) or [NOTHING]
     # The array is created with one additional descriptor, so that it has an address even if it is empty.
     return numpy.array([*found, 0], "u2")[: len(found)]

@@ -175,7 +175,7 @@ def answer(question: str, text: str) -> int:
 def build() -> str:
     """Returns the commit from which the program was built, and whether the program is proved.
 
-    install.sh records both, along with the program's SHA-256 checksum, in the file BUILD next to the documentation.
+    install.sh records both, along with the program's SHA-256 checksum, in a file named BUILD next to the documentation.
     """
     import hashlib
     import shutil
@@ -405,7 +405,8 @@ def lines_from(
         block = os.read(pipe, BLOCK)
         lines, end, rest = (rest + block).rpartition(b"\n")
         if len(rest) > BLOCK:
-            raise Failed("a line in the listing is longer than 1 MB, so it cannot have come from 'bufr ls'")
+            what = "a line in the listing is longer than 1 MB, so it cannot have come from 'bufr ls'"
+            raise Failed(f"{what}; check BUFR and any --awk condition")
         yield lines + end
     yield rest
 
@@ -503,7 +504,7 @@ def no_room() -> Failed:
 
 
 def copied(source: int, name: str) -> int:
-    """Copies the data from a descriptor to a temporary file. Returns the descriptor of that file, positioned at the start."""
+    """Copies the data from a descriptor to a temporary file, moves to the start of that file, and returns its descriptor."""
     descriptor, octets, progress, size = temporary(), b" ", Progress(has_texts=False), 0
     while octets:
         try:
@@ -530,13 +531,13 @@ def read_at(descriptor: int, offset: int, length: int) -> bytes:
         except OSError as error:
             raise Failed(f"cannot read the input: {error.strerror}") from None
         if not pieces[-1]:
-            raise Failed("the input was truncated while it was being read")
+            raise Failed("the input was truncated while it was being read; try again")
         offset += len(pieces[-1])
     return b"".join(pieces)
 
 
 def fault_lines(errors: int) -> Iterator[tuple[float, bytes]]:
-    """Yields each line that `bufr` wrote to the file `errors`, with the offset that the line reports.
+    """Yields each line that `bufr` wrote to the `errors` file, with the offset that the line reports.
 
     Lines that do not report faults in messages come last, with the offset `NOWHERE`.
     """
@@ -550,7 +551,7 @@ def fault_lines(errors: int) -> Iterator[tuple[float, bytes]]:
 
 
 class Faults:
-    """The lines that `bufr` wrote to the file `errors`. Fault lines can be printed between the dumps of messages.
+    """The lines that `bufr` wrote to the `errors` file. Fault lines can be printed between the dumps of messages.
 
     Lines that do not report faults in messages are printed last, by `tell_rest`. `has_told` is then true if there were any
     such lines.

@@ -1,4 +1,4 @@
-"""Reads a source in parts, for the module `bufr`.
+"""Reads a source in parts, for the `bufr` module.
 
     for part in bufr_parts.Reader("synop.bufr", ["012101"]):
         print(part.messages["offset"], part.items["value"])
@@ -101,7 +101,7 @@ class _Stream:
         if isinstance(octets, str):
             raise TypeError(_TEXT)
         if octets is None:
-            raise BlockingIOError("the source is in non-blocking mode and has no data yet")
+            raise BlockingIOError("the source is in non-blocking mode and has no data yet; use blocking mode")
         self.left -= len(octets)
         self.start = self.start or octets[:256]
         return octets

@@ -89,7 +89,7 @@ cache: List[TableSet] = []
 
 
 def rows_of(file: str, *columns: str) -> Iterator[List[str]]:
-    """Yields the values in these columns for each row of a table. Skips rows that are too short; `bufr` reports these rows."""
+    """Yields the values in the given columns for each row of a table. Skips rows that are too short, because `bufr` reports them."""
     import csv
 
     csv.field_size_limit(1 << 30)
@@ -127,7 +127,8 @@ class TableSets:
                 else:
                     self.sets.setdefault(key, {})[tables.version] = tables
         if None not in self.sets:
-            raise bufr_guard.Failed("; ".join([f"{self.folder} does not contain a table set such as wmo-39", *self.notes]))
+            what = f"{self.folder} does not contain a table set such as wmo-39"
+            raise bufr_guard.Failed("; ".join([what, "set BUFR_TABLES to a directory that contains one", *self.notes]))
 
     def latest(self) -> TableSet:
         """Returns the latest set without local rows."""
@@ -136,7 +137,7 @@ class TableSets:
     def asked(self, centre: int, version: int, local: int) -> TableSet:
         """Returns the set for a centre, a version and a local version.
 
-        This is WMO's set for the version or, if there is none, WMO's set for the next later version, or else the latest one.
+        This is WMO's set for the version or, if there is none, WMO's set for the next higher version, or else the latest one.
         A set with the centre's local rows takes precedence if its version is between `version` and the version of WMO's set.
         """
         of_wmo = self.sets[None]
@@ -151,7 +152,7 @@ def is_number(word: str) -> bool:
 
 
 def folder_of_sets() -> str:
-    """Returns the directory that contains the table sets: the value of BUFR_TABLES, or else the installed directory."""
+    """Returns the directory that contains the table sets: the value of BUFR_TABLES if it is set, or the installed one."""
     named = os.environ.get("BUFR_TABLES")
     if named:
         places = [named]

@@ -10,7 +10,7 @@
 
 `rows` and `levels` yield the rows of a table as tuples. `dump` yields messages, `listing` yields the place and the header
 of each message, and `encode` converts messages to BUFR. These functions run the program `bufr`, except that `rows` and
-`levels` use the module `bufr` instead if Python can import it. `read` and `write` convert between dumps and messages.
+`levels` use the `bufr` module instead if Python can import it. `read` and `write` convert between dumps and messages.
 
 Messages are read one at a time, so memory use depends on the longest message in a file, not on the length of the file:
 48 MB including Python, plus 1 KB for each item in that message, plus twice the length of its dump. The list of faults and
@@ -137,7 +137,7 @@ class RunError(RuntimeError):
 
 
 class BufrError(RuntimeError):
-    """Raised by the module `bufr` if a message is rejected, if there is a stray, or if a table is invalid.
+    """Raised by the `bufr` module if a message is rejected, if there is a stray, or if a table is invalid.
 
     Also raised for a file without messages and for an empty list of files. `file`, `offset`, `number` and `text` have the
     same meaning as in `Fault`. For a file without messages, only `file` is set; for an invalid table or an empty list of
@@ -161,7 +161,7 @@ class DumpWarning(UserWarning):
 
 
 def warn(text: str) -> None:
-    """Issues a `DumpWarning` for the line that called this module or the module `bufr`."""
+    """Issues a `DumpWarning` for the line that called this module or the `bufr` module."""
     level, frame = 2, sys._getframe(1)
     while frame.f_globals["__name__"] in ("bufr", "bufr_parts", "bufr_text") and frame.f_back:
         level, frame = level + 1, frame.f_back
@@ -501,10 +501,10 @@ def levels(
     """Yields a tuple for each level of a sounding: header values, then the values for `keep`, then column values.
 
     A level is one repetition (pass) of a delayed replication. A level has a row only if it contains an item for the first
-    column and, if there are other columns, for at least one of them. If a subset contains several delayed replications, put
-    first a column that occurs only in the one that you want. Each column contains the value of the first item with its
-    descriptor in the level, and each column in `keep` that of the first item with its descriptor in the whole subset. In all
-    other respects, `levels` works like `rows`.
+    column. If there are other columns, the level must also contain an item for at least one of them. If a subset contains
+    several delayed replications, choose a first column whose descriptor occurs only in the replication that you want. Each
+    column contains the value of the first item with its descriptor in the level. Each column in `keep` contains the value of
+    the first item with its descriptor in the whole subset. In all other respects, `levels` works like `rows`.
 
     A subset is skipped if it has no levels, or if its levels are ambiguous because the descriptor that begins a level
     occurs again in the same level. After the last row, a `DumpWarning` for each of these two reasons says how many subsets
@@ -522,9 +522,9 @@ def levels(
 def _by_library(
     call: str, file: Any, faults: Optional[List[Fault]], where: Sequence[str], *words: Sequence[str]
 ) -> Optional[Iterator[Tuple[Cell, ...]]]:
-    """Returns the rows from the module `bufr`, which is faster than the program.
+    """Returns the rows from the `bufr` module, which is faster than the program.
 
-    Returns `None` if the module is not available, if `file` is not the name of a file, or if the environment variable `BUFR`
+    Returns `None` if the module is not available, if `file` is not the name of a file, or if the `BUFR` environment variable
     is set.
     """
     # the module would read standard input if the name is -
@@ -648,7 +648,7 @@ def names(table_b: Optional[_Path] = None) -> Tuple[str, Dict[str, Tuple[str, st
 
 
 def _all_elements() -> Set[str]:
-    """Returns the descriptors of the elements that at least one table set defines."""
+    """Returns the descriptors of all elements that are defined in at least one table set."""
     import bufr_sets
 
     every = (tables for sets in bufr_sets.TableSets().sets.values() for tables in sets.values())
@@ -785,14 +785,14 @@ class Gaps:
     def skip(
         self, kind: str, subset: Cell, offset: Cell, file: str, message: Cell = None, fxy: object = None
     ) -> None:
-        """Records that a subset is skipped. `message` is the number of its message, which is needed only without `offset`."""
+        """Records that a subset is skipped. `message`, the number of its message, is needed only if `offset` is `None`."""
         place = f"subset {subset} of the message at offset {offset}" + (f" of {file}" if file else "")
         place = f"message {message}, subset {subset}" if offset is None else place
         why = "" if fxy is None else f" ({fxy} begins a level and occurs again in it)"
         count, first = self.skipped.get(kind, (0, place + why))
         self.skipped[kind] = count + 1, first
 
-    def warn(self, is_whole: bool = True, text: str = "column {} is empty because no row has an item for it") -> None:
+    def warn(self, is_whole: bool = True, text: str = "column {} is empty because no row contains this item") -> None:
         """Issues a warning for each gap.
 
         If `is_whole` is false, the rows come from a piece of a file, and other pieces may contain items that this piece lacks.
@@ -816,8 +816,8 @@ class Gaps:
             if at in self.outside - self.inside:
                 advice = f"pass keep=['{word}'] instead"
                 if at in self.several:
-                    advice = f"for its first value, pass keep=['{word}']; for all of its values, pass '{word}:1', '{word}:2'"
-                    advice += f" and so on as columns of a table of subsets, or use {_ALL_ITEMS}"
+                    advice = f"to get its first value, pass keep=['{word}']; to get all of its values, "
+                    advice += f"pass '{word}:1', '{word}:2' and so on to rows(), or use {_ALL_ITEMS}"
                 warn(f"column {word} is empty because {word} occurs only outside the levels; {advice}")
             elif at not in self.with_item:
                 is_unknown = defined and word[0] == "0" and word[:6] not in defined
@@ -930,7 +930,7 @@ def dump(
     `dump` runs `bufr ls` on the whole file before it dumps any messages. If the file is a pipe, `dump` first copies it to a
     temporary file.
     Raises `ValueError` for an invalid condition, `RunError` if a program exits with a status over 1, and `OSError` if a
-    file cannot be read. To use a different `bufr`, set the environment variable `BUFR` to its path.
+    file cannot be read. To use a different `bufr`, set the `BUFR` environment variable to its path.
     """
     words = _words("dump", table_b, table_d)
     if where and places is not None:
@@ -994,7 +994,7 @@ class _Told:
             self.stray = next(self.strays, None)
 
     def of_part(self, errors: bytes, part: List[Listed]) -> Dict[int, Fault]:
-        """Returns the faults in a part, by offset. Counts the notes, which are reported after the last part."""
+        """Returns the faults in a part, by offset, and counts the notes, which are reported after the last part."""
         begins = itertools.accumulate((place.length for place in part), initial=0)
         offsets = {begin: place.offset for begin, place in zip(begins, part)}
         refused = {}
@@ -1045,7 +1045,7 @@ def _opened(file: _Path) -> IO[bytes]:
 def _octets(stream: IO[bytes], place: Listed) -> bytes:
     octets = os.pread(stream.fileno(), place.length, place.offset)
     if len(octets) < place.length:
-        raise RunError(2, f"the file changed: the message at offset {place.offset} is now incomplete")
+        raise RunError(2, f"the file changed while it was being read: the message at offset {place.offset} is now incomplete")
     return octets
 
 

@@ -14,10 +14,10 @@
 # the second such item. If a subset does not contain the item, the field is empty.
 #
 # With levels=1, the rows are for levels instead of subsets. A level is one repetition (pass) of a delayed replication, whose
-# factor (031000 to 031002) is in the data. A level has a row only if it contains an item for the first column and, if there
-# are other columns, for at least one of them. If a subset contains several delayed replications, give as the first column a
-# descriptor that occurs only in the replication that you want. The columns in `keep` apply to the whole subset and come
-# before the other columns.
+# factor (031000 to 031002) is in the data. A level has a row only if it contains an item for the first column. If there
+# are other columns, the level must also contain an item for at least one of them. If a subset contains several delayed
+# replications, choose a first column whose descriptor occurs only in the replication that you want. The columns in `keep`
+# apply to the whole subset and come before the other columns.
 #
 # A dump does not mark where passes begin. The first pass begins right after the factor. Each later pass begins at the next
 # item with the descriptor that began the first pass, so a pass with two equal halves counts as two passes. A replication inside
@@ -42,7 +42,7 @@
 #
 # bufr-csv also sets the variables `name`, `placed` and `feed`. Each note begins with the value of `name`. With placed=1, a
 # comment before each message gives the message's offset, length and file, which can then be used as columns. With feed=0,
-# rows are not flushed after each message. In addition, bufr-csv sets the environment variable BUFR_CSV_LABELS to the column
+# rows are not flushed after each message. In addition, bufr-csv sets the BUFR_CSV_LABELS environment variable to the column
 # headings, one per line.
 
 function fail(text) {
@@ -432,15 +432,15 @@ END {
         exit
     for (column = 1; column <= kept_count; column++)
         if (!(item_of[column] in had) && (has_rows || !levels))
-            tell_empty(kept[column], "no row has an item for it")
+            tell_empty(kept[column], "no row contains this item")
     # If there are no rows, columns that occur in levels are not reported.
     for (column = 1; column <= level_count; column++) {
         word = level[column]
         if (place_of[word] == 1)
             tell_empty(word, word " occurs only outside the levels; " (word in several ? \
-                "for its first two values, pass " kept_by word "," word ":2" : "pass " kept_by word " instead"))
+                "to get its first two values, pass " kept_by word "," word ":2" : "pass " kept_by word " instead"))
         else if (place_of[word] < 3 && (has_rows || !place_of[word]))
-            tell_empty(word, "no row has an item for it")
+            tell_empty(word, "no row contains this item")
     }
     if (bare && feed != 1)
         tell_skipped(bare, "without levels", first_bare)

@@ -125,7 +125,7 @@ def of_wreport_b(path: pathlib.Path):
     for number, line in lines_of(path):
         fxy, name, unit, *numbers = (one_line(line[at:end]) for at, end in zip(WREPORT_B, WREPORT_B[1:]))
         if not all(numbers):
-            raise Failed(f"{path}, line {number}: expected a scale, a reference and a width in columns 98 to 118")
+            raise Failed(f"{path}, line {number}: expected a scale, a reference value and a width in columns 98 to 118")
         for short, whole in WREPORT_UNITS.items():
             if unit.startswith(short):
                 unit = one_line(whole + unit[len(short) :])
@@ -216,7 +216,7 @@ def no_numbers(is_text: bool, scale: str, reference: str, width: str) -> str:
     if not is_whole(scale, -127, 127):
         return "the scale must be a whole number from -127 to 127"
     if not is_whole(reference, -(2**63), 2**63 - 1):
-        return "the reference must be a signed 64-bit number"
+        return "the reference value must be a signed 64-bit number"
     if is_text and not (is_whole(width, 8, 2040) and whole(width) % 8 == 0):
         return "the width of a string must be a multiple of 8 bits, from 8 to 2040"
     return "" if is_text or is_whole(width, 1, 63) else "the width must be from 1 to 63 bits"
@@ -265,7 +265,7 @@ def taken(folder: pathlib.Path, entries, refused) -> tuple:
 
 
 def write(path: pathlib.Path, aside: pathlib.Path, header: list, rows) -> None:
-    """Writes a table to the temporary file `aside`. Error messages name `path`, which this file will replace."""
+    """Writes a table to the temporary file `aside`. Error messages refer to `path`, which `aside` will replace."""
     try:
         with open(aside, "w", newline="", **AS_IT_IS) as file:
             table = csv.writer(file, lineterminator="\n")

@@ -363,7 +363,7 @@ class Sources(WithFolder):
             bufr.frame(file, ["012101"])
         idle, end = os.pipe()
         os.set_blocking(idle, False)
-        with open(idle, "rb", 0) as file, self.assertRaisesRegex(BlockingIOError, "the source is in non-blocking mode and has no data yet"):
+        with open(idle, "rb", 0) as file, self.assertRaisesRegex(BlockingIOError, "the source is in non-blocking mode and has no data yet; use blocking mode"):
             bufr.frame(file, ["012101"])
         os.close(end)
         told = "^expected a file name, bytes, an open binary file, a Piece or a list of these, found "
@@ -672,7 +672,7 @@ class Values(WithFolder):
         for count in (10, 1 << 31, 1 << 63, 10**30):
             for call in (bufr.rows, bufr_text.rows):
                 rows, told = told_by(lambda: list(call(SYNOP, [f"012101:{count}"])))
-                self.assertEqual((rows, told), ([(None,)] * 3, [f"column 012101:{count} is empty because no row has an item for it"]))
+                self.assertEqual((rows, told), ([(None,)] * 3, [f"column 012101:{count} is empty because no row contains this item"]))
 
     def test_columns_from_iterators(self):
         octets = SYNOP.read_bytes()
@@ -893,7 +893,7 @@ class Faults(WithFolder):
                 bufr.messages(self.stream, faults=faults)
 
     def test_gaps_are_warned_of(self):
-        empty = "column {} is empty because no row has an item for it"
+        empty = "column {} is empty because no row contains this item"
         words = ["012104", "012101", "020012:9", "063255"]
         unknown = f"{empty.format('063255')}; the table set wmo-39 does not define 063255"
         wanted = [empty.format("012104"), empty.format("020012:9"), unknown]
@@ -948,14 +948,14 @@ class Faults(WithFolder):
 
     def test_subsets_without_levels_are_warned_of(self):
         sounding = TOP / "examples/sounding.bufr"
-        empty = "column {} is empty because no row has an item for it"
+        empty = "column {} is empty because no row contains this item"
         outside = "column {0} is empty because {0} occurs only outside the levels; pass keep=['{0}'] instead"
         bits = lib.Bits()
         for number, width in ((1, 7), (2, 7), (3, 10), (2, 8), (4, 14), (5, 14)):
             bits.put(number, width)
         self.stream.write_bytes(lib.message(bits.octets(), lib.words("001001 001001 001002 101000 031001 007004")))
-        several = f"{outside.partition(';')[0]}; for its first value, pass keep=['{{0}}']; for all of its values, pass '{{0}}:1', '{{0}}:2'"
-        several += " and so on as columns of a table of subsets, or use bufr.items or bufr_text.dump"
+        several = f"{outside.partition(';')[0]}; to get its first value, pass keep=['{{0}}']; to get all of its values, pass '{{0}}:1', '{{0}}:2'"
+        several += " and so on to rows(), or use bufr.items or bufr_text.dump"
         one = f"skipped a subset without levels: subset 1 of the message at offset 0 of {sounding}"
         three = "skipped 3 subsets without levels; the first is subset 1 of the message at offset {} of {}"
         for call in (bufr.levels, bufr_text.levels, lambda *words: bufr.frame(*words[:2], keep=words[3], levels=True)):

@@ -128,6 +128,14 @@ def main() -> None:
             wrongs.append(f"the faults of {fault} are not printed once, in {report}")
     if re.search(r"^ *(?:--|//) rule:|^\s*(?:pub |ghost )*use ", texts["3"], re.M):
         wrongs.append("a tag or an import is printed")
+    if re.search(r"(?m)^module .*\n(?! )", texts["3"]) or "module _ {S C E : Type 0} (how" not in texts["3"].partition("only the laws need\n")[2]:
+        wrongs.append("a module line is printed without a definition, or a definition without the line of its module")
+    if re.search(r"(?m)^[\w ]*pub record Row ", texts["3"].partition("crate clap guarantees")[2]) or "List clap.Row" not in texts["3"]:
+        wrongs.append("two definitions are called Row")
+    if texts["3"].count("-- the same as in section ") != 2 or "`with_subcommand` (section 15).\n" not in texts["3"]:
+        wrongs.append("a definition that is repeated, or a name that is defined later, is not noted")
+    if texts["3"].count("\n-- (our note) ") != len(runpy.run_path(str(TOP / "docs/believed.py"))["NOTES"]):
+        wrongs.append("a note on a definition of the kit is not printed")
     for calls, names in NAMED.items():
         text = printed(calls)
         wrongs += [f"{name} of {calls} is not printed" for name in names if name not in text]

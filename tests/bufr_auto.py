@@ -617,7 +617,7 @@ class Trial:
         for told, words, environment in (
             ("BUFR_TABLES is /nosuch, which is not a directory", [file], {"BUFR_TABLES": "/nosuch"}),
             (f"BUFR_TABLES is {file}, which is not a directory", [file], {"BUFR_TABLES": file}),
-            (f"{empty} does not contain a table set such as wmo-39", [file], {"BUFR_TABLES": str(empty)}),
+            (f"{empty} does not contain a table set such as wmo-39; set BUFR_TABLES to a directory that contains one", [file], {"BUFR_TABLES": str(empty)}),
             ("cannot open nosuch: No such file or directory", ["nosuch"], {}),
             ("cannot open '': No such file or directory", [""], {}),
             ("cannot run /nosuch: No such file or directory; install bufr, or set BUFR to its path", [file], {"BUFR": "/nosuch"}),
@@ -690,7 +690,7 @@ class Trial:
         (self.place / "stream").write_bytes(many * 80)
         words = {"BUFR": str(other), "STREAM": str(self.place / "stream")}
         done = self.auto(str(self.place / "stream"), **words)
-        told = f"bufr-auto: {self.place}/stream was truncated while it was being read\n".encode()
+        told = f"bufr-auto: {self.place}/stream was truncated while it was being read; try again\n".encode()
         whole = self.one_by_one(many)[0] * 80
         is_prefix = whole.startswith(done.stdout) and done.stdout.endswith(b"\nend\n")
         self.holds("a file that becomes shorter", is_prefix and (done.returncode, done.stderr) == (2, told), done.stderr)
@@ -704,7 +704,7 @@ class Trial:
         other.write_text(f'#!/bin/sh\nhead -c 5000000 "$STREAM" > "$STREAM.1"\ncat "$STREAM.1" > "$STREAM"\nexec "{self.program}" "$@"\n')
         (self.place / "stream").write_bytes(b"message\n" + b"# A comment in a document.\n" * 1_000_000)
         done = self.auto("--encode", str(self.place / "stream"), **words)
-        told = f"bufr-auto: {self.place}/stream was truncated while it was being read\n".encode()
+        told = f"bufr-auto: {self.place}/stream was truncated while it was being read; try again\n".encode()
         self.holds("a document that becomes shorter", (done.returncode, done.stderr) == (2, told), done)
         # Standard input that does not block.
         given, pipe = os.pipe()

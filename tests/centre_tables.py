@@ -164,7 +164,7 @@ def limits(script, holds) -> None:
     many = " ".join(f"0{x}{y:03}" for x in range(48, 64) for y in range(256))
     status, output, errors = script("bufr-lacks", b"".join(made(13, 1, centre, many, b"") for centre in range(1, 15)))
     rows = sum(len(line.partition("lacks")[2].split()) for line in output.splitlines())
-    told = errors.startswith("bufr-lacks: left out further rows because bufr-lacks lists at most 50,000 missing rows\n")
+    told = errors.startswith("bufr-lacks: left out more rows because bufr-lacks lists at most 50,000 missing rows\n")
     holds("the rows that are listed", (status, rows, told), (1, 50_000, True))
 
 

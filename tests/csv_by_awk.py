@@ -88,7 +88,7 @@ def run(awk: list, text: bytes, **variables) -> tuple:
 
 def tries_wide(awk: list, text: bytes) -> None:
     head = "message,subset,001002,012101:100,063255\n"
-    told = "table.awk: column 012101:100 is empty because no row has an item for it\ntable.awk: column 063255 is empty because no row has an item for it\n"
+    told = "table.awk: column 012101:100 is empty because no row contains this item\ntable.awk: column 063255 is empty because no row contains this item\n"
     wanted = (0, head + "1,1,836,,\n1,2,772,,\n1,3,680,,\n", told)
     want(
         run(awk, text, columns="001002, 012101:100,063255") == wanted,
@@ -101,7 +101,7 @@ def tries_wide(awk: list, text: bytes) -> None:
     second = list(csv.reader(run(awk, ODD, columns="001015:2")[1].splitlines()))[1:]
     want(second == [wanted[:2] + wanted[-2:-1]], f"{awk}: a second text alone is {second}")
     want(run(awk, b"", columns="012101") == (0, "message,subset,012101\n", ""), f"{awk}: without a message, something is reported")
-    bare, told = run(awk, b"message\nend\n", columns="012101"), "table.awk: column 012101 is empty because no row has an item for it\n"
+    bare, told = run(awk, b"message\nend\n", columns="012101"), "table.awk: column 012101 is empty because no row contains this item\n"
     want(bare == (0, "message,subset,012101\n", told), f"{awk}: of a message without a subset it makes {bare}")
     head = re.findall(rb"^(\w+) (\d+)$", text, re.M)[:20]
     status, output, errors = run(awk, text, columns=",".join(key.decode() for key, _ in head))
@@ -219,7 +219,7 @@ def tries_levels(awk: list, sounding: bytes, synop: bytes) -> None:
     want(rows[1] == "1,1,836,98520,179,258.55,256.65,1.0".split(","), f"{awk}: the first level is {rows[1]}")
     want(rows[-1] == "1,1,836,3000,23115,210.15,,".split(","), f"{awk}: the last level is {rows[-1]}")
     head = "message,subset,001015,007004,011061\n"
-    wanted = (0, head + "1,1,,31800,6.4\n", "table.awk: column 001015 is empty because no row has an item for it\n")
+    wanted = (0, head + "1,1,,31800,6.4\n", "table.awk: column 001015 is empty because no row contains this item\n")
     want(
         run(awk, sounding, levels="1", keep="001015", columns="007004,011061") == wanted,
         f"{awk}: the wind shear is another",
@@ -243,7 +243,7 @@ def tries_levels(awk: list, sounding: bytes, synop: bytes) -> None:
     want(first == (0, "message,subset,011001,007004\n1,1,1,100\n", ""), f"{awk}: levels by an inner descriptor are {first}")
     behind = run(awk, NESTED, levels="1", columns="007004,012103")
     told = "table.awk: column 012103 is empty because 012103 occurs only outside the levels; "
-    told += "for its first two values, pass -v keep=012103,012103:2\n"
+    told += "to get its first two values, pass -v keep=012103,012103:2\n"
     told += "table.awk: skipped a subset without levels: message 1, subset 1\n"
     wanted = (0, "message,subset,007004,012103\n", told)
     want(behind == wanted, f"{awk}: an item behind all passes is in a row: {behind}")
@@ -254,14 +254,14 @@ def tries_levels(awk: list, sounding: bytes, synop: bytes) -> None:
     bare = "table.awk: skipped {} message 1, subset 1\n"
     one, two = "a subset without levels:", "2 subsets without levels; the first is"
     status, _, errors = run(awk, ODD + BEHIND, levels="1", keep="001015", columns="007004,012101")
-    told = "table.awk: column 001015 is empty because no row has an item for it\n" + bare.format(one)
+    told = "table.awk: column 001015 is empty because no row contains this item\n" + bare.format(one)
     want((status, errors) == (0, told), f"{awk}: a column of a subset without a level is told as {errors}")
     empty = run(awk, b"message\nsubset 1\n031001 2\nsubset 2\n012101 1.0\nend\n", levels="1", columns="012101")
     outside = "table.awk: column 012101 is empty because 012101 occurs only outside the levels; pass -v keep=012101 instead\n"
     wanted = (0, "message,subset,012101\n", outside + bare.format(two))
     want(empty == wanted, f"{awk}: passes without items give {empty}")
     _, _, errors = run(awk, ODD, levels="1", keep="001015", columns="012101")
-    several = outside.partition("; ")[0] + "; for its first two values, pass -v keep=012101,012101:2\n"
+    several = outside.partition("; ")[0] + "; to get its first two values, pass -v keep=012101,012101:2\n"
     told = several + bare.format(one)
     want(errors == told, f"{awk}: without a level, a kept column is told as {errors}")
     # the descriptor that begins a pass comes twice before an inner group

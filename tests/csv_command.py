@@ -353,13 +353,13 @@ def several_files(folder: pathlib.Path) -> None:
 def notes(folder: pathlib.Path) -> None:
     """Columns without a value, subsets without levels, and those with ambiguous levels."""
     done = run("-c", "012101,012104", SYNOP)
-    holds("an empty column", (done.returncode, done.stderr) == (0, b"bufr-csv: column 012104 is empty because no row has an item for it\n"), done)
+    holds("an empty column", (done.returncode, done.stderr) == (0, b"bufr-csv: column 012104 is empty because no row contains this item\n"), done)
     done = run("--levels", "-c", "020013,020011", SYNOP)
     told = b"bufr-csv: skipped a subset without levels: message 1, subset 1\n"
     holds("a subset without levels", (done.returncode, done.stderr) == (0, told), done)
     # Columns that occur only outside the levels, and columns without rows, as bufr.levels warns of them.
     outside = "bufr-csv: column {0} is empty because {0} occurs only outside the levels; pass --keep {0} instead\n"
-    empty = "bufr-csv: column {} is empty because no row has an item for it\n"
+    empty = "bufr-csv: column {} is empty because no row contains this item\n"
     one = "bufr-csv: skipped a subset without levels: message 1, subset 1\n"
     for columns, keep, wanted in [
         ("001002,007004,012101", "", outside.format("001002") + one),
@@ -372,7 +372,7 @@ def notes(folder: pathlib.Path) -> None:
         for options in ([], ["--json"]):
             done = run("--levels", "-c", columns, *(["--keep", keep] if keep else []), *options, SOUNDING)
             holds(f"--levels -c {columns} {options}: the notes", done.stderr.decode() == wanted, (done.stderr, wanted))
-    several = outside.partition(";")[0] + "; for its first two values, pass --keep {0},{0}:2\n"
+    several = outside.partition(";")[0] + "; to get its first two values, pass --keep {0},{0}:2\n"
     bits = lib.Bits()
     for number, width in ((1, 7), (2, 7), (3, 10), (2, 8), (4, 14), (5, 14)):
         bits.put(number, width)
@@ -530,7 +530,7 @@ def failures(folder: pathlib.Path) -> None:
         holds(f"AWK={word!r}", (done.returncode, done.stdout.count(b"\n")) == (0, 4), done)
     (folder / "no-tables/wmo-39").mkdir(parents=True)
     done = run("-c", "AIR TEMPERATURE", SYNOP, environment={"BUFR_TABLES": str(folder / "no-tables")})
-    told = f"does not contain a table set such as wmo-39; ignored {folder}/no-tables/wmo-39 because it does not contain B.csv".encode()
+    told = f"set BUFR_TABLES to a directory that contains one; ignored {folder}/no-tables/wmo-39 because it does not contain B.csv".encode()
     holds("there is no table", done.returncode == 2 and told in done.stderr, done)
     done = run("-c", "AIR TEMPERATURE", SYNOP, environment={"BUFR_TABLES": "/nosuch"})
     holds("there are no tables", done.returncode == 2 and b"/nosuch" in done.stderr, done)
@@ -574,7 +574,7 @@ def feed(awk: list, _folder: pathlib.Path) -> None:
         holds(f"{awk}: the notes of a live feed", is_right, told)
         process.stdin.close()
         told = process.stderr.read()
-        holds(f"{awk}: the notes of a live feed at its end", told == b"bufr-csv: column 020011 is empty because no row has an item for it\n", told)
+        holds(f"{awk}: the notes of a live feed at its end", told == b"bufr-csv: column 020011 is empty because no row contains this item\n", told)
 
 
 def note_on_years(_folder: pathlib.Path) -> None:

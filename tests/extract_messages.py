@@ -74,7 +74,7 @@ REFUSED = [
     (["time!=2024,2024-01-02T3"], "the value in 'time!=2024,2024-01-02T3' can never match"),
     (["category", SYNOP], "the key 'category' has no value; write category=VALUE"),
     ([SYNOP, "time"], "the key 'time' has no value; write time=VALUE"),
-    (["--awk", "1)"], "awk rejected the --awk condition '1)'"),
+    (["--awk", "1)"], "awk rejected the --awk condition '1)' (see above)"),
     (["--awk", ""], "the --awk condition is empty"),
     (["--awk", " # length"], "the --awk condition is empty"),
     (["--awk", ";\n# one\n\n  # other\n"], "the --awk condition is empty"),

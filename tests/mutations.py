@@ -84,7 +84,7 @@ MUTATIONS = [
     ),
     (
         "scripts/bufr_guard.py",
-        "raise Failed(\"the input was truncated while it was being read\")",
+        "raise Failed(\"the input was truncated while it was being read; try again\")",
         "break",
         "tests/failures_of_scripts.py bufr-parallel",
     ),

@@ -322,8 +322,8 @@ class Tables(unittest.TestCase):
         """Warnings as table.awk prints them, without those that it lacks."""
         texts = [f"table.awk: {one.message}" for one in told if "all of its values are missing" not in str(one.message)]
         texts = [text.replace("use bufr.items or bufr_text.dump", "run table.awk without levels= or columns=") for text in texts]
-        several = r"for its first value, pass keep=\['(\d+)'\]; for all of its values, .*"
-        return [re.sub(several, r"for its first two values, pass -v keep=\1,\1:2", text) for text in texts]
+        several = r"to get its first value, pass keep=\['(\d+)'\]; to get all of its values, .*"
+        return [re.sub(several, r"to get its first two values, pass -v keep=\1,\1:2", text) for text in texts]
 
     def alike(self, rows) -> list:
         """The cells of a table, with all spellings of a number as one."""

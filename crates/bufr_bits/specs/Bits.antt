@@ -4,7 +4,6 @@
 use Rattle.std.specs.Prelude.{ℕ, zero, suc, ◌+◌, ◌-◌, ◌*◌, ◌^◌, ◌/◌, ◌%◌, ◌==◌, Bool, false, if◌then◌else◌, List, [], ◌∷◌, ◌++◌, take, drop, replicate, ◌≡◌, ◌<◌, ◌≤◌, length, min}
 use Rattle.std.specs.List.{list_all}
 
--- the eight bits of an octet
 abbrev pub bits_of_octet : ℕ → List Bool
 bits_of_octet n =
     (n / 128 % 2 == 1) ∷ (n / 64 % 2 == 1) ∷ (n / 32 % 2 == 1) ∷ (n / 16 % 2 == 1)
@@ -31,7 +30,6 @@ number_of bits = number_after_bits 0 bits
 abbrev pub bits_at : (octets : List ℕ) (at width : ℕ) → List Bool
 bits_at octets at width = take width (drop at (bits_of octets))
 
--- whether all bits are ones
 abbrev pub are_all_ones : List Bool → Bool
 are_all_ones bits = list_all (λ bit. bit) bits
 

@@ -51,7 +51,6 @@ whole_part text = before_first (λ c. c == 46) text
 abbrev pub fraction_part : List ℕ → List ℕ
 fraction_part text = after_first (λ c. c == 46) text
 
--- whether each octet is a digit
 abbrev pub all_digits : List ℕ → Bool
 all_digits text = list_all is_ascii_digit text
 

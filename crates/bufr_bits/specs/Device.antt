@@ -21,8 +21,7 @@ fresh_device inner =
 
 -- ---- The counts that a device keeps of its calls. (own)
 
--- A count increased by `by`, but not beyond 2^64 - 1. `max` covers counts above that, which no code
--- has: they stay the same.
+-- a count increased by `by`, but not beyond 2^64 - 1 (by `max`, no count decreases)
 abbrev pub counted : (count by : ℕ) → ℕ
 counted count by = max count (min (count + by) (2 ^ 64 - 1))
 
@@ -40,7 +39,7 @@ empty_writes_after count [] (Ok zero) = count
 empty_writes_after count (octet ∷ more) (Ok zero) = counted count 1
 
 -- the count of whole writes after a write of these octets; a write is whole if it took all of them
--- (the definitions of a run do not use this count)
+-- (only the contract of `Sink` uses this count)
 abbrev pub whole_writes_after : {E : Type 0} → ℕ → List ℕ → Result ℕ E → ℕ
 whole_writes_after count octets (Err e) = count
 whole_writes_after count octets (Ok taken) =

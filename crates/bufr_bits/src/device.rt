@@ -14,9 +14,7 @@ pub struct Failed;
 
 /// A reader of octets that counts its calls.
 ///
-/// Its contract uses ghost items, which exist only in proofs: the octets that are left (if they are
-/// known), the number of failed reads, the number of reads, and the number of octets that they
-/// requested. The counts stop at `u64::MAX`.
+/// Its contract uses ghost items, which exist only in proofs. Their counts stop at `u64::MAX`.
 pub trait Source {
     /// The octets that reads will return from here on, if they are known.
     ghost left: { Self → Option (List ℕ) };
@@ -58,10 +56,7 @@ pub trait Source {
 
 /// A writer of octets that counts its calls.
 ///
-/// Its contract uses ghost items, which exist only in proofs: the octets taken so far (if they are
-/// known), and whether all of them have been flushed. It counts the calls that failed, the flushes
-/// made and failed, and the writes that took none of their octets; a sink may also count the writes
-/// that took all of their octets. The counts stop at `u64::MAX`.
+/// Its contract uses ghost items, which exist only in proofs. Their counts stop at `u64::MAX`.
 pub trait Sink {
     /// The octets taken so far, if they are known.
     ghost taken: { Self → Option (List ℕ) };

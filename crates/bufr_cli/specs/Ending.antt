@@ -53,13 +53,12 @@ pub record EndsRun (pieces : RunPieces) (from to : Input) (before after : Writer
   pub rest : FlushesRest between.output after.output ran
   pub errors : after.errors ≡ between.errors
 
--- the line of a fault that stops a run
 abbrev pub run_line : RunFault → List ℕ
 run_line fault = report_line (codes "bufr: " ∷ []) (run_report fault)
 
 -- the line of a table that cannot be read; `Memory` is reported as it is in a run
 -- rule: status-of-table, fault-73
-abbrev pub table_line : (table : List ℕ) → TableFault → List ℕ
+abbrev pub table_line : (name : List ℕ) → TableFault → List ℕ
 table_line name table.Memory = run_line Memory
 table_line name fault = report_line (name ∷ []) (table_report fault)
 

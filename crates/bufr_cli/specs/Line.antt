@@ -49,14 +49,12 @@ bufr_app =
     (with_rule (new_app (codes "ls")) (new_rule (codes "FILE"))).top)
     (tables_app (codes "dump")).top) (with_rule (tables_app (codes "encode")) form_rule).top
 
--- the name of a subcommand
 abbrev pub name_of : Subcommand → Text
 name_of Ls = codes "ls"
 name_of (Dump tables) = codes "dump"
 name_of (Encode tables form) = codes "encode"
 
--- The names of the tables are the values of `-B` and `-D` among what the command line gives
--- (`rows`, which are not rows of a table).
+-- The names of the tables are the values of `-B` and `-D` in the rows of the command line.
 abbrev pub AreNamed : List Row → TableNames → Type 0
 AreNamed rows tables =
     (Some tables.table_b.now ≡ first_of (codes "B") rows)

@@ -19,12 +19,11 @@ pub data Piece : Type 0 where
   OnOutput : (text : List ℕ) → Piece
   OnErrors : (text : List ℕ) → Piece
 
--- what a piece adds to the output
+-- what a piece adds to the output, and to the errors
 abbrev pub output_of : Piece → List ℕ
 output_of (OnOutput text) = text
 output_of (OnErrors text) = []
 
--- what a piece adds to the errors
 abbrev pub errors_of : Piece → List ℕ
 errors_of (OnOutput text) = []
 errors_of (OnErrors text) = text

@@ -21,7 +21,7 @@ use Rattle.bufr_cli.specs.declared.program.Command.TheVariants as command
 use Rattle.bufr_cli.specs.declared.outcome.Tally.{Tally}
 use Rattle.std.specs.Io.KnownBytes.{Appends, Consumes}
 use Rattle.clap.specs.Words.{Text, fault_of, subcommand_of}
-use Rattle.bufr_frame.specs.declared.fault.RunFault.TheVariants as ended
+use Rattle.bufr_frame.specs.declared.fault.RunFault.TheVariants as run_fault
 use Rattle.bufr_text.specs.Prelude.{GrowsByPrefix}
 use Rattle.bufr_cli.specs.Line.{IsJobOf, SaysWhy, bufr_app}
 use Rattle.bufr_cli.specs.declared.job.LineFault.{LineFault}
@@ -43,14 +43,13 @@ Opens (Some before) (Some after) names = after ≡ before ++ names
 pub record Known (Standard File : Type 0) : Type 0 where
   -- the octets of standard input, if they are known
   pub standard : Option (List ℕ)
-  -- the octets of the file with a name, if it is known that it can be opened and what it contains
+  -- the octets of the file with a name, if they are known (see `Inputs`)
   pub named : List ℕ → Option (List ℕ)
   -- the state of standard input
   pub of_standard : Standard → Input
   -- the state of a file
   pub of_file : File → Input
 
--- what is known of the inputs, from these parts
 abbrev pub known : {Standard File : Type 0} → (standard : Option (List ℕ))
     → (named : List ℕ → Option (List ℕ)) → (Standard → Input) → (File → Input)
     → Known Standard File
@@ -67,9 +66,8 @@ command_pieces (command.Encode form b d) = document_pieces form b.now d.now
 -- memory ran out.
 abbrev pub IsClosed : (named : List ℕ → Option (List ℕ)) → (name : Bor (List ℕ)) → Outcome → Type 0
 IsClosed named name outcome =
-    ((outcome ≡ CannotOpen name) × (named name.now ≡ None)) ⊎ (outcome ≡ Run ended.Memory)
+    ((outcome ≡ CannotOpen name) × (named name.now ≡ None)) ⊎ (outcome ≡ Run run_fault.Memory)
 
--- the outcome of a run with this result
 abbrev pub ran_outcome : Result Tally RunFault → Outcome
 ran_outcome (Ok tally) = Ran tally
 ran_outcome (Err fault) = Run fault
@@ -95,7 +93,7 @@ pub data RunOutcome {Standard File : Type 0} (pieces : RunPieces) (inputs : Know
   IsNotOpened : (name : Bor (List ℕ)) → file ≡ Some name → outcome ≡ CannotOpen name
       → inputs.named name.now ≡ None → after ≡ before
       → RunOutcome pieces inputs file before after outcome
-  WantsMemory : outcome ≡ Run ended.Memory → after ≡ before
+  WantsMemory : outcome ≡ Run run_fault.Memory → after ≡ before
       → RunOutcome pieces inputs file before after outcome
   Runs : (ran : Result Tally RunFault) → outcome ≡ ran_outcome ran
       → RunsOverInput inputs file (λ from to. EndsRun pieces from to before after ran)
@@ -107,11 +105,11 @@ pub record FailsToRead (fault : RunFault) (from to : Input) : Type 0 where
   pub octets : List ℕ
   pub read : Consumes from.left to.left octets
   -- a file is only read
-  pub none : fault ≢ ended.Write
+  pub none : fault ≢ run_fault.Write
   -- the file counts a `Read` fault; X does not matter, since the result is a fault
   pub failures : to.failures ≡ read_failures_after {X = Unit {0}} from.failures (Err fault)
   pub reads : ReadsAtMost {X = Unit {0}} from.reads to.reads (Err fault)
-  pub fewer : fault ≡ ended.Memory → ReadsFewer from.reads to.reads
+  pub fewer : fault ≡ run_fault.Memory → ReadsFewer from.reads to.reads
 
 -- The file with these octets is not read to its end, for this fault.
 -- rule: table-not-read
@@ -121,14 +119,14 @@ IsUnread counts octets outcome =
     (fault : RunFault) × (outcome ≡ Run fault) × RunsOver counts octets (FailsToRead fault)
 
 -- A table is not available: its file is not opened, it is not read to its end, or the table has a
--- fault. `reads` relates records to the result of reading the table from them, and `says` is the
--- outcome for a fault of the table.
+-- fault. `reads` relates records to the result of reading the table from them, and
+-- `outcome_of` gives the outcome for a fault of the table.
 abbrev pub TableOutcome : {X File : Type 0} → (counts : File → Input)
-    → (reads : List Record → Result X TableFault → Type 0) → (says : TableFault → Outcome)
+    → (reads : List Record → Result X TableFault → Type 0) → (outcome_of : TableFault → Outcome)
     → (named : List ℕ → Option (List ℕ)) → (name : Bor (List ℕ)) → Outcome → Type 0
-TableOutcome counts reads says named name outcome =
+TableOutcome counts reads outcome_of named name outcome =
     (IsClosed named name outcome ⊎ IsUnread counts (named name.now) outcome)
-    ⊎ ((fault : TableFault) × (outcome ≡ says fault)
+    ⊎ ((fault : TableFault) × (outcome ≡ outcome_of fault)
     × IfSome (named name.now) (λ text. reads (records_of text) (Err fault)))
 
 -- Tables B and D are those in the files with these names, if the octets of the files are known.
@@ -192,7 +190,7 @@ pub data WritesHelp (text : List ℕ) (before after : Writers) (status : ℕ) : 
       → after.errors ≡ before.errors → status ≡ 0 → WritesHelp text before after status
   InPart : GrowsByPrefix before.output.taken after.output.taken text
       → HasFailed before.output after.output
-      → WritesLine before.errors after.errors (run_line ended.Write) → status ≡ 2
+      → WritesLine before.errors after.errors (run_line run_fault.Write) → status ≡ 2
       → WritesHelp text before after status
 
 -- What is written if the command line is not a job: only help goes to the output.
@@ -203,11 +201,10 @@ AnswersFault (Usage text) before after status =
     × (status ≡ 2)
 AnswersFault Memory before after status =
     (after.output ≡ before.output)
-    × WritesLine before.errors after.errors (run_line ended.Memory) × (status ≡ 2)
+    × WritesLine before.errors after.errors (run_line run_fault.Memory) × (status ≡ 2)
 
 -- What a call of the program does. Either the command line is a job, and the last line and the
 -- status report its outcome; or it is not, the program writes why not, and no input is opened.
--- (`fault_of` and `subcommand_of` are clap's.)
 -- rule: status-of-help
 pub data RunsProgram {Standard File : Type 0} (words : List Text) (inputs : Known Standard File)
     (opened opened' : Option (List InputName)) (before after : Writers) (status : ℕ) : Type 0 where

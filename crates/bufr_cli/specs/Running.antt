@@ -21,15 +21,13 @@ use Rattle.bufr_bits.specs.declared.device.Source as source
 
 -- ---- The counts of an input and of the writers, and which writer a fault comes from. (own)
 
--- The state of an input: the octets that are left (if they are known), the number of reads, and how
--- many of these failed.
+-- the state of an input, as in the ghost items of `Source`
 pub record Input : Type 0 where
   pub left : Option (List ℕ)
   pub reads : ℕ
   pub failures : ℕ
 
--- The state of a writer: the octets that it took (if they are known); the number of failed calls,
--- of empty writes and of flushes; and whether everything it took has been flushed.
+-- the state of a writer, as in the ghost items of `Sink`
 pub record Writer : Type 0 where
   pub taken : Option (List ℕ)
   pub failures : ℕ
@@ -37,7 +35,6 @@ pub record Writer : Type 0 where
   pub flushes : Flushes
   pub all_flushed : Bool
 
--- the output and the errors of a run
 pub record Writers : Type 0 where
   pub output : Writer
   pub errors : Writer
@@ -58,7 +55,6 @@ writer_of ghosts w =
       all_flushed = ghosts.all_flushed w;
     }
 
--- the states of both writers, taken from their ghost items
 abbrev pub writers_of : {W E : Type 0} → sink.Ghosts W → W → sink.Ghosts E → E → Writers
 writers_of output w errors e =
     record { output = writer_of output w; errors = writer_of errors e }
@@ -140,12 +136,10 @@ pub record WrittenInPart (before after : Writers) (pieces : List Piece) : Type 0
   pub whole : WritesPieces before between given
   pub prefix : WritesPrefixes between after (option_to_list next)
 
--- All of the pieces were written.
 abbrev pub IsAllWritten : {before after : Writers} → {pieces : List Piece}
     → WrittenInPart before after pieces → Type 0
 IsAllWritten part = (part.next ≡ None) × (part.rest ≡ [])
 
--- The tally counts the pieces for each writer.
 pub record Tallies (tally : Tally) (pieces : List Piece) : Type 0 where
   pub accepted : tally.accepted ≡ count_by is_accepted pieces
   pub refused : tally.refused ≡ count_by is_refused pieces
@@ -200,7 +194,6 @@ HandsOn before after (Err Read) =
 -- after other faults, `FlushesRest` applies to the output
 HandsOn before after (Err fault) = Unit {0}
 
--- Each writer was flushed at most n times.
 abbrev pub FlushesAtMost : (n : ℕ) → (before after : Writers) → Type 0
 FlushesAtMost n before after =
     (after.output.flushes.made ≤ counted before.output.flushes.made n)
@@ -305,18 +298,19 @@ NoFlushFails before after =
 -- rule: input-not-read, fault-line-not-written, reader-gone, fault-70
 abbrev pub RunEnds : {pieces : RunPieces} → {from to : Input} → {before after : Writers}
     → ReadsAndWrites pieces from to before after → Result Tally RunFault → Type 0
--- The run completed: at the end of the input, or after a refused piece that stops it. It wrote and
--- counted the pieces of the whole input, whatever its remaining octets (t) are: none after the end,
--- and any after a refused piece that stops the run.
+-- It completed, at the end of the input or after a refused piece that stops it. The pieces of the
+-- whole input were written and counted. t is what the run did not read: nothing if it reached the
+-- end, and otherwise any octets, since they do not change the pieces.
 RunEnds {pieces} {from} {to} {before} {after} so (Ok tally) =
     (pieces.stops ≡ false → so.ended ≡ true) × IsAllWritten so.written
     × ((t : List ℕ) → (so.ended ≡ true → t ≡ [])
     → WritesWhole pieces before after tally (so.octets ++ t))
--- A write failed, or a flush did. A flush only fails after all pieces were written.
+-- A write or a flush failed. If it was a flush, all pieces had been written.
 RunEnds {pieces} {from} {to} {before} {after} so (Err Write) =
     ¬ NoFlushFails before after → IsAllWritten so.written
--- Memory ran out, but not after a refused piece that stops the run. In a run that no refused piece
--- stops, memory was needed to write a piece (`next`), or fewer than 2^32 reads had been made.
+-- Memory ran out before any refused piece that stops the run. In a run that refused pieces do not
+-- stop, it was needed to write a piece (`next`), or fewer than 2^32 reads had been made: after that
+-- many, the fault is `InputTooLong`.
 RunEnds {pieces} {from} {to} {before} {after} so (Err Memory) =
     IsUnrefused pieces so.written.given
     × (pieces.stops ≡ false → so.written.next ≡ None → ReadsFewer from.reads to.reads)

@@ -63,8 +63,8 @@ const VERSION: &str = "0.1.0";
 const PROGRAM_NOTES: &str = "\
 Exit status:
   0  no fault was reported
-  1  a message or a document was refused, or there was a stray (the bytes BUFR
-     where no complete message begins)
+  1  a message or a document was rejected, or the input contained a stray (an
+     occurrence of BUFR that is not the start of a complete message)
   2  the command line or a table was invalid, a file could not be opened,
      reading or writing failed, or memory ran out
 
@@ -76,17 +76,17 @@ Examples:
 /// The notes under the help of `ls`.
 const LS_NOTES: &str = "\
 Each line on standard output describes one message.
-Each line on standard error reports a fault and, for a fault in the stream, its
-byte offset. The faults have these numbers:
-  1-3    a stray: the bytes BUFR where no complete message begins
+Each line on standard error reports one fault. For a fault in the stream, it
+also gives the byte offset. The fault numbers are as follows:
+  1-3    an occurrence of BUFR that does not start a complete message (a stray)
   10     an edition other than 3 or 4
   11-13  invalid section lengths
-  14     an edition 3 message that is too long to be encoded again
+  14     an edition 3 message that is too long to encode again
   70-73  a read error, a write error, too much input, or not enough memory
 
 Exit status:
   0  no fault was reported
-  1  a message was refused, or there was a stray
+  1  a message was rejected, or the input contained a stray
   2  the command line was invalid, the file could not be opened, reading or
      writing failed, or memory ran out
 
@@ -95,31 +95,31 @@ Example:
 
 /// The notes under the help of `dump`.
 const DUMP_NOTES: &str = "\
-bufr dumps all messages to standard output, except those that have a fault.
-Each line on standard error reports a fault and, for a fault in the stream, its
-byte offset. The faults have these numbers:
-  1-3    a stray: the bytes BUFR where no complete message begins
+Every message is printed on standard output unless it has a fault.
+Each line on standard error reports one fault. For a fault in the stream, it
+also gives the byte offset. The fault numbers are as follows:
+  1-3    an occurrence of BUFR that does not start a complete message (a stray)
   10     an edition other than 3 or 4
   11-13  invalid section lengths
-  14     an edition 3 message that is too long to be encoded again
+  14     an edition 3 message that is too long to encode again
   20-28  an unknown or unsupported descriptor, or an invalid descriptor list
   30-35  data that do not match the descriptors
-  40-45  an invalid table; the tables are checked before the input is opened
+  40-45  an invalid table (bufr checks the tables before it opens the input)
   70-73  a read error, a write error, too much input, or not enough memory
 
 The first line of each table contains the column names:
   B  fxy,name,unit,scale,reference,width
   D  fxy,member
 
-WMO's tables are in the directory share/bufr/tables of the installation. Use the
-table set (a directory with both tables) for the version that bufr ls prints:
-for example, tables=0/24/0 means version 24, which is in the set wmo-37. With
-the wrong tables, values can be wrong even though no fault is reported. The
-script bufr-auto chooses the table set for each message.
+WMO's tables are in share/bufr/tables, in the directory where bufr was
+installed. Use the table set (a directory with both tables) for the version that
+bufr ls prints: for example, tables=0/24/0 means version 24, so use the set
+wmo-37. If you use the wrong tables, values can be wrong even though no fault is
+reported. The script bufr-auto chooses the table set for each message.
 
 Exit status:
   0  no fault was reported
-  1  a message was refused, or there was a stray
+  1  a message was rejected, or the input contained a stray
   2  the command line or a table was invalid, a file could not be opened,
      reading or writing failed, or memory ran out
 
@@ -129,36 +129,36 @@ Example:
 /// The notes under the help of `encode`.
 const ENCODE_NOTES: &str = "\
 Each document (the dump of one message) is encoded as soon as it is complete.
-bufr stops at the first invalid document, and writes nothing for that document.
-Each line on standard error reports a fault and, for a fault in the dump, its
-line number. The faults have these numbers:
+bufr stops at the first invalid document and writes nothing for that document.
+Each line on standard error reports one fault. For a fault in the dump, it also
+gives the line number. The fault numbers are as follows:
   50     a line that is invalid, misplaced or too long, or a missing end line
   51     an unexpected item, a missing item, or too many items
   52-55  an invalid value
   56     an unknown or unsupported descriptor, or an invalid descriptor list
-  57     a wrong subset number, or a wrong number of subsets
+  57     an incorrect subset number, or the wrong number of subsets
   58-59  data that cannot be compressed
   60-61  a message that is too long, or a header value that is out of range
   62     data that would cause fault 31, 32 or 35 when the message is decoded
-  40-45  an invalid table; the tables are checked before the input is opened
+  40-45  an invalid table (bufr checks the tables before it opens the input)
   70-73  a read error, a write error, too much input, or not enough memory
 
 The first line of each table contains the column names:
   B  fxy,name,unit,scale,reference,width
   D  fxy,member
 
-Use the tables with which the dump was made.
+Use the same tables that were used to make the dump.
 
-With --form, every message is encoded in the given form, whatever its document
-specifies. Data cannot be compressed if replication factors differ between
-subsets (fault 58). Strings that differ between subsets cannot be compressed if
-any of them is longer than 63 bytes, not counting trailing spaces, and reference
-values that differ cannot be compressed at all (fault 59). A plain message may
-be too long (fault 60).
+With --form, bufr encodes every message in the given form, regardless of what
+its document specifies. Data cannot be compressed if replication factors differ
+between subsets (fault 58). Strings that differ between subsets cannot be
+compressed if any of them is longer than 63 bytes, not counting trailing spaces
+(fault 59). Reference values that differ between subsets cannot be compressed at
+all (also fault 59). An uncompressed message may be too long (fault 60).
 
 Exit status:
   0  no fault was reported
-  1  a document was refused
+  1  a document was rejected
   2  the command line or a table was invalid, a file could not be opened,
      reading or writing failed, or memory ran out
 
@@ -239,7 +239,7 @@ fn encode_command<'a>(alloc: Global) -> Result<clap::Command<'a>, AllocError>
     let form = Arg::new(alloc, "form")
         .long("form")
         .value_name("WORD")
-        .help("plain or compressed (default: as in each document)");
+        .help("plain or compressed (default: as each document specifies)");
     command.arg(form)
 }
 
@@ -305,7 +305,8 @@ fn form_of(found: &ArgMatches<'_>) -> Option<Form>
     }
 }
 
-/// Why a subcommand that clap accepted is not a job.
+/// Why a subcommand that clap accepted is not a job. clap itself rejects the first two cases, which
+/// are here because the code must cover every case, but it does not know the forms.
 #[derive(Clone, Copy, Debug, PartialEq, Eq)]
 enum NoJob {
     /// There is no subcommand with this name.

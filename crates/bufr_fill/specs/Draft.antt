@@ -7,10 +7,10 @@ pub use Rattle.bufr_fill.specs.declared.fault.DraftFault.{DraftFault}
 use Rattle.bufr_fill.specs.declared.fault.Expected.TheVariants as expected
 use Rattle.bufr_fill.specs.declared.fault.DraftFault.TheVariants as draft_fault
 pub use Rattle.bufr_fill.specs.declared.fault.ItemFault.{ItemFault}
-use Rattle.bufr_fill.specs.declared.fault.ItemFault.TheVariants as wrong
+use Rattle.bufr_fill.specs.declared.fault.ItemFault.TheVariants as item_fault
 pub use Rattle.bufr_fill.specs.declared.fault.WalkRefusal.{WalkRefusal}
-use Rattle.bufr_fill.specs.declared.fault.WalkRefusal.TheVariants as walk
-use Rattle.bufr_walk.specs.declared.spec.TurnRefusal.TheVariants as turn
+use Rattle.bufr_fill.specs.declared.fault.WalkRefusal.TheVariants as walk_refusal
+use Rattle.bufr_walk.specs.declared.spec.TurnRefusal.TheVariants as refusal
 use Rattle.std.specs.List.{list_all, AllByRecursion, sum_by}
 use Rattle.bufr_bits.specs.Prelude.{decimal_text_of, decimal_value_of, short_text}
 use Rattle.bufr_bits.specs.declared.decimal.NumberFault.{NumberFault}
@@ -42,7 +42,6 @@ pub record Draft : Type 0 where
   pub fxy : ℕ
   pub form : DraftValue
 
--- an item of these parts
 abbrev pub draft : (line fxy : ℕ) → DraftValue → Draft
 draft line fxy form = record { line = line; fxy = fxy; form = form }
 
@@ -72,55 +71,57 @@ subsets_of [] = []
 subsets_of (Holds item ∷ more) = prepend_to_subset item (subsets_of more)
 subsets_of (Ends line ∷ more) = record { items = []; end_line = line } ∷ subsets_of more
 
--- a fault of the item on this line
 abbrev pub at_line : ℕ → ItemFault → DraftFault
 at_line line fault = draft_fault.Item line fault
 
 -- the fault of an item after the last field of its subset
 abbrev pub item_too_many : ItemFault
-item_too_many = wrong.WrongDescriptor expected.EndOfSubset
+item_too_many = item_fault.WrongDescriptor expected.EndOfSubset
 
 -- the fault of an item whose field the walk refuses
 abbrev pub walk_refused : TurnRefusal → ItemFault
-walk_refused (turn.Width fxy) = wrong.Walk (walk.Width fxy)
-walk_refused (turn.Defining fxy) = wrong.Walk (walk.Defining fxy)
+walk_refused (refusal.Width fxy) = item_fault.Walk (walk_refusal.Width fxy)
+walk_refused (refusal.Defining fxy) = item_fault.Walk (walk_refusal.Defining fxy)
 
 -- the fault of an item with which compressed data have too many values
 abbrev pub too_many_values : (fxy : ℕ) → ItemFault
-too_many_values fxy = wrong.Walk (walk.TooManyValues fxy)
+too_many_values fxy = item_fault.Walk (walk_refusal.TooManyValues fxy)
 
 -- the number of the fault that `dump` reports for the same refusal, and the descriptor
 abbrev pub refusal_parts : WalkRefusal → ℕ × ℕ
-refusal_parts (walk.Width fxy) = (31, fxy)
-refusal_parts (walk.Defining fxy) = (32, fxy)
-refusal_parts (walk.TooManyValues fxy) = (35, fxy)
+refusal_parts (walk_refusal.Width fxy) = (31, fxy)
+refusal_parts (walk_refusal.Defining fxy) = (32, fxy)
+refusal_parts (walk_refusal.TooManyValues fxy) = (35, fxy)
 
--- what was expected, as parts of a text
 abbrev pub expected_text : Expected → List (List ℕ)
 expected_text (expected.Item fxy) = fxy_text fxy ∷ []
 expected_text (expected.Reference fxy) = codes "R " ∷ fxy_text fxy ∷ []
 expected_text expected.EndOfSubset = codes "end of subset" ∷ []
 
--- A fault of an item: another item is expected (51); the value is not a decimal, not whole at the
--- field's scale, or not of the field's kind (52); the number does not fit, or the value would be
--- read as missing (53); the text is longer than the field (54); the field cannot be missing (55); a
--- factor differs between subsets (58); a redefined reference differs between subsets, or texts need
--- more than 63 octets each (59); or the walk refuses the item (62).
+-- a fault of an item
 abbrev pub item_report : ItemFault → ℕ × List (List ℕ)
-item_report (wrong.WrongDescriptor e) = (51, codes "expected " ∷ expected_text e)
-item_report wrong.Number = (52, codes "number" ∷ [])
-item_report wrong.OutOfRange = (53, codes "out of range" ∷ [])
-item_report wrong.TextLong = (54, codes "text long" ∷ [])
-item_report wrong.MissingForbidden = (55, codes "missing forbidden" ∷ [])
-item_report wrong.UnequalFactor = (58, codes "unequal factor" ∷ [])
-item_report wrong.Increment = (59, codes "increment" ∷ [])
-item_report (wrong.Walk why) =
+-- another item is expected
+item_report (item_fault.WrongDescriptor e) = (51, codes "expected " ∷ expected_text e)
+-- the value is not a decimal, not whole at the field's scale, or not of the field's kind
+item_report item_fault.Number = (52, codes "number" ∷ [])
+-- the number does not fit, or the value would be read as missing
+item_report item_fault.OutOfRange = (53, codes "out of range" ∷ [])
+-- the text is longer than the field
+item_report item_fault.TextLong = (54, codes "text long" ∷ [])
+-- the field cannot be missing
+item_report item_fault.MissingForbidden = (55, codes "missing forbidden" ∷ [])
+-- a factor differs between subsets
+item_report item_fault.UnequalFactor = (58, codes "unequal factor" ∷ [])
+-- a redefined reference differs between subsets, or texts need more than 63 octets each
+item_report item_fault.Increment = (59, codes "increment" ∷ [])
+-- the walk refuses the item
+item_report (item_fault.Walk why) =
     let refused = refusal_parts why in
     (62, codes "walk " ∷ decimal refused.0 ∷ codes " descriptor " ∷ fxy_text refused.1 ∷ [])
 
 -- the number of a fault where no document is: too many values have their own
 abbrev pub number_of_draft_fault : DraftFault → ℕ
-number_of_draft_fault (draft_fault.Item line (wrong.Walk why)) = (refusal_parts why).0
+number_of_draft_fault (draft_fault.Item line (item_fault.Walk why)) = (refusal_parts why).0
 number_of_draft_fault (draft_fault.Item line fault) = (item_report fault).0
 number_of_draft_fault draft_fault.Memory = 73
 
@@ -133,8 +134,8 @@ is_marked _ = false
 -- out of range
 -- rule: fault-52
 abbrev pub number_fault : NumberFault → ItemFault
-number_fault Large = wrong.OutOfRange
-number_fault _ = wrong.Number
+number_fault Large = item_fault.OutOfRange
+number_fault _ = item_fault.Number
 
 -- the limit below which numbers fit into `width` bits; all ones are excluded if they mean missing
 -- rule: packs-class-31
@@ -145,8 +146,8 @@ raw_limit m width = if m then ones width else 2 ^ width
 -- rule: fault-53
 abbrev pub raw_within : Bool → ℕ → ℤ → Result Content ItemFault
 raw_within m width (pos raw) =
-    if nat_lt raw (raw_limit m width) then Ok (number raw) else Err wrong.OutOfRange
-raw_within m width (negsuc n) = Err wrong.OutOfRange
+    if nat_lt raw (raw_limit m width) then Ok (number raw) else Err item_fault.OutOfRange
+raw_within m width (negsuc n) = Err item_fault.OutOfRange
 
 -- the raw value of a number: the number minus the reference (FM 94, Table B)
 abbrev pub raw_of : FieldSpec → Result ℤ NumberFault → Result Content ItemFault
@@ -157,7 +158,7 @@ raw_of spec (Err why) = Err (number_fault why)
 abbrev pub reference_of : FieldSpec → Result ℤ NumberFault → Result Content ItemFault
 reference_of spec (Ok value) =
     if nat_lt (nat_abs value) (2 ^ (spec.width - 1)) then Ok (reference value)
-    else Err wrong.OutOfRange
+    else Err item_fault.OutOfRange
 reference_of spec (Err why) = Err (number_fault why)
 
 -- a text with spaces after it up to its length, unless it is too long or all its octets are 255,
@@ -165,21 +166,21 @@ reference_of spec (Err why) = Err (number_fault why)
 -- rule: fault-53, fault-54
 abbrev pub text_within : ℕ → List ℕ → Result Content ItemFault
 text_within count octets =
-    if nat_lt count (length octets) then Err wrong.TextLong
+    if nat_lt count (length octets) then Err item_fault.TextLong
     else let whole = octets ++ replicate (count - length octets) 32 in
-    if list_all (λ octet. octet == 255) whole then Err wrong.OutOfRange else Ok (text whole)
+    if list_all (λ octet. octet == 255) whole then Err item_fault.OutOfRange else Ok (text whole)
 
 -- The value of an item as the content of its field. A text for a number is fault `Number`, and so
 -- is a number for a text.
 -- rule: fault-52, fault-55, fault-order-of-an-item
 abbrev pub content_by_form : DraftValue → FieldSpec → Result Content ItemFault
 content_by_form (number_token digits) spec =
-    if is_character spec.kind then Err wrong.Number
+    if is_character spec.kind then Err item_fault.Number
     else raw_of spec (decimal_value_of digits spec.scale)
 content_by_form (text_form octets) spec =
-    if is_character spec.kind then text_within (spec.width / 8) octets else Err wrong.Number
+    if is_character spec.kind then text_within (spec.width / 8) octets else Err item_fault.Number
 content_by_form missing_form spec =
-    if spec.may_be_missing then Ok missing else Err wrong.MissingForbidden
+    if spec.may_be_missing then Ok missing else Err item_fault.MissingForbidden
 content_by_form (reference_token digits) spec = reference_of spec (decimal_value_of digits (pos 0))
 
 -- whether an item has the descriptor of a field, and the mark `R` exactly if the field is a
@@ -192,7 +193,7 @@ is_of spec d =
 
 -- the fault if an item is not that of the field
 abbrev pub wrong_for : FieldSpec → ItemFault
-wrong_for spec = wrong.WrongDescriptor
+wrong_for spec = item_fault.WrongDescriptor
     (if is_reference spec.role then expected.Reference spec.fxy else expected.Item spec.fxy)
 
 -- an item as the content of its field: first its descriptor must be that of the field, then its

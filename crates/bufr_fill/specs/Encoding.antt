@@ -12,14 +12,13 @@ use Rattle.bufr_bits.specs.Prelude.{◌>>=◌, bits_of, bits_in, number_of, map_
 pub use Rattle.bufr_tables.specs.declared.table_b.Kind.{Kind}
 use Rattle.bufr_walk.specs.declared.spec.Role.TheVariants as role
 use Rattle.bufr_fill.specs.Draft.{TurnRefusal, Draft, Subset, DraftFault, at_line, item_too_many, walk_refused, too_many_values, Role, content_of, wrong_for, raw_limit}
-use Rattle.bufr_fill.specs.declared.fault.ItemFault.TheVariants as wrong
+use Rattle.bufr_fill.specs.declared.fault.ItemFault.TheVariants as item_fault
 
 -- an item that was written: its content and its bits
 pub record WrittenItem (C : Type 0) : Type 0 where
   pub content : C
   pub bits : List Bool
 
--- a written item of these parts
 abbrev pub written_item : {C : Type 0} → C → List Bool → WrittenItem C
 written_item content bits = record { content = content; bits = bits }
 
@@ -28,7 +27,7 @@ written_item content bits = record { content = content; bits = bits }
 pub record Filler (D C E : Type 0) : Type 0 where
   -- writes an item as a field
   pub fills : FieldSpec → D → Result (WrittenItem C) E
-  -- the part of its content that affects the walk
+  -- the answer of its content
   pub gives : FieldSpec → C → Taken
   -- the fault if a field comes next but no item is left
   pub none_left : FieldSpec → E
@@ -78,7 +77,6 @@ module _ {D C E : Type 0} (filler : Filler D C E) where
   abbrev pub fill_pass : Course → List D → Pass (List D) (WrittenItem C) E
   fill_pass course drafts = pass filling (suc (length drafts)) course drafts
 
--- the bits of items that were written
 abbrev pub bits_written : {C : Type 0} → List (Item (WrittenItem C)) → List Bool
 bits_written {C} items = flat_map (λ (i : Item (WrittenItem C)). i.content.bits) items
 
@@ -234,7 +232,6 @@ abbrev pub cells_at : ℕ → List Subset → List RowCell
 cells_at index subsets =
     map (λ (s : Subset). record { draft = slice_get s.items index; end_line = s.end_line }) subsets
 
--- the row of all subsets at one index
 abbrev pub item_row : ℕ → List Subset → ItemRow
 item_row index subsets = record { index = index; cells = cells_at index subsets }
 
@@ -263,7 +260,6 @@ abbrev pub content_here : FieldSpec → Option Draft → (end_line : ℕ) → Re
 content_here spec None end_line = Err (at_line end_line (wrong_for spec))
 content_here spec (Some d) end_line = map_err (at_line d.line) (content_of spec d)
 
--- the contents of a row, or the first fault
 abbrev pub contents_here : FieldSpec → List RowCell → Result (List Content) DraftFault
 contents_here spec [] = Ok []
 contents_here spec (c ∷ cs) = do
@@ -287,8 +283,8 @@ unlike_line (c ∷ cs) cells = first_unlike c (c ∷ cs) cells
 -- the fault if the contents of a row cannot be packed
 -- rule: fault-58
 abbrev pub packing_fault : List Content → List RowCell → FieldFault → DraftFault
-packing_fault cs cells unequal_factor = at_line (unlike_line cs cells) wrong.UnequalFactor
-packing_fault cs cells _ = at_line (first_line cells) wrong.Increment
+packing_fault cs cells unequal_factor = at_line (unlike_line cs cells) item_fault.UnequalFactor
+packing_fault cs cells _ = at_line (first_line cells) item_fault.Increment
 
 -- An item of all subsets: first there must not be too many values, then each subset must have its
 -- item, and then the contents must be packed.
@@ -302,7 +298,8 @@ pack_across spec a =
       result_map_both (written_item cs) (packing_fault cs a.cells) (packing spec cs)
 
 -- How the rows of compressed data are written. `many` is whether one more row would make too many
--- values: this fault comes before that of a missing item.
+-- values: this fault comes before that of a missing item. Faults after the last row are reported on
+-- the line that ends the first subset (`end_line`).
 -- rule: fault-62
 abbrev pub packed_filler : (end_line : ℕ) (many : Bool) → Filler ItemRow (List Content) DraftFault
 packed_filler end_line many = record {

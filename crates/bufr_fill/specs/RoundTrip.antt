@@ -5,7 +5,7 @@ use Rattle.std.specs.List.{list_all, AllByRecursion, AllZip}
 use Rattle.bufr_walk.specs.declared.spec.Role.TheVariants as role
 use Rattle.bufr_walk.specs.Prelude.{FieldSpec, Content, number, text, missing, reference, Course, next_item, TakenField, course_after, subsets_from, Item, IsPackedReading, ReadsSubsets, IsPlainReading}
 use Rattle.bufr_fill.specs.Draft.{at_line, Role, raw_limit, draft_value_of, content_of, Draft, Subset, DraftValue, number_token, text_form, missing_form, reference_token, ItemFault}
-use Rattle.bufr_fill.specs.declared.fault.ItemFault.TheVariants as wrong
+use Rattle.bufr_fill.specs.declared.fault.ItemFault.TheVariants as item_fault
 use Rattle.bufr_fill.specs.Encoding.{Kind, plain_data, packed_data, Filler, fill, with_bits_before}
 use Rattle.bufr_tables.specs.Prelude.{IsLegal, Record, Row, AreRows, Tree}
 use Rattle.bufr_tables.specs.declared.table_b.Kind.TheVariants as kind
@@ -81,8 +81,8 @@ pub record IsPackedAgain (n : ℕ) (course : Course) (items : List (Item (List C
 
 -- the faults of contents that compressed data cannot have
 abbrev pub IsUnlike : ItemFault → Type 0
-IsUnlike wrong.UnequalFactor = Unit {0}
-IsUnlike wrong.Increment = Unit {0}
+IsUnlike item_fault.UnequalFactor = Unit {0}
+IsUnlike item_fault.Increment = Unit {0}
 IsUnlike _ = ⊥
 
 -- the items of n compressed subsets are written subset after subset, and are read from the bits

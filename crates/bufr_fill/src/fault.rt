@@ -35,9 +35,9 @@ impl fmt::Display for Expected {
 /// Why the walk over a template refuses an item, and the descriptor that it refuses.
 #[derive(Clone, Copy, Debug, PartialEq, Eq)]
 pub enum WalkRefusal {
-    /// A field that is not text would be under 1 or over 63 bits wide.
+    /// As [`TurnRefusal::Width`](bufr_walk::TurnRefusal::Width).
     Width(Fxy),
-    /// A descriptor that is not allowed while 2 03 Y redefines references.
+    /// As [`TurnRefusal::Defining`](bufr_walk::TurnRefusal::Defining).
     Defining(Fxy),
     /// Compressed data would have more than 134,217,728 values with this item.
     TooManyValues(Fxy),

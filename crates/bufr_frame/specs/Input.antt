@@ -13,7 +13,6 @@ abbrev pub read_failures_after : {X : Type 0} → ℕ → Result X RunFault → 
 read_failures_after count (Err Read) = counted count 1
 read_failures_after count _ = count
 
--- the maximum number of reads of one input
 abbrev pub max_reads : ℕ
 max_reads = 2 ^ 32
 

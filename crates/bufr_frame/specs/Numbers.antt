@@ -6,7 +6,7 @@ use Rattle.bufr_frame.specs.declared.fault.Cause.TheVariants as cause
 use Rattle.bufr_frame.specs.declared.fault.SectionFault.{SectionFault}
 use Rattle.bufr_frame.specs.declared.fault.SectionFault.TheVariants as section
 use Rattle.bufr_frame.specs.declared.fault.RunFault.{RunFault}
-use Rattle.bufr_frame.specs.declared.fault.RunFault.TheVariants as run
+use Rattle.bufr_frame.specs.declared.fault.RunFault.TheVariants as run_fault
 use Rattle.bufr_frame.specs.declared.fault.WriteFault.{WriteFault}
 use Rattle.bufr_frame.specs.declared.fault.WriteFault.TheVariants as write
 
@@ -18,26 +18,29 @@ cause_report cause.Cut = (1, codes "cut" ∷ [])
 cause_report cause.ShortLength = (2, codes "short length" ∷ [])
 cause_report cause.NoEnd = (3, codes "no end" ∷ [])
 
--- A fault in the sections of a message: the edition is not 3 or 4; section k is too short; section
--- k extends past the beginning of section 5; section 4 ends before that; or a message of edition 3
--- is too long (`is_long_edition_3`).
+-- a fault in the sections of a message
 -- rule: fault-10, fault-11, fault-12, fault-13, fault-14
 abbrev pub section_report : SectionFault → ℕ × List (List ℕ)
+-- the edition is not 3 or 4
 section_report (section.Edition edition) = (10, codes "edition " ∷ decimal edition ∷ [])
+-- section k is shorter than allowed
 section_report (section.SectionShort k) = (11, codes "section " ∷ decimal k ∷ codes " short" ∷ [])
+-- section k extends past the beginning of section 5
 section_report (section.SectionPast k) =
     (12, codes "section " ∷ decimal k ∷ codes " past the end" ∷ [])
+-- section 4 ends before the beginning of section 5
 section_report section.SectionsEnd = (13, codes "sections do not meet the end" ∷ [])
+-- a message of edition 3 is too long (`is_long_edition_3`)
 section_report section.Edition3Long = (14, codes "edition 3 length" ∷ [])
 
 -- a fault that stops a run: a device failed, 2^32 reads did not reach the end of the input, or
 -- memory ran out
 -- rule: fault-70, fault-71, fault-72, fault-73
 abbrev pub run_report : RunFault → ℕ × List (List ℕ)
-run_report run.Read = (70, codes "read failed" ∷ [])
-run_report run.Write = (71, codes "write failed" ∷ [])
-run_report run.InputTooLong = (72, codes "input too long" ∷ [])
-run_report run.Memory = (73, codes "out of memory" ∷ [])
+run_report run_fault.Read = (70, codes "read failed" ∷ [])
+run_report run_fault.Write = (71, codes "write failed" ∷ [])
+run_report run_fault.InputTooLong = (72, codes "input too long" ∷ [])
+run_report run_fault.Memory = (73, codes "out of memory" ∷ [])
 
 -- the number of a fault of writing a message
 abbrev pub number_of_write_fault : WriteFault → ℕ

@@ -8,7 +8,6 @@ use Rattle.bufr_frame.specs.declared.message.Words.{Words}
 abbrev pub u24_at : List ℕ → ℕ → ℕ
 u24_at m p = 65536 * slice_index m p + 256 * slice_index m (p + 1) + slice_index m (p + 2)
 
--- the number in the two octets that begin at index p
 abbrev pub u16_at : List ℕ → ℕ → ℕ
 u16_at m p = 256 * slice_index m p + slice_index m (p + 1)
 
@@ -24,7 +23,6 @@ words (a ∷ b ∷ more) = (256 * a + b) ∷ words more
 abbrev pub three_octets : ℕ → List ℕ
 three_octets n = n / 65536 ∷ n / 256 % 256 ∷ n % 256 ∷ []
 
--- the two octets of a number below 2^16
 abbrev pub two_octets : ℕ → List ℕ
 two_octets n = n / 256 ∷ n % 256 ∷ []
 

@@ -24,10 +24,9 @@ has_word_at word p m = bytes_eq (take 4 (drop p m)) word
 abbrev pub stated_length : List ℕ → ℕ
 stated_length m = u24_at m 4
 
--- What begins at the first of the remaining octets of a stream: nothing if they do not begin with
--- `BUFR`; otherwise the first case that applies. 8 is the length of section 0, and 12 that of
--- sections 0 and 5 together. A message that the end of the stream cuts off is `Cut`, even if its
--- declared length is below 12.
+-- What begins at the first of the remaining octets of a stream, if anything. 8 is the length of
+-- section 0, and 12 that of sections 0 and 5 together. A message that the end of the stream cuts off
+-- is `Cut`, even if its declared length is below 12.
 -- rule: stray-cut, stray-short-length, stray-no-end, input-ends-early, order-of-causes
 abbrev pub classify : List ℕ → Option Candidate
 classify m =
@@ -45,8 +44,7 @@ stream_event at m None = []
 stream_event at m (Some (Stray cause)) = StrayAt at cause ∷ []
 stream_event at m (Some Frame) = FrameAt at (take (stated_length m) m) ∷ []
 
--- the number of octets from here to where the search continues: 1 if nothing begins here, 4 after a
--- stray, and the declared length after a message
+-- the number of octets from here to where the search continues
 -- rule: frame, after-a-stray
 abbrev pub candidate_len : List ℕ → Option Candidate → ℕ
 candidate_len m None = 1

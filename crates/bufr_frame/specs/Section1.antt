@@ -38,10 +38,9 @@ pub data HeadOctets : Type 0 where
   TwoOctets : (n : ℕ) → HeadOctets
   NoOctets : HeadOctets
 
--- The head with this edition whose other values `value` gives. It depends on the value's key (its
--- index among the header lines of a dump), its octets in edition 4 and its octets in edition 3. So
--- one table serves to read a head, to find the greatest value of each key, and to take a head from
--- a document. In edition 3, the year is that of the century, as in the message (own).
+-- The head with this edition. `value key in_4 in_3` gives each other value: `key` is its index among
+-- the header lines of a dump, and `in_4` and `in_3` are its octets in edition 4 and in edition 3.
+-- The year of edition 3 is that of the century, as in the message (own).
 -- rule: section-1-of-edition-3, section-1-of-edition-4, year-of-the-century, edition-3-lacks
 -- rule: listing-of-edition-3, odd-values-kept
 abbrev pub head_by : (edition : ℕ) → (value : (key : ℕ) → (in_4 in_3 : HeadOctets) → ℕ) → Head
@@ -81,16 +80,14 @@ abbrev pub head_of : List ℕ → Head
 head_of m = head_by (edition_of m)
     (λ key in_4 in_3. value_at m (if edition_of m == 3 then in_3 else in_4))
 
--- section 1 of edition 3 from octet 4 to the last octet before local use: `head_by` lists the place
--- of each value
+-- section 1 of edition 3 as it is written, from octet 4 to the last octet before local use
 -- rule: section-1-of-edition-3, year-of-the-century
 abbrev pub octets_3 : Head → (flags : ℕ) → List ℕ
 octets_3 h flags =
     h.master ∷ h.subcentre ∷ h.centre ∷ h.update ∷ flags ∷ h.category ∷ h.subcategory
     ∷ h.master_version ∷ h.local_version ∷ h.year ∷ h.month ∷ h.day ∷ h.hour ∷ h.minute ∷ []
 
--- section 1 of edition 4 from octet 4 to the last octet before local use: `head_by` lists the place
--- of each value
+-- the same in edition 4
 -- rule: section-1-of-edition-4
 abbrev pub octets_4 : Head → (flags : ℕ) → List ℕ
 octets_4 h flags =

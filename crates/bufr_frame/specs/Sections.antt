@@ -42,7 +42,7 @@ section_end m k least p =
 
 -- Whether a section 3 or 4 of this length gets a padding octet (zero) when a message is written: in
 -- edition 3, FM 94 requires even lengths. Sections 1 and 2 get none (own), since it would be read
--- back as an octet for local use.
+-- back as an octet for local use; so if their length is odd, the message does not conform to FM 94.
 abbrev pub is_padded : (edition size : ℕ) → Bool
 is_padded edition size = (edition == 3) && (size % 2 == 1)
 
@@ -68,7 +68,7 @@ parts m p1 p2 p3 p4 = record {
 
 -- Whether a message of edition 3 is refused (own), because encoding its dump might give a message
 -- that is too long: each odd section 3 or 4 gets a padding octet, and a message has at most 2^24 -
--- 1 octets. 16,777,213 is 2^24 - 1 - 2; the limit is the same if only one section is odd.
+-- 1 octets. For simplicity, the limit is 2^24 - 1 - 2 even if only one section is odd.
 -- rule: edition-3-length
 abbrev pub is_long_edition_3 : List ℕ → (p2 p3 p4 : ℕ) → Bool
 is_long_edition_3 m p2 p3 p4 =

@@ -9,7 +9,7 @@ pub use Rattle.bufr_tables.specs.Fxy.{is_factor}
 use Rattle.bufr_tables.specs.Tree.{is_legal_operator, gives_width, Tree, bare, element, operator, fixed, delayed, join, size, consumes, places}
 use Rattle.bufr_tables.specs.TableB.{Row, entry_of}
 use Rattle.bufr_tables.specs.TableD.{Sequence, members_of}
-use Rattle.bufr_tables.specs.declared.fault.TemplateFault.TheVariants as fault
+use Rattle.bufr_tables.specs.declared.fault.TemplateFault.TheVariants as template
 use Rattle.bufr_tables.specs.declared.fault.TemplateFault.TheVariants.{Memory}
 
 -- what expansion needs of the tables: whether Table B has an element, and the members of each
@@ -30,7 +30,7 @@ unless false why = Err why
 -- the fault of descriptor d if `more` places after the first `places` would make more than 65,535
 -- rule: fault-27
 abbrev pub with_places : (places more d : ℕ) → Result (Unit {0}) TemplateFault
-with_places places more d = unless (nat_le (places + more) 65535) (fault.TemplateSize d)
+with_places places more d = unless (nat_le (places + more) 65535) (template.TemplateSize d)
 
 -- How a descriptor list is expanded if `places` places of the template come before it. In what
 -- follows, an argument `Option Expansion` says how to expand the list inside a group or sequence;
@@ -44,14 +44,13 @@ pub record ExpandedPart : Type 0 where
   pub tree : Tree
   pub taken : ℕ
 
--- an expanded part with these nodes and this number of descriptors
 abbrev pub part : Tree → ℕ → ExpandedPart
 part tree taken = record { tree = tree; taken = taken }
 
 -- how to expand the inner list of d, or a fault if too many groups and sequences are nested
 -- rule: fault-26
 abbrev pub opened : Option Expansion → ℕ → Result Expansion TemplateFault
-opened None d = Err (fault.Depth d)
+opened None d = Err (template.Depth d)
 opened (Some inner) d = Ok inner
 
 -- whether a list begins with an element
@@ -63,7 +62,7 @@ begins_with_element (d ∷ after) = f_of d == 0
 -- rule: 2-06-y-unknown-element, fault-20, order-at-an-element
 abbrev pub element_part : Tables → Bool → ℕ → ℕ → Result ExpandedPart TemplateFault
 element_part tables width_given places d = do
-  _ ← unless (width_given || tables.known d) (fault.UnknownElement d)
+  _ ← unless (width_given || tables.known d) (template.UnknownElement d)
   _ ← with_places places 1 d
   Ok (part (element d bare) 0)
 
@@ -71,23 +70,23 @@ element_part tables width_given places d = do
 -- rule: 2-06-y-before-an-element, fault-22, fault-28, order-at-an-operator
 abbrev pub operator_part : ℕ → ℕ → List ℕ → Result ExpandedPart TemplateFault
 operator_part places d after = do
-  _ ← unless (is_legal_operator d) (fault.Operator d)
-  _ ← unless (not (gives_width d) || begins_with_element after) (fault.LocalShape d)
+  _ ← unless (is_legal_operator d) (template.Operator d)
+  _ ← unless (not (gives_width d) || begins_with_element after) (template.LocalShape d)
   _ ← with_places places 1 d
   Ok (part (operator d bare) 0)
 
 -- The body of group d: the first X descriptors of `after`, which must all be in the same list
--- (own). `own` is the number of places that the group itself takes. Some node of the body must take
--- bits of the data (own).
+-- (own). `frame` is the number of places that the group takes besides those of its body. Some node
+-- of the body must take bits of the data (own).
 -- rule: replication-before-expansion, replication-nested, replication-in-one-list, fault-23
 -- rule: order-at-a-replication
-abbrev pub body_of : Option Expansion → (places own d : ℕ) → List ℕ → Result Tree TemplateFault
-body_of inner places own d after = do
-  _ ← unless (nat_le (x_of d) (length after)) (fault.GroupShape d)
+abbrev pub body_of : Option Expansion → (places frame d : ℕ) → List ℕ → Result Tree TemplateFault
+body_of inner places frame d after = do
+  _ ← unless (nat_le (x_of d) (length after)) (template.GroupShape d)
   expand ← opened inner d
-  _ ← with_places places own d
-  body ← expand (places + own) (take (x_of d) after)
-  _ ← unless (consumes body) (fault.EmptyGroup d)
+  _ ← with_places places frame d
+  body ← expand (places + frame) (take (x_of d) after)
+  _ ← unless (consumes body) (template.EmptyGroup d)
   Ok body
 
 -- a replication with a count: Y passes of the next X descriptors
@@ -101,10 +100,10 @@ fixed_part inner places d after = do
 -- rule: delayed-replication, fault-24, order-at-a-replication
 abbrev pub delayed_part : Tables → Option Expansion → ℕ → ℕ → List ℕ
     → Result ExpandedPart TemplateFault
-delayed_part tables inner places d [] = Err (fault.NoFactor d)
+delayed_part tables inner places d [] = Err (template.NoFactor d)
 delayed_part tables inner places d (factor ∷ after) = do
-  _ ← unless (is_factor factor) (fault.NoFactor d)
-  _ ← unless (tables.known factor) (fault.UnknownElement factor)
+  _ ← unless (is_factor factor) (template.NoFactor d)
+  _ ← unless (tables.known factor) (template.UnknownElement factor)
   body ← body_of inner places 3 d after
   Ok (part (delayed factor body bare) (1 + x_of d))
 
@@ -113,14 +112,14 @@ delayed_part tables inner places d (factor ∷ after) = do
 abbrev pub group_part : Tables → Option Expansion → ℕ → ℕ → List ℕ
     → Result ExpandedPart TemplateFault
 group_part tables inner places d after = do
-  _ ← unless (nat_lt 0 (x_of d)) (fault.GroupShape d)
+  _ ← unless (nat_lt 0 (x_of d)) (template.GroupShape d)
   if y_of d == 0 then delayed_part tables inner places d after else fixed_part inner places d after
 
 -- a sequence: its members take its place
 -- rule: fault-21, order-at-a-sequence
 abbrev pub sequence_part : Tables → Option Expansion → ℕ → ℕ → Result ExpandedPart TemplateFault
 sequence_part tables inner places d = do
-  members ← ok_or (tables.members d) (fault.UnknownSequence d)
+  members ← ok_or (tables.members d) (template.UnknownSequence d)
   expand ← opened inner d
   tree ← expand places members
   Ok (part tree 0)
@@ -140,7 +139,8 @@ part_of tables inner width_given places d after =
 -- part of a replication before them; `width_given` means that 2 06 Y comes directly before the
 -- list.
 -- rule: first-descriptor-decides
-unfoldable pub level : Tables → Option Expansion → Bool → ℕ → Expansion
+unfoldable pub level : Tables → Option Expansion → (width_given : Bool) → (skip places : ℕ)
+    → List ℕ → Result Tree TemplateFault
 level tables inner width_given skip places [] = Ok bare
 level tables inner width_given (suc skip) places (d ∷ after) =
     level tables inner width_given skip places after
@@ -161,7 +161,7 @@ inner_of tables (suc room) = Some (level tables (inner_of tables room) false 0)
 unfoldable pub tree_of : Tables → List ℕ → Result Tree TemplateFault
 tree_of tables list = do
   tree ← level tables (inner_of tables max_open) false 0 1 list
-  _ ← unless (consumes tree) (fault.EmptyGroup (slice_index list 0))
+  _ ← unless (consumes tree) (template.EmptyGroup (slice_index list 0))
   Ok tree
 
 -- ---- What Tables B and D say to the expansion.

@@ -6,7 +6,7 @@ use Rattle.std.specs.Char.{is_ascii_digit}
 use Rattle.std.specs.List.{list_all, AllByRecursion, IsDistinct}
 use Rattle.bufr_tables.specs.declared.index.FxyIndex.TheInside.{Inside}
 
--- F: 0 for an element, 1 for a replication, 2 for an operator, 3 for a sequence
+-- F: the kind of descriptor
 abbrev pub f_of : ℕ → ℕ
 f_of word = word / 16384
 
@@ -38,15 +38,13 @@ fxy_text word =
 abbrev pub number_at : List ℕ → ℕ → ℕ
 number_at text place = slice_index text place - 48
 
--- F of a text of six digits
+-- F, X and Y of a text of six digits
 abbrev pub f_in : List ℕ → ℕ
 f_in text = number_at text 0
 
--- X of a text of six digits
 abbrev pub x_in : List ℕ → ℕ
 x_in text = 10 * number_at text 1 + number_at text 2
 
--- Y of a text of six digits
 abbrev pub y_in : List ℕ → ℕ
 y_in text = 100 * number_at text 3 + 10 * number_at text 4 + number_at text 5
 

@@ -4,7 +4,7 @@ use Rattle.bufr_tables.specs.declared.template.Cell.{Cell}
 use Rattle.bufr_tables.specs.declared.template.Cell.TheVariants as cell
 use Rattle.bufr_tables.specs.declared.expand.Passes.{Passes}
 use Rattle.bufr_tables.specs.declared.fault.TemplateFault.{TemplateFault}
-use Rattle.bufr_tables.specs.declared.fault.TemplateFault.TheVariants as fault
+use Rattle.bufr_tables.specs.declared.fault.TemplateFault.TheVariants as template
 use Rattle.bufr_tables.specs.Tree.{Tree, depth, consumes, bare, fixed, delayed}
 use Rattle.bufr_tables.specs.Cells.{cells_of}
 use Rattle.bufr_tables.specs.Records.{◌>>=◌}
@@ -71,7 +71,7 @@ with_closed_group g place passes =
 
 -- a fault is the one that is defined, or want of memory
 abbrev pub IsFaultOrMemory : {A : Type 0} → Result A TemplateFault → TemplateFault → Type 0
-IsFaultOrMemory defined why = why ≢ fault.Memory → defined ≡ Err why
+IsFaultOrMemory defined why = why ≢ template.Memory → defined ≡ Err why
 
 -- the tree that is defined has been put after what had grown
 pub record PushesTree (old : BuilderModel) (defined : Result Tree TemplateFault)

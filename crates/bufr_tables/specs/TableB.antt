@@ -21,8 +21,7 @@ use Rattle.bufr_tables.specs.declared.table_b.TableB.TheInside.{Inside}
 unfoldable pub begins_with : List ℕ → List ℕ → Bool
 begins_with text words = str_eq_ignore_ascii_case (take (length words) text) words
 
--- the kind of an element, which its unit (in upper or lower case) determines: text, a code or flag
--- table, or a quantity
+-- the kind of an element, which its unit determines
 -- rule: kind-by-unit
 unfoldable pub kind_of : List ℕ → Kind
 kind_of unit =
@@ -67,7 +66,6 @@ is_printed octet = nat_le 32 octet && not (octet == 127)
 abbrev pub is_name : List ℕ → Bool
 is_name text = nat_le (length text) 512 && list_all is_printed text
 
--- a name or a unit, if the text may be one
 unfoldable pub plain_of : List ℕ → Option (List ℕ)
 plain_of text = only_if (is_name text) text
 
@@ -85,21 +83,18 @@ allows_width _ width = nat_le 1 width && nat_le width 63
 unfoldable pub width_of : Kind → List ℕ → Option ℕ
 width_of kind text = natural_of text >>= λ width. only_if (allows_width kind width) width
 
--- the width of a replication factor, `None` for other elements: 1 bit if Y is 0, 8 if it is 1, 16
--- if it is 2
+-- the width of a replication factor; `None` for other elements
 abbrev pub factor_width : ℕ → Option ℕ
 factor_width fxy =
     if is_factor fxy then Some (if y_of fxy == 0 then 1 else if y_of fxy == 1 then 8 else 16)
     else None
 
--- whether a kind is text
 abbrev pub is_character : Kind → Bool
 is_character Character = true
 is_character _ = false
 
--- Whether a row is valid for its element. If the element is a replication factor, which needs this
--- width, the row must have the width, scale 0 and reference 0, and must not be text. For other
--- elements (`None`), each row is valid.
+-- whether a row is valid: that of a factor, which needs this width, must have scale 0 and reference
+-- 0, and must not be text
 abbrev pub is_valid_factor : Option ℕ → Row → Bool
 is_valid_factor None row = true
 is_valid_factor (Some width) row =

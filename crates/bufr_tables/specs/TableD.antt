@@ -20,7 +20,6 @@ pub record Member : Type 0 where
   pub sequence : ℕ
   pub fxy : ℕ
 
--- the header of the file
 -- rule: fault-40
 abbrev pub columns_d : List (List ℕ)
 columns_d = codes "fxy" ∷ codes "member" ∷ []
@@ -67,8 +66,7 @@ added table row =
     if is_last table row.sequence then extended table row.fxy
     else table ++ record { fxy = row.sequence; members = row.fxy ∷ [] } ∷ []
 
--- whether a row belongs to an earlier sequence, but not to the last one: the rows of a sequence
--- must be next to each other
+-- whether a row belongs to an earlier sequence, but not to the last one
 -- rule: fault-42
 abbrev pub begins_again : List Sequence → Member → Bool
 begins_again table row = not (is_last table row.sequence) && is_some (members_of table row.sequence)

@@ -22,8 +22,8 @@ join (operator fxy rest) more = operator fxy (join rest more)
 join (fixed count body rest) more = fixed count body (join rest more)
 join (delayed factor body rest) more = delayed factor body (join rest more)
 
--- The number of places that nodes take in a stored template: one for each element and operator, two
--- for the beginning and the end of a group, and one for a factor.
+-- The number of places that nodes take in a stored template: one for each element, operator and
+-- factor, and two for the beginning and the end of a group (a replication with its body).
 abbrev pub size : Tree → ℕ
 size bare = 0
 size (element fxy rest) = 1 + size rest
@@ -74,7 +74,6 @@ has_legal_operand x y =
     else (if x == 7 then nat_le y 18
     else (x == 1 || (x == 2 || x == 8))))
 
--- whether an operator descriptor is supported
 abbrev pub is_legal_operator : ℕ → Bool
 is_legal_operator fxy = has_legal_operand (x_of fxy) (y_of fxy)
 

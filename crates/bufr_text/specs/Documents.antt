@@ -73,7 +73,6 @@ pub data ParseResult : Type 0 where
   Complete : Document → ParseResult
   Refused : (line : ℕ) (fault : TextLineFault) → ParseResult
 
--- a document with one more entry
 abbrev pub with_entry : Document → DraftEntry → Document
 with_entry d entry = record d { entries = d.entries ++ entry ∷ [] }
 
@@ -178,7 +177,6 @@ max_line = 4096
 abbrev pub read_line : List ℕ → Line
 read_line line = if nat_lt max_line (length line) then Wrong else line_of line
 
--- where the reader is after a line
 abbrev pub parsing_after : LineStep → Parsing
 parsing_after (Continues state, d) = (state, d)
 parsing_after (Completes, d) = between
@@ -237,7 +235,6 @@ abbrev pub onto_split : ℕ → List (List ℕ) → List ℕ → Split
 onto_split c [] rest = record { whole = []; rest = c ∷ rest }
 onto_split c (line ∷ more) rest = record { whole = (c ∷ line) ∷ more; rest = rest }
 
--- a text, split into its lines and the rest
 unfoldable pub split_of : List ℕ → Split
 split_of [] = record { whole = []; rest = [] }
 split_of (c ∷ more) =

@@ -30,17 +30,15 @@ header_lines key [] = []
 header_lines key (value ∷ more) =
     (get_or keys key [] ++ 32 ∷ decimal value) ∷ header_lines (key + 1) more
 
--- a line of octets for local use in section 1
+-- the lines of octets for local use in section 1, of octets of section 2, and of descriptors
 -- rule: text-local1
 abbrev pub local1_line : List ℕ → List ℕ
 local1_line octets = codes "local1 " ++ hex_text octets
 
--- a line of octets of section 2
 -- rule: text-section2
 abbrev pub section2_line : List ℕ → List ℕ
 section2_line octets = codes "section2 " ++ hex_text octets
 
--- a line of descriptors
 -- rule: text-descriptors
 abbrev pub descriptors_line : List ℕ → List ℕ
 descriptors_line words = codes "descriptors" ++ descriptors_text words
@@ -68,7 +66,6 @@ form_text fxy (text_form octets) = fxy_text fxy ++ 32 ∷ 34 ∷ quoted octets
 form_text fxy missing_form = fxy_text fxy ++ 32 ∷ codes "MISSING"
 form_text fxy (reference_token token) = codes "R " ++ fxy_text fxy ++ 32 ∷ token
 
--- the line of an item
 abbrev pub item_text : View → List ℕ
 item_text item = form_text item.fxy (dump_value_of item.value) ++ comment_text item.entry
 
@@ -83,7 +80,6 @@ subset_lines subset [] = []
 subset_lines subset (items ∷ more) =
     subset_line subset ∷ (map item_text items ++ subset_lines (subset + 1) more)
 
--- the lines before the subsets
 abbrev pub head_lines : Sections → List (List ℕ)
 head_lines s = codes "message" ∷ (header_lines 0 (header_of s)
     ++ (map local1_line (runs_of 32 s.local1)
@@ -99,7 +95,6 @@ dump_lines s subsets = head_lines s ++ (subset_lines 1 subsets ++ codes "end" �
 abbrev pub text_of_lines : List (List ℕ) → List ℕ
 text_of_lines lines = flat_map (λ line. line ++ 10 ∷ []) lines
 
--- the dump text of a message, whose subsets have these items
 abbrev pub dump_text_of : Sections → List (List View) → List ℕ
 dump_text_of s subsets = text_of_lines (dump_lines s subsets)
 
@@ -137,7 +132,6 @@ document_of at s subsets = record {
 abbrev pub items_shown : List Row → List (Item Content) → List View
 items_shown table items = map (λ i. view_of table i.spec i.content) items
 
--- the items of each of n subsets as they are shown
 abbrev pub dump_items : List Row → (subsets : ℕ) → Values → List (List View)
 dump_items table n values = map (items_shown table) (each_subset n values)
 
@@ -190,7 +184,6 @@ source_texts offset size h =
     ∷ decimal h.master ∷ codes "/" ∷ decimal h.master_version ∷ codes "/"
     ∷ decimal h.local_version ∷ []
 
--- the time in section 1
 abbrev pub time_texts : Head → List (List ℕ)
 time_texts h =
     codes " time=" ∷ zero_padded 4 h.year ∷ codes "-" ∷ zero_padded 2 h.month ∷ codes "-" ∷ zero_padded 2 h.day ∷

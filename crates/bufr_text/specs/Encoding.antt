@@ -18,7 +18,7 @@ use Rattle.bufr_walk.specs.declared.walker.WalkStop.{WalkStop}
 use Rattle.bufr_fill.specs.declared.fault.DraftFault.{DraftFault}
 use Rattle.bufr_text.specs.declared.encode.Form.TheVariants as form
 use Rattle.bufr_walk.specs.declared.spec.TurnRefusal.TheVariants as refusal
-use Rattle.bufr_text.specs.declared.fault.DocumentFault.TheVariants as fault
+use Rattle.bufr_text.specs.declared.fault.DocumentFault.TheVariants as document
 use Rattle.bufr_fill.specs.declared.fault.DraftFault.TheVariants as draft_fault
 use Rattle.bufr_walk.specs.declared.walker.WalkStop.TheVariants as stops
 use Rattle.bufr_tables.specs.declared.fault.TemplateFault.TheVariants as template_fault
@@ -39,25 +39,26 @@ form_of_flag true = form.Compressed
 
 -- the fault of a document whose items have a fault
 abbrev pub document_fault : DraftFault → DocumentFault
-document_fault (draft_fault.Item line why) = fault.Item line why
-document_fault draft_fault.Memory = fault.Memory
+document_fault (draft_fault.Item line why) = document.Item line why
+document_fault draft_fault.Memory = document.Memory
 
--- A fault of a document: of an item (`item_report`), of its template (56, then the number and the
--- text of `template_report`), or the message would have more than 16,777,215 octets. `Memory` has
--- no text: it stops a run, and the last line of the run reports it.
+-- a fault of a document
 abbrev pub document_report : DocumentFault → ℕ × List (List ℕ)
-document_report (fault.Item line why) = item_report why
-document_report (fault.Template line why) =
+document_report (document.Item line why) = item_report why
+-- its template has a fault: 56, and then the number and the text of that fault
+document_report (document.Template line why) =
     (56, codes "template " ∷ decimal (template_report why).0 ∷ codes " " ∷ (template_report why).1)
-document_report (fault.TooLong line) = (60, codes "too long" ∷ [])
-document_report fault.Memory = (73, [])
+-- the message would have more than 16,777,215 octets
+document_report (document.TooLong line) = (60, codes "too long" ∷ [])
+-- no text, since it stops a run, and the last line of the run reports it
+document_report document.Memory = (73, [])
 
 -- the line of a fault; `Memory` has none
 abbrev pub line_of_fault : DocumentFault → Option ℕ
-line_of_fault (fault.Item line why) = Some line
-line_of_fault (fault.Template line why) = Some line
-line_of_fault (fault.TooLong line) = Some line
-line_of_fault fault.Memory = None
+line_of_fault (document.Item line why) = Some line
+line_of_fault (document.Template line why) = Some line
+line_of_fault (document.TooLong line) = Some line
+line_of_fault document.Memory = None
 
 -- the data bits of the subsets of a document, or the first fault
 abbrev pub data_bits : (compressed : Bool) → Course → List Subset → Result (List Bool) DraftFault
@@ -68,7 +69,6 @@ data_bits compressed course subsets = bits_of_writing (writing_of compressed cou
 abbrev pub octets_of_bits : List Bool → List ℕ
 octets_of_bits bits = octets_in ((length bits + 7) / 8) (bits ++ padding (length bits))
 
--- the parts of a document's message with this payload
 -- rule: writes-local-use
 abbrev pub parts_as : (compressed : Bool) → Document → (payload : List ℕ) → MessageParts
 parts_as compressed d payload =
@@ -82,7 +82,6 @@ parts_as compressed d payload =
       payload = payload;
     }
 
--- whether the data of a document are compressed in a form
 -- rule: form-option
 abbrev pub compressed_as : Form → Document → Bool
 compressed_as form d = compressed_by form (header_in d).compressed
@@ -91,7 +90,7 @@ compressed_as form d = compressed_by form (header_in d).compressed
 -- rule: fault-60
 abbrev pub message_of : (line : ℕ) → Head → MessageParts → Result (List ℕ) DocumentFault
 message_of line head parts =
-    if nat_lt max_octets (message_size head.edition parts) then Err (fault.TooLong line)
+    if nat_lt max_octets (message_size head.edition parts) then Err (document.TooLong line)
     else Ok (message_octets head parts)
 
 -- The message of a document, or the first fault: of the template, which is reported at the line
@@ -100,7 +99,7 @@ message_of line head parts =
 unfoldable pub encoding_in : Form → List Row → List Sequence → Document
     → Result (List ℕ) DocumentFault
 encoding_in form table sequences d = do
-  template ← map_err (fault.Template d.line) (tree_of (tables_of table sequences) d.descriptors)
+  template ← map_err (document.Template d.line) (tree_of (tables_of table sequences) d.descriptors)
   bits ← map_err document_fault
       (data_bits (compressed_as form d) (next_item table template) (subsets_of d.entries))
   message_of d.line (header_in d).head (parts_as (compressed_as form d) d (octets_of_bits bits))
@@ -111,7 +110,7 @@ encoding_of = encoding_in AsWritten
 
 -- a fault is the definition's refusal, or memory ran out
 abbrev pub IsDocumentRefusal : {A : Type 0} → DocumentFault → Result A DocumentFault → Type 0
-IsDocumentRefusal why defined = (why ≡ fault.Memory) ⊎ (defined ≡ Err why)
+IsDocumentRefusal why defined = (why ≡ document.Memory) ⊎ (defined ≡ Err why)
 
 -- ---- The bits and the turns of an encoding up to its first refusal, or all. (a choice of this
 -- project)
@@ -178,7 +177,7 @@ pub record IsNoData (places : ℕ) (compressed : Bool) (course : Course) (subset
     (why : DocumentFault) (steps : ℕ) : Type 0 where
   pub refuses : IsDocumentRefusal why
       (map_err document_fault (data_bits compressed course subsets))
-  pub made : CountsSteps (why ≡ fault.Memory) 0 (writing_of compressed course subsets).turns
+  pub made : CountsSteps (why ≡ document.Memory) 0 (writing_of compressed course subsets).turns
       steps
   pub few : steps ≤ places * (length (writing_of compressed course subsets).bits + 1)
 
@@ -196,4 +195,4 @@ abbrev pub WritesForm : Form → List Row → Document → Result Tree TemplateF
 WritesForm form table d (Ok template) result steps = WritesData (places template)
     (compressed_as form d) (next_item table template) (subsets_of d.entries) result steps
 WritesForm form table d (Err why) result steps =
-    (result ≡ Err (fault.Template d.line why)) × (why ≢ template_fault.Memory) × (steps ≡ 0)
+    (result ≡ Err (document.Template d.line why)) × (why ≢ template_fault.Memory) × (steps ≡ 0)

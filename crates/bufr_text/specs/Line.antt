@@ -12,7 +12,7 @@ use Rattle.bufr_frame.specs.Prelude.{greatest_values}
 use Rattle.bufr_fill.specs.Prelude.{DraftValue, number_token, text_form, missing_form, reference_token}
 use Rattle.std.specs.Option.{option_zip}
 
--- the longest prefix of octets that pass a test
+-- the longest prefix of octets that pass a test, as in `take_while`
 unfoldable pub prefix_while : (ℕ → Bool) → List ℕ → List ℕ
 prefix_while test [] = []
 prefix_while test (c ∷ more) = if test c then c ∷ prefix_while test more else []
@@ -39,7 +39,6 @@ runs_after skip most [] = []
 runs_after (suc skip) most (x ∷ more) = runs_after skip most more
 runs_after zero most (x ∷ more) = take most (x ∷ more) ∷ runs_after (most - 1) most more
 
--- a list in runs of `most` elements each; the last run may be shorter
 abbrev pub runs_of : (most : ℕ) → List ℕ → List (List ℕ)
 runs_of most xs = runs_after 0 most xs
 
@@ -61,7 +60,6 @@ either_value c = if nat_le 97 c && nat_le c 102 then Some (c - 87) else upper_va
 abbrev pub pair_value : Option ℕ → Option ℕ → Option ℕ
 pair_value high low = option_map (λ both. 16 * both.0 + both.1) (option_zip high low)
 
--- the two hexadecimal digits of an octet
 abbrev pub hex_pair : ℕ → List ℕ
 hex_pair octet = hex_digit (octet / 16) ∷ hex_digit (octet % 16) ∷ []
 
@@ -93,7 +91,6 @@ unfoldable pub descriptors_text : List ℕ → List ℕ
 descriptors_text [] = []
 descriptors_text (fxy ∷ more) = 32 ∷ fxy_text fxy ++ descriptors_text more
 
--- the descriptors of a text, each after one space
 -- rule: reading-descriptor
 unfoldable pub descriptors_read : List ℕ → Option (List ℕ)
 descriptors_read [] = Some []
@@ -137,16 +134,15 @@ escape_of text = if (slice_index text 1 == 34) || (slice_index text 1 == 92)
     then Octet (slice_index text 1) 2 else if slice_index text 1 == 120 then says_pair
     (pair_value (upper_value (slice_index text 2)) (upper_value (slice_index text 3))) else Nothing
 
--- what the rest of a quoted text begins with
 -- rule: reading-quoted
 abbrev pub quoting_of : List ℕ → QuotedToken
 quoting_of text = if slice_index text 0 == 34 then Closed
     else if slice_index text 0 == 92 then escape_of text
     else if is_unescaped (slice_index text 0) then Octet (slice_index text 0) 1 else Nothing
 
--- The octets of a text that begins with this token, and the line after its closing quote: `closed`
--- if the token is that quote. `more` reads on after an octet; its argument is how many octets of
--- the line it must skip.
+-- One step of `quoted_read` (below): what it returns if the text begins with this token. `closed` is
+-- the line after a closing quote. `more` reads on after an octet; its argument is how many of the
+-- octets that represent it, without the first, are to be skipped.
 abbrev pub quoted_on : QuotedToken → (closed : List ℕ) → (more : ℕ → Option (List ℕ × List ℕ))
     → Option (List ℕ × List ℕ)
 quoted_on Closed closed more = Some ([], closed)
@@ -274,7 +270,6 @@ worded word rest =
     else made (λ index. made (λ text. made (Header index) (number_read text)) (without_space rest))
     (position_from (bytes_eq word) 0 keys)
 
--- whether an octet is not a space
 abbrev pub is_no_space : ℕ → Bool
 is_no_space c = not (c == 32)
 

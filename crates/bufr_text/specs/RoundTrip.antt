@@ -13,7 +13,7 @@ use Rattle.bufr_text.specs.Encoding.{compressed_by, encoding_of, octets_of_bits,
 use Rattle.std.specs.Global.{Global}
 use Rattle.bufr_fill.specs.Prelude.{IsUnlike, AreSaid, IsMinusZero, packing, Subset, subsets_of}
 use Rattle.bufr_text.specs.declared.fault.DocumentFault.{DocumentFault}
-use Rattle.bufr_text.specs.declared.fault.DocumentFault.TheVariants as fault
+use Rattle.bufr_text.specs.declared.fault.DocumentFault.TheVariants as document
 use Rattle.bufr_bits.specs.Prelude.{bits_of}
 use Rattle.bufr_text.specs.declared.encode.Form.TheVariants as form
 
@@ -74,7 +74,7 @@ abbrev pub EncodesAgain : List Row → List ℕ → Sections → Tree → Values
     → Result (Vec ℕ Global) DocumentFault → Type 0
 EncodesAgain table m s template values (Ok octets) =
     HasSameReading table m s template values octets.items
-EncodesAgain table m s template values (Err why) = why ≡ fault.Memory
+EncodesAgain table m s template values (Err why) = why ≡ document.Memory
 
 -- ---- The message that the document of an accepted message is encoded to in a form.
 
@@ -103,10 +103,10 @@ pub record HasReadingIn (form : Form) (table : List Row) (s : Sections) (templat
 -- increments distinguish
 abbrev pub IsForForm : Form → DocumentFault → Type 0
 IsForForm form.AsWritten why = ⊥
-IsForForm form.Plain (fault.TooLong line) = Unit {0}
+IsForForm form.Plain (document.TooLong line) = Unit {0}
 IsForForm form.Plain why = ⊥
-IsForForm form.Compressed (fault.Item line why) = IsUnlike why
-IsForForm form.Compressed (fault.TooLong line) = Unit {0}
+IsForForm form.Compressed (document.Item line why) = IsUnlike why
+IsForForm form.Compressed (document.TooLong line) = Unit {0}
 IsForForm form.Compressed why = ⊥
 
 -- what the document of a message is encoded to in a form
@@ -117,7 +117,7 @@ IsFormed form table s template values (Err why) = IsForForm form why
 
 -- a fault that is answered is such a refusal, or memory ran out
 abbrev pub IsFaultIn : Form → DocumentFault → Type 0
-IsFaultIn form why = (why ≡ fault.Memory) ⊎ IsForForm form why
+IsFaultIn form why = (why ≡ document.Memory) ⊎ IsForForm form why
 
 -- what is answered for the document of a message in a form
 abbrev pub EncodesForm : Form → List Row → Sections → Tree → Values

@@ -86,7 +86,6 @@ IsForRole _ _ = ⊥
 abbrev pub IsFor : FieldSpec → Taken → Type 0
 IsFor spec t = IsForRole spec.role t
 
--- whether a field is a redefined reference of an element
 abbrev pub is_reference : Role → Bool
 is_reference role.Reference = Bool.true
 is_reference _ = Bool.false
@@ -149,21 +148,18 @@ abbrev pub signed_by : List Bool → ℤ
 signed_by [] = pos 0
 signed_by (sign ∷ bits) = if sign then neg_ℤ (pos (number_of bits)) else pos (number_of bits)
 
--- how a field is coded: as an unsigned number, as a text of `octets` octets, or as a redefined
--- reference
+-- how a field is coded
 pub data Coding : Type 0 where
   numbers : (width : ℕ) → (may_be_missing : Bool) → Coding
   texts : (octets : ℕ) → Coding
   references : Coding
 
--- the coding of a field, from its role and kind: a redefined reference is recognised by its role,
--- and a text by its kind
+-- the coding of a field: a redefined reference is recognized by its role, and a text by its kind
 abbrev pub coding_by : Role → Kind → FieldSpec → Coding
 coding_by role.Reference _ spec = references
 coding_by _ kind.Character spec = texts (spec.width / 8)
 coding_by _ _ spec = numbers spec.width spec.may_be_missing
 
--- the coding of a field
 abbrev pub coding_of : FieldSpec → Coding
 coding_of spec = coding_by spec.role spec.kind spec
 
@@ -175,7 +171,6 @@ said (numbers width m) bits = if are_all_ones bits && m then missing else number
 said (texts octets) bits = if are_all_ones bits then missing else text (octets_in octets bits)
 said references bits = reference (signed_by bits)
 
--- the content of the bits of a field
 abbrev pub content_in : FieldSpec → List Bool → Content
 content_in spec bits = said (coding_of spec) bits
 
@@ -197,18 +192,16 @@ abbrev pub count_in : Content → ℕ
 count_in (number raw) = raw
 count_in _ = 0
 
--- the reference that a field defines
 abbrev pub reference_in : Content → ℤ
 reference_in (reference value) = value
 reference_in _ = pos 0
 
--- the part of a content that affects the walk, which depends on the role of the field
+-- the answer of a field: the part of its content that affects the walk, depending on its role
 abbrev pub answer_by_role : Role → Content → Taken
 answer_by_role role.Factor c = taken.Count (count_in c)
 answer_by_role role.Reference c = taken.Reference (reference_in c)
 answer_by_role _ c = taken.Plain
 
--- the part of a field's content that affects the walk
 abbrev pub answer_of : FieldSpec → Content → Taken
 answer_of spec c = answer_by_role spec.role c
 
@@ -230,8 +223,7 @@ shown spec (reference value) = shown_reference value
 
 -- ---- One field of data that are not compressed.
 
--- why a field cannot be read: the data end inside it, an increment is invalid, or a factor differs
--- between subsets
+-- why a field cannot be read; `data_report` explains each fault
 pub data FieldFault : Type 0 where
   data_end : FieldFault
   increment : FieldFault
@@ -242,7 +234,6 @@ pub record FieldRead (C : Type 0) : Type 0 where
   pub content : C
   pub suffix : List Bool
 
--- a field with this content and these bits after it
 abbrev pub found : {C : Type 0} → C → List Bool → FieldRead C
 found content suffix = record { content = content; suffix = suffix }
 
@@ -264,8 +255,7 @@ abbrev pub increments : (count k : ℕ) → List Bool → List (List Bool)
 increments zero k bits = []
 increments (suc n) k bits = take k bits ∷ increments n k (drop k bits)
 
--- the number of bits of an increment: k for a number; 8 k for a text, whose k counts octets; a
--- redefined reference has none
+-- the number of bits of an increment; in a text, k counts octets
 -- rule: compressed-references
 abbrev pub step_of : Coding → ℕ → ℕ
 step_of (numbers width m) k = k
@@ -313,7 +303,6 @@ contents_across c k n base suffix =
     if k == 0 then Some (replicate n (said c base))
     else all_there (map (increased c k base) (increments n (step_of c k) suffix))
 
--- whether two contents are the same
 abbrev pub same : Content → Content → Bool
 same (number a) (number b) = a == b
 same (text a) (text b) = bytes_eq a b
@@ -346,8 +335,8 @@ packed_field n spec bits =
       equal ← if_equal spec.role contents
       Ok (found equal (drop used suffix))
 
--- the part of an item's contents that affects the walk: that of the first subset, since factors and
--- redefined references are the same in all subsets
+-- the answer of an item: that of the first subset, since factors and redefined references are the
+-- same in all subsets
 abbrev pub answer_first : FieldSpec → List Content → Taken
 answer_first spec [] = taken.Plain
 answer_first spec (c ∷ cs) = answer_of spec c

@@ -16,7 +16,8 @@ use Rattle.bufr_walk.specs.declared.spec.Role.TheVariants as role
 -- The turns (steps) of a walk, in order. Nothing happens at `group` (a group begins) and `pass_end`
 -- (one of its passes ends), but they count as turns, since the number of turns bounds the work.
 -- `finish` is the end of the template; `open_end` comes after a factor whose count is not known
--- yet.
+-- yet. For example, 1 02 000, 0 31 001, A, B with the count 2 has the turns: group, factor, A, B,
+-- pass_end, A, B, pass_end, finish; and before its count is known: group, factor, open_end.
 pub data Turns : Type 0 where
   finish : Turns
   open_end : Turns
@@ -30,15 +31,15 @@ pub data Turns : Type 0 where
 abbrev pub Rest : Type 0
 Rest = List ℕ → Turns
 
--- n passes of a body, and then the turns of `rest`. A body is a function of the turns after it.
+-- n passes of a body, and then the turns of `rest`. A body is a function of the turns after it,
+-- which get the counts that it does not use (`left`).
 -- rule: passes-by-count
 abbrev pub passes : ℕ → (Rest → Rest) → Rest → Rest
 passes zero body rest counts = rest counts
-passes (suc n) body rest counts = body (λ later. pass_end (passes n body rest later)) counts
+passes (suc n) body rest counts = body (λ left. pass_end (passes n body rest left)) counts
 
 -- The turns of nodes, and then those of `rest`, given the counts of all factors that were read so
--- far. Turns need the counts, and a count is read at a turn; so where the counts run out, the last
--- turn is the factor that is read next.
+-- far. If the counts run out, the last turn is the factor that is read next.
 abbrev pub unroll : Tree → Rest → Rest
 unroll bare rest counts = rest counts
 unroll (element fxy more) rest counts = element_turn fxy (unroll more rest counts)
@@ -52,13 +53,13 @@ unroll (delayed fxy body more) rest (n ∷ counts) =
 abbrev pub turns_of : Tree → Rest
 turns_of template = unroll template (λ _. finish)
 
--- the counts after a field: if the field is a factor, its count precedes those of later factors
+-- the counts of a field (one, if it is a factor) and of the fields after it
 abbrev pub counts_in : Taken → List ℕ → List ℕ
 counts_in taken.Plain counts = counts
 counts_in (taken.Count n) counts = n ∷ counts
 counts_in (taken.Reference r) counts = counts
 
--- the counts of the factors among the fields so far, taken from what the fields returned
+-- the counts of the fields so far, from their answers
 abbrev pub counts_of : List Taken → List ℕ
 counts_of [] = []
 counts_of (t ∷ answers) = counts_in t (counts_of answers)
@@ -98,8 +99,8 @@ abbrev pub operated : Result OperatorModel TurnRefusal → (OperatorModel → Ne
 operated (Err why) go = in_one_turn (refused why)
 operated (Ok settings) go = later 1 (go settings)
 
--- What comes next in these turns, if the fields so far returned `answers` and the operators `s` are
--- in effect at the first turn. Each field changes the operators by `after_field`.
+-- What comes next in these turns, if `answers` are those of the fields so far and the operators `s`
+-- are in effect at the first turn. Each field changes the operators by `after_field`.
 -- rule: defining-fixed-groups, 2-03-255-alone
 abbrev pub ahead : List Row → Turns → OperatorModel → List Taken → NextTurn
 ahead table finish s answers = in_one_turn at_end
@@ -115,7 +116,7 @@ ahead table (operator_turn fxy next) s answers =
     then asked (inserted_spec s fxy) (λ t more. ahead table next (after_field s fxy t) more) answers
     else operated (after_operator s fxy) (λ s'. ahead table next s' answers)
 
--- what comes next, as a function of what the fields so far returned
+-- what comes next, as a function of the answers of the fields so far
 abbrev pub Course : Type 0
 Course = List Taken → NextTurn
 

@@ -6,8 +6,8 @@ use Rattle.std.specs.Prelude.{ℕ, zero, suc, ◌+◌, ◌-◌, Bool, true, fals
 use Rattle.bufr_walk.specs.Content.{Taken, FieldSpec, Content, FieldFault, FieldRead}
 use Rattle.bufr_walk.specs.Rules.{TurnRefusal}
 use Rattle.bufr_walk.specs.Course.{stop_by, Course, Next, take_next, at_end, astray, refused, ticked, next_item}
-use Rattle.bufr_walk.specs.declared.fault.WalkFault.TheVariants as fault
-use Rattle.bufr_walk.specs.declared.fault.DataFault.TheVariants as wrong
+use Rattle.bufr_walk.specs.declared.fault.WalkFault.TheVariants as walk_fault
+use Rattle.bufr_walk.specs.declared.fault.DataFault.TheVariants as data_fault
 use Rattle.bufr_walk.specs.declared.walker.WalkStop.TheVariants as stops
 use Rattle.bufr_walk.specs.Reading.{DataCoding, plain, packed, would_be_many, Data, Stop, wrong_of, WalkFault, fault_at, Item, Values, apart, together, Read, course_of, Timed, calls_for, turns_for, PackedValues, next_after, turns_after, items_at_once, ReadsItems}
 use Rattle.bufr_walk.specs.declared.spec.Role.TheVariants as role
@@ -15,8 +15,7 @@ use Rattle.bufr_tables.specs.Prelude.{Row, Tree}
 
 -- ---- A pass, whatever is done with the fields.
 
--- a field that was read or written: its content, the part of it that affects the walk, and the
--- state after it
+-- a field that was read or written: its content, its answer, and the state after it
 pub record Step (S C : Type 0) : Type 0 where
   pub content : C
   pub returned : Taken
@@ -29,7 +28,7 @@ pub record Passing (S C E : Type 0) : Type 0 where
   pub step : FieldSpec → S → Result (Step S C) E
   -- the reason to stop if the walk refuses a step
   pub refuses : TurnRefusal → S → E
-  -- the reason why the pass may not end here, if there is one (a draft may have items left)
+  -- the reason why the pass may not end here, if any (when writing, items may be left)
   pub ends : S → Option E
   -- never used: the reason to stop if the walk is `astray`, or if the bound of `pass` is reached
   pub lost : E
@@ -74,10 +73,10 @@ module _ {S C E : Type 0} (how : Passing S C E) where
   EndsPass (refused why) s stop = stop ≡ Some (how.refuses why s)
   EndsPass astray s stop = ⊥
 
-  -- The pass along a course, on which `course []` comes next. If that is a field, its step returns
-  -- an answer, and the pass continues along the course after this answer. `most` bounds the
-  -- recursion: it is greater than the number of bits (or of items to write), and each field uses at
-  -- least one of them.
+  -- The pass along a course, on which `course []` comes next. If that is a field with the answer t,
+  -- the pass continues along the course after it, which is λ answers. course (t ∷ answers). `most`
+  -- bounds the recursion: it is greater than the number of bits (or of items to write), and each
+  -- field uses at least one of them.
   abbrev pub pass : (most : ℕ) → Course → S → Pass S C E
   pass zero course s = last_turn (course []).turns s (Some how.lost)
   pass (suc more) course s = pass_next (course []).turns (course []).next s
@@ -106,11 +105,11 @@ read_field form spec items (Ok f) = Ok (record {
 -- rule: compressed-fault-order
 abbrev pub reading : {C : Type 0} → DataCoding C → (many : ℕ → Bool) → Passing Place C Stop
 reading form many = record {
-  step = λ spec p. if many p.items then Err (stops.Field (wrong.TooManyValues spec.fxy))
+  step = λ spec p. if many p.items then Err (stops.Field (data_fault.TooManyValues spec.fxy))
       else read_field form spec p.items (form.field spec p.left);
   refuses = λ why p. stop_by why;
   ends = λ p. None;
-  lost = stops.Field (wrong.TooManyValues 0);
+  lost = stops.Field (data_fault.TooManyValues 0);
 }
 
 -- one pass over bits; `suc (length bits)` is enough, since each field takes at least one bit
@@ -121,7 +120,6 @@ read_pass form many course bits =
 
 -- ---- The reading of data: a pass for each subset, or one for all where they are compressed.
 
--- a pass over data
 abbrev pub DataPass : Type 0 → Type 0
 DataPass C = Pass Place C Stop
 
@@ -186,7 +184,6 @@ reading_in course true n bits =
     let passes = passes_together course n bits in
     reading_by (together (get_or (map (λ p. p.items) passes) 0 [])) 0 bits passes
 
--- the reading of data by a course
 abbrev pub reading_of : Course → Data → DataReading
 reading_of course d = reading_in course d.compressed d.subsets d.bits
 
@@ -265,7 +262,7 @@ ReadsData course d (Ok used) steps =
 ReadsData course d (Err why) steps =
     let r = reading_of course d in
     ((fault_of d r ≡ Some why) × (steps ≡ ticked 0 r.turns))
-    ⊎ ((why ≡ fault.Memory) × (turns : ℕ)
+    ⊎ ((why ≡ walk_fault.Memory) × (turns : ℕ)
     × MayRunShort course d.compressed d.subsets d.bits turns × (steps ≡ ticked 0 turns))
 
 -- a reading by this table, this template and these data, or a fault

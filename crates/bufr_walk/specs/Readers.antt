@@ -13,7 +13,7 @@ use Rattle.std.specs.List.{list_all, All}
 use Rattle.bufr_bits.specs.Prelude.{bits_of, number_of}
 pub use Rattle.bufr_walk.specs.declared.item_index.IndexedItem.{IndexedItem}
 use Rattle.bufr_walk.specs.declared.fault.DataFault.{DataFault}
-use Rattle.bufr_walk.specs.declared.fault.DataFault.TheVariants as wrong
+use Rattle.bufr_walk.specs.declared.fault.DataFault.TheVariants as data_fault
 use Rattle.bufr_walk.specs.declared.compressed.ItemBits.{ItemBits}
 use Rattle.bufr_walk.specs.declared.reading.StoredItems.{StoredItems}
 use Rattle.bufr_walk.specs.Rules.{unsigned_field}
@@ -72,7 +72,7 @@ pub record IsTaken (s : Cursor) (spec : FieldSpec) (t : Taken) (s' : Cursor) : T
 abbrev pub PlainTakes : Cursor → FieldSpec → Result Taken DataFault → Cursor → Type 0
 PlainTakes s spec (Ok t) s' = IsTaken s spec t s'
 PlainTakes s spec (Err e) s' =
-    (plain_field spec (rest_of s) ≡ Err data_end) × (e ≡ wrong.DataEnd spec.fxy) × (s' ≡ s)
+    (plain_field spec (rest_of s) ≡ Err data_end) × (e ≡ data_fault.DataEnd spec.fxy) × (s' ≡ s)
 
 -- the state of a showing: the reader, the visitor, the table, and the names of the first two
 pub record Stage (V : Type 0) : Type 0 where
@@ -248,9 +248,9 @@ pub record IsUnseen (bits : List Bool) (at n : ℕ) (spec : FieldSpec)
 -- memory for more items ran out. A fault changes nothing.
 abbrev pub PackedTakes : PackedCursor → FieldSpec → Result Taken DataFault → PackedCursor → Type 0
 PackedTakes s spec (Ok t) s' = IsPackedTaken s spec t s'
-PackedTakes s spec (Err (wrong.TooManyValues fxy)) s' =
+PackedTakes s spec (Err (data_fault.TooManyValues fxy)) s' =
     (fxy ≡ spec.fxy) × (max_values < (length s.items + 1) * s.subsets) × (s' ≡ s)
-PackedTakes s spec (Err wrong.Memory) s' = (s' ≡ s) × (length s.items % items_at_once ≡ 0)
+PackedTakes s spec (Err data_fault.Memory) s' = (s' ≡ s) × (length s.items % items_at_once ≡ 0)
 PackedTakes s spec (Err e) s' =
     IsUnseen s.bits s.at s.subsets spec e × (s' ≡ s)
     × ((length s.items + 1) * s.subsets ≤ max_values)
@@ -258,11 +258,11 @@ PackedTakes s spec (Err e) s' =
 -- a refusal changes nothing
 pub refuses_packed : (s : PackedCursor) (spec : FieldSpec) (e : DataFault) (s' : PackedCursor)
     → PackedTakes s spec (Err e) s' → s' ≡ s
-refuses_packed s spec (wrong.TooManyValues fxy) s' h = h.2
-refuses_packed s spec wrong.Memory s' h = h.0
-refuses_packed s spec (wrong.DataEnd fxy) s' h = h.1
-refuses_packed s spec (wrong.Increment fxy) s' h = h.1
-refuses_packed s spec (wrong.UnequalFactor fxy) s' h = h.1
+refuses_packed s spec (data_fault.TooManyValues fxy) s' h = h.2
+refuses_packed s spec data_fault.Memory s' h = h.0
+refuses_packed s spec (data_fault.DataEnd fxy) s' h = h.1
+refuses_packed s spec (data_fault.Increment fxy) s' h = h.1
+refuses_packed s spec (data_fault.UnequalFactor fxy) s' h = h.1
 
 -- an item at a bit: its contents, its answer, its k, the number of its base, and the bit after it
 pub record IsSeen (bits : List Bool) (at n : ℕ) (spec : FieldSpec) (s : ItemBits) : Type 0 where

@@ -5,7 +5,7 @@ use Rattle.std.specs.Prelude.{ℕ, zero, suc, ◌≡◌, ◌+◌, ◌*◌, ◌�
 use Rattle.bufr_walk.specs.Content.{Taken, FieldSpec, Content, answer_of, FieldFault, FieldRead, found, plain_field, data_end, increment, unequal_factor, packed_field, answer_first, ShownValue, shown, missing, shown_number, shown_text, shown_missing, shown_reference}
 use Rattle.bufr_walk.specs.Course.{Course, Next, take_next, at_end, next_item, ticked}
 use Rattle.bufr_walk.specs.declared.fault.DataFault.{DataFault}
-use Rattle.bufr_walk.specs.declared.fault.DataFault.TheVariants as wrong
+use Rattle.bufr_walk.specs.declared.fault.DataFault.TheVariants as data_fault
 use Rattle.bufr_walk.specs.declared.walker.WalkStop.{WalkStop}
 use Rattle.bufr_walk.specs.declared.walker.WalkStop.TheVariants as stops
 use Rattle.bufr_walk.specs.declared.fault.Spot.{Spot}
@@ -13,7 +13,7 @@ pub use Rattle.bufr_walk.specs.declared.fault.WalkFault.{WalkFault}
 use Rattle.bufr_bits.specs.Prelude.{bits_of}
 use Rattle.bufr_frame.specs.Prelude.{Sections}
 use Rattle.bufr_tables.specs.Prelude.{Row, Tree, fxy_text, entry_of, row_of_entry}
-use Rattle.bufr_walk.specs.declared.fault.WalkFault.TheVariants as fault
+use Rattle.bufr_walk.specs.declared.fault.WalkFault.TheVariants as walk_fault
 pub use Rattle.bufr_walk.specs.declared.fault.ShowFault.{ShowFault}
 use Rattle.bufr_walk.specs.declared.visitor.Value.{Value}
 use Rattle.bufr_walk.specs.declared.visitor.ItemView.{ItemView}
@@ -30,14 +30,12 @@ pub record Item (C : Type 0) : Type 0 where
 pub record DataCoding (C : Type 0) : Type 0 where
   -- reads the item at the beginning of bits
   pub field : FieldSpec → List Bool → Result (FieldRead C) FieldFault
-  -- the part of an item's content that affects the walk
+  -- the answer of an item
   pub gives : FieldSpec → C → Taken
 
--- the coding of plain data
 abbrev pub plain : DataCoding Content
 plain = record { field = plain_field; gives = answer_of }
 
--- the coding of compressed data of n subsets
 abbrev pub packed : ℕ → DataCoding (List Content)
 packed n = record { field = packed_field n; gives = answer_first }
 
@@ -47,7 +45,7 @@ item_answer form i = form.gives i.spec i.content
 
 -- the course after one more item
 abbrev pub after : {C : Type 0} → DataCoding C → Course → Item C → Course
-after form course i answer_of = course (item_answer form i ∷ answer_of)
+after form course i answers = course (item_answer form i ∷ answers)
 
 -- Each item is the content of the field that comes next, and is read where the item before it
 -- ended; `suffix` is the bits after the last one.
@@ -154,15 +152,17 @@ IsReading course d (together items) used =
     (d.compressed ≡ true) × (used ≤ length d.bits)
     × IsPackedReading d.subsets course items d.bits (drop used d.bits)
 
--- why a reading stops: the walk refuses a step, or a field cannot be read
+-- Why a reading stops: the walk refuses a step, or a field cannot be read. A `FieldFault` becomes a
+-- `DataFault` (with the descriptor); that or a `TurnRefusal` becomes a `WalkStop`; and that becomes
+-- a `WalkFault` (with the location).
 abbrev pub Stop : Type 0
 Stop = WalkStop DataFault
 
 -- the fault of the field with this descriptor
 abbrev pub wrong_of : (fxy : ℕ) → FieldFault → DataFault
-wrong_of fxy data_end = wrong.DataEnd fxy
-wrong_of fxy increment = wrong.Increment fxy
-wrong_of fxy unequal_factor = wrong.UnequalFactor fxy
+wrong_of fxy data_end = data_fault.DataEnd fxy
+wrong_of fxy increment = data_fault.Increment fxy
+wrong_of fxy unequal_factor = data_fault.UnequalFactor fxy
 
 -- whether one more item would make too many values
 -- rule: too-many-values
@@ -171,31 +171,34 @@ would_be_many subsets items_before = nat_lt max_values ((items_before + 1) * sub
 
 -- ---- The faults of the data, by what stops a reading. (The numbers are our choice.)
 
--- a location
 abbrev pub spot : (subset fxy bit : ℕ) → Spot
 spot subset fxy bit = record { subset = subset; fxy = fxy; bit = bit }
 
 -- the fault of a message whose reading stopped in this subset, after `bit` bits of the data
 -- rule: stream-fault-place
 abbrev pub fault_at : WalkStop DataFault → (subset bit : ℕ) → WalkFault
-fault_at (stops.Width fxy) subset bit = fault.Width (spot subset fxy bit)
-fault_at (stops.Defining fxy) subset bit = fault.Defining (spot subset fxy bit)
-fault_at (stops.Field (wrong.DataEnd fxy)) subset bit = fault.DataEnd (spot subset fxy bit)
-fault_at (stops.Field (wrong.Increment fxy)) subset bit = fault.Increment (spot subset fxy bit)
-fault_at (stops.Field (wrong.UnequalFactor f)) subset bit = fault.UnequalFactor (spot subset f bit)
-fault_at (stops.Field (wrong.TooManyValues f)) subset bit = fault.TooManyValues (spot subset f bit)
-fault_at (stops.Field wrong.Memory) subset bit = fault.Memory
-fault_at stops.Memory subset bit = fault.Memory
+fault_at (stops.Width fxy) subset bit = walk_fault.Width (spot subset fxy bit)
+fault_at (stops.Defining fxy) subset bit = walk_fault.Defining (spot subset fxy bit)
+fault_at (stops.Field (data_fault.DataEnd fxy)) subset bit =
+    walk_fault.DataEnd (spot subset fxy bit)
+fault_at (stops.Field (data_fault.Increment fxy)) subset bit =
+    walk_fault.Increment (spot subset fxy bit)
+fault_at (stops.Field (data_fault.UnequalFactor f)) subset bit =
+    walk_fault.UnequalFactor (spot subset f bit)
+fault_at (stops.Field (data_fault.TooManyValues f)) subset bit =
+    walk_fault.TooManyValues (spot subset f bit)
+fault_at (stops.Field data_fault.Memory) subset bit = walk_fault.Memory
+fault_at stops.Memory subset bit = walk_fault.Memory
 
 -- the bits before the item at fault; where memory ran out there is none, and all may precede
 abbrev pub bits_before : WalkFault → (all : ℕ) → ℕ
-bits_before (fault.DataEnd s) all = s.bit
-bits_before (fault.Width s) all = s.bit
-bits_before (fault.Defining s) all = s.bit
-bits_before (fault.UnequalFactor s) all = s.bit
-bits_before (fault.Increment s) all = s.bit
-bits_before (fault.TooManyValues s) all = s.bit
-bits_before fault.Memory all = all
+bits_before (walk_fault.DataEnd s) all = s.bit
+bits_before (walk_fault.Width s) all = s.bit
+bits_before (walk_fault.Defining s) all = s.bit
+bits_before (walk_fault.UnequalFactor s) all = s.bit
+bits_before (walk_fault.Increment s) all = s.bit
+bits_before (walk_fault.TooManyValues s) all = s.bit
+bits_before walk_fault.Memory all = all
 
 -- the text of a fault: its name, and the location of the item
 -- rule: stream-fault-place
@@ -204,23 +207,26 @@ spot_text name s =
     name ∷ codes " at subset " ∷ decimal s.subset ∷ codes " descriptor " ∷ fxy_text s.fxy
     ∷ codes " bit " ∷ decimal s.bit ∷ []
 
--- A fault of the data: they end inside an item (30); a field that is not text has an invalid width
--- (31); a descriptor is not allowed while references are being redefined (32); a factor differs
--- between subsets (33); an increment is invalid (34); compressed data have too many values (35).
--- `Memory` has no text: it stops a run, and the last line of the run reports it.
+-- a fault of the data
 -- rule: fault-30, fault-31, fault-32, fault-33, fault-34, fault-35
 abbrev pub data_report : WalkFault → ℕ × List (List ℕ)
-data_report (fault.DataEnd s) = (30, spot_text (codes "data end") s)
-data_report (fault.Width s) = (31, spot_text (codes "width") s)
-data_report (fault.Defining s) = (32, spot_text (codes "defining") s)
-data_report (fault.UnequalFactor s) = (33, spot_text (codes "unequal factor") s)
-data_report (fault.Increment s) = (34, spot_text (codes "increment") s)
-data_report (fault.TooManyValues s) = (35, spot_text (codes "too many values") s)
-data_report fault.Memory = (73, [])
+-- the data end inside an item
+data_report (walk_fault.DataEnd s) = (30, spot_text (codes "data end") s)
+-- a field that is not text is under 1 or over 63 bits wide
+data_report (walk_fault.Width s) = (31, spot_text (codes "width") s)
+-- the descriptor is not allowed while 2 03 Y redefines references
+data_report (walk_fault.Defining s) = (32, spot_text (codes "defining") s)
+-- a factor differs between subsets
+data_report (walk_fault.UnequalFactor s) = (33, spot_text (codes "unequal factor") s)
+-- an increment is invalid (`increased`), or a redefined reference has increments
+data_report (walk_fault.Increment s) = (34, spot_text (codes "increment") s)
+-- compressed data have more than 134,217,728 values
+data_report (walk_fault.TooManyValues s) = (35, spot_text (codes "too many values") s)
+-- no text, since it stops a run, and the last line of the run reports it
+data_report walk_fault.Memory = (73, [])
 
 -- ---- What the reading of a message returns.
 
--- the data of a message
 abbrev pub data_of : Sections → Data
 data_of m = record { compressed = m.compressed; subsets = m.subsets; bits = bits_of m.payload }
 
@@ -250,7 +256,6 @@ pub data Call : Type 0 where
   subset_call : (number : ℕ) → Call
   item_call : (item : View) → Call
 
--- an item as it is shown
 abbrev pub view_of : List Row → FieldSpec → Content → View
 view_of table spec c =
     record {

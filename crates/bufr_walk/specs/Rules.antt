@@ -57,8 +57,7 @@ begin =
 abbrev pub is_defining : OperatorModel → Bool
 is_defining s = nat_lt 0 s.new_reference_width
 
--- the operators after 2 03 Y: 255 ends the definition of references, 0 cancels all redefined
--- references, and every other Y begins a definition
+-- the operators after 2 03 Y: 255 ends a definition of references, and 0 cancels redefined ones
 -- rule: 2-03-y, 2-03-000, 2-03-y-again, 2-03-255-alone
 abbrev pub with_references : ℕ → OperatorModel → OperatorModel
 with_references y s =
@@ -127,8 +126,8 @@ operator_width width precision change =
     let wider = width + (10 * precision + 2) / 3 in
     if change == 0 then wider else (wider + change) - 128
 
--- An unsigned number of this width with scale 0 and reference 0. In class 31, all ones do not mean
--- missing (own).
+-- An unsigned number of this width with scale 0 and reference 0. In class 31, which contains the
+-- factors, all ones do not mean missing (own).
 -- rule: 2-06-y-of-class-31, class-31-never-missing
 abbrev pub unsigned_field : (fxy width : ℕ) → FieldSpec
 unsigned_field fxy width =
@@ -190,8 +189,7 @@ abbrev pub defined_field : OperatorModel → ℕ → FieldSpec
 defined_field s fxy = record (unsigned_field fxy s.new_reference_width)
     { role = role.Reference; may_be_missing = false }
 
--- the specification of the new reference of an element, while references are being redefined; text
--- is refused (own)
+-- the specification of a redefined reference; text is refused, since it has none (own)
 -- rule: defining-no-text
 abbrev pub new_reference_spec : Kind → OperatorModel → ℕ → Result FieldSpec TurnRefusal
 new_reference_spec kind.Character s fxy = Err (refusal.Defining fxy)
@@ -216,14 +214,13 @@ listed_by None s fxy = Err (refusal.Width fxy)
 listed_by (Some row) s fxy =
     if is_defining s then new_reference_spec row.kind s fxy else spec_by_kind row.kind s row
 
--- the specification of an element, from Table B and the operators in effect
 abbrev pub element_spec : List Row → OperatorModel → ℕ → Result FieldSpec TurnRefusal
 element_spec table s fxy =
     if nat_lt 0 s.local_width then local_width_spec (entry_of table fxy) s fxy
     else listed_by (entry_of table fxy) s fxy
 
--- the factor of a delayed replication: read by its row alone, to which no operator applies, and
--- never missing (own)
+-- The factor of a delayed replication, as its row gives it: no operator applies, it is never missing
+-- (own), and it is shown as a quantity whatever its unit.
 abbrev pub factor_field : Row → ℕ → FieldSpec
 factor_field row fxy = record (coded_spec begin row)
     { fxy = fxy; role = role.Factor; kind = kind.Numeric; may_be_missing = false }

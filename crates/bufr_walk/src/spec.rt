@@ -20,7 +20,8 @@ pub enum Role {
     Reference,
 }
 
-/// Why a step of a walk over a template is refused, and at which descriptor.
+/// Why a walk over a template refuses a step (a turn), and at which descriptor. A walk visits the
+/// nodes of a template in order, and each answer of a field may affect what it visits next.
 #[derive(Clone, Copy, Debug, PartialEq, Eq)]
 pub enum TurnRefusal {
     /// A field that is not text is under 1 or over 63 bits wide, or Table B lacks its element.
@@ -29,7 +30,7 @@ pub enum TurnRefusal {
     Defining(Fxy),
 }
 
-/// The part of a field's value that affects the walk over the template.
+/// The answer of a field: the part of its value that affects the walk.
 #[derive(Clone, Copy, Debug, PartialEq, Eq)]
 pub enum Taken {
     /// Nothing: only factors and redefined references affect the walk.

@@ -16,9 +16,9 @@ use std::marker::Model;
 /// Why a walk over a template stopped.
 #[derive(Debug, PartialEq, Eq, Drop)]
 pub enum WalkStop<E> {
-    /// A field that is not text is under 1 or over 63 bits wide, or Table B lacks its element.
+    /// The walk refused a step: [`TurnRefusal::Width`].
     Width(Fxy),
-    /// The descriptor is not allowed while 2 03 Y redefines references.
+    /// The walk refused a step: [`TurnRefusal::Defining`].
     Defining(Fxy),
     /// The field itself could not be read or written, for this reason.
     Field(E),
