@@ -275,6 +275,7 @@ event-next Is octets rest m word at place moves rest_is m_is word_is finds w =
 pub record Reached (octets : List ℕ) (from : ℕ) (passed : List StreamEvent) (at : ℕ) : Type 0 where
   pub events : events_from from octets ≡ passed ++ events_from at octets
   pub within : from ≤ length octets → at ≤ length octets
+  pub past : length octets ≤ from → at ≡ from
   pub ends : at ≡ end_after from passed
 
 ends-next : (from : ℕ) (passed : List StreamEvent) (event : StreamEvent) → end_after from (passed ++ event ∷ []) ≡ end_of event
@@ -282,7 +283,7 @@ ends-next from [] event = refl
 ends-next from (first ∷ passed) event = ends-next (end_of first) passed event
 
 pub reached-none : (octets : List ℕ) (from : ℕ) → Reached octets from [] from
-reached-none octets from = record { events = refl; within = λ h. h; ends = refl }
+reached-none octets from = record { events = refl; within = λ h. h; past = λ _. refl; ends = refl }
 
 module _ (octets : List ℕ) (from : ℕ) (passed : List StreamEvent) (at : ℕ) (so : Reached octets from passed at) where
   -- one more event
@@ -291,6 +292,7 @@ module _ (octets : List ℕ) (from : ℕ) (passed : List StreamEvent) (at : ℕ)
   reached-next Is m begin moves at' w m_is next is = record {
     events = so.events ∙ ap (λ es. passed ++ es) (next ∙ ap (λ n. w.event ∷ events_from n octets) (sym is)) ∙ sym (append_assoc passed (w.event ∷ []) (events_from at' octets));
     within = λ h. omega (arith, is, w.some, w.within, ap length m_is, length-drop begin octets);
+    past = λ h. omega (arith, ap length (sym (events-end octets at (omega (arith, h, so.past h))) ∙ next));
     ends = is ∙ (sym w.ends ∙ sym (ends-next from passed w.event));
   }
 
@@ -298,20 +300,22 @@ module _ (octets : List ℕ) (from : ℕ) (passed : List StreamEvent) (at : ℕ)
   reached-same at' is = subst (λ n. Reached octets from passed n) (sym is) so
 
   -- no event is left
-  pub over-end : (at' : ℕ) → events_from at octets ≡ [] → length octets ≤ at' → (from ≤ length octets → at' ≤ length octets) → PassesOver octets from passed at' (pos 0)
-  over-end at' none past within =
+  pub over-end : (at' : ℕ) → events_from at octets ≡ [] → length octets ≤ at' → (from ≤ length octets → at' ≤ length octets)
+      → (length octets < from → at' ≡ from) → PassesOver octets from passed at' (pos 0)
+  over-end at' none past within stays =
       let end = events-end octets at' past in
       record {
         ran = inl refl;
         events = so.events ∙ ap (λ es. passed ++ es) (none ∙ sym end);
         within = within;
+        past = stays;
         done = λ _. (end, past);
         stopped = λ no. absurd (no refl);
       }
 
   -- the call stopped before
   pub over-stopped : (status : ℤ) → IsRunStatus status → ¬ (status ≡ pos 0) → PassesOver octets from passed at status
-  over-stopped status ran other = record { ran = ran; events = so.events; within = so.within; done = λ is. absurd (other is); stopped = λ _. so.ends }
+  over-stopped status ran other = record { ran = ran; events = so.events; within = so.within; past = λ h. so.past (omega (arith, h)); done = λ is. absurd (other is); stopped = λ _. so.ends }
 
 -- ---- The caller's buffers after what was written.
 
@@ -437,17 +441,18 @@ module _ (piece : StreamEvent → Piece) (octets : List ℕ) (from : ℕ) (outpu
   pub so-far-done : length octets ≤ texts.at → Passes piece octets from output errors texts (pos 0)
   so-far-done past = record {
     passed = so.passed;
-    over = over-end octets from so.passed texts.at so.reached texts.at (events-end octets texts.at past) past so.reached.within;
+    over = over-end octets from so.passed texts.at so.reached texts.at (events-end octets texts.at past) past so.reached.within (λ h. so.reached.past (omega (arith, h)));
     leaves = so.leaves;
     stops = λ is. absurd (apart-0-74 is);
   }
 
   -- after the last event the search is at the end
-  pub so-far-ended : (texts' : Texts) → events_from texts.at octets ≡ [] → texts'.at ≡ length octets → texts'.output_length ≡ texts.output_length → texts'.errors_length ≡ texts.errors_length
+  pub so-far-ended : (texts' : Texts) → texts.at < length octets → events_from texts.at octets ≡ [] → texts'.at ≡ length octets → texts'.output_length ≡ texts.output_length → texts'.errors_length ≡ texts.errors_length
       → texts'.accepted ≡ texts.accepted → texts'.refused ≡ texts.refused → Passes piece octets from output errors texts' (pos 0)
-  so-far-ended texts' none at output_length errors_length accepted refused = record {
+  so-far-ended texts' inside none at output_length errors_length accepted refused = record {
     passed = so.passed;
-    over = over-end octets from so.passed texts.at so.reached texts'.at none (omega (arith, at)) (λ _. omega (arith, at));
+    over = over-end octets from so.passed texts.at so.reached texts'.at none (omega (arith, at)) (λ _. omega (arith, at))
+        (λ h. omega (arith, h, inside, so.reached.past (omega (arith, h))));
     leaves = record {
       written = ap (λ n. take n output) output_length ∙ so.leaves.written;
       blamed = ap (λ n. take n errors) errors_length ∙ so.leaves.blamed;

@@ -1,5 +1,5 @@
 -- The rows of a message, call by call, and the rows of events.
-use Rattle.std.proofs.Common.{ℕ, ◌≡◌, ◌≢◌, ◌⊎◌, inl, inr, ◌∙◌, ◌-◌, ◌≤◌, List, [], ◌∷◌, ◌++◌, length, take, sym, ap, subst, refl, arith, Result, Ok, Err, OnOk, None, Some, option_map, if◌then◌else◌, ℤ, pos, true}
+use Rattle.std.proofs.Common.{ℕ, ◌≡◌, ◌≢◌, ◌⊎◌, inl, inr, ◌∙◌, ◌-◌, ◌≤◌, ◌<◌, List, [], ◌∷◌, ◌++◌, length, take, sym, ap, subst, refl, arith, Result, Ok, Err, OnOk, None, Some, option_map, if◌then◌else◌, ℤ, pos, true}
 use Rattle.std.proofs.lemmas.List.{length-take-le}
 use Rattle.bufr_frame.specs.Prelude.{Sections, StreamEvent}
 use Rattle.bufr_tables.specs.Prelude.{Row, Sequence, Tree, records_of, table_b_of, table_d_of, tree_of, tables_of, template_report}
@@ -138,7 +138,7 @@ module _ (b : List Row) (d : List Sequence) (wanted octets : List ℕ) (from : �
   pub rows-done : length octets ≤ counts.at → PassesRows b d wanted octets from room counts (pos 0)
   rows-done past = record {
     passed = so.passed;
-    over = over-end octets from so.passed counts.at so.reached counts.at (events-end octets counts.at past) past so.reached.within;
+    over = over-end octets from so.passed counts.at so.reached counts.at (events-end octets counts.at past) past so.reached.within (λ h. so.reached.past (omega (arith, h)));
     leaves = so.leaves;
     stops = λ is. absurd (apart-0-74 is);
   }
@@ -152,11 +152,12 @@ module _ (b : List Row) (d : List Sequence) (wanted octets : List ℕ) (from : �
   }
 
   -- after the last event the search is at the end
-  pub rows-ended : (counts' : Counts) → events_from counts.at octets ≡ [] → counts'.at ≡ length octets → counts'.items ≡ counts.items → counts'.octets ≡ counts.octets
+  pub rows-ended : (counts' : Counts) → counts.at < length octets → events_from counts.at octets ≡ [] → counts'.at ≡ length octets → counts'.items ≡ counts.items → counts'.octets ≡ counts.octets
       → counts'.messages ≡ counts.messages → PassesRows b d wanted octets from room counts' (pos 0)
-  rows-ended counts' none at items octets' messages = record {
+  rows-ended counts' inside none at items octets' messages = record {
     passed = so.passed;
-    over = over-end octets from so.passed counts.at so.reached counts'.at none (omega (arith, at)) (λ _. omega (arith, at));
+    over = over-end octets from so.passed counts.at so.reached counts'.at none (omega (arith, at)) (λ _. omega (arith, at))
+        (λ h. omega (arith, h, inside, so.reached.past (omega (arith, h))));
     leaves = record {
       items = ap (λ n. take n room.items) items ∙ so.leaves.items;
       octets = ap (λ n. take n room.octets) octets' ∙ so.leaves.octets;

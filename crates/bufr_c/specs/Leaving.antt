@@ -138,6 +138,7 @@ pub record PassesOver (octets : List ℕ) (from : ℕ) (passed : List StreamEven
   pub ran : IsRunStatus status
   pub events : events_from from octets ≡ passed ++ events_from at octets
   pub within : from ≤ length octets → at ≤ length octets
+  pub past : length octets < from → at ≡ from
   pub done : status ≡ pos 0 → (events_from at octets ≡ []) × (length octets ≤ at)
   pub stopped : (¬ (status ≡ pos 0)) → at ≡ end_after from passed
 

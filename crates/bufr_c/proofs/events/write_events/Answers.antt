@@ -21,7 +21,7 @@ returns-in_default-clause-texts c =
     let octets = c.args.octets.now in
     let at = c.loop-texts.texts.at in
     let none = events-absent octets (take (length octets - at) (drop at octets)) _ at (take_rest octets at) c.new-word.ensures c.in_default.ensures in
-    so-far-ended _ octets _ _ _ c.loop-texts.texts c.loop-texts.invariant.so _ none refl refl refl refl refl
+    so-far-ended _ octets _ _ _ c.loop-texts.texts c.loop-texts.invariant.so _ c.loop-texts-test.true none refl refl refl refl refl
 
 pub set_event-requires : goal.set_event-requires
 set_event-requires c =

@@ -21,7 +21,7 @@ returns-in_default-clause-passes c =
     let octets = c.args.octets.now in
     let at = c.loop-counts.counts.at in
     let none = events-absent octets (take (length octets - at) (drop at octets)) _ at (take_rest octets at) c.new-word.ensures c.in_default.ensures in
-    rows-ended _ _ _ octets _ _ c.loop-counts.counts c.loop-counts.invariant.so _ none refl refl refl refl
+    rows-ended _ _ _ octets _ _ c.loop-counts.counts c.loop-counts.invariant.so _ c.loop-counts-test.true none refl refl refl refl
 
 pub set_event-requires : goal.set_event-requires
 set_event-requires c =
