@@ -447,7 +447,8 @@ module _ (piece : StreamEvent → Piece) (octets : List ℕ) (from : ℕ) (outpu
   }
 
   -- after the last event the search is at the end
-  pub so-far-ended : (texts' : Texts) → texts.at < length octets → events_from texts.at octets ≡ [] → texts'.at ≡ length octets → texts'.output_length ≡ texts.output_length → texts'.errors_length ≡ texts.errors_length
+  pub so-far-ended : (texts' : Texts) → texts.at < length octets → events_from texts.at octets ≡ [] → texts'.at ≡ length octets → texts'.output_length ≡ texts.output_length
+      → texts'.errors_length ≡ texts.errors_length
       → texts'.accepted ≡ texts.accepted → texts'.refused ≡ texts.refused → Passes piece octets from output errors texts' (pos 0)
   so-far-ended texts' inside none at output_length errors_length accepted refused = record {
     passed = so.passed;
