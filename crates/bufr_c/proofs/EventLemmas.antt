@@ -6,7 +6,7 @@ use Rattle.std.proofs.lemmas.Slice.Eq.{bytes_eq-Decides}
 use Rattle.std.specs.List.{starts_with}
 use Rattle.std.proofs.lemmas.Fmt.{decimal_digit}
 use Rattle.std.proofs.lemmas.Grind.{common_steps}
-use Rattle.std.proofs.lemmas.List.{drop_min, length-take-le, take-append-drop, take_rest}
+use Rattle.std.proofs.lemmas.List.{drop_at, drop-drop, drop_min, length-append, length-take-le, take-append-drop, take_rest}
 use Rattle.std.proofs.Math.Seq.{take-length, drop-length}
 use Rattle.std.proofs.Math.ListN.{drop_of_length-le}
 use Rattle.memchr.specs.Find.{FindsNeedle}
@@ -26,7 +26,7 @@ use Rattle.bufr_cli.specs.Prelude.{encode_pieces, WritesPieces, Tallies, Piece, 
 use Rattle.bufr_cli.specs.declared.outcome.Tally.{Tally}
 use Rattle.bufr_c.specs.Moving.{moved}
 use Rattle.bufr_frame.specs.declared.fault.Cause.TheVariants.{Cut, ShortLength, NoEnd}
-use Rattle.bufr_c.specs.Leaving.{HasNoRoom, HasPut, IsCycleStatus, IsMessage, IsRunStatus, IsStray, IsTableStatus, LacksRoom, Leaves, Passes, PassesOver, StopsBefore, WritesEvent, WritesNone, FindsEvent, ByTables, CallStatus, HasRun, Encodes, end_after, end_of, events_from}
+use Rattle.bufr_c.specs.Leaving.{HasNoRoom, HasPut, IsCycleStatus, IsMessage, IsRunStatus, IsStray, IsTableStatus, LacksRoom, Leaves, LeavesRest, Passes, PassesOver, StopsBefore, WritesEvent, WritesNone, FindsEvent, ByTables, CallStatus, HasRun, Encodes, end_after, end_of, events_from}
 use Rattle.bufr_c.specs.Commands.{IsTextOf, IsTextOfAll, form_by, piece_by}
 use Rattle.bufr_c.specs.declared.command.Command.{Command}
 use Rattle.bufr_c.specs.declared.command.Command.TheVariants as commands
@@ -275,6 +275,7 @@ event-next Is octets rest m word at place moves rest_is m_is word_is finds w =
 pub record Reached (octets : List ℕ) (from : ℕ) (passed : List StreamEvent) (at : ℕ) : Type 0 where
   pub events : events_from from octets ≡ passed ++ events_from at octets
   pub within : from ≤ length octets → at ≤ length octets
+  pub past : length octets ≤ from → at ≡ from
   pub ends : at ≡ end_after from passed
 
 ends-next : (from : ℕ) (passed : List StreamEvent) (event : StreamEvent) → end_after from (passed ++ event ∷ []) ≡ end_of event
@@ -282,7 +283,7 @@ ends-next from [] event = refl
 ends-next from (first ∷ passed) event = ends-next (end_of first) passed event
 
 pub reached-none : (octets : List ℕ) (from : ℕ) → Reached octets from [] from
-reached-none octets from = record { events = refl; within = λ h. h; ends = refl }
+reached-none octets from = record { events = refl; within = λ h. h; past = λ _. refl; ends = refl }
 
 module _ (octets : List ℕ) (from : ℕ) (passed : List StreamEvent) (at : ℕ) (so : Reached octets from passed at) where
   -- one more event
@@ -291,6 +292,7 @@ module _ (octets : List ℕ) (from : ℕ) (passed : List StreamEvent) (at : ℕ)
   reached-next Is m begin moves at' w m_is next is = record {
     events = so.events ∙ ap (λ es. passed ++ es) (next ∙ ap (λ n. w.event ∷ events_from n octets) (sym is)) ∙ sym (append_assoc passed (w.event ∷ []) (events_from at' octets));
     within = λ h. omega (arith, is, w.some, w.within, ap length m_is, length-drop begin octets);
+    past = λ h. omega (arith, ap length (sym (events-end octets at (omega (arith, h, so.past h))) ∙ next));
     ends = is ∙ (sym w.ends ∙ sym (ends-next from passed w.event));
   }
 
@@ -298,20 +300,48 @@ module _ (octets : List ℕ) (from : ℕ) (passed : List StreamEvent) (at : ℕ)
   reached-same at' is = subst (λ n. Reached octets from passed n) (sym is) so
 
   -- no event is left
-  pub over-end : (at' : ℕ) → events_from at octets ≡ [] → length octets ≤ at' → (from ≤ length octets → at' ≤ length octets) → PassesOver octets from passed at' (pos 0)
-  over-end at' none past within =
+  pub over-end : (at' : ℕ) → events_from at octets ≡ [] → length octets ≤ at' → (from ≤ length octets → at' ≤ length octets)
+      → (length octets < from → at' ≡ from) → PassesOver octets from passed at' (pos 0)
+  over-end at' none past within stays =
       let end = events-end octets at' past in
       record {
         ran = inl refl;
         events = so.events ∙ ap (λ es. passed ++ es) (none ∙ sym end);
         within = within;
+        past = stays;
         done = λ _. (end, past);
         stopped = λ no. absurd (no refl);
       }
 
   -- the call stopped before
   pub over-stopped : (status : ℤ) → IsRunStatus status → ¬ (status ≡ pos 0) → PassesOver octets from passed at status
-  over-stopped status ran other = record { ran = ran; events = so.events; within = so.within; done = λ is. absurd (other is); stopped = λ _. so.ends }
+  over-stopped status ran other = record { ran = ran; events = so.events; within = so.within; past = λ h. so.past (omega (arith, h)); done = λ is. absurd (other is); stopped = λ _. so.ends }
+
+-- ---- The caller's buffers after what was written.
+
+-- what is unchanged after n elements is so after more of them
+rest-after : {X : Type 0} (old mid new : List X) (n m : ℕ) → n ≤ m → drop n mid ≡ drop n old → drop m new ≡ drop m mid → drop m new ≡ drop m old
+rest-after old mid new n m few first more =
+    let at : n + (m - n) ≡ m = omega (arith, few) in
+    more ∙ (sym (ap (λ k. drop k mid) at) ∙ (sym (drop-drop (m - n) n mid) ∙ (ap (drop (m - n)) first ∙ (drop-drop (m - n) n old ∙ ap (λ k. drop k old) at))))
+
+-- more elements are written than before
+pub written-more : {X : Type 0} (n m : ℕ) (before after more : List X) → n ≤ length before → m ≤ length after → take m after ≡ take n before ++ more → n ≤ m
+written-more n m before after more fits fits' written =
+    omega (arith, ap length written, length-append (take n before) more, length-take-le n before fits, length-take-le m after fits')
+
+-- what the code writes into a part
+pub put-rest : {X : Type 0} (at n : ℕ) (to part : List X) → length part ≡ n → at + n ≤ length to → drop (at + n) (take at to ++ (part ++ drop (at + n - at) (drop at to))) ≡ drop (at + n) to
+put-rest at n to part long room =
+    let rest = drop (at + n - at) (drop at to) in
+    let ends : length (take at to ++ part) ≡ at + n = omega (arith, length-append (take at to) part, length-take-le at to (omega (arith, room)), long) in
+    ap (drop (at + n)) (sym (append_assoc (take at to) part rest)) ∙ (drop_at (take at to ++ part) rest (at + n) ends
+    ∙ (drop-drop (at + n - at) at to ∙ ap (λ m. drop m to) (omega arith)))
+
+-- after one more part
+pub rest-next : {X : Type 0} (old before after more : List X) (n m : ℕ) → n ≤ length before → m ≤ length after → take m after ≡ take n before ++ more → drop n before ≡ drop n old
+    → drop m after ≡ drop m before → drop m after ≡ drop m old
+rest-next old before after more n m fits fits' written first rest = rest-after old before after n m (written-more n m before after more fits fits' written) first rest
 
 -- The texts of the events up to `texts.at` were written.
 pub record SoFar (piece : StreamEvent → Piece) (octets : List ℕ) (from : ℕ) (output errors : List ℕ) (texts : Texts) : Type 0 where
@@ -411,17 +441,19 @@ module _ (piece : StreamEvent → Piece) (octets : List ℕ) (from : ℕ) (outpu
   pub so-far-done : length octets ≤ texts.at → Passes piece octets from output errors texts (pos 0)
   so-far-done past = record {
     passed = so.passed;
-    over = over-end octets from so.passed texts.at so.reached texts.at (events-end octets texts.at past) past so.reached.within;
+    over = over-end octets from so.passed texts.at so.reached texts.at (events-end octets texts.at past) past so.reached.within (λ h. so.reached.past (omega (arith, h)));
     leaves = so.leaves;
     stops = λ is. absurd (apart-0-74 is);
   }
 
   -- after the last event the search is at the end
-  pub so-far-ended : (texts' : Texts) → events_from texts.at octets ≡ [] → texts'.at ≡ length octets → texts'.output_length ≡ texts.output_length → texts'.errors_length ≡ texts.errors_length
+  pub so-far-ended : (texts' : Texts) → texts.at < length octets → events_from texts.at octets ≡ [] → texts'.at ≡ length octets → texts'.output_length ≡ texts.output_length
+      → texts'.errors_length ≡ texts.errors_length
       → texts'.accepted ≡ texts.accepted → texts'.refused ≡ texts.refused → Passes piece octets from output errors texts' (pos 0)
-  so-far-ended texts' none at output_length errors_length accepted refused = record {
+  so-far-ended texts' inside none at output_length errors_length accepted refused = record {
     passed = so.passed;
-    over = over-end octets from so.passed texts.at so.reached texts'.at none (omega (arith, at)) (λ _. omega (arith, at));
+    over = over-end octets from so.passed texts.at so.reached texts'.at none (omega (arith, at)) (λ _. omega (arith, at))
+        (λ h. omega (arith, h, inside, so.reached.past (omega (arith, h))));
     leaves = record {
       written = ap (λ n. take n output) output_length ∙ so.leaves.written;
       blamed = ap (λ n. take n errors) errors_length ∙ so.leaves.blamed;
@@ -465,6 +497,29 @@ so-far-no-room piece octets from output errors texts texts' place moves m text o
     } in
     rw (none.same_output, none.same_errors) (so-far-full piece octets from output errors texts' so' w.event (events_from (texts.at + place + moves) octets) (ap (λ n. events_from n
     octets) none.at ∙ next) lacks)
+
+-- The same in a loop, which leaves the rest of the buffers unchanged.
+pub record TextsLoop (piece : StreamEvent → Piece) (octets : List ℕ) (from : ℕ) (old_output old_errors output errors : List ℕ) (texts : Texts) : Type 0 where
+  pub so : SoFar piece octets from output errors texts
+  pub rest : LeavesRest old_output old_errors texts output errors
+  pub reserved : texts.reserved ≡ 0
+
+-- the text of one more event was put
+pub rest-put : (old_output old_errors output errors : List ℕ) (texts : Texts) (text : EventText) (mid texts' : Texts) (output' errors' : List ℕ) → texts.output_length ≤ length output
+    → texts.errors_length ≤ length errors → LeavesRest old_output old_errors texts output errors → HasPut text texts output errors mid output' errors'
+    → texts'.output_length ≡ mid.output_length → texts'.errors_length ≡ mid.errors_length → LeavesRest old_output old_errors texts' output' errors'
+rest-put old_output old_errors output errors texts text mid texts' output' errors' output_fits errors_fits rest put output_length errors_length = record {
+  output_rest = rw output_length (rest-next old_output output output' text.output.octets.items texts.output_length mid.output_length output_fits put.output_fits put.written rest.output_rest
+      put.rest.output_rest);
+  errors_rest = rw errors_length (rest-next old_errors errors errors' text.errors.octets.items texts.errors_length mid.errors_length errors_fits put.errors_fits put.blamed rest.errors_rest
+      put.rest.errors_rest);
+}
+
+-- there was no room for it
+pub rest-no-room : (old_output old_errors output errors : List ℕ) (texts : Texts) (text : EventText) (texts' : Texts) (output' errors' : List ℕ) → LeavesRest old_output old_errors texts output errors
+    → HasNoRoom text texts output errors texts' output' errors' → LeavesRest old_output old_errors texts' output' errors'
+rest-no-room old_output old_errors output errors texts text texts' output' errors' rest none =
+    record { output_rest = rw (none.output_length, none.same_output) rest.output_rest; errors_rest = rw (none.errors_length, none.same_errors) rest.errors_rest }
 
 -- nothing was written
 pub so-far-none : (piece : StreamEvent → Piece) (octets : List ℕ) (output errors : List ℕ) (texts : Texts) → texts.output_length ≡ 0 → texts.errors_length ≡ 0 → texts.accepted ≡ 0 → texts.refused ≡ 0

@@ -1,5 +1,5 @@
 -- The rows of a message, call by call, and the rows of events.
-use Rattle.std.proofs.Common.{ℕ, ◌≡◌, ◌≢◌, ◌⊎◌, inl, inr, ◌∙◌, ◌-◌, ◌≤◌, List, [], ◌∷◌, ◌++◌, length, take, sym, ap, subst, refl, arith, Result, Ok, Err, OnOk, None, Some, option_map, if◌then◌else◌, ℤ, pos, true}
+use Rattle.std.proofs.Common.{ℕ, ◌≡◌, ◌≢◌, ◌⊎◌, inl, inr, ◌∙◌, ◌-◌, ◌≤◌, ◌<◌, List, [], ◌∷◌, ◌++◌, length, take, sym, ap, subst, refl, arith, Result, Ok, Err, OnOk, None, Some, option_map, if◌then◌else◌, ℤ, pos, true}
 use Rattle.std.proofs.lemmas.List.{length-take-le}
 use Rattle.bufr_frame.specs.Prelude.{Sections, StreamEvent}
 use Rattle.bufr_tables.specs.Prelude.{Row, Sequence, Tree, records_of, table_b_of, table_d_of, tree_of, tables_of, template_report}
@@ -10,8 +10,8 @@ use Rattle.bufr_walk.specs.declared.fault.WalkFault.TheVariants as fault
 use Rattle.bufr_c.specs.declared.rows.Counts.{Counts}
 use Rattle.bufr_c.specs.declared.rows.RowBuffers.{RowBuffers}
 use Rattle.bufr_c.specs.Leaving.{ByTables, HasRun, events_from}
-use Rattle.bufr_c.specs.Rows.{HasNoRowRoom, HasPutRows, LacksRowRoom, LeavesRows, PassesRows, Put, PutsCall, RowPlace, Rows, SameBuffers, StopsBeforeRows, data_fault, data_put, is_wanted, join_rows, message_fault, message_put, no_rows, WritesNoRows, place_after, row_place, rows_after, rows_at, rows_of, template_fault, template_put, three, with_calls, with_number, with_value}
-use Rattle.bufr_c.proofs.EventLemmas.{Reached, apart-0-74, apart-73-0, apart-73-74, apart-74-0, events-end, over-end, over-stopped, reached-none, reached-same, by_both_tables}
+use Rattle.bufr_c.specs.Rows.{HasNoRowRoom, HasPutRows, LacksRowRoom, LeavesRows, LeavesRowsRest, PassesRows, Put, PutsCall, RowPlace, Rows, SameBuffers, StopsBeforeRows, data_fault, data_put, is_wanted, join_rows, message_fault, message_put, no_rows, WritesNoRows, place_after, row_place, rows_after, rows_at, rows_of, template_fault, template_put, three, with_calls, with_number, with_value}
+use Rattle.bufr_c.proofs.EventLemmas.{Reached, apart-0-74, apart-73-0, apart-73-74, apart-74-0, events-end, over-end, over-stopped, reached-none, reached-same, rest-next, by_both_tables}
 
 -- ---- The calls of a showing.
 
@@ -138,7 +138,7 @@ module _ (b : List Row) (d : List Sequence) (wanted octets : List ℕ) (from : �
   pub rows-done : length octets ≤ counts.at → PassesRows b d wanted octets from room counts (pos 0)
   rows-done past = record {
     passed = so.passed;
-    over = over-end octets from so.passed counts.at so.reached counts.at (events-end octets counts.at past) past so.reached.within;
+    over = over-end octets from so.passed counts.at so.reached counts.at (events-end octets counts.at past) past so.reached.within (λ h. so.reached.past (omega (arith, h)));
     leaves = so.leaves;
     stops = λ is. absurd (apart-0-74 is);
   }
@@ -152,11 +152,12 @@ module _ (b : List Row) (d : List Sequence) (wanted octets : List ℕ) (from : �
   }
 
   -- after the last event the search is at the end
-  pub rows-ended : (counts' : Counts) → events_from counts.at octets ≡ [] → counts'.at ≡ length octets → counts'.items ≡ counts.items → counts'.octets ≡ counts.octets
+  pub rows-ended : (counts' : Counts) → counts.at < length octets → events_from counts.at octets ≡ [] → counts'.at ≡ length octets → counts'.items ≡ counts.items → counts'.octets ≡ counts.octets
       → counts'.messages ≡ counts.messages → PassesRows b d wanted octets from room counts' (pos 0)
-  rows-ended counts' none at items octets' messages = record {
+  rows-ended counts' inside none at items octets' messages = record {
     passed = so.passed;
-    over = over-end octets from so.passed counts.at so.reached counts'.at none (omega (arith, at)) (λ _. omega (arith, at));
+    over = over-end octets from so.passed counts.at so.reached counts'.at none (omega (arith, at)) (λ _. omega (arith, at))
+        (λ h. omega (arith, h, inside, so.reached.past (omega (arith, h))));
     leaves = record {
       items = ap (λ n. take n room.items) items ∙ so.leaves.items;
       octets = ap (λ n. take n room.octets) octets' ∙ so.leaves.octets;
@@ -208,15 +209,39 @@ rows-none b d wanted octets room counts items octets' messages = record {
 
 -- buffers that stay where they are
 pub buffers_here : (buffers : RowBuffers) → SameBuffers buffers buffers
-buffers_here buffers = record { items = refl; texts = refl; messages = refl }
+buffers_here buffers = record { items = refl; texts = refl; messages = refl; reserved = refl }
 
 pub buffers-still : (old mid new : RowBuffers) → SameBuffers old mid → SameBuffers mid new → SameBuffers old new
-buffers-still old mid new first then' = record { items = then'.items ∙ first.items; texts = then'.texts ∙ first.texts; messages = then'.messages ∙ first.messages }
+buffers-still old mid new first then' = record { items = then'.items ∙ first.items; texts = then'.texts ∙ first.texts; messages = then'.messages ∙ first.messages;
+    reserved = then'.reserved ∙ first.reserved }
+
+-- the rows of one more event were put
+pub rows-rest-put : (old before : Rows) (counts : Counts) (made : Rows) (mid counts' : Counts) (after rows : Rows) → LeavesRows before counts rows → LeavesRowsRest old counts before
+    → HasPutRows made counts before mid after → counts'.items ≡ mid.items → counts'.octets ≡ mid.octets → counts'.messages ≡ mid.messages → LeavesRowsRest old counts' after
+rows-rest-put old before counts made mid counts' after rows left rest put items octets' messages = record {
+  items_rest = rw items (rest-next old.items before.items after.items made.items counts.items mid.items left.items_fit put.leaves.items_fit put.leaves.items rest.items_rest put.rest.items_rest);
+  octets_rest = rw octets' (rest-next old.octets before.octets after.octets made.octets counts.octets mid.octets left.octets_fit put.leaves.octets_fit put.leaves.octets rest.octets_rest
+      put.rest.octets_rest);
+  messages_rest = rw messages (rest-next old.messages before.messages after.messages made.messages counts.messages mid.messages left.messages_fit put.leaves.messages_fit put.leaves.messages
+      rest.messages_rest put.rest.messages_rest);
+}
+
+-- there was no room for them
+pub rows-rest-full : (old before : Rows) (counts : Counts) (made : Rows) (counts' : Counts) (after : Rows) → LeavesRowsRest old counts before → HasNoRowRoom made counts before counts' after
+    → LeavesRowsRest old counts' after
+rows-rest-full old before counts made counts' after rest none =
+    rw none.same (record {
+      items_rest = rw none.items rest.items_rest;
+      octets_rest = rw none.octets rest.octets_rest;
+      messages_rest = rw none.messages rest.messages_rest;
+    })
 
 -- The same in a loop, in which the tables, the wanted descriptors and the places of the buffers stay.
 pub record RowsLoop (b : List Row) (d : List Sequence) (wanted octets : List ℕ) (from : ℕ) (old new : RowBuffers) (counts : Counts) (b' : List Row) (d' : List Sequence) (wanted' : List ℕ)
     : Type 0 where
   pub so : RowsSoFar b d wanted octets from (rows_at new) counts
+  pub rest : LeavesRowsRest (rows_at old) counts (rows_at new)
+  pub reserved : counts.reserved ≡ 0
   pub still : SameBuffers old new
   pub table_b : b' ≡ b
   pub table_d : d' ≡ d

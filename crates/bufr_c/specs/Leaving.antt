@@ -58,6 +58,12 @@ pub record FindsEvent (Is : StreamEvent → Type 0) (offset : ℕ) (m : List ℕ
 abbrev pub WritesEvent : (StreamEvent → Piece) → (offset : ℕ) → List ℕ → ℕ → EventText → Type 0
 WritesEvent piece offset m n text = FindsEvent (λ event. IsTextOf text (piece event)) offset m n
 
+-- The octets of the caller's buffers after the texts are unchanged.
+pub record LeavesRest (output errors : List ℕ) (texts : Texts) (output' errors' : List ℕ)
+    : Type 0 where
+  pub output_rest : drop texts.output_length output' ≡ drop texts.output_length output
+  pub errors_rest : drop texts.errors_length errors' ≡ drop texts.errors_length errors
+
 -- The text of an event was appended to the earlier ones.
 pub record HasPut (text : EventText) (old : Texts) (output errors : List ℕ) (new : Texts)
     (output' errors' : List ℕ) : Type 0 where
@@ -67,9 +73,11 @@ pub record HasPut (text : EventText) (old : Texts) (output errors : List ℕ) (n
       ≡ take old.errors_length errors ++ text.errors.octets.items
   pub output_fits : new.output_length ≤ length output'
   pub errors_fits : new.errors_length ≤ length errors'
+  pub rest : LeavesRest output errors new output' errors'
   pub at : new.at ≡ old.at
   pub accepted : new.accepted ≡ old.accepted
   pub refused : new.refused ≡ old.refused
+  pub reserved : new.reserved ≡ old.reserved
 
 -- There is no room for the text of an event, and nothing was written.
 pub record HasNoRoom (text : EventText) (old : Texts) (output errors : List ℕ) (new : Texts)
@@ -81,6 +89,7 @@ pub record HasNoRoom (text : EventText) (old : Texts) (output errors : List ℕ)
   pub at : new.at ≡ old.at
   pub accepted : new.accepted ≡ old.accepted
   pub refused : new.refused ≡ old.refused
+  pub reserved : new.reserved ≡ old.reserved
   pub output_needed : new.output_needed ≡ length text.output.octets.items
   pub errors_needed : new.errors_needed ≡ length text.errors.octets.items
   pub lacks : (length output < new.output_length + new.output_needed)
@@ -129,6 +138,7 @@ pub record PassesOver (octets : List ℕ) (from : ℕ) (passed : List StreamEven
   pub ran : IsRunStatus status
   pub events : events_from from octets ≡ passed ++ events_from at octets
   pub within : from ≤ length octets → at ≤ length octets
+  pub past : length octets < from → at ≡ from
   pub done : status ≡ pos 0 → (events_from at octets ≡ []) × (length octets ≤ at)
   pub stopped : (¬ (status ≡ pos 0)) → at ≡ end_after from passed
 

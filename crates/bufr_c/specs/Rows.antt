@@ -1,5 +1,5 @@
 -- Only contracts need this file. The rows of items and of messages. (own)
-use Rattle.std.specs.Prelude.{ℕ, ◌≡◌, ◌≤◌, ◌<◌, ◌⊎◌, ◌+◌, ◌^◌, ◌-◌, take, ℤ, pos, neg_ℤ, int_lt, Bool, true, false, List, [], ◌∷◌, ◌++◌, length, nat_eq, Option, Some, None, Result, Ok, Err, if◌then◌else◌}
+use Rattle.std.specs.Prelude.{ℕ, ◌≡◌, ◌≤◌, ◌<◌, ◌⊎◌, ◌+◌, ◌^◌, ◌-◌, take, drop, ℤ, pos, neg_ℤ, int_lt, Bool, true, false, List, [], ◌∷◌, ◌++◌, length, nat_eq, Option, Some, None, Result, Ok, Err, if◌then◌else◌}
 use Rattle.std.specs.List.{list_any}
 use Rattle.std.specs.Int.{w128, to_le_bytes, cast_unsigned, from_bool}
 use Rattle.bufr_frame.specs.Prelude.{Sections, StreamEvent, FrameAt, StrayAt, cause_report, section_report, sections_of}
@@ -283,11 +283,12 @@ three items octets messages = record { items = items; octets = octets; messages 
 abbrev pub rows_at : RowBuffers → Rows
 rows_at buffers = three buffers.items.now buffers.texts.now buffers.messages.now
 
--- The buffers are where they were.
+-- The buffers are where they were, and the reserved members are unchanged.
 pub record SameBuffers (old new : RowBuffers) : Type 0 where
   pub items : new.items.ghost_name ≡ old.items.ghost_name
   pub texts : new.texts.ghost_name ≡ old.texts.ghost_name
   pub messages : new.messages.ghost_name ≡ old.messages.ghost_name
+  pub reserved : new.reserved ≡ old.reserved
 
 -- the rows of one event as they were made
 abbrev pub rows_in : Put → MessageRow → Rows
@@ -316,12 +317,20 @@ pub record LacksRowRoom (room : Rows) (counts : Counts) (rows : Rows) : Type 0 w
       ⊎ ((length room.octets < counts.octets + counts.octets_needed)
       ⊎ (length room.messages < counts.messages + counts.messages_needed))
 
+-- The caller's buffers after the rows are unchanged.
+pub record LeavesRowsRest (before : Rows) (counts : Counts) (after : Rows) : Type 0 where
+  pub items_rest : drop counts.items after.items ≡ drop counts.items before.items
+  pub octets_rest : drop counts.octets after.octets ≡ drop counts.octets before.octets
+  pub messages_rest : drop counts.messages after.messages ≡ drop counts.messages before.messages
+
 -- Rows were appended to the earlier ones.
 pub record HasPutRows (rows : Rows) (old : Counts) (before : Rows) (new : Counts) (after : Rows)
     : Type 0 where
   pub leaves : LeavesRows after new (join_rows (three (take old.items before.items)
       (take old.octets before.octets) (take old.messages before.messages)) rows)
+  pub rest : LeavesRowsRest before new after
   pub at : new.at ≡ old.at
+  pub reserved : new.reserved ≡ old.reserved
 
 -- There is no room for rows, and nothing was written.
 pub record HasNoRowRoom (rows : Rows) (old : Counts) (before : Rows) (new : Counts) (after : Rows)
@@ -331,6 +340,7 @@ pub record HasNoRowRoom (rows : Rows) (old : Counts) (before : Rows) (new : Coun
   pub items : new.items ≡ old.items
   pub octets : new.octets ≡ old.octets
   pub messages : new.messages ≡ old.messages
+  pub reserved : new.reserved ≡ old.reserved
   pub lacks : LacksRowRoom after new rows
 
 -- whether there was room for rows

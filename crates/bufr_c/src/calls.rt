@@ -3,8 +3,8 @@ ghost use Rattle.std.specs.Prelude.{◌≡◌, IfNone, IfSome, drop, pos};
 ghost use Rattle.bufr_cli.specs.Prelude.{dump_piece, encode_pieces, ls_piece};
 ghost use Rattle.bufr_text.specs.Prelude.{documents_of};
 ghost use Rattle.bufr_c.specs.Commands.{form_by};
-ghost use Rattle.bufr_c.specs.Leaving.{ByTables, CallStatus, Encodes, Passes, WritesNone};
-ghost use Rattle.bufr_c.specs.Rows.{PassesRows, SameBuffers, WritesNoRows, rows_at};
+ghost use Rattle.bufr_c.specs.Leaving.{ByTables, CallStatus, Encodes, LeavesRest, Passes, WritesNone};
+ghost use Rattle.bufr_c.specs.Rows.{LeavesRowsRest, PassesRows, SameBuffers, WritesNoRows, rows_at};
 
 use crate::command::{Command, EventText, Run};
 use crate::events::{write_events, write_text};
@@ -37,7 +37,9 @@ pub extern "C" fn bufr_list(
     faults: &mut [u8],
     texts: &mut Texts,
 ) -> i32
-    ensures { Passes ls_piece octets.now texts.old.at lines.new faults.new texts.new result }
+    ensures texts { Passes ls_piece octets.now texts.old.at lines.new faults.new texts.new result }
+    ensures rest { LeavesRest lines.old faults.old texts.new lines.new faults.new }
+    ensures reserved { texts.new.reserved ≡ 0 }
 {
     let run = Run {
         alloc,
@@ -62,6 +64,8 @@ pub extern "C" fn bufr_dump(
     ensures texts { ByTables input.now.table_b.now input.now.table_d.now result (λ b d.
         Passes (dump_piece b d) input.now.octets.now texts.old.at text.new faults.new texts.new
         result) (WritesNone texts.old.at text.old faults.old texts.new text.new faults.new) }
+    ensures rest { LeavesRest text.old faults.old texts.new text.new faults.new }
+    ensures reserved { texts.new.reserved ≡ 0 }
     ensures status { CallStatus input.now.table_b.now input.now.table_d.now result }
 {
     *texts = Texts::at(texts.at);
@@ -97,6 +101,8 @@ pub extern "C" fn bufr_encode(
         faults.new)) }
     ensures status { IfSome (form_by input.now.form) (λ _.
         CallStatus input.now.table_b.now input.now.table_d.now result) }
+    ensures rest { LeavesRest messages.old faults.old texts.new messages.new faults.new }
+    ensures reserved { texts.new.reserved ≡ 0 }
     ensures form { IfNone (form_by input.now.form) ((result ≡ pos 75)
         × WritesNone texts.old.at messages.old faults.old texts.new messages.new faults.new) }
 {
@@ -139,6 +145,8 @@ pub extern "C" fn bufr_items(
         PassesRows b d input.now.wanted.now input.now.octets.now counts.old.at (rows_at rows.new)
         counts.new result)
         (WritesNoRows counts.old.at (rows_at rows.old) counts.new (rows_at rows.new)) }
+    ensures rest { LeavesRowsRest (rows_at rows.old) counts.new (rows_at rows.new) }
+    ensures reserved { counts.new.reserved ≡ 0 }
     ensures status { CallStatus input.now.table_b.now input.now.table_d.now result }
 {
     *counts = Counts::at(counts.at);

@@ -2,7 +2,7 @@
 ghost use Rattle.std.specs.Prelude.{◌≡◌, ◌≤◌, ◌+◌, ◌++◌, length, take, drop, codes, OnOk, IfOk};
 ghost use Rattle.bufr_frame.specs.Prelude.{StartsWithBufr};
 ghost use Rattle.bufr_c.specs.Commands.{piece_by};
-ghost use Rattle.bufr_c.specs.Leaving.{IsCandidate, IsRunStatus, Passes, PutsText, WritesEvent};
+ghost use Rattle.bufr_c.specs.Leaving.{IsCandidate, IsRunStatus, LeavesRest, Passes, PutsText, WritesEvent};
 
 use crate::command::{Command, EventText, Run};
 use crate::texts::{DONE, NO_ROOM, OUT_OF_MEMORY, Texts};
@@ -69,6 +69,7 @@ pub(crate) fn put<T: Copy>(values: &[T], at: usize, to: &mut [T]) -> usize
     ensures end { result ≡ at + length values.now }
     ensures values { take result to.new ≡ take at to.old ++ values.now }
     ensures room { length to.new ≡ length to.old }
+    ensures rest { drop result to.new ≡ drop result to.old }
 {
     let end = at + values.len();
     to[at..end].copy_from_slice(values);
@@ -113,6 +114,8 @@ pub(crate) fn write_events(
 ) -> i32
     ensures texts { Passes (piece_by run.now.command) octets.now texts.old.at output.new errors.new
         texts.new result }
+    ensures rest { LeavesRest output.old errors.old texts.new output.new errors.new }
+    ensures reserved { texts.new.reserved ≡ 0 }
     ensures status { IsRunStatus result }
 {
     *texts = Texts::at(texts.at);

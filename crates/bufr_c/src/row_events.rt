@@ -1,7 +1,7 @@
 //! Finds the events of a stream in memory, and writes their rows into the caller's buffers.
 ghost use Rattle.std.specs.Prelude.{◌≡◌, ◌≤◌, ◌+◌, ◌++◌, length, take, drop, codes, OnOk, IfOk};
 ghost use Rattle.bufr_c.specs.Leaving.{IsRunStatus};
-ghost use Rattle.bufr_c.specs.Rows.{PassesRows, PutsRows, SameBuffers, rows_at, rows_in};
+ghost use Rattle.bufr_c.specs.Rows.{LeavesRowsRest, PassesRows, PutsRows, SameBuffers, rows_at, rows_in};
 
 use crate::events::put;
 use crate::items::EventRows;
@@ -47,9 +47,12 @@ pub(crate) fn write_rows(
     requires items { counts.old.items ≡ 0 }
     requires octets { counts.old.octets ≡ 0 }
     requires messages { counts.old.messages ≡ 0 }
+    requires reserved { counts.old.reserved ≡ 0 }
     ensures buffers { SameBuffers rows.old rows.new }
     ensures passes { PassesRows event.old.templates.table_b event.old.templates.table_d
         event.old.wanted.now octets.now counts.old.at (rows_at rows.new) counts.new result }
+    ensures rest { LeavesRowsRest (rows_at rows.old) counts.new (rows_at rows.new) }
+    ensures reserved { counts.new.reserved ≡ 0 }
     ensures status { IsRunStatus result }
 {
     let word = memmem::Finder::new(b"BUFR");

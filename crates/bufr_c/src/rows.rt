@@ -213,6 +213,7 @@ impl Counts {
         ensures items { result.items ≡ 0 }
         ensures octets { result.octets ≡ 0 }
         ensures messages { result.messages ≡ 0 }
+        ensures reserved { result.reserved ≡ 0 }
     {
         Counts {
             at,

@@ -83,6 +83,7 @@ impl Texts {
         ensures errors { result.errors_length ≡ 0 }
         ensures accepted { result.accepted ≡ 0 }
         ensures refused { result.refused ≡ 0 }
+        ensures reserved { result.reserved ≡ 0 }
     {
         Texts {
             at,

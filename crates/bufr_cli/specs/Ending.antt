@@ -37,12 +37,14 @@ FlushesRest before after (Err fault) =
     × (after.all_flushed ≡ before.all_flushed)))
 
 -- A writer takes a prefix of a line, and the whole line if no call fails and no write takes
--- nothing. (The counts show that only if they are not at their greatest value, 2^64 - 1.)
+-- nothing. (The counts show that only if they are not at their greatest value, 2^64 - 1.) It is not
+-- flushed, so no flush that fails can prevent the line.
 abbrev pub WritesLine : (before after : Writer) → (line : List ℕ) → Type 0
 WritesLine before after line =
     GrowsByPrefix before.taken after.taken line
     × (before.failures < 2 ^ 64 - 1 → before.empty_writes < 2 ^ 64 - 1 → IsSame before after
     → Appends before.taken after.taken line)
+    × (after.flushes ≡ before.flushes)
 
 -- A run over an input ended, and then its output was flushed.
 pub record EndsRun (pieces : RunPieces) (from to : Input) (before after : Writers)

@@ -236,10 +236,9 @@ fn encode_command<'a>(alloc: Global) -> Result<clap::Command<'a>, AllocError>
     let about = "Encode the messages in a dump";
     let file = "Dump to encode (default: standard input)";
     let command = command_with_tables(alloc, "encode", about, ENCODE_NOTES, file)?;
-    let form = Arg::new(alloc, "form")
-        .long("form")
-        .value_name("WORD")
-        .help("plain or compressed (default: as each document specifies)");
+    let form = Arg::new(alloc, "form").long("form").value_name("WORD").help(
+        "plain or compressed (default: as each document specifies)",
+    );
     command.arg(form)
 }
 

@@ -122,6 +122,7 @@ pub fn finish<E: Sink>(outcome: &Outcome<'_>, e: &mut E) -> u8
     ensures whole { E.failures e.old < 2 ^ 64 - 1 → E.empty_writes e.old < 2 ^ 64 - 1
         → IsSame (writer_of E.Sink e.old) (writer_of E.Sink e.new)
         → Appends (E.taken e.old) (E.taken e.new) (last_line outcome.now) }
+    ensures flushes { E.flushes e.new ≡ E.flushes e.old }
 {
     let mut block = [0; LINE];
     let mut line = LineWriter::new(&mut block, e);

@@ -1,5 +1,5 @@
 //! Templates: lists of descriptors expanded to a tree, which is flattened to cells.
-ghost use Rattle.std.specs.Prelude.{◌≡◌, ◌≢◌, ◌≤◌, length, Ok, Err, IfOk, IfErr, is_some, [], true, false, OnOk};
+ghost use Rattle.std.specs.Prelude.{◌≡◌, ◌≢◌, ◌≤◌, length, Ok, Err, IfOk, IfErr, is_some, [], true, false, OnErr, OnOk};
 ghost use Rattle.bufr_tables.specs.TableB.{entry_of};
 ghost use Rattle.bufr_tables.specs.TableD.{members_of};
 ghost use Rattle.bufr_tables.specs.Tree.{places as places_of, depth as depth_of, Tree};
@@ -264,16 +264,19 @@ impl<'a> SelectedTemplate<'a> {
         self.descriptors.as_slice() == descriptors
     }
 
-    /// Keeps this list of descriptors, and what it is expanded to, if it is not the one that is
-    /// kept.
+    /// Selects this list of descriptors, and expands it unless it is already selected.
     ///
     /// # Errors
     ///
-    /// [`AllocError`] where memory runs out.
+    /// [`AllocError`] if memory runs out. Then the list of no descriptors is selected.
     pub fn select(&mut self, descriptors: &[Fxy]) -> Result<(), AllocError>
         ensures table_b { self.new.table_b ≡ self.old.table_b }
         ensures table_d { self.new.table_d ≡ self.old.table_d }
         ensures list { OnOk result (self.new.list ≡ descriptors.now) }
+        ensures err { OnErr result (self.new.list ≡ []) }
+        // The list that is already selected is not expanded again.
+        ensures again { self.old.list ≡ descriptors.now
+            → (result ≡ Ok tt) × (self.new ≡ self.old) }
     {
         if self.is_selected(descriptors) {
             return Ok(());

@@ -8,7 +8,7 @@ pub returns-in-Ok : goal.returns-in-Ok
 returns-in-Ok g c =
     Does c.in-Ok.job c.in-Ok.ensures.job c.run_job-outcome.result (writers_of g.W.Sink c.run_job-outcome.new.w g.E.Sink c.run_job-outcome.new.e) c.run_job-outcome.ensures.comes
     refl
-    (c.finish.ensures.prefix, c.finish.ensures.whole) c.finish.ensures.status
+    (c.finish.ensures.prefix, c.finish.ensures.whole, c.finish.ensures.flushes) c.finish.ensures.status
 
 pub returns-in-Ok-write_and_flush : goal.returns-in-Ok-write_and_flush
 returns-in-Ok-write_and_flush g c =
@@ -23,7 +23,8 @@ returns-in-Err-Help g c =
     let value : c.as_bytes.result.now ≡ string_bytes c.in-Err-Help.text = search rules in
     Answers (Help c.in-Err-Help.text) (rw c.in-Err-Help.field-0-is at c.in-Err-Help.ensures.fault) (opens-none _)
     (subst Q value
-    (help-in-part c.as_bytes.result.now _ _ c.finish-in-Err.result c.in-Err.fault c.in-Err.ensures.writes c.in-Err.ensures.counts (c.finish-in-Err.ensures.prefix, c.finish-in-Err.ensures.whole)
+    (help-in-part c.as_bytes.result.now _ _ c.finish-in-Err.result c.in-Err.fault c.in-Err.ensures.writes c.in-Err.ensures.counts
+        (c.finish-in-Err.ensures.prefix, c.finish-in-Err.ensures.whole, c.finish-in-Err.ensures.flushes)
     c.finish-in-Err.ensures.status))
 
 pub returns-in-Err-Usage : goal.returns-in-Err-Usage
@@ -34,4 +35,4 @@ returns-in-Err-Usage g c =
 
 pub returns : goal.returns
 returns g c = Answers Memory (rw c.in-Err-Memory.field-0-is at c.in-Err-Memory.ensures.fault) (opens-none _)
-    (refl, (c.finish-in-Err-Memory.ensures.prefix, c.finish-in-Err-Memory.ensures.whole), c.finish-in-Err-Memory.ensures.status)
+    (refl, (c.finish-in-Err-Memory.ensures.prefix, c.finish-in-Err-Memory.ensures.whole, c.finish-in-Err-Memory.ensures.flushes), c.finish-in-Err-Memory.ensures.status)
