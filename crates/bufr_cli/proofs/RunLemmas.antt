@@ -11,7 +11,7 @@ use Rattle.bufr_frame.proofs.FinderLemmas.{adds-then}
 use Rattle.bufr_frame.specs.declared.fault.RunFault.{RunFault}
 use Rattle.bufr_frame.specs.declared.fault.RunFault.TheVariants.{Read, Write, InputTooLong, Memory}
 use Rattle.bufr_text.specs.Prelude.{GrowsByPrefix, Stays, Fails, Writes}
-use Rattle.bufr_cli.specs.Prelude.{BlamesWriter, CountsCalls, CountsRead, EndsRun, FlushesRest, TakesStep, HandsOn, HandsOnBoth, HandsOnWritten, IsFlushedIf, IsHandedOn, LeavesOther, unflushed_after, Writer, Input, IsClosed, IsCut, IsDone, InputName, IsNotOpened, IsOpen, Opens, IsSame, InPart, Known, LeavesDevices, FlushesAtMost, FlushesByRead, NoFlushFails, OnErrors, OnOutput, Piece, Progress, ReadsAndWrites, ReadsAtMost, ReadsFewer, ReadsOctets, RunOutcome, RunPieces, RunReads, RunsOver, RunsOverInput, StopsPiece, Tallies, Tally, Verdict, WantsMemory, Writers, WritesHelp, WritesLine, WritesPieces, WritesPrefixes, WrittenInPart, counted_accepted, counted_refused, errors_of, is_accepted, is_refused, output_of, run_line, tally_after}
+use Rattle.bufr_cli.specs.Prelude.{BlamesWriter, CountsCalls, CountsRead, EndsRun, FlushesRest, TakesStep, HandsOn, HandsOnBoth, HandsOnWritten, IsFlushedIf, IsHandedOn, LeavesOther, unflushed_after, Writer, Input, IsClosed, IsCut, IsDone, InputName, IsNotOpened, IsOpen, Opens, HasNotFailed, InPart, Known, LeavesDevices, FlushesAtMost, FlushesByRead, NoFlushFails, OnErrors, OnOutput, Piece, Progress, ReadsAndWrites, ReadsAtMost, ReadsFewer, ReadsOctets, RunOutcome, RunPieces, RunReads, RunsOver, RunsOverInput, StopsPiece, Tallies, Tally, Verdict, WantsMemory, Writers, WritesHelp, WritesLine, WritesPieces, WritesPrefixes, WrittenInPart, counted_accepted, counted_refused, errors_of, is_accepted, is_refused, output_of, run_line, tally_after}
 use Rattle.bufr_cli.specs.declared.outcome.Outcome.{Outcome}
 use Rattle.bufr_cli.specs.declared.run_pieces.RunStep.{RunStep}
 use Rattle.bufr_cli.specs.declared.run_pieces.Unflushed.{Unflushed}
@@ -94,14 +94,14 @@ fails-then f f1 f2 n n1 n2 before (inl more) = inl (more.0 ∙ ap (λ k. counted
 fails-then f f1 f2 n n1 n2 before (inr more) = inr (more.0 ∙ before.0, more.1 ∙ ap (λ k. counted k 1) before.1)
 
 -- writers that counted nothing are at fault as after that
-blames-then : (X Y : Type 0) (before mid after : Writers) (f : RunFault) → IsSame before.output mid.output × IsSame before.errors mid.errors → BlamesWriter {X = X} mid after (Err f)
+blames-then : (X Y : Type 0) (before mid after : Writers) (f : RunFault) → HasNotFailed before.output mid.output × HasNotFailed before.errors mid.errors → BlamesWriter {X = X} mid after (Err f)
     → BlamesWriter {X = Y} before after (Err f)
 blames-then X Y before mid after f (out, err) blames = by f blames
   where
-    o : IsSame mid.output after.output → IsSame before.output after.output
+    o : HasNotFailed mid.output after.output → HasNotFailed before.output after.output
     o more = same-then _ _ _ _ _ _ out more
 
-    e : IsSame mid.errors after.errors → IsSame before.errors after.errors
+    e : HasNotFailed mid.errors after.errors → HasNotFailed before.errors after.errors
     e more = same-then _ _ _ _ _ _ err more
 
     by : (g : RunFault) → BlamesWriter {X = X} mid after (Err g) → BlamesWriter {X = Y} before after (Err g)
@@ -167,7 +167,7 @@ pub record RunSoFar (reaches : Progress → Type 0) (from to : Input) (before af
   pub failures : to.failures ≡ from.failures
   pub flushes : NoFlushFails before after
   pub handed : IsAllFlushed unflushed before after
-  pub same : IsSame before.output after.output × IsSame before.errors after.errors
+  pub same : HasNotFailed before.output after.output × HasNotFailed before.errors after.errors
 
 -- nothing was done yet
 pub so-far-none : (reaches : Progress → Type 0) (from : Input) (before : Writers) (tally : Tally) (unflushed : Unflushed) → reaches (progress from from [] []) → tally.accepted ≡ 0
@@ -399,7 +399,7 @@ module _ (reaches : Progress → Type 0) (from to : Input) (before mid : Writers
   leaves-unread on waits unflushed' to' after handed r n' f result open' hands well reads more made failures sure is same =
       rw same (by f is (rw is at made) (rw is at failures))
     where
-      stays : IsSame mid.output after.output × IsSame mid.errors after.errors
+      stays : HasNotFailed mid.output after.output × HasNotFailed mid.errors after.errors
       stays = rw well at hands.counts
 
       flushes : NoFlushFails mid after
@@ -408,7 +408,7 @@ module _ (reaches : Progress → Type 0) (from to : Input) (before mid : Writers
       none : NoFlushFails before after
       none = (flushes.0 ∙ ran.flushes.0, flushes.1 ∙ ran.flushes.1)
 
-      writers : IsSame before.output after.output × IsSame before.errors after.errors
+      writers : HasNotFailed before.output after.output × HasNotFailed before.errors after.errors
       writers = (same-then _ _ _ _ _ _ ran.same.0 stays.0, same-then _ _ _ _ _ _ ran.same.1 stays.1)
 
       all-counts : AddsReads from.reads to'.reads 0 n'

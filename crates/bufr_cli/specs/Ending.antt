@@ -7,7 +7,7 @@ use Rattle.bufr_frame.specs.Prelude.{run_report}
 use Rattle.bufr_frame.specs.declared.fault.RunFault.{RunFault}
 use Rattle.bufr_frame.specs.declared.fault.RunFault.TheVariants.{Read, Write, Memory}
 use Rattle.bufr_text.specs.Prelude.{GrowsByPrefix}
-use Rattle.bufr_cli.specs.Running.{IsSame, Input, LeavesDevices, Writer, Writers, RunPieces}
+use Rattle.bufr_cli.specs.Running.{HasNotFailed, Input, LeavesDevices, Writer, Writers, RunPieces}
 use Rattle.bufr_cli.specs.declared.outcome.Tally.{Tally}
 use Rattle.bufr_tables.specs.Prelude.{table_report}
 use Rattle.bufr_tables.specs.declared.fault.TableFault.{TableFault}
@@ -41,7 +41,7 @@ FlushesRest before after (Err fault) =
 abbrev pub WritesLine : (before after : Writer) → (line : List ℕ) → Type 0
 WritesLine before after line =
     GrowsByPrefix before.taken after.taken line
-    × (before.failures < 2 ^ 64 - 1 → before.empty_writes < 2 ^ 64 - 1 → IsSame before after
+    × (before.failures < 2 ^ 64 - 1 → before.empty_writes < 2 ^ 64 - 1 → HasNotFailed before after
     → Appends before.taken after.taken line)
 
 -- A run over an input ended, and then its output was flushed.

@@ -7,7 +7,7 @@ use Rattle.bufr_frame.specs.declared.fault.RunFault.{RunFault}
 use Rattle.bufr_frame.specs.Prelude.{read_failures_after}
 use Rattle.bufr_tables.specs.Prelude.{ReadsTableD, Record, Sequence, records_of, ReturnsUnlessMemory, Row, table_b_of}
 use Rattle.bufr_tables.specs.declared.fault.TableFault.{TableFault}
-use Rattle.bufr_cli.specs.Running.{Input, Writers, RunPieces, event_pieces, document_pieces, HasFailed, IsSame, ReadsAtMost, ReadsFewer}
+use Rattle.bufr_cli.specs.Running.{Input, Writers, RunPieces, event_pieces, document_pieces, HasFailed, HasNotFailed, ReadsAtMost, ReadsFewer}
 use Rattle.bufr_cli.specs.Pieces.{dump_piece, ls_piece}
 use Rattle.bufr_cli.specs.Ending.{EndsRun, WritesLine, last_line, run_line, status_of}
 use Rattle.bufr_cli.specs.declared.outcome.Outcome.{Outcome}
@@ -186,7 +186,7 @@ CommandOutcome inputs opens (Encode tables form) file before after outcome =
 -- status 2.
 pub data WritesHelp (text : List ℕ) (before after : Writers) (status : ℕ) : Type 0 where
   InWhole : Appends before.output.taken after.output.taken text
-      → after.output.all_flushed ≡ true → IsSame before.output after.output
+      → after.output.all_flushed ≡ true → HasNotFailed before.output after.output
       → after.errors ≡ before.errors → status ≡ 0 → WritesHelp text before after status
   InPart : GrowsByPrefix before.output.taken after.output.taken text
       → HasFailed before.output after.output

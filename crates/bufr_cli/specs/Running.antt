@@ -90,8 +90,8 @@ OnlyWrites before after result =
     CountsCalls before after result × (after.flushes ≡ before.flushes)
 
 -- Between these states, no call of the writer failed, and no write took nothing.
-abbrev pub IsSame : (before after : Writer) → Type 0
-IsSame before after =
+abbrev pub HasNotFailed : (before after : Writer) → Type 0
+HasNotFailed before after =
     (after.failures ≡ before.failures) × (after.empty_writes ≡ before.empty_writes)
 
 -- Between these states, either one call of the writer failed or one write took nothing.
@@ -106,10 +106,10 @@ HasFailed before after =
 -- rule: fault-71
 abbrev pub BlamesWriter : {X : Type 0} → (before after : Writers) → Result X RunFault → Type 0
 BlamesWriter before after (Err Write) =
-    (HasFailed before.output after.output × IsSame before.errors after.errors)
-    ⊎ (IsSame before.output after.output × HasFailed before.errors after.errors)
+    (HasFailed before.output after.output × HasNotFailed before.errors after.errors)
+    ⊎ (HasNotFailed before.output after.output × HasFailed before.errors after.errors)
 BlamesWriter before after result =
-    IsSame before.output after.output × IsSame before.errors after.errors
+    HasNotFailed before.output after.output × HasNotFailed before.errors after.errors
 
 -- All of the pieces were written, each to its writer, in order.
 -- rule: output-in-order
