@@ -294,6 +294,12 @@ NoFlushFails before after =
     (after.output.flushes.failed ≡ before.output.flushes.failed)
     × (after.errors.flushes.failed ≡ before.errors.flushes.failed)
 
+-- A flush of a writer failed.
+abbrev pub FlushFails : (before after : Writers) → Type 0
+FlushFails before after =
+    (after.output.flushes.failed ≢ before.output.flushes.failed)
+    ⊎ (after.errors.flushes.failed ≢ before.errors.flushes.failed)
+
 -- What is known of a run (`so`) that ended with this result.
 -- rule: input-not-read, fault-line-not-written, reader-gone, fault-70
 abbrev pub RunEnds : {pieces : RunPieces} → {from to : Input} → {before after : Writers}
