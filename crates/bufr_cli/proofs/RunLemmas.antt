@@ -11,7 +11,7 @@ use Rattle.bufr_frame.proofs.FinderLemmas.{adds-then}
 use Rattle.bufr_frame.specs.declared.fault.RunFault.{RunFault}
 use Rattle.bufr_frame.specs.declared.fault.RunFault.TheVariants.{Read, Write, InputTooLong, Memory}
 use Rattle.bufr_text.specs.Prelude.{GrowsByPrefix, Stays, Fails, Writes}
-use Rattle.bufr_cli.specs.Prelude.{BlamesWriter, CountsCalls, CountsRead, EndsRun, FlushesRest, TakesStep, HandsOn, HandsOnBoth, HandsOnWritten, IsFlushedIf, IsHandedOn, LeavesOther, unflushed_after, Writer, Input, IsClosed, IsCut, IsDone, InputName, IsNotOpened, IsOpen, Opens, HasNotFailed, InPart, Known, LeavesDevices, FlushesAtMost, FlushesByRead, NoFlushFails, OnErrors, OnOutput, Piece, Progress, ReadsAndWrites, ReadsAtMost, ReadsFewer, ReadsOctets, RunOutcome, RunPieces, RunReads, RunsOver, RunsOverInput, StopsPiece, Tallies, Tally, Verdict, WantsMemory, Writers, WritesHelp, WritesLine, WritesPieces, WritesPrefixes, WrittenInPart, counted_accepted, counted_refused, errors_of, is_accepted, is_refused, output_of, run_line, tally_after}
+use Rattle.bufr_cli.specs.Prelude.{BlamesWriter, CountsCalls, CountsRead, EndsRun, FlushesRest, TakesStep, HandsOn, HandsOnBoth, HandsOnWritten, IsFlushedIf, IsHandedOn, LeavesOther, unflushed_after, Writer, Input, IsClosed, IsCut, IsDone, InputName, IsNotOpened, IsOpen, Opens, HasNotFailed, InPart, Known, LeavesDevices, FlushesAtMost, FlushesByRead, FlushFails, NoFlushFails, OnErrors, OnOutput, Piece, Progress, ReadsAndWrites, ReadsAtMost, ReadsFewer, ReadsOctets, RunOutcome, RunPieces, RunReads, RunsOver, RunsOverInput, StopsPiece, Tallies, Tally, Verdict, WantsMemory, Writers, WritesHelp, WritesLine, WritesPieces, WritesPrefixes, WrittenInPart, counted_accepted, counted_refused, errors_of, is_accepted, is_refused, output_of, run_line, tally_after}
 use Rattle.bufr_cli.specs.declared.outcome.Outcome.{Outcome}
 use Rattle.bufr_cli.specs.declared.run_pieces.RunStep.{RunStep}
 use Rattle.bufr_cli.specs.declared.run_pieces.Unflushed.{Unflushed}
@@ -145,6 +145,11 @@ flushes-kept n before mid after output errors is = (rw output is.0, rw errors is
 -- as often as there were reads, and once more
 flushes-by : (reads reads' n : ℕ) (before after : Writers) → AddsReads reads reads' 0 n → FlushesAtMost (n + 1) before after → FlushesByRead reads reads' before after
 flushes-by reads reads' n before after counts is = let e : n - 0 ≡ n = omega arith in (n, counts.made ∙ ap (counted reads) e, is)
+
+-- `NoFlushFails` and `FlushFails` exclude each other
+none-fails : (before after : Writers) → NoFlushFails before after → FlushFails before after → ⊥
+none-fails before after none (inl output) = output none.0
+none-fails before after none (inr errors) = errors none.1
 
 -- ---- What a run has done so far.
 
@@ -343,7 +348,7 @@ module _ (reaches : Progress → Type 0) (from to : Input) (before mid : Writers
       by InputTooLong stops' blames' = absurd stops'
       by Write stops' blames' = record {
         ran = all;
-        ends = λ fails. absurd (fails none);
+        ends = λ fails. absurd (none-fails before after none fails);
         whole = tt;
         order = λ fails. absurd (fails none.1);
         flushed = tt;

@@ -199,6 +199,12 @@ FlushesAtMost n before after =
     (after.output.flushes.made ≤ counted before.output.flushes.made n)
     × (after.errors.flushes.made ≤ counted before.errors.flushes.made n)
 
+-- No flush of a writer failed.
+abbrev pub NoFlushFails : (before after : Writers) → Type 0
+NoFlushFails before after =
+    (after.output.flushes.failed ≡ before.output.flushes.failed)
+    × (after.errors.flushes.failed ≡ before.errors.flushes.failed)
+
 -- Both writers keep what they took, and all of it was handed on, the output first; or a flush
 -- failed.
 pub record HandsOnBoth {X : Type 0} (before after : Writers) (result : Result X RunFault) : Type 0
@@ -207,8 +213,7 @@ pub record HandsOnBoth {X : Type 0} (before after : Writers) (result : Result X 
     pub errors : Keeps before.errors.taken after.errors.taken
     pub handed : OnOk result
         ((after.output.all_flushed ≡ true) × (after.errors.all_flushed ≡ true))
-    pub none : OnOk result ((after.output.flushes.failed ≡ before.output.flushes.failed)
-        × (after.errors.flushes.failed ≡ before.errors.flushes.failed))
+    pub none : OnOk result (NoFlushFails before after)
     pub order : after.errors.flushes.failed ≢ before.errors.flushes.failed
         → after.output.all_flushed ≡ true
     pub once : FlushesAtMost 1 before after
@@ -240,8 +245,7 @@ pub record HandsOnWritten (waits : Bool) (unflushed unflushed' : Unflushed)
   pub handed : OnOk result ((IsFlushedIf unflushed.output before.output after.output
       × IsFlushedIf unflushed.errors before.errors after.errors)
       ⊎ ((waits ≡ false) × (unflushed' ≡ unflushed) × (after ≡ before)))
-  pub none : OnOk result ((after.output.flushes.failed ≡ before.output.flushes.failed)
-      × (after.errors.flushes.failed ≡ before.errors.flushes.failed))
+  pub none : OnOk result (NoFlushFails before after)
   pub order : after.errors.flushes.failed ≢ before.errors.flushes.failed
       → IsFlushedIf unflushed.output before.output after.output
   pub once : FlushesAtMost 1 before after
@@ -288,12 +292,6 @@ pub record ReadsAndWrites (pieces : RunPieces) (from to : Input) (before after :
 abbrev pub IsUnrefused : RunPieces → List Piece → Type 0
 IsUnrefused pieces given = pieces.stops ≡ true → count_by is_refused given ≡ 0
 
--- No flush of a writer failed.
-abbrev pub NoFlushFails : (before after : Writers) → Type 0
-NoFlushFails before after =
-    (after.output.flushes.failed ≡ before.output.flushes.failed)
-    × (after.errors.flushes.failed ≡ before.errors.flushes.failed)
-
 -- A flush of a writer failed.
 abbrev pub FlushFails : (before after : Writers) → Type 0
 FlushFails before after =
@@ -313,7 +311,7 @@ RunEnds {pieces} {from} {to} {before} {after} so (Ok tally) =
     → WritesWhole pieces before after tally (so.octets ++ t))
 -- A write or a flush failed. If it was a flush, all pieces had been written.
 RunEnds {pieces} {from} {to} {before} {after} so (Err Write) =
-    ¬ NoFlushFails before after → IsAllWritten so.written
+    FlushFails before after → IsAllWritten so.written
 -- Memory ran out before any refused piece that stops the run. In a run that refused pieces do not
 -- stop, it was needed to write a piece (`next`), or fewer than 2^32 reads had been made: after that
 -- many, the fault is `InputTooLong`.
