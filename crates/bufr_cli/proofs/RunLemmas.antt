@@ -11,7 +11,7 @@ use Rattle.bufr_frame.proofs.FinderLemmas.{adds-then}
 use Rattle.bufr_frame.specs.declared.fault.RunFault.{RunFault}
 use Rattle.bufr_frame.specs.declared.fault.RunFault.TheVariants.{Read, Write, InputTooLong, Memory}
 use Rattle.bufr_text.specs.Prelude.{GrowsByPrefix, Stays, Fails, Writes}
-use Rattle.bufr_cli.specs.Prelude.{BlamesWriter, CountsCalls, CountsRead, EndsRun, FlushesRest, TakesStep, HandsOn, HandsOnBoth, HandsOnWritten, IsFlushedIf, IsHandedOn, LeavesOther, unflushed_after, Writer, Input, IsClosed, IsCut, IsDone, InputName, IsNotOpened, IsOpen, Opens, HasNotFailed, InPart, Known, LeavesDevices, FlushesAtMost, FlushesByRead, FlushFails, NoFlushFails, OnErrors, OnOutput, Piece, Progress, ReadsAndWrites, ReadsAtMost, ReadsFewer, ReadsOctets, RunOutcome, RunPieces, RunReads, RunsOver, RunsOverInput, StopsPiece, Tallies, Tally, Verdict, WantsMemory, Writers, WritesHelp, WritesLine, WritesPieces, WritesPrefixes, WrittenInPart, counted_accepted, counted_refused, errors_of, is_accepted, is_refused, output_of, run_line, tally_after}
+use Rattle.bufr_cli.specs.Prelude.{BlamesWriter, CountsCalls, CountsRead, EndsRun, FlushesRest, TakesStep, HasFlushed, FlushesBoth, FlushesWritten, IsFlushedIf, IsFlushed, LeavesOther, unflushed_after, Writer, Input, IsClosed, IsCut, IsDone, InputName, IsNotOpened, IsOpen, Opens, HasNotFailed, InPart, Known, LeavesDevices, FlushesAtMost, FlushesByRead, FlushFails, NoFlushFails, OnErrors, OnOutput, Piece, Progress, ReadsAndWrites, ReadsAtMost, ReadsFewer, ReadsOctets, RunOutcome, RunPieces, RunReads, RunsOver, RunsOverInput, StopsPiece, Tallies, Tally, Verdict, WantsMemory, Writers, WritesHelp, WritesLine, WritesPieces, WritesPrefixes, WrittenInPart, counted_accepted, counted_refused, errors_of, is_accepted, is_refused, output_of, run_line, tally_after}
 use Rattle.bufr_cli.specs.declared.outcome.Outcome.{Outcome}
 use Rattle.bufr_cli.specs.declared.run_pieces.RunStep.{RunStep}
 use Rattle.bufr_cli.specs.declared.run_pieces.Unflushed.{Unflushed}
@@ -157,10 +157,10 @@ none-fails before after none (inr errors) = errors none.1
 abbrev pub progress : (from to : Input) (octets : List ℕ) (pieces : List Piece) → Progress
 progress from to octets pieces = record { from = from.left; left = to.left; octets = octets; pieces = pieces }
 
--- a writer to which nothing unflushed was written is handed on
+-- a writer to which nothing unflushed was written is flushed
 abbrev pub IsAllFlushed : Unflushed → (before after : Writers) → Type 0
 IsAllFlushed unflushed before after =
-    (unflushed.output ≡ false → IsHandedOn before.output after.output) × (unflushed.errors ≡ false → IsHandedOn before.errors after.errors)
+    (unflushed.output ≡ false → IsFlushed before.output after.output) × (unflushed.errors ≡ false → IsFlushed before.errors after.errors)
 
 pub record RunSoFar (reaches : Progress → Type 0) (from to : Input) (before after : Writers) (tally : Tally) (unflushed : Unflushed) : Type 0 where
   pub octets : List ℕ
@@ -195,25 +195,25 @@ piece-handed : (unflushed : Unflushed) (verdict : Verdict) (before mid after : W
     → IsAllFlushed (unflushed_after unflushed verdict) before after
 piece-handed unflushed verdict.Accepted before mid after other handed = (
   (λ none. absurd (false≢true (sym none))),
-  (λ none. let H : Writer → Type 0 = λ w. IsHandedOn before.errors w in subst H (sym other) (handed.1 none)),
+  (λ none. let H : Writer → Type 0 = λ w. IsFlushed before.errors w in subst H (sym other) (handed.1 none)),
 )
 piece-handed unflushed verdict.Refused before mid after other handed = (
-  (λ none. let H : Writer → Type 0 = λ w. IsHandedOn before.output w in subst H (sym other) (handed.0 none)),
+  (λ none. let H : Writer → Type 0 = λ w. IsFlushed before.output w in subst H (sym other) (handed.0 none)),
   (λ none. absurd (false≢true (sym none))),
 )
 
--- a writer that was flushed if something was written to it is handed on
-flushed-handed : (written : Bool) (before mid after : Writer) → (written ≡ false → IsHandedOn before mid) → IsFlushedIf written mid after → IsHandedOn before after
+-- `IsFlushedIf` implies `IsFlushed`
+flushed-handed : (written : Bool) (before mid after : Writer) → (written ≡ false → IsFlushed before mid) → IsFlushedIf written mid after → IsFlushed before after
 flushed-handed true before mid after handed flushed = inr flushed
-flushed-handed false before mid after handed flushed = let H : Writer → Type 0 = λ w. IsHandedOn before w in subst H (sym flushed) (handed refl)
+flushed-handed false before mid after handed flushed = let H : Writer → Type 0 = λ w. IsFlushed before w in subst H (sym flushed) (handed refl)
 
--- before a read what was written is handed on, or nothing changes
-read-handed : (waits : Bool) (unflushed unflushed' : Unflushed) (before mid after : Writers) (r : Result (Unit {0}) RunFault) → HandsOnWritten waits unflushed unflushed' mid after r → r ≡ Ok tt
+-- before a read, what was written is flushed, or nothing changes
+read-handed : (waits : Bool) (unflushed unflushed' : Unflushed) (before mid after : Writers) (r : Result (Unit {0}) RunFault) → FlushesWritten waits unflushed unflushed' mid after r → r ≡ Ok tt
     → IsAllFlushed unflushed before mid → IsAllFlushed unflushed' before after
 read-handed waits unflushed unflushed' before mid after r hands well handed =
     let U : Unflushed → Type 0 = λ u. IsAllFlushed u before mid in
     let W : Writers → Type 0 = λ w. IsAllFlushed unflushed' before w in
-    elim (rw well at hands.handed) [
+    elim (rw well at hands.flushed) [
       | inl flushed ↦ (
         (λ none. flushed-handed unflushed.output before.output mid.output after.output handed.0 flushed.0),
         (λ none. flushed-handed unflushed.errors before.errors mid.errors after.errors handed.1 flushed.1),
@@ -279,9 +279,9 @@ module _ (reaches : Progress → Type 0) (from to : Input) (before mid : Writers
       let one = rw is at gives (progress from to ran.octets ran.pieces) ran.reached in
       rw one.0 (ran, one.1)
 
-  -- what was written was handed on, and octets were read
+  -- what was written was flushed, and octets were read
   pub octets-read : (on : Progress → Type 0) (waits : Bool) (unflushed' : Unflushed) (to' : Input) (after : Writers) (handed : Result (Unit {0}) RunFault) (r : Result (Unit {0}) RunFault)
-      → HandsOnWritten waits unflushed unflushed' mid after handed → handed ≡ Ok tt
+      → FlushesWritten waits unflushed unflushed' mid after handed → handed ≡ Ok tt
       → ((so : Progress) → so.left ≡ to.left → reaches so → ReadsOctets on so to'.left r) → r ≡ Ok tt → to'.failures ≡ to.failures
       → RunSoFar on from to' before after tally unflushed'
   octets-read on waits unflushed' to' after handed r hands well reads is failures =
@@ -371,7 +371,7 @@ module _ (reaches : Progress → Type 0) (from to : Input) (before mid : Writers
 
   -- a flush failed before a read
   pub leaves-held : (waits : Bool) (unflushed' : Unflushed) (after : Writers) (handed : Result (Unit {0}) RunFault) (f : RunFault) (result : Result Tally RunFault)
-      → IsOpen pieces so → HandsOnWritten waits unflushed unflushed' mid after handed → handed ≡ Err f → result ≡ Err f
+      → IsOpen pieces so → FlushesWritten waits unflushed unflushed' mid after handed → handed ≡ Err f → result ≡ Err f
       → LeavesDevices pieces from to before after result
   leaves-held waits unflushed' after handed f result open' hands is same =
       let write : f ≡ Write = rw is at hands.fault in
@@ -397,7 +397,7 @@ module _ (reaches : Progress → Type 0) (from to : Input) (before mid : Writers
   pub leaves-unread : (on : Progress → Type 0) (waits : Bool) (unflushed' : Unflushed) (to' : Input) (after : Writers) (handed : Result (Unit {0}) RunFault) (r : Result (Unit {0}) RunFault) (n' : ℕ)
       (f : RunFault)
       (result : Result Tally RunFault)
-      → IsOpen pieces so → HandsOnWritten waits unflushed unflushed' mid after handed → handed ≡ Ok tt
+      → IsOpen pieces so → FlushesWritten waits unflushed unflushed' mid after handed → handed ≡ Ok tt
       → ((so : Progress) → so.left ≡ to.left → reaches so → ReadsOctets on so to'.left r) → AddsReads to.reads to'.reads n n' → CountsRead n n' r
       → to'.failures ≡ read_failures_after to.failures r → (waits ≡ false → r ≢ Err Read) → r ≡ Err f → result ≡ Err f
       → LeavesDevices pieces from to' before after result
@@ -434,9 +434,9 @@ module _ (reaches : Progress → Type 0) (from to : Input) (before mid : Writers
         written = all-written before mid after _ ran.pieces open'.certain hands.output hands.errors ran.written;
       }
 
-      on-hand : r ≡ Err Read → HandsOn {X = Tally} before after (Err Read)
+      on-hand : r ≡ Err Read → HasFlushed {X = Tally} before after (Err Read)
       on-hand read =
-          elim (rw well at hands.handed) [
+          elim (rw well at hands.flushed) [
             | inl flushed ↦ (
               flushed-handed unflushed.output before.output mid.output after.output ran.handed.0 flushed.0,
               flushed-handed unflushed.errors before.errors mid.errors after.errors ran.handed.1 flushed.1,
@@ -484,7 +484,7 @@ module _ (reaches : Progress → Type 0) (from to : Input) (before mid : Writers
       }
 
   -- nothing comes any more
-  module _ (done : IsDone pieces so) (after : Writers) (handed : Result (Unit {0}) RunFault) (hands : HandsOnBoth mid after handed) where
+  module _ (done : IsDone pieces so) (after : Writers) (handed : Result (Unit {0}) RunFault) (hands : FlushesBoth mid after handed) where
     abbrev all : ReadsAndWrites pieces from to before after
     all = record {
       octets = ran.octets;
@@ -510,7 +510,7 @@ module _ (reaches : Progress → Type 0) (from to : Input) (before mid : Writers
           writers = blames-then (Unit {0}) Tally before mid after Write ran.same (rw (is ∙ ap Err write) at hands.counts);
         })
 
-    -- and all was handed on
+    -- and everything was flushed
     pub leaves-done : handed ≡ Ok tt → LeavesDevices pieces from to before after (Ok tally)
     leaves-done well =
         let stays = rw well at hands.counts in
@@ -523,7 +523,7 @@ module _ (reaches : Progress → Type 0) (from to : Input) (before mid : Writers
           ends = (done.all, (refl, refl), whole);
           whole = known-whole from.left to.left ran.octets done.ended (λ s. W (pieces.whole s)) done.read done.at_end whole;
           order = λ fails. absurd (fails (flushes.1 ∙ ran.flushes.1));
-          flushed = rw well at hands.handed;
+          flushed = rw well at hands.flushed;
           failures = ran.failures;
           reads = reads-at-most from.reads to.reads n (Ok tally) counts (λ long. cc);
           flushes = flushes-by from.reads to.reads n before after counts (flushes-then n 1 before mid after rare hands.once);

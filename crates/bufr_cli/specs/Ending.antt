@@ -21,7 +21,7 @@ use Rattle.bufr_cli.specs.FaultLine.{report_line}
 abbrev pub FlushesRest : {X : Type 0} → (before after : Writer) → Result X RunFault → Type 0
 -- a run that completed has flushed it
 FlushesRest before after (Ok x) = after ≡ before
--- so has a run that failed to read (see `HandsOn`)
+-- so has a run that failed to read (see `HasFlushed`)
 FlushesRest before after (Err Read) = after ≡ before
 -- after a failed write, the output is not used again
 FlushesRest before after (Err Write) = after ≡ before

@@ -179,20 +179,20 @@ read_pieces pieces ended bs = if ended then pieces.whole bs else pieces.certain 
 
 -- Between these states, either nothing was written to the writer, or everything that it took is
 -- flushed.
-abbrev pub IsHandedOn : (before after : Writer) → Type 0
-IsHandedOn before after = (after ≡ before) ⊎ (after.all_flushed ≡ true)
+abbrev pub IsFlushed : (before after : Writer) → Type 0
+IsFlushed before after = (after ≡ before) ⊎ (after.all_flushed ≡ true)
 
 -- What is flushed after a run.
 -- rule: output-held-back
-abbrev pub HandsOn : {X : Type 0} → (before after : Writers) → Result X RunFault → Type 0
+abbrev pub HasFlushed : {X : Type 0} → (before after : Writers) → Result X RunFault → Type 0
 -- a run that completes has flushed everything
-HandsOn before after (Ok x) =
+HasFlushed before after (Ok x) =
     (after.output.all_flushed ≡ true) × (after.errors.all_flushed ≡ true)
 -- before a read that fails, everything that the run wrote was flushed
-HandsOn before after (Err Read) =
-    IsHandedOn before.output after.output × IsHandedOn before.errors after.errors
+HasFlushed before after (Err Read) =
+    IsFlushed before.output after.output × IsFlushed before.errors after.errors
 -- after other faults, `FlushesRest` applies to the output
-HandsOn before after (Err fault) = Unit {0}
+HasFlushed before after (Err fault) = Unit {0}
 
 abbrev pub FlushesAtMost : (n : ℕ) → (before after : Writers) → Type 0
 FlushesAtMost n before after =
@@ -205,13 +205,12 @@ NoFlushFails before after =
     (after.output.flushes.failed ≡ before.output.flushes.failed)
     × (after.errors.flushes.failed ≡ before.errors.flushes.failed)
 
--- Both writers keep what they took, and all of it was handed on, the output first; or a flush
--- failed.
-pub record HandsOnBoth {X : Type 0} (before after : Writers) (result : Result X RunFault) : Type 0
+-- Both writers keep what they took, and all of it was flushed, the output first; or a flush failed.
+pub record FlushesBoth {X : Type 0} (before after : Writers) (result : Result X RunFault) : Type 0
   where
     pub output : Keeps before.output.taken after.output.taken
     pub errors : Keeps before.errors.taken after.errors.taken
-    pub handed : OnOk result
+    pub flushed : OnOk result
         ((after.output.all_flushed ≡ true) × (after.errors.all_flushed ≡ true))
     pub none : OnOk result (NoFlushFails before after)
     pub order : after.errors.flushes.failed ≢ before.errors.flushes.failed
@@ -220,13 +219,13 @@ pub record HandsOnBoth {X : Type 0} (before after : Writers) (result : Result X 
     pub fault : IfErr result (λ fault. fault ≡ Write)
     pub counts : BlamesWriter before after result
 
--- a writer was flushed if something was written, else it stays
+-- a writer was flushed if something was written to it, and is unchanged otherwise
 abbrev pub IsFlushedIf : (written : Bool) → (before after : Writer) → Type 0
 IsFlushedIf true before after = after.all_flushed ≡ true
 IsFlushedIf false before after = after ≡ before
 
 -- A writer was flushed if something was written to it: it keeps what it took, and all of it is
--- handed on, or the flush failed. Else it stays.
+-- flushed, or the flush failed. Otherwise, it is unchanged.
 pub record FlushesIf (written : Bool) (before after : Writer)
     (result : Result (Unit {0}) RunFault) : Type 0 where
   pub keeps : Keeps before.taken after.taken
@@ -236,13 +235,13 @@ pub record FlushesIf (written : Bool) (before after : Writer)
   pub fault : IfErr result (λ fault. fault ≡ Write)
   pub counts : CountsCalls before after result
 
--- Before a read each writer was flushed if something was written to it, the output first, or a
--- flush failed. Where the read does not wait, both may stay.
-pub record HandsOnWritten (waits : Bool) (unflushed unflushed' : Unflushed)
+-- Before a read, each writer was flushed if something was written to it, the output first, or a
+-- flush failed. If the read cannot block, both may be unchanged.
+pub record FlushesWritten (waits : Bool) (unflushed unflushed' : Unflushed)
     (before after : Writers) (result : Result (Unit {0}) RunFault) : Type 0 where
   pub output : Keeps before.output.taken after.output.taken
   pub errors : Keeps before.errors.taken after.errors.taken
-  pub handed : OnOk result ((IsFlushedIf unflushed.output before.output after.output
+  pub flushed : OnOk result ((IsFlushedIf unflushed.output before.output after.output
       × IsFlushedIf unflushed.errors before.errors after.errors)
       ⊎ ((waits ≡ false) × (unflushed' ≡ unflushed) × (after ≡ before)))
   pub none : OnOk result (NoFlushFails before after)
@@ -336,8 +335,8 @@ pub record LeavesDevices (pieces : RunPieces) (from to : Input) (before after : 
   pub whole : IfOk result (λ tally. IfSome from.left (WritesWhole pieces before after tally))
   -- the errors are flushed after the output: if that fails, the output was already flushed
   pub order : after.errors.flushes.failed ≢ before.errors.flushes.failed
-      → IsHandedOn before.output after.output
-  pub flushed : HandsOn before after result
+      → IsFlushed before.output after.output
+  pub flushed : HasFlushed before after result
   -- the input counts a `Read` fault
   pub failures : to.failures ≡ read_failures_after from.failures result
   pub reads : ReadsAtMost from.reads to.reads result
