@@ -147,7 +147,7 @@ flushes-by : (reads reads' n : ℕ) (before after : Writers) → AddsReads reads
 flushes-by reads reads' n before after counts is = let e : n - 0 ≡ n = omega arith in (n, counts.made ∙ ap (counted reads) e, is)
 
 -- `NoFlushFails` and `FlushFails` exclude each other
-none-fails : (before after : Writers) → NoFlushFails before after → FlushFails before after → ⊥
+none-fails : (before after : Writers) → NoFlushFails before after → FlushFails before.output after.output ⊎ FlushFails before.errors after.errors → ⊥
 none-fails before after none (inl output) = output none.0
 none-fails before after none (inr errors) = errors none.1
 
