@@ -145,16 +145,16 @@ held-back : (pieces : RunPieces) (before after : Writers) (tally : Tally) → af
 held-back pieces before after tally held comes = false≢true (sym held ∙ run-is-handed-on pieces before after quiet_inputs None tally comes)
 
 -- so is a call of the program that ends with status 0: its output is handed on
-tables-are-read : {File : Type 0} (counts : File → Input) (named : List ℕ → Option (List ℕ)) (tables : TableNames) (opens : List InputName → Type 0) (tally : Tally)
-    → AreUnread counts named tables opens (Ran tally) → ⊥
-tables-are-read counts named tables opens tally (NoTableB opened (inl (inl (inl closed)))) = let is = closed.0 in absurd cc
-tables-are-read counts named tables opens tally (NoTableB opened (inl (inl (inr is)))) = absurd cc
-tables-are-read counts named tables opens tally (NoTableB opened (inl (inr (fault, is, over)))) = absurd cc
-tables-are-read counts named tables opens tally (NoTableB opened (inr (fault, is, reads))) = absurd cc
-tables-are-read counts named tables opens tally (NoTableD opened b read (inl (inl (inl closed)))) = let is = closed.0 in absurd cc
-tables-are-read counts named tables opens tally (NoTableD opened b read (inl (inl (inr is)))) = absurd cc
-tables-are-read counts named tables opens tally (NoTableD opened b read (inl (inr (fault, is, over)))) = absurd cc
-tables-are-read counts named tables opens tally (NoTableD opened b read (inr (fault, is, reads))) = absurd cc
+tables-are-read : {File : Type 0} (state_of : File → Input) (named : List ℕ → Option (List ℕ)) (tables : TableNames) (opens : List InputName → Type 0) (tally : Tally)
+    → AreUnread state_of named tables opens (Ran tally) → ⊥
+tables-are-read state_of named tables opens tally (NoTableB opened (inl (inl (inl closed)))) = let is = closed.0 in absurd cc
+tables-are-read state_of named tables opens tally (NoTableB opened (inl (inl (inr is)))) = absurd cc
+tables-are-read state_of named tables opens tally (NoTableB opened (inl (inr (fault, is, over)))) = absurd cc
+tables-are-read state_of named tables opens tally (NoTableB opened (inr (fault, is, reads))) = absurd cc
+tables-are-read state_of named tables opens tally (NoTableD opened b read (inl (inl (inl closed)))) = let is = closed.0 in absurd cc
+tables-are-read state_of named tables opens tally (NoTableD opened b read (inl (inl (inr is)))) = absurd cc
+tables-are-read state_of named tables opens tally (NoTableD opened b read (inl (inr (fault, is, over)))) = absurd cc
+tables-are-read state_of named tables opens tally (NoTableD opened b read (inr (fault, is, reads))) = absurd cc
 
 module _ {Standard File : Type 0} (inputs : Known Standard File) (before after : Writers) where
   command-is-handed-on : (opens : List InputName → Type 0) (command : Subcommand) (file : Option (Bor (List ℕ))) (tally : Tally) → CommandOutcome inputs opens command file before after (Ran tally)

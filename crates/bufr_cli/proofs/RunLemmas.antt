@@ -11,7 +11,7 @@ use Rattle.bufr_frame.proofs.FinderLemmas.{adds-then}
 use Rattle.bufr_frame.specs.declared.fault.RunFault.{RunFault}
 use Rattle.bufr_frame.specs.declared.fault.RunFault.TheVariants.{Read, Write, InputTooLong, Memory}
 use Rattle.bufr_text.specs.Prelude.{GrowsByPrefix, Stays, Fails, Writes}
-use Rattle.bufr_cli.specs.Prelude.{BlamesWriter, CountsCalls, CountsRead, EndsRun, FlushesRest, TakesStep, HandsOn, HandsOnBoth, HandsOnWritten, IsFlushedIf, IsHandedOn, LeavesOther, unflushed_after, Writer, Input, IsClosed, IsCut, IsDone, InputName, IsNotOpened, IsOpen, Opens, IsSame, InPart, Known, LeavesDevices, FlushesAtMost, FlushesByRead, NoFlushFails, OnErrors, OnOutput, Piece, Progress, ReadsAndWrites, ReadsAtMost, ReadsFewer, ReadsOctets, RunOutcome, RunPieces, RunReads, RunsOver, RunsOverInput, StopsPiece, Tallies, Tally, Verdict, WantsMemory, Writers, WritesHelp, WritesLine, WritesPieces, WritesPrefixes, WrittenInPart, counted_accepted, counted_refused, errors_of, is_accepted, is_refused, output_of, run_line, tally_after}
+use Rattle.bufr_cli.specs.Prelude.{BlamesWriter, CountsCalls, CountsRead, EndsRun, FlushesRest, TakesStep, HasFlushed, FlushesBoth, FlushesWritten, IsFlushedIf, IsFlushed, LeavesOther, unflushed_after, Writer, Input, IsClosed, IsCut, IsDone, InputName, IsNotOpened, IsOpen, Opens, HasNotFailed, InPart, Known, LeavesDevices, FlushesAtMost, FlushesByRead, FlushFails, NoFlushFails, OnErrors, OnOutput, Piece, Progress, ReadsAndWrites, ReadsAtMost, ReadsFewer, ReadsOctets, RunOutcome, RunPieces, RunReads, RunsOver, RunsOverInput, StopsPiece, Tallies, Tally, Verdict, WantsMemory, Writers, WritesHelp, WritesLine, WritesPieces, WritesPrefixes, WrittenInPart, counted_accepted, counted_refused, errors_of, is_accepted, is_refused, output_of, run_line, tally_after}
 use Rattle.bufr_cli.specs.declared.outcome.Outcome.{Outcome}
 use Rattle.bufr_cli.specs.declared.run_pieces.RunStep.{RunStep}
 use Rattle.bufr_cli.specs.declared.run_pieces.Unflushed.{Unflushed}
@@ -94,14 +94,14 @@ fails-then f f1 f2 n n1 n2 before (inl more) = inl (more.0 ∙ ap (λ k. counted
 fails-then f f1 f2 n n1 n2 before (inr more) = inr (more.0 ∙ before.0, more.1 ∙ ap (λ k. counted k 1) before.1)
 
 -- writers that counted nothing are at fault as after that
-blames-then : (X Y : Type 0) (before mid after : Writers) (f : RunFault) → IsSame before.output mid.output × IsSame before.errors mid.errors → BlamesWriter {X = X} mid after (Err f)
+blames-then : (X Y : Type 0) (before mid after : Writers) (f : RunFault) → HasNotFailed before.output mid.output × HasNotFailed before.errors mid.errors → BlamesWriter {X = X} mid after (Err f)
     → BlamesWriter {X = Y} before after (Err f)
 blames-then X Y before mid after f (out, err) blames = by f blames
   where
-    o : IsSame mid.output after.output → IsSame before.output after.output
+    o : HasNotFailed mid.output after.output → HasNotFailed before.output after.output
     o more = same-then _ _ _ _ _ _ out more
 
-    e : IsSame mid.errors after.errors → IsSame before.errors after.errors
+    e : HasNotFailed mid.errors after.errors → HasNotFailed before.errors after.errors
     e more = same-then _ _ _ _ _ _ err more
 
     by : (g : RunFault) → BlamesWriter {X = X} mid after (Err g) → BlamesWriter {X = Y} before after (Err g)
@@ -146,16 +146,21 @@ flushes-kept n before mid after output errors is = (rw output is.0, rw errors is
 flushes-by : (reads reads' n : ℕ) (before after : Writers) → AddsReads reads reads' 0 n → FlushesAtMost (n + 1) before after → FlushesByRead reads reads' before after
 flushes-by reads reads' n before after counts is = let e : n - 0 ≡ n = omega arith in (n, counts.made ∙ ap (counted reads) e, is)
 
+-- `NoFlushFails` and `FlushFails` exclude each other
+none-fails : (before after : Writers) → NoFlushFails before after → FlushFails before.output after.output ⊎ FlushFails before.errors after.errors → ⊥
+none-fails before after none (inl output) = output none.0
+none-fails before after none (inr errors) = errors none.1
+
 -- ---- What a run has done so far.
 
 -- where a run is that has read these octets and written these pieces
 abbrev pub progress : (from to : Input) (octets : List ℕ) (pieces : List Piece) → Progress
 progress from to octets pieces = record { from = from.left; left = to.left; octets = octets; pieces = pieces }
 
--- a writer to which nothing unflushed was written is handed on
+-- a writer to which nothing unflushed was written is flushed
 abbrev pub IsAllFlushed : Unflushed → (before after : Writers) → Type 0
 IsAllFlushed unflushed before after =
-    (unflushed.output ≡ false → IsHandedOn before.output after.output) × (unflushed.errors ≡ false → IsHandedOn before.errors after.errors)
+    (unflushed.output ≡ false → IsFlushed before.output after.output) × (unflushed.errors ≡ false → IsFlushed before.errors after.errors)
 
 pub record RunSoFar (reaches : Progress → Type 0) (from to : Input) (before after : Writers) (tally : Tally) (unflushed : Unflushed) : Type 0 where
   pub octets : List ℕ
@@ -167,7 +172,7 @@ pub record RunSoFar (reaches : Progress → Type 0) (from to : Input) (before af
   pub failures : to.failures ≡ from.failures
   pub flushes : NoFlushFails before after
   pub handed : IsAllFlushed unflushed before after
-  pub same : IsSame before.output after.output × IsSame before.errors after.errors
+  pub same : HasNotFailed before.output after.output × HasNotFailed before.errors after.errors
 
 -- nothing was done yet
 pub so-far-none : (reaches : Progress → Type 0) (from : Input) (before : Writers) (tally : Tally) (unflushed : Unflushed) → reaches (progress from from [] []) → tally.accepted ≡ 0
@@ -190,25 +195,25 @@ piece-handed : (unflushed : Unflushed) (verdict : Verdict) (before mid after : W
     → IsAllFlushed (unflushed_after unflushed verdict) before after
 piece-handed unflushed verdict.Accepted before mid after other handed = (
   (λ none. absurd (false≢true (sym none))),
-  (λ none. let H : Writer → Type 0 = λ w. IsHandedOn before.errors w in subst H (sym other) (handed.1 none)),
+  (λ none. let H : Writer → Type 0 = λ w. IsFlushed before.errors w in subst H (sym other) (handed.1 none)),
 )
 piece-handed unflushed verdict.Refused before mid after other handed = (
-  (λ none. let H : Writer → Type 0 = λ w. IsHandedOn before.output w in subst H (sym other) (handed.0 none)),
+  (λ none. let H : Writer → Type 0 = λ w. IsFlushed before.output w in subst H (sym other) (handed.0 none)),
   (λ none. absurd (false≢true (sym none))),
 )
 
--- a writer that was flushed if something was written to it is handed on
-flushed-handed : (written : Bool) (before mid after : Writer) → (written ≡ false → IsHandedOn before mid) → IsFlushedIf written mid after → IsHandedOn before after
+-- `IsFlushedIf` implies `IsFlushed`
+flushed-handed : (written : Bool) (before mid after : Writer) → (written ≡ false → IsFlushed before mid) → IsFlushedIf written mid after → IsFlushed before after
 flushed-handed true before mid after handed flushed = inr flushed
-flushed-handed false before mid after handed flushed = let H : Writer → Type 0 = λ w. IsHandedOn before w in subst H (sym flushed) (handed refl)
+flushed-handed false before mid after handed flushed = let H : Writer → Type 0 = λ w. IsFlushed before w in subst H (sym flushed) (handed refl)
 
--- before a read what was written is handed on, or nothing changes
-read-handed : (waits : Bool) (unflushed unflushed' : Unflushed) (before mid after : Writers) (r : Result (Unit {0}) RunFault) → HandsOnWritten waits unflushed unflushed' mid after r → r ≡ Ok tt
+-- before a read, what was written is flushed, or nothing changes
+read-handed : (waits : Bool) (unflushed unflushed' : Unflushed) (before mid after : Writers) (r : Result (Unit {0}) RunFault) → FlushesWritten waits unflushed unflushed' mid after r → r ≡ Ok tt
     → IsAllFlushed unflushed before mid → IsAllFlushed unflushed' before after
 read-handed waits unflushed unflushed' before mid after r hands well handed =
     let U : Unflushed → Type 0 = λ u. IsAllFlushed u before mid in
     let W : Writers → Type 0 = λ w. IsAllFlushed unflushed' before w in
-    elim (rw well at hands.handed) [
+    elim (rw well at hands.flushed) [
       | inl flushed ↦ (
         (λ none. flushed-handed unflushed.output before.output mid.output after.output handed.0 flushed.0),
         (λ none. flushed-handed unflushed.errors before.errors mid.errors after.errors handed.1 flushed.1),
@@ -274,9 +279,9 @@ module _ (reaches : Progress → Type 0) (from to : Input) (before mid : Writers
       let one = rw is at gives (progress from to ran.octets ran.pieces) ran.reached in
       rw one.0 (ran, one.1)
 
-  -- what was written was handed on, and octets were read
+  -- what was written was flushed, and octets were read
   pub octets-read : (on : Progress → Type 0) (waits : Bool) (unflushed' : Unflushed) (to' : Input) (after : Writers) (handed : Result (Unit {0}) RunFault) (r : Result (Unit {0}) RunFault)
-      → HandsOnWritten waits unflushed unflushed' mid after handed → handed ≡ Ok tt
+      → FlushesWritten waits unflushed unflushed' mid after handed → handed ≡ Ok tt
       → ((so : Progress) → so.left ≡ to.left → reaches so → ReadsOctets on so to'.left r) → r ≡ Ok tt → to'.failures ≡ to.failures
       → RunSoFar on from to' before after tally unflushed'
   octets-read on waits unflushed' to' after handed r hands well reads is failures =
@@ -343,7 +348,7 @@ module _ (reaches : Progress → Type 0) (from to : Input) (before mid : Writers
       by InputTooLong stops' blames' = absurd stops'
       by Write stops' blames' = record {
         ran = all;
-        ends = λ fails. absurd (fails none);
+        ends = λ fails. absurd (none-fails before after none fails);
         whole = tt;
         order = λ fails. absurd (fails none.1);
         flushed = tt;
@@ -366,7 +371,7 @@ module _ (reaches : Progress → Type 0) (from to : Input) (before mid : Writers
 
   -- a flush failed before a read
   pub leaves-held : (waits : Bool) (unflushed' : Unflushed) (after : Writers) (handed : Result (Unit {0}) RunFault) (f : RunFault) (result : Result Tally RunFault)
-      → IsOpen pieces so → HandsOnWritten waits unflushed unflushed' mid after handed → handed ≡ Err f → result ≡ Err f
+      → IsOpen pieces so → FlushesWritten waits unflushed unflushed' mid after handed → handed ≡ Err f → result ≡ Err f
       → LeavesDevices pieces from to before after result
   leaves-held waits unflushed' after handed f result open' hands is same =
       let write : f ≡ Write = rw is at hands.fault in
@@ -392,14 +397,14 @@ module _ (reaches : Progress → Type 0) (from to : Input) (before mid : Writers
   pub leaves-unread : (on : Progress → Type 0) (waits : Bool) (unflushed' : Unflushed) (to' : Input) (after : Writers) (handed : Result (Unit {0}) RunFault) (r : Result (Unit {0}) RunFault) (n' : ℕ)
       (f : RunFault)
       (result : Result Tally RunFault)
-      → IsOpen pieces so → HandsOnWritten waits unflushed unflushed' mid after handed → handed ≡ Ok tt
+      → IsOpen pieces so → FlushesWritten waits unflushed unflushed' mid after handed → handed ≡ Ok tt
       → ((so : Progress) → so.left ≡ to.left → reaches so → ReadsOctets on so to'.left r) → AddsReads to.reads to'.reads n n' → CountsRead n n' r
       → to'.failures ≡ read_failures_after to.failures r → (waits ≡ false → r ≢ Err Read) → r ≡ Err f → result ≡ Err f
       → LeavesDevices pieces from to' before after result
   leaves-unread on waits unflushed' to' after handed r n' f result open' hands well reads more made failures sure is same =
       rw same (by f is (rw is at made) (rw is at failures))
     where
-      stays : IsSame mid.output after.output × IsSame mid.errors after.errors
+      stays : HasNotFailed mid.output after.output × HasNotFailed mid.errors after.errors
       stays = rw well at hands.counts
 
       flushes : NoFlushFails mid after
@@ -408,7 +413,7 @@ module _ (reaches : Progress → Type 0) (from to : Input) (before mid : Writers
       none : NoFlushFails before after
       none = (flushes.0 ∙ ran.flushes.0, flushes.1 ∙ ran.flushes.1)
 
-      writers : IsSame before.output after.output × IsSame before.errors after.errors
+      writers : HasNotFailed before.output after.output × HasNotFailed before.errors after.errors
       writers = (same-then _ _ _ _ _ _ ran.same.0 stays.0, same-then _ _ _ _ _ _ ran.same.1 stays.1)
 
       all-counts : AddsReads from.reads to'.reads 0 n'
@@ -429,9 +434,9 @@ module _ (reaches : Progress → Type 0) (from to : Input) (before mid : Writers
         written = all-written before mid after _ ran.pieces open'.certain hands.output hands.errors ran.written;
       }
 
-      on-hand : r ≡ Err Read → HandsOn {X = Tally} before after (Err Read)
+      on-hand : r ≡ Err Read → HasFlushed {X = Tally} before after (Err Read)
       on-hand read =
-          elim (rw well at hands.handed) [
+          elim (rw well at hands.flushed) [
             | inl flushed ↦ (
               flushed-handed unflushed.output before.output mid.output after.output ran.handed.0 flushed.0,
               flushed-handed unflushed.errors before.errors mid.errors after.errors ran.handed.1 flushed.1,
@@ -479,7 +484,7 @@ module _ (reaches : Progress → Type 0) (from to : Input) (before mid : Writers
       }
 
   -- nothing comes any more
-  module _ (done : IsDone pieces so) (after : Writers) (handed : Result (Unit {0}) RunFault) (hands : HandsOnBoth mid after handed) where
+  module _ (done : IsDone pieces so) (after : Writers) (handed : Result (Unit {0}) RunFault) (hands : FlushesBoth mid after handed) where
     abbrev all : ReadsAndWrites pieces from to before after
     all = record {
       octets = ran.octets;
@@ -505,7 +510,7 @@ module _ (reaches : Progress → Type 0) (from to : Input) (before mid : Writers
           writers = blames-then (Unit {0}) Tally before mid after Write ran.same (rw (is ∙ ap Err write) at hands.counts);
         })
 
-    -- and all was handed on
+    -- and everything was flushed
     pub leaves-done : handed ≡ Ok tt → LeavesDevices pieces from to before after (Ok tally)
     leaves-done well =
         let stays = rw well at hands.counts in
@@ -518,7 +523,7 @@ module _ (reaches : Progress → Type 0) (from to : Input) (before mid : Writers
           ends = (done.all, (refl, refl), whole);
           whole = known-whole from.left to.left ran.octets done.ended (λ s. W (pieces.whole s)) done.read done.at_end whole;
           order = λ fails. absurd (fails (flushes.1 ∙ ran.flushes.1));
-          flushed = rw well at hands.handed;
+          flushed = rw well at hands.flushed;
           failures = ran.failures;
           reads = reads-at-most from.reads to.reads n (Ok tally) counts (λ long. cc);
           flushes = flushes-by from.reads to.reads n before after counts (flushes-then n 1 before mid after rare hands.once);

@@ -1,4 +1,4 @@
--- Only contracts need this file. What a buffered writer took and handed on, by what its sink did.
+-- Only contracts need this file. What a buffered writer took and flushed, by what its sink did.
 -- (own)
 use Rattle.std.specs.Prelude.{◌≡◌, ◌≤◌, Bool, ℕ, List, length, max, Option, Result, Ok, Err, nat_eq, vec_len, vec_capacity, ◌&&◌}
 use Rattle.std.specs.Io.KnownBytes.{append_known}
@@ -12,7 +12,7 @@ use Rattle.bufr_cli.specs.declared.buffered.Buffered.{Buffered}
 abbrev pub taken_by : {S : Type 0} → (S → Option (List ℕ)) → Buffered S → Option (List ℕ)
 taken_by taken b = append_known (taken b.sink) b.held.items
 
--- whether all of them were handed on: none is held, and the sink handed on all
+-- whether all of them were flushed: none is buffered, and the sink flushed all
 abbrev pub flushed_by : {S : Type 0} → (S → Bool) → Buffered S → Bool
 flushed_by flushed b = nat_eq (length b.held.items) 0 && flushed b.sink
 

@@ -7,7 +7,7 @@ use Rattle.bufr_frame.specs.Prelude.{run_report}
 use Rattle.bufr_frame.specs.declared.fault.RunFault.{RunFault}
 use Rattle.bufr_frame.specs.declared.fault.RunFault.TheVariants.{Read, Write, Memory}
 use Rattle.bufr_text.specs.Prelude.{GrowsByPrefix}
-use Rattle.bufr_cli.specs.Running.{IsSame, Input, LeavesDevices, Writer, Writers, RunPieces}
+use Rattle.bufr_cli.specs.Running.{HasNotFailed, Input, LeavesDevices, Writer, Writers, RunPieces}
 use Rattle.bufr_cli.specs.declared.outcome.Tally.{Tally}
 use Rattle.bufr_tables.specs.Prelude.{table_report}
 use Rattle.bufr_tables.specs.declared.fault.TableFault.{TableFault}
@@ -21,7 +21,7 @@ use Rattle.bufr_cli.specs.FaultLine.{report_line}
 abbrev pub FlushesRest : {X : Type 0} → (before after : Writer) → Result X RunFault → Type 0
 -- a run that completed has flushed it
 FlushesRest before after (Ok x) = after ≡ before
--- so has a run that failed to read (see `HandsOn`)
+-- so has a run that failed to read (see `HasFlushed`)
 FlushesRest before after (Err Read) = after ≡ before
 -- after a failed write, the output is not used again
 FlushesRest before after (Err Write) = after ≡ before
@@ -42,7 +42,7 @@ FlushesRest before after (Err fault) =
 abbrev pub WritesLine : (before after : Writer) → (line : List ℕ) → Type 0
 WritesLine before after line =
     GrowsByPrefix before.taken after.taken line
-    × (before.failures < 2 ^ 64 - 1 → before.empty_writes < 2 ^ 64 - 1 → IsSame before after
+    × (before.failures < 2 ^ 64 - 1 → before.empty_writes < 2 ^ 64 - 1 → HasNotFailed before after
     → Appends before.taken after.taken line)
     × (after.flushes ≡ before.flushes)
 

@@ -14,7 +14,7 @@ pub mod Ending
 pub mod Line
 -- what comes of a job by its input, and of a call of the program: a job, help, a mistaken line
 pub mod Program
--- what a buffered writer took and handed on, by what its sink did
+-- what a buffered writer took and flushed, by what its sink did
 pub mod Buffering
 -- the names that others cite, from one place
 pub mod Prelude

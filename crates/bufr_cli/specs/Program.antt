@@ -7,7 +7,7 @@ use Rattle.bufr_frame.specs.declared.fault.RunFault.{RunFault}
 use Rattle.bufr_frame.specs.Prelude.{read_failures_after}
 use Rattle.bufr_tables.specs.Prelude.{ReadsTableD, Record, Sequence, records_of, ReturnsUnlessMemory, Row, table_b_of}
 use Rattle.bufr_tables.specs.declared.fault.TableFault.{TableFault}
-use Rattle.bufr_cli.specs.Running.{Input, Writers, RunPieces, event_pieces, document_pieces, HasFailed, IsSame, ReadsAtMost, ReadsFewer}
+use Rattle.bufr_cli.specs.Running.{Input, Writers, RunPieces, event_pieces, document_pieces, HasFailed, HasNotFailed, ReadsAtMost, ReadsFewer}
 use Rattle.bufr_cli.specs.Pieces.{dump_piece, ls_piece}
 use Rattle.bufr_cli.specs.Ending.{EndsRun, WritesLine, last_line, run_line, status_of}
 use Rattle.bufr_cli.specs.declared.outcome.Outcome.{Outcome}
@@ -72,12 +72,12 @@ abbrev pub ran_outcome : Result Tally RunFault → Outcome
 ran_outcome (Ok tally) = Ran tally
 ran_outcome (Err fault) = Run fault
 
--- A run reads an input of type R that contains these octets. `counts` gives the state of the input,
--- which changes from `from` to `to`, and `run` states how.
-abbrev pub RunsOver : {R : Type 0} → (counts : R → Input) → (octets : Option (List ℕ))
+-- A run reads an input of type R that contains these octets. `state_of` gives the state of the
+-- input, which changes from `from` to `to`, and `run` states how.
+abbrev pub RunsOver : {R : Type 0} → (state_of : R → Input) → (octets : Option (List ℕ))
     → (run : (from to : Input) → Type 0) → Type 0
-RunsOver {R} counts octets run =
-    (from to : R) × ((counts from).left ≡ octets) × run (counts from) (counts to)
+RunsOver {R} state_of octets run =
+    (from to : R) × ((state_of from).left ≡ octets) × run (state_of from) (state_of to)
 
 -- A run reads the file with this name, or standard input if there is no name.
 -- rule: dash-is-a-name
@@ -113,19 +113,19 @@ pub record FailsToRead (fault : RunFault) (from to : Input) : Type 0 where
 
 -- The file with these octets is not read to its end, for this fault.
 -- rule: table-not-read
-abbrev pub IsUnread : {File : Type 0} → (counts : File → Input) → (octets : Option (List ℕ))
+abbrev pub IsUnread : {File : Type 0} → (state_of : File → Input) → (octets : Option (List ℕ))
     → Outcome → Type 0
-IsUnread counts octets outcome =
-    (fault : RunFault) × (outcome ≡ Run fault) × RunsOver counts octets (FailsToRead fault)
+IsUnread state_of octets outcome =
+    (fault : RunFault) × (outcome ≡ Run fault) × RunsOver state_of octets (FailsToRead fault)
 
 -- A table is not available: its file is not opened, it is not read to its end, or the table has a
 -- fault. `reads` relates records to the result of reading the table from them, and
 -- `outcome_of` gives the outcome for a fault of the table.
-abbrev pub TableOutcome : {X File : Type 0} → (counts : File → Input)
+abbrev pub TableOutcome : {X File : Type 0} → (state_of : File → Input)
     → (reads : List Record → Result X TableFault → Type 0) → (outcome_of : TableFault → Outcome)
     → (named : List ℕ → Option (List ℕ)) → (name : Bor (List ℕ)) → Outcome → Type 0
-TableOutcome counts reads outcome_of named name outcome =
-    (IsClosed named name outcome ⊎ IsUnread counts (named name.now) outcome)
+TableOutcome state_of reads outcome_of named name outcome =
+    (IsClosed named name outcome ⊎ IsUnread state_of (named name.now) outcome)
     ⊎ ((fault : TableFault) × (outcome ≡ outcome_of fault)
     × IfSome (named name.now) (λ text. reads (records_of text) (Err fault)))
 
@@ -141,15 +141,15 @@ table_names tables = file_name tables.table_b.now ∷ file_name tables.table_d.n
 
 -- One of the tables is not available. If it is Table B, nothing else is opened; if it is Table D,
 -- Table B was read before. `opens` says which inputs were opened.
-pub data AreUnread {File : Type 0} (counts : File → Input) (named : List ℕ → Option (List ℕ))
+pub data AreUnread {File : Type 0} (state_of : File → Input) (named : List ℕ → Option (List ℕ))
     (tables : TableNames) (opens : List InputName → Type 0) (outcome : Outcome) : Type 0 where
   NoTableB : opens (file_name tables.table_b.now ∷ [])
-      → TableOutcome counts (λ records. ReturnsUnlessMemory (table_b_of records)) TableB named
-      tables.table_b outcome → AreUnread counts named tables opens outcome
+      → TableOutcome state_of (λ records. ReturnsUnlessMemory (table_b_of records)) TableB named
+      tables.table_b outcome → AreUnread state_of named tables opens outcome
   NoTableD : opens (table_names tables) → (b : List Row) → IfSome (named tables.table_b.now)
       (λ text. table_b_of (records_of text) ≡ Ok b)
-      → TableOutcome counts ReadsTableD TableD named tables.table_d outcome
-      → AreUnread counts named tables opens outcome
+      → TableOutcome state_of ReadsTableD TableD named tables.table_d outcome
+      → AreUnread state_of named tables opens outcome
 
 -- what is opened for an input: the file with this name, or standard input if there is no name
 abbrev pub input_name : Option (Bor (List ℕ)) → InputName
@@ -186,7 +186,7 @@ CommandOutcome inputs opens (Encode tables form) file before after outcome =
 -- status 2.
 pub data WritesHelp (text : List ℕ) (before after : Writers) (status : ℕ) : Type 0 where
   InWhole : Appends before.output.taken after.output.taken text
-      → after.output.all_flushed ≡ true → IsSame before.output after.output
+      → after.output.all_flushed ≡ true → HasNotFailed before.output after.output
       → after.errors ≡ before.errors → status ≡ 0 → WritesHelp text before after status
   InPart : GrowsByPrefix before.output.taken after.output.taken text
       → HasFailed before.output after.output

@@ -90,8 +90,8 @@ OnlyWrites before after result =
     CountsCalls before after result × (after.flushes ≡ before.flushes)
 
 -- Between these states, no call of the writer failed, and no write took nothing.
-abbrev pub IsSame : (before after : Writer) → Type 0
-IsSame before after =
+abbrev pub HasNotFailed : (before after : Writer) → Type 0
+HasNotFailed before after =
     (after.failures ≡ before.failures) × (after.empty_writes ≡ before.empty_writes)
 
 -- Between these states, either one call of the writer failed or one write took nothing.
@@ -106,10 +106,10 @@ HasFailed before after =
 -- rule: fault-71
 abbrev pub BlamesWriter : {X : Type 0} → (before after : Writers) → Result X RunFault → Type 0
 BlamesWriter before after (Err Write) =
-    (HasFailed before.output after.output × IsSame before.errors after.errors)
-    ⊎ (IsSame before.output after.output × HasFailed before.errors after.errors)
+    (HasFailed before.output after.output × HasNotFailed before.errors after.errors)
+    ⊎ (HasNotFailed before.output after.output × HasFailed before.errors after.errors)
 BlamesWriter before after result =
-    IsSame before.output after.output × IsSame before.errors after.errors
+    HasNotFailed before.output after.output × HasNotFailed before.errors after.errors
 
 -- All of the pieces were written, each to its writer, in order.
 -- rule: output-in-order
@@ -179,49 +179,56 @@ read_pieces pieces ended bs = if ended then pieces.whole bs else pieces.certain 
 
 -- Between these states, either nothing was written to the writer, or everything that it took is
 -- flushed.
-abbrev pub IsHandedOn : (before after : Writer) → Type 0
-IsHandedOn before after = (after ≡ before) ⊎ (after.all_flushed ≡ true)
+abbrev pub IsFlushed : (before after : Writer) → Type 0
+IsFlushed before after = (after ≡ before) ⊎ (after.all_flushed ≡ true)
 
 -- What is flushed after a run.
 -- rule: output-held-back
-abbrev pub HandsOn : {X : Type 0} → (before after : Writers) → Result X RunFault → Type 0
+abbrev pub HasFlushed : {X : Type 0} → (before after : Writers) → Result X RunFault → Type 0
 -- a run that completes has flushed everything
-HandsOn before after (Ok x) =
+HasFlushed before after (Ok x) =
     (after.output.all_flushed ≡ true) × (after.errors.all_flushed ≡ true)
 -- before a read that fails, everything that the run wrote was flushed
-HandsOn before after (Err Read) =
-    IsHandedOn before.output after.output × IsHandedOn before.errors after.errors
+HasFlushed before after (Err Read) =
+    IsFlushed before.output after.output × IsFlushed before.errors after.errors
 -- after other faults, `FlushesRest` applies to the output
-HandsOn before after (Err fault) = Unit {0}
+HasFlushed before after (Err fault) = Unit {0}
+
+-- Between these states, a flush of the writer failed.
+abbrev pub FlushFails : (before after : Writer) → Type 0
+FlushFails before after = after.flushes.failed ≢ before.flushes.failed
 
 abbrev pub FlushesAtMost : (n : ℕ) → (before after : Writers) → Type 0
 FlushesAtMost n before after =
     (after.output.flushes.made ≤ counted before.output.flushes.made n)
     × (after.errors.flushes.made ≤ counted before.errors.flushes.made n)
 
--- Both writers keep what they took, and all of it was handed on, the output first; or a flush
--- failed.
-pub record HandsOnBoth {X : Type 0} (before after : Writers) (result : Result X RunFault) : Type 0
+-- No flush of a writer failed.
+abbrev pub NoFlushFails : (before after : Writers) → Type 0
+NoFlushFails before after =
+    (after.output.flushes.failed ≡ before.output.flushes.failed)
+    × (after.errors.flushes.failed ≡ before.errors.flushes.failed)
+
+-- Both writers keep what they took, and all of it was flushed, the output first; or a flush failed.
+pub record FlushesBoth {X : Type 0} (before after : Writers) (result : Result X RunFault) : Type 0
   where
     pub output : Keeps before.output.taken after.output.taken
     pub errors : Keeps before.errors.taken after.errors.taken
-    pub handed : OnOk result
+    pub flushed : OnOk result
         ((after.output.all_flushed ≡ true) × (after.errors.all_flushed ≡ true))
-    pub none : OnOk result ((after.output.flushes.failed ≡ before.output.flushes.failed)
-        × (after.errors.flushes.failed ≡ before.errors.flushes.failed))
-    pub order : after.errors.flushes.failed ≢ before.errors.flushes.failed
-        → after.output.all_flushed ≡ true
+    pub none : OnOk result (NoFlushFails before after)
+    pub order : FlushFails before.errors after.errors → after.output.all_flushed ≡ true
     pub once : FlushesAtMost 1 before after
     pub fault : IfErr result (λ fault. fault ≡ Write)
     pub counts : BlamesWriter before after result
 
--- a writer was flushed if something was written, else it stays
+-- a writer was flushed if something was written to it, and is unchanged otherwise
 abbrev pub IsFlushedIf : (written : Bool) → (before after : Writer) → Type 0
 IsFlushedIf true before after = after.all_flushed ≡ true
 IsFlushedIf false before after = after ≡ before
 
 -- A writer was flushed if something was written to it: it keeps what it took, and all of it is
--- handed on, or the flush failed. Else it stays.
+-- flushed, or the flush failed. Otherwise, it is unchanged.
 pub record FlushesIf (written : Bool) (before after : Writer)
     (result : Result (Unit {0}) RunFault) : Type 0 where
   pub keeps : Keeps before.taken after.taken
@@ -231,18 +238,17 @@ pub record FlushesIf (written : Bool) (before after : Writer)
   pub fault : IfErr result (λ fault. fault ≡ Write)
   pub counts : CountsCalls before after result
 
--- Before a read each writer was flushed if something was written to it, the output first, or a
--- flush failed. Where the read does not wait, both may stay.
-pub record HandsOnWritten (waits : Bool) (unflushed unflushed' : Unflushed)
+-- Before a read, each writer was flushed if something was written to it, the output first, or a
+-- flush failed. If the read cannot block, both may be unchanged.
+pub record FlushesWritten (waits : Bool) (unflushed unflushed' : Unflushed)
     (before after : Writers) (result : Result (Unit {0}) RunFault) : Type 0 where
   pub output : Keeps before.output.taken after.output.taken
   pub errors : Keeps before.errors.taken after.errors.taken
-  pub handed : OnOk result ((IsFlushedIf unflushed.output before.output after.output
+  pub flushed : OnOk result ((IsFlushedIf unflushed.output before.output after.output
       × IsFlushedIf unflushed.errors before.errors after.errors)
       ⊎ ((waits ≡ false) × (unflushed' ≡ unflushed) × (after ≡ before)))
-  pub none : OnOk result ((after.output.flushes.failed ≡ before.output.flushes.failed)
-      × (after.errors.flushes.failed ≡ before.errors.flushes.failed))
-  pub order : after.errors.flushes.failed ≢ before.errors.flushes.failed
+  pub none : OnOk result (NoFlushFails before after)
+  pub order : FlushFails before.errors after.errors
       → IsFlushedIf unflushed.output before.output after.output
   pub once : FlushesAtMost 1 before after
   pub fault : IfErr result (λ fault. fault ≡ Write)
@@ -288,12 +294,6 @@ pub record ReadsAndWrites (pieces : RunPieces) (from to : Input) (before after :
 abbrev pub IsUnrefused : RunPieces → List Piece → Type 0
 IsUnrefused pieces given = pieces.stops ≡ true → count_by is_refused given ≡ 0
 
--- No flush of a writer failed.
-abbrev pub NoFlushFails : (before after : Writers) → Type 0
-NoFlushFails before after =
-    (after.output.flushes.failed ≡ before.output.flushes.failed)
-    × (after.errors.flushes.failed ≡ before.errors.flushes.failed)
-
 -- What is known of a run (`so`) that ended with this result.
 -- rule: input-not-read, fault-line-not-written, reader-gone, fault-70
 abbrev pub RunEnds : {pieces : RunPieces} → {from to : Input} → {before after : Writers}
@@ -307,7 +307,8 @@ RunEnds {pieces} {from} {to} {before} {after} so (Ok tally) =
     → WritesWhole pieces before after tally (so.octets ++ t))
 -- A write or a flush failed. If it was a flush, all pieces had been written.
 RunEnds {pieces} {from} {to} {before} {after} so (Err Write) =
-    ¬ NoFlushFails before after → IsAllWritten so.written
+    FlushFails before.output after.output ⊎ FlushFails before.errors after.errors
+    → IsAllWritten so.written
 -- Memory ran out before any refused piece that stops the run. In a run that refused pieces do not
 -- stop, it was needed to write a piece (`next`), or fewer than 2^32 reads had been made: after that
 -- many, the fault is `InputTooLong`.
@@ -331,9 +332,8 @@ pub record LeavesDevices (pieces : RunPieces) (from to : Input) (before after : 
   -- counted
   pub whole : IfOk result (λ tally. IfSome from.left (WritesWhole pieces before after tally))
   -- the errors are flushed after the output: if that fails, the output was already flushed
-  pub order : after.errors.flushes.failed ≢ before.errors.flushes.failed
-      → IsHandedOn before.output after.output
-  pub flushed : HandsOn before after result
+  pub order : FlushFails before.errors after.errors → IsFlushed before.output after.output
+  pub flushed : HasFlushed before after result
   -- the input counts a `Read` fault
   pub failures : to.failures ≡ read_failures_after from.failures result
   pub reads : ReadsAtMost from.reads to.reads result

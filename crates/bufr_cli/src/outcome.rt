@@ -2,7 +2,7 @@
 ghost use Rattle.std.specs.Prelude.{◌≡◌, ◌<◌, ◌-◌, ◌^◌, ◌∷◌, [], codes, decimal, ◌+◌};
 ghost use Rattle.std.specs.Io.KnownBytes.{Appends};
 ghost use Rattle.bufr_text.specs.Prelude.{Pushes, GrowsByPrefix};
-ghost use Rattle.bufr_cli.specs.Prelude.{last_line, run_line, status_of, table_line, IsSame, writer_of, tally_after};
+ghost use Rattle.bufr_cli.specs.Prelude.{last_line, run_line, status_of, table_line, HasNotFailed, writer_of, tally_after};
 ghost use Rattle.std.specs.List.{concat};
 
 use bufr_bits::Sink;
@@ -120,7 +120,7 @@ pub fn finish<E: Sink>(outcome: &Outcome<'_>, e: &mut E) -> u8
     // nothing.
     ensures prefix { GrowsByPrefix (E.taken e.old) (E.taken e.new) (last_line outcome.now) }
     ensures whole { E.failures e.old < 2 ^ 64 - 1 → E.empty_writes e.old < 2 ^ 64 - 1
-        → IsSame (writer_of E.Sink e.old) (writer_of E.Sink e.new)
+        → HasNotFailed (writer_of E.Sink e.old) (writer_of E.Sink e.new)
         → Appends (E.taken e.old) (E.taken e.new) (last_line outcome.now) }
     ensures flushes { E.flushes e.new ≡ E.flushes e.old }
 {

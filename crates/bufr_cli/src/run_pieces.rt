@@ -3,7 +3,7 @@ ghost use Rattle.std.specs.Prelude.{◌≡◌, ◌≢◌, ◌≤◌, ℕ, Bool, 
 ghost use Rattle.std.specs.Io.KnownBytes.{Keeps};
 ghost use Rattle.bufr_bits.specs.Prelude.{counted};
 ghost use Rattle.bufr_frame.specs.Prelude.{AddsReads, read_failures_after};
-ghost use Rattle.bufr_cli.specs.Prelude.{BlamesWriter, CountsCalls, CountsRead, FlushesIf, HandsOnBoth, HandsOnWritten, LeavesDevices, Progress, ReadsOctets, RunPieces, RunReads, StopsPiece, TakesStep, input_of, no_progress, unflushed_after, writer_of, writers_of};
+ghost use Rattle.bufr_cli.specs.Prelude.{BlamesWriter, CountsCalls, CountsRead, FlushesIf, FlushesBoth, FlushesWritten, LeavesDevices, Progress, ReadsOctets, RunPieces, RunReads, StopsPiece, TakesStep, input_of, no_progress, unflushed_after, writer_of, writers_of};
 
 use crate::outcome::{Tally, Verdict};
 use bufr_bits::{Sink, Source};
@@ -92,7 +92,7 @@ pub(crate) fn flush<W: Sink>(w: &mut W) -> Result<(), RunFault>
 
 /// Hands on what was written: the output, then the errors.
 fn hand_on<W: Sink, E: Sink>(w: &mut W, e: &mut E) -> Result<(), RunFault>
-    ensures handed { HandsOnBoth (writers_of W.Sink w.old E.Sink e.old)
+    ensures handed { FlushesBoth (writers_of W.Sink w.old E.Sink e.old)
         (writers_of W.Sink w.new E.Sink e.new) result }
 {
     flush(w)?;
@@ -134,7 +134,7 @@ fn hand_on_before_read<R: Source, W: Sink, E: Sink>(
     w: &mut W,
     e: &mut E,
 ) -> Result<(), RunFault>
-    ensures { HandsOnWritten (R.waits r.now) unflushed.old unflushed.new
+    ensures { FlushesWritten (R.waits r.now) unflushed.old unflushed.new
         (writers_of W.Sink w.old E.Sink e.old) (writers_of W.Sink w.new E.Sink e.new) result }
 {
     if r.may_wait() {
