@@ -4,6 +4,7 @@ pub mod TableDLemmas
 pub mod CycleLemmas
 pub mod ExpansionLemmas
 pub mod SoundLemmas
+pub mod SameLemmas
 pub mod TemplateExamples
 mod TemplateFaultExamples
 mod RecordFaultExamples
