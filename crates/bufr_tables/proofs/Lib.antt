@@ -4,7 +4,6 @@ pub mod TableDLemmas
 pub mod CycleLemmas
 pub mod ExpansionLemmas
 pub mod SoundLemmas
-pub mod SameLemmas
 pub mod TemplateExamples
 mod TemplateFaultExamples
 mod RecordFaultExamples
