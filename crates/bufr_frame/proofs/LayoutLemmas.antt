@@ -141,7 +141,7 @@ compressed-test true false = refl
 compressed-test false true = refl
 compressed-test false false = refl
 
-length-section2_octets : (optional : Option (List ℕ)) → length (section2_octets optional) ≡ section2_size optional
+pub length-section2_octets : (optional : Option (List ℕ)) → length (section2_octets optional) ≡ section2_size optional
 length-section2_octets None = refl
 length-section2_octets (Some octets) = omega arith
 

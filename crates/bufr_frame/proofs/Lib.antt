@@ -1,6 +1,7 @@
 pub mod FinderLemmas
 pub mod AgainLemmas
 pub mod LayoutLemmas
+pub mod SameLemmas
 mod Examples
 mod SectionFaultExamples
 mod StrayExamples
