@@ -211,7 +211,8 @@ names-are r names e = (slice_eq-Decides bytes_eq-Decides r names true (sym e)).0
 
 -- the fields from one place on
 fields-at : (names : List (Bor (List ℕ))) (r : Record) (place : ℕ) (d : Bor (List ℕ)) → length r ≡ length names → place < length names
-    → pointwise bytes_eq (drop place r) (drop place (field_texts names)) ≡ (bytes_eq (field_of r place) (get_or names place d).now && pointwise bytes_eq (drop (suc place) r) (drop (suc place) (field_texts names)))
+    → pointwise bytes_eq (drop place r) (drop place (field_texts names))
+    ≡ (bytes_eq (field_of r place) (get_or names place d).now && pointwise bytes_eq (drop (suc place) r) (drop (suc place) (field_texts names)))
 unfolding field_at
 fields-at [] r place d same inside = absurd (omega arith)
 fields-at (name ∷ names) [] place d same inside = absurd (omega arith)
@@ -232,7 +233,8 @@ module _ (names : List (Bor (List ℕ))) (r : Record) (place : ℕ) (d : Bor (Li
   pub fields-more : differs ≡ false → pointwise bytes_eq r (field_texts names) ≡ pointwise bytes_eq (drop (place + 1) r) (drop (place + 1) (field_texts names))
   fields-more alike = rw add-one (by (bytes_eq field (get_or names place d).now) refl (sym reported ∙ alike))
     where
-      by : (b : Bool) → bytes_eq field (get_or names place d).now ≡ b → not b ≡ false → pointwise bytes_eq r (field_texts names) ≡ pointwise bytes_eq (drop (suc place) r) (drop (suc place) (field_texts names))
+      by : (b : Bool) → bytes_eq field (get_or names place d).now ≡ b → not b ≡ false
+          → pointwise bytes_eq r (field_texts names) ≡ pointwise bytes_eq (drop (suc place) r) (drop (suc place) (field_texts names))
       by true e is_not = so_far ∙ fields-at names r place d same inside ∙ rw (← is, e) refl
       by false e is_not = cc is_not
 
