@@ -1,7 +1,6 @@
 pub mod FinderLemmas
 pub mod AgainLemmas
 pub mod LayoutLemmas
-pub mod SameLemmas
 mod Examples
 mod SectionFaultExamples
 mod StrayExamples
