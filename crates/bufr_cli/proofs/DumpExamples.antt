@@ -2,7 +2,7 @@
 use Rattle.std.proofs.Common.{◌≡◌, List, [], ◌∷◌, refl, codes, pos, ℕ, ◌++◌, slice_set, take}
 use Rattle.std.specs.Fmt.{digits}
 use Rattle.bufr_bits.specs.Prelude.{bits_of, decimal_text_of, unsigned_text}
-use Rattle.bufr_frame.specs.Prelude.{head_size, FrameAt, StrayAt, sections_of, section_end}
+use Rattle.bufr_frame.specs.Prelude.{min_section_1, FrameAt, StrayAt, sections_of, section_end}
 use Rattle.bufr_frame.specs.declared.fault.Cause.TheVariants.{Cut}
 use Rattle.bufr_tables.specs.Prelude.{tree_of, inner_of, level, part_of, Row}
 use Rattle.bufr_tables.specs.declared.table_b.Kind.TheVariants.{Numeric}
@@ -22,17 +22,17 @@ unfolding digits
 stray-piece = refl
 
 edition-piece : dump_piece blocks [] (FrameAt 0 (slice_set one_block_number 7 2)) ≡ OnErrors (codes "offset 0: 10 edition 2\n")
-unfolding sections_of section_end head_size digits
+unfolding sections_of section_end min_section_1 digits
 edition-piece = refl
 
 -- rule: list-before-data
 unknown-piece : dump_piece [] [] (FrameAt 48 one_block_number) ≡ OnErrors (codes "offset 48: 20 unknown element 001001\n")
-unfolding sections_of section_end head_size tree_of inner_of level part_of digits
+unfolding sections_of section_end min_section_1 tree_of inner_of level part_of digits
 unknown-piece = refl
 
 -- its data are read: seven bits are the number 10, and one bit is left over
 read-piece : dump_piece blocks [] (FrameAt 0 one_block_number) ≡ OnOutput (codes "message\nedition 4\nmaster 0\ncentre 98\nsubcentre 0\nupdate 0\ncategory 0\nsubcategory 0\nlocalsubcategory 0\nmasterversion 14\nlocalversion 0\nyear 2024\nmonth 1\nday 2\nhour 3\nminute 4\nsecond 5\nobserved 1\ncompressed 0\noptional 0\nsubsets 1\ndescriptors 001001\nsubset 1\n001001 10  # WMO BLOCK NUMBER [Numeric]\nend\n")
-unfolding sections_of section_end head_size tree_of inner_of level part_of next_item bits_of header_lines subset_lines runs_after hex_text descriptors_text keys leasts mosts
+unfolding sections_of section_end min_section_1 tree_of inner_of level part_of next_item bits_of header_lines subset_lines runs_after hex_text descriptors_text keys leasts mosts
     decimal_text_of unsigned_text digits
 read-piece = refl
 
@@ -42,5 +42,5 @@ without_data = slice_set (take 39 one_block_number) 6 47 ++ 0 ∷ 0 ∷ 4 ∷ 0 
 
 -- rule: refused-messages-write-nothing
 refused-piece : dump_piece blocks [] (FrameAt 0 without_data) ≡ OnErrors (codes "offset 0: 30 data end at subset 1 descriptor 001001 bit 0\n")
-unfolding sections_of section_end head_size tree_of inner_of level part_of next_item bits_of digits
+unfolding sections_of section_end min_section_1 tree_of inner_of level part_of next_item bits_of digits
 refused-piece = refl

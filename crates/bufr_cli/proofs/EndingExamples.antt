@@ -12,7 +12,7 @@ use Rattle.bufr_cli.specs.declared.job.Subcommand.TheVariants.{Ls, Dump, Encode}
 use Rattle.bufr_cli.specs.declared.job.LineFault.TheVariants as line
 use Rattle.clap.specs.Words.{Text}
 use Rattle.std.proofs.lemmas.Bool.{false≢true}
-use Rattle.bufr_frame.specs.Prelude.{max_reads, read_failures_after, head_size, scan_from, sections_of, section_end}
+use Rattle.bufr_frame.specs.Prelude.{max_reads, read_failures_after, min_section_1, scan_from, sections_of, section_end}
 use Rattle.bufr_frame.specs.declared.fault.RunFault.{RunFault}
 use Rattle.std.specs.List.{concat}
 use Rattle.bufr_tables.specs.declared.fault.TableFault.TheVariants as table
@@ -66,7 +66,7 @@ ok-is-no-fault tally fault is = subst IsOk is tt
 -- a listing of one stray word ends with status 1, and so never with 0
 a-stray-is-refused : (from to : Input) (before after : Writers) (tally : Tally) → from.left ≡ Some (codes "BUFR") → EndsRun (event_pieces ls_piece) from to before after (Ok tally)
     → status_of (Ran tally) ≡ 1
-unfolding scan_from sections_of section_end head_size
+unfolding scan_from sections_of section_end min_section_1
 a-stray-is-refused from to before after tally known ends = ap (λ n. if n == 0 then 0 else 1) (rw known at ends.leaves.whole).1.refused
 
 -- writers that counted no failure and no empty write are at no fault of a write

@@ -1,7 +1,7 @@
 -- The lines computed on worked examples.
 use Rattle.std.proofs.Common.{◌≡◌, ℕ, List, [], ◌∷◌, ◌++◌, refl, codes, map, slice_set}
 use Rattle.std.specs.Fmt.{digits}
-use Rattle.bufr_frame.specs.Prelude.{head_size, scan, scan_from, sections_of, section_end, cause_report, section_report}
+use Rattle.bufr_frame.specs.Prelude.{min_section_1, scan, scan_from, sections_of, section_end, cause_report, section_report}
 use Rattle.bufr_frame.specs.declared.fault.Cause.TheVariants.{Cut, ShortLength, NoEnd}
 use Rattle.bufr_frame.specs.declared.fault.SectionFault.TheVariants.{Edition, SectionShort, SectionPast, SectionsEnd, Edition3Long}
 use Rattle.bufr_tables.specs.Prelude.{template_report}
@@ -28,7 +28,7 @@ one_block_number = 0x42 ∷ 0x55 ∷ 0x46 ∷ 0x52 ∷ 0x00 ∷ 0x00 ∷ 0x30 �
 
 -- its line
 one-listed : map ls_piece (scan one_block_number) ≡ OnOutput (codes "offset=0 length=48 edition=4 centre=98/0 update=0 category=0/0/0 tables=0/14/0 time=2024-01-02T03:04:05 subsets=1 observed=1 compressed=0 optional=0 descriptors=1\n") ∷ []
-unfolding scan_from sections_of section_end head_size digits
+unfolding scan_from sections_of section_end min_section_1 digits
 one-listed = refl
 
 -- the fault lines of stray words
@@ -120,7 +120,7 @@ item-lines = refl
 -- the same octets said to be of edition 3: the versions of tables and the year are taken for the
 -- month, the day, the hour and the minute
 edition-3-listed : map ls_piece (scan (slice_set one_block_number 7 3)) ≡ OnOutput (codes "offset=0 length=48 edition=3 centre=98/0 update=0 category=0/0/0 tables=0/0/0 time=0000-14-00T07:232:00 subsets=1 observed=1 compressed=0 optional=0 descriptors=1\n") ∷ []
-unfolding scan_from sections_of section_end head_size digits
+unfolding scan_from sections_of section_end min_section_1 digits
 edition-3-listed = refl
 
 -- a message of edition 3 with one block number, 46 octets
@@ -133,13 +133,13 @@ edition_3 = 0x42 ∷ 0x55 ∷ 0x46 ∷ 0x52 ∷ 0x00 ∷ 0x00 ∷ 0x2E ∷ 0x03 
 
 -- rule: listing-of-edition-3
 edition-3-line : map ls_piece (scan edition_3) ≡ OnOutput (codes "offset=0 length=46 edition=3 centre=98/0 update=0 category=0/0/0 tables=0/14/0 time=0024-01-02T03:04:00 subsets=1 observed=1 compressed=0 optional=0 descriptors=1\n") ∷ []
-unfolding scan_from sections_of section_end head_size digits
+unfolding scan_from sections_of section_end min_section_1 digits
 edition-3-line = refl
 
 -- a stray word first, and another edition first
 -- rule: one-fault-a-message
 stray-listed : map ls_piece (scan (codes "BUFR" ++ 0 ∷ 0 ∷ 64 ∷ 4 ∷ (slice_set one_block_number 7 2 ++ 0 ∷ 0 ∷ 0 ∷ 0 ∷ 0 ∷ 0 ∷ 0 ∷ 0 ∷ []))) ≡ OnErrors (codes "offset 0: 3 no end\n") ∷ OnErrors (codes "offset 8: 10 edition 2\n") ∷ []
-unfolding scan_from sections_of section_end head_size digits
+unfolding scan_from sections_of section_end min_section_1 digits
 stray-listed = refl
 
 -- after the first fault nothing is written

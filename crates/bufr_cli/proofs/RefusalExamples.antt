@@ -2,7 +2,7 @@
 use Rattle.std.proofs.Common.{◌≡◌, ◌++◌, ℕ, List, [], ◌∷◌, map, take, slice_set, replicate, refl, codes}
 use Rattle.std.specs.Fmt.{digits}
 use Rattle.bufr_bits.specs.Prelude.{bits_of, decimal_value_of}
-use Rattle.bufr_frame.specs.Prelude.{head_size, FrameAt, sections_of, section_end}
+use Rattle.bufr_frame.specs.Prelude.{min_section_1, FrameAt, sections_of, section_end}
 use Rattle.bufr_frame.specs.declared.fault.RunFault.TheVariants.{Read, Write, InputTooLong, Memory}
 use Rattle.bufr_tables.specs.Prelude.{tree_of, inner_of, level, part_of}
 use Rattle.bufr_tables.specs.declared.fault.TableFault.TheVariants as table
@@ -33,7 +33,7 @@ edition_2 = slice_set past_section_4 7 2
 sections_then_template_then_data :
     map (λ octets. dump_piece [] [] (FrameAt 0 octets)) (edition_2 ∷ past_section_4 ∷ without_data ∷ [])
     ≡ OnErrors (codes "offset 0: 10 edition 2\n") ∷ OnErrors (codes "offset 0: 13 sections do not meet the end\n") ∷ OnErrors (codes "offset 0: 20 unknown element 001001\n") ∷ []
-unfolding sections_of section_end head_size tree_of inner_of level part_of next_item bits_of digits
+unfolding sections_of section_end min_section_1 tree_of inner_of level part_of next_item bits_of digits
 sections_then_template_then_data = refl
 
 -- With the element the data are at fault, but after the sections.
@@ -41,14 +41,14 @@ sections_then_template_then_data = refl
 sections_then_data :
     map (λ octets. dump_piece blocks [] (FrameAt 0 octets)) (past_section_4 ∷ without_data ∷ [])
     ≡ OnErrors (codes "offset 0: 13 sections do not meet the end\n") ∷ OnErrors (codes "offset 0: 30 data end at subset 1 descriptor 001001 bit 0\n") ∷ []
-unfolding sections_of section_end head_size tree_of inner_of level part_of next_item bits_of digits
+unfolding sections_of section_end min_section_1 tree_of inner_of level part_of next_item bits_of digits
 sections_then_data = refl
 
 -- `ls` has the same faults of sections.
 -- rule: one-fault-a-message
 sections_listed : map (λ octets. ls_piece (FrameAt 0 octets)) (edition_2 ∷ past_section_4 ∷ [])
     ≡ OnErrors (codes "offset 0: 10 edition 2\n") ∷ OnErrors (codes "offset 0: 13 sections do not meet the end\n") ∷ []
-unfolding sections_of section_end head_size digits
+unfolding sections_of section_end min_section_1 digits
 sections_listed = refl
 
 -- ---- Of two faults of a text the first.

@@ -2,7 +2,7 @@
 use Rattle.std.proofs.Common.{◌≡◌, ℕ, List, [], ◌∷◌, ◌++◌, refl, codes, pos, slice_set}
 use Rattle.std.specs.Fmt.{digits}
 use Rattle.bufr_bits.specs.Prelude.{bits_of, bits_in, decimal_value_of, decimal_text_of, unsigned_text}
-use Rattle.bufr_frame.specs.Prelude.{head_size, scan_from, sections_of, section_end}
+use Rattle.bufr_frame.specs.Prelude.{min_section_1, scan_from, sections_of, section_end}
 use Rattle.bufr_tables.specs.Prelude.{tree_of, inner_of, level, part_of, Row}
 use Rattle.bufr_tables.specs.declared.table_b.Kind.TheVariants.{Numeric}
 use Rattle.bufr_walk.specs.Prelude.{next_item}
@@ -21,7 +21,7 @@ blocks = record { fxy = 257; name = codes "WMO BLOCK NUMBER"; unit = codes "Nume
 
 -- what is at fault is no accepted message, and the others are in the order of the stream
 accepted-among : accepted_messages blocks [] stream ≡ one_block_number ∷ slice_set one_block_number 13 99 ∷ []
-unfolding scan_from sections_of section_end head_size tree_of inner_of level part_of next_item bits_of header_lines subset_lines runs_after hex_text descriptors_text keys leasts mosts
+unfolding scan_from sections_of section_end min_section_1 tree_of inner_of level part_of next_item bits_of header_lines subset_lines runs_after hex_text descriptors_text keys leasts mosts
     decimal_text_of unsigned_text digits
 accepted-among = refl
 
@@ -37,13 +37,13 @@ text = codes "message\nedition 4\nmaster 0\ncentre 98\nsubcentre 0\nupdate 0\nca
 
 -- the output has nothing of the errors
 output-alone : dumped blocks [] (codes "BUFR" ++ 0 ∷ 0 ∷ 64 ∷ 4 ∷ (one_block_number ++ slice_set one_block_number 7 2)) ≡ text
-unfolding scan_from sections_of section_end head_size tree_of inner_of level part_of next_item bits_of header_lines subset_lines runs_after hex_text descriptors_text keys leasts mosts
+unfolding scan_from sections_of section_end min_section_1 tree_of inner_of level part_of next_item bits_of header_lines subset_lines runs_after hex_text descriptors_text keys leasts mosts
     decimal_text_of unsigned_text digits
 output-alone = refl
 
 -- a message is built again of its text
 built-of-its-text : rebuilt blocks [] one_block_number ≡ one_block_number
-unfolding scan_from sections_of section_end head_size tree_of inner_of level part_of next_item bits_of header_lines subset_lines runs_after hex_text descriptors_text keys leasts mosts
+unfolding scan_from sections_of section_end min_section_1 tree_of inner_of level part_of next_item bits_of header_lines subset_lines runs_after hex_text descriptors_text keys leasts mosts
     decimal_text_of unsigned_text digits up_to_refused parse_lines lines_of line_step line_of worded prefix_while suffix_while without_prefix descriptors_read fxy_read value_read
     quoted_read
     hex_read is_hashed encoding_in decimal_value_of bits_in
@@ -63,11 +63,11 @@ by_hand edition rest =
 one-before-a-refused-line : normal_texts AsWritten blocks [] (documents_of (codes "# by hand\n" ++ by_hand (codes "04") (codes "\nsubset 01\n001001 010.0  # changed\nend\nend\n")))
     ≡ by_hand (codes "4") (codes "subset 1\n001001 10  # WMO BLOCK NUMBER [Numeric]\nend\n") ∷ []
 unfolding normal_texts parse_lines lines_of line_step line_of worded prefix_while suffix_while keys leasts mosts without_prefix descriptors_read fxy_read value_read quoted_read hex_read
-    is_hashed encoding_in head_size tree_of level part_of inner_of next_item decimal_value_of bits_of bits_in header_lines runs_after hex_text descriptors_text digits decimal_text_of unsigned_text
+    is_hashed encoding_in min_section_1 tree_of level part_of inner_of next_item decimal_value_of bits_of bits_in header_lines runs_after hex_text descriptors_text digits decimal_text_of unsigned_text
 one-before-a-refused-line = refl
 
 -- seven bits hold no 200: the document is refused, and it has no text
 none-of-a-refused-document : normal_texts AsWritten blocks [] (documents_of (by_hand (codes "4") (codes "subset 1\n001001 200\nend\n"))) ≡ []
 unfolding normal_texts parse_lines lines_of line_step line_of worded prefix_while suffix_while keys leasts mosts without_prefix descriptors_read fxy_read value_read quoted_read hex_read
-    is_hashed encoding_in head_size tree_of level part_of inner_of next_item decimal_value_of
+    is_hashed encoding_in min_section_1 tree_of level part_of inner_of next_item decimal_value_of
 none-of-a-refused-document = refl

@@ -7,9 +7,9 @@ use Rattle.std.proofs.lemmas.Bool.{true≢false, cases_Bool}
 use Rattle.std.proofs.lemmas.List.{take-append-drop, get_or-take, get_or-drop}
 use Rattle.bufr_frame.specs.declared.fault.SectionFault.{SectionFault}
 use Rattle.bufr_frame.specs.declared.fault.SectionFault.TheVariants.{SectionShort, SectionPast}
-use Rattle.bufr_frame.specs.Prelude.{u24_at, u16_at, words, three_octets, two_octets, octets_of_words, is_edition, min_section_1, head_size, head_of, head_by, value_at, flags_of, octet_at, octets_3, octets_4, values_of, greatest_values, greatest, head_by, Sections, sections_of, section_end, parts, edition_of, has_section2, is_long_edition_3, parts_if_end_matches, IsPlain, section2_begins, section3_begins, section4_begins, parts_in, message_size, message_octets, section0_octets, section1_octets, section2_octets, section2_size, section3_octets, section4_octets, head_octets, data_flags, even_size, with_even_length, max_extra_octets, max_octets, IsFitting, is_writable, Head}
+use Rattle.bufr_frame.specs.Prelude.{u24_at, u16_at, words, three_octets, two_octets, octets_of_words, is_edition, min_section_1, head_of, head_by, value_at, flags_of, octet_at, octets_3, octets_4, values_of, greatest_values, greatest, head_by, Sections, sections_of, section_end, parts, edition_of, has_section2, is_long_edition_3, parts_if_end_matches, IsPlain, section2_begins, section3_begins, section4_begins, parts_in, message_size, message_octets, section0_octets, section1_octets, section2_octets, section3_octets, section4_octets, head_octets, data_flags, even_size, size_from, with_even_length, max_extra_octets, max_octets, IsFitting, is_writable, Head}
 use Rattle.bufr_bits.specs.Prelude.{◌>>=◌}
-use Rattle.bufr_frame.proofs.LayoutLemmas.{length-octets_of_words, even-3, length-words}
+use Rattle.bufr_frame.proofs.LayoutLemmas.{least-section-1, message_size_is, length-octets_of_words, even-3, length-words}
 use Rattle.std.proofs.lemmas.List.Elements.{All-take, All-drop}
 use Rattle.std.proofs.lemmas.List.Folds.{drop_split}
 use Rattle.bufr_frame.proofs.ScanLemmas.{drop-twice}
@@ -113,7 +113,7 @@ slice-long : (m : List ℕ) (a b : ℕ) → b ≤ length m → length (slice_ran
 slice-long m a b within = omega (arith, length-take (b - a) (drop a m), length-drop a m)
 
 second-size : (b : Bool) (m : List ℕ) (p q : ℕ) → q ≤ length m → (b ≡ true → p + 4 ≤ q) → (b ≡ false → q ≡ p)
-    → p + section2_size (if b then Some (slice_range m (p + 4) q) else None) ≡ q
+    → p + length (section2_octets (if b then Some (slice_range m (p + 4) q) else None)) ≡ q
 second-size true m p q within there absent = omega (arith, slice-long m (p + 4) q within, there refl)
 second-size false m p q within there absent = omega (arith, absent refl)
 
@@ -121,7 +121,11 @@ second-size false m p q within there absent = omega (arith, absent refl)
 sizes : (m : List ℕ) (s : Sections) (e : Ended m s)
     → message_size (edition_of m) (parts_in (parts m e.p1 e.p2 e.p3 e.p4))
     ≡ e.p2 + even_size (edition_of m) (7 + 2 * ((e.p3 - (e.p2 + 7)) / 2)) + even_size (edition_of m) (e.p4 - e.p3) + 4
-sizes m s e = grind (arith, common_steps, second-size, slice-long, length-words)
+sizes m s e =
+    let p = parts_in (parts m e.p1 e.p2 e.p3 e.p4) in
+    let by : size_from (edition_of m) (length p.local1) p.section2 (length p.descriptors) (length p.payload)
+    ≡ e.p2 + even_size (edition_of m) (7 + 2 * ((e.p3 - (e.p2 + 7)) / 2)) + even_size (edition_of m) (e.p4 - e.p3) + 4 = grind (arith, common_steps, second-size, slice-long, length-words) in
+    message_size_is (edition_of m) p ∙ by
 
 -- in edition 4
 sizes-4 : (m : List ℕ) (s : Sections) (e : Ended m s) → edition_of m ≡ 4 → message_size (edition_of m) (parts_in (parts m e.p1 e.p2 e.p3 e.p4)) + (e.p3 - (e.p2 + 7)) % 2 ≡ length m
@@ -312,14 +316,14 @@ module _ (m : List ℕ) (small : All (λ octet. octet < 256) m) where
       head-written-3 b ∙ ap written-3 (flag-back b (get_or m 15 0) is (small 15 0 (omega arith)) reserved) ∙ sym octets-written-3
 
   head-back : (b : Bool) → is_edition (edition_of m) ≡ true → 8 + min_section_1 (edition_of m) ≤ length m → has_section2 m ≡ b → flags_of m % 128 ≡ 0
-      → head_octets (head_of m) b ≡ octets_from (head_size (edition_of m)) 11 m
-  unfolding head_size
+      → head_octets (head_of m) b ≡ octets_from (min_section_1 (edition_of m) - 3) 11 m
+  unfolding min_section_1
   head-back b known long is reserved =
       let flags = if b then 128 else 0 in
       let F : ℕ → ℕ = λ n. octet_at m (if n == 3 then 8 else 10) in
       let H : ℕ → Head = λ n. head_in n m in
       let P : ℕ → Type 0 = λ n. 8 + min_section_1 n ≤ length m → nat_le 128 (F n) ≡ b → F n % 128 ≡ 0
-      → (if n == 3 then octets_3 (H n) flags else octets_4 (H n) flags) ≡ octets_from (head_size n) 11 m in
+      → (if n == 3 then octets_3 (H n) flags else octets_4 (H n) flags) ≡ octets_from (min_section_1 n - 3) 11 m in
       edition-cases (edition_of m) known
       (λ e. subst P (sym e) (head-back-3 b) long is reserved)
       (λ e. subst P (sym e) (head-back-4 b) long is reserved)
@@ -327,19 +331,20 @@ module _ (m : List ℕ) (small : All (λ octet. octet < 256) m) where
   first-back : (b : Bool) (p : ℕ) → is_edition (edition_of m) ≡ true → 8 + min_section_1 (edition_of m) ≤ p → p ≤ length m → p ≡ 8 + u24_at m 8 → has_section2 m ≡ b → flags_of m % 128 ≡ 0
       → section1_octets (head_of m) (slice_range m (8 + min_section_1 (edition_of m)) p) b ≡ slice_range m 8 p
   first-back b p known fits within long is reserved =
-      let k = head_size (edition_of m) in
+      let k = min_section_1 (edition_of m) - 3 in
+      let some = least-section-1 (edition_of m) in
       let from = 8 + min_section_1 (edition_of m) in
       let x = slice_range m from p in
       let n : min_section_1 (edition_of m) + length x ≡ u24_at m 8 = omega (arith, slice-long m from p within, long) in
-      let width : from - 11 ≡ k = omega arith in
-      let part : slice_range m 11 from ≡ octets_from k 11 m = ap (λ j. take j (drop 11 m)) width ∙ slice-octets k 11 m (omega arith) in
+      let width : from - 11 ≡ k = omega (arith, some) in
+      let part : slice_range m 11 from ≡ octets_from k 11 m = ap (λ j. take j (drop 11 m)) width ∙ slice-octets k 11 m (omega (arith, some)) in
       ap (λ l. l ++ head_octets (head_of m) b ++ x) (length-back 8 (min_section_1 (edition_of m) + length x) (omega arith) n ∙ sym (three-at m 8))
       ∙ ap (λ l. octets_from 3 8 m ++ l ++ x) (head-back b known (omega arith) is reserved)
-      ∙ ap (λ l. l ++ octets_from k 11 m ++ x) (sym (slice-octets 3 8 m (omega arith)))
+      ∙ ap (λ l. l ++ octets_from k 11 m ++ x) (sym (slice-octets 3 8 m (omega (arith, some))))
       ∙ ap (λ l. take 3 (drop 8 m) ++ l ++ x) (sym part)
       ∙ append_assoc (slice_range m 8 11) (slice_range m 11 from) x
-      ∙ ap (λ l. slice_range m 8 11 ++ l) (sym (slice-parts m 11 from p (omega arith) fits))
-      ∙ sym (slice-parts m 8 11 p (omega arith) (omega arith))
+      ∙ ap (λ l. slice_range m 8 11 ++ l) (sym (slice-parts m 11 from p (omega (arith, some)) fits))
+      ∙ sym (slice-parts m 8 11 p (omega arith) (omega (arith, some)))
 
   -- the octets of the descriptors, in edition 3 with the one left over
   content-words : (p q : ℕ) → is_edition (edition_of m) ≡ true → p + 7 ≤ q → q ≤ length m → q ≡ p + u24_at m p → (edition_of m ≡ 4 → u24_at m p % 2 ≡ 1) → (edition_of m ≡ 3 → u24_at m p % 2 ≡ 0)

@@ -1,6 +1,6 @@
 -- The definitions computed on worked examples.
 use Rattle.std.proofs.Common.{◌≡◌, ℕ, zero, suc, Bool, true, false, List, [], ◌∷◌, ◌++◌, refl, take, length, codes, Option, Some, None, Ok, Err, slice_set, ◌==◌, ◌&&◌, ◌+◌}
-use Rattle.bufr_frame.specs.Prelude.{head_size, StreamEvent, FrameAt, StrayAt, scan, scan_from, open_scan, longest_of, first_event, sections_of, section_end, Sections, MessageParts, parts_of, parts_in, message_octets, is_writable, Head}
+use Rattle.bufr_frame.specs.Prelude.{min_section_1, StreamEvent, FrameAt, StrayAt, scan, scan_from, open_scan, longest_of, first_event, sections_of, section_end, Sections, MessageParts, parts_of, parts_in, message_octets, is_writable, Head}
 use Rattle.bufr_frame.specs.declared.fault.Cause.TheVariants.{Cut, ShortLength, NoEnd}
 use Rattle.bufr_frame.specs.declared.fault.SectionFault.TheVariants.{Edition, SectionShort, SectionPast, SectionsEnd}
 
@@ -114,7 +114,7 @@ written :
     × (message_octets the_head (the_parts (0xAB ∷ 0xCD ∷ []) (Some (1 ∷ 2 ∷ []))) ≡ local_use)
     × (message_octets head_of_edition_3 (parts_in (sections_of_edition_3 (0x14 ∷ []) 44)) ≡ edition_3)
     × (message_octets head_of_edition_3 (parts_in (sections_of_edition_3 (0x14 ∷ 0 ∷ []) 46)) ≡ edition_3)
-unfolding head_size
+unfolding min_section_1
 written = (refl, refl, refl, refl, refl)
 
 -- rule: section-1-of-edition-4, section-3, section-4, section-2-flag, local-use, section-2
@@ -128,7 +128,7 @@ sections :
     × (sections_of edition_3_odd ≡ Ok (sections_of_edition_3 (0x14 ∷ []) 44))
     -- a reserved bit makes no difference
     × (sections_of (slice_set one_block_number 36 129) ≡ Ok (the_sections [] None 48))
-unfolding sections_of section_end head_size
+unfolding sections_of section_end min_section_1
 sections = (refl, refl, refl, refl, refl)
 
 -- octets of edition 4 read as edition 3: other values, and five octets of local use
@@ -164,7 +164,7 @@ by-edition-3 : sections_of (slice_set one_block_number 7 3) ≡ Ok (record {
   payload = 0x14 ∷ [];
   size = 48;
 })
-unfolding sections_of section_end head_size
+unfolding sections_of section_end min_section_1
 by-edition-3 = refl
 
 -- what can be written in edition 3
@@ -191,7 +191,7 @@ section-faults :
     -- section 1 of 16 octets is short in edition 3, and its flags say that there is a section 2
     × (sections_of (slice_set edition_3 10 16) ≡ Err (SectionShort 1))
     × (sections_of (slice_set (slice_set edition_3 15 128) 28 30) ≡ Err (SectionPast 2))
-unfolding sections_of section_end head_size
+unfolding sections_of section_end min_section_1
 section-faults = (refl, refl, refl, refl, refl, refl, refl, refl, refl, refl, refl, refl)
 
 -- the events: one message, two, a message without its end, a stray word first, short and cut

@@ -1,7 +1,7 @@
 -- A message that was written, section by section, read again.
 use Rattle.std.proofs.lemmas.Grind.{common_steps}
 use Rattle.std.proofs.Common.{◌≡◌, ◌==◌, ◌-◌, ℕ, true, false, List, Ok, length, refl, eq-eqb, ◌∙◌, ◌+◌, ◌*◌, ◌/◌, ◌%◌, ◌≤◌, Bool, [], ◌∷◌, ◌++◌, ap, sym, subst, arith, Option, Some, None, get_or, codes, append_assoc, length-append, Err, append-nil, zero, suc, ◌<◌, slice_get, if◌then◌else◌, nat_lt, nat_le, is_some, slice_range, ◌&&◌, ◌||◌, Result, OnOk, option_map}
-use Rattle.bufr_frame.specs.Prelude.{is_edition, min_section_1, head_size, flags_of, octets_3, octets_4, head_octets, sections_of, section_end, parts, edition_of, has_section2, is_long_edition_3, head_of, Sections, is_padded, u24_at, u16_at, words, three_octets, two_octets, octets_of_words, MessageParts, message_octets, message_size, section0_octets, section1_octets, section2_octets, section2_size, section3_octets, section4_octets, data_flags, sections_from, head_octets, even_size, with_even_length, with_pad_octet, is_writable, size_from, parts_of, Head}
+use Rattle.bufr_frame.specs.Prelude.{is_edition, min_section_1, flags_of, octets_3, octets_4, head_octets, sections_of, section_end, parts, edition_of, has_section2, is_long_edition_3, head_of, Sections, is_padded, u24_at, u16_at, words, three_octets, two_octets, octets_of_words, MessageParts, message_octets, message_size, section0_octets, section1_octets, section2_octets, section3_octets, section4_octets, data_flags, sections_from, head_octets, even_size, with_even_length, with_pad_octet, is_writable, size_from, parts_of, Head}
 use Rattle.std.proofs.lemmas.Bool.Decides.{nat_tests}
 use Rattle.bufr_bits.specs.Prelude.{bits_of, bits_of_octet}
 
@@ -68,12 +68,21 @@ even-stays edition n = by (edition == 3) (n % 2 == 1) refl
         let even : (n + 1) % 2 ≡ 0 = omega (arith, h) in
         ap (λ k. k == 1) even
 
+-- section 1 has at least 17 octets
+pub least-section-1 : (edition : ℕ) → 17 ≤ min_section_1 edition
+unfolding min_section_1
+least-section-1 edition = by (edition == 3)
+  where
+    by : (third : Bool) → 17 ≤ (if third then 17 else 22)
+    by true = omega arith
+    by false = omega arith
+
 -- section 1 after its length
 length-head : (h : Head) (optional : Bool) → 3 + length (head_octets h optional) ≡ min_section_1 h.edition
-unfolding head_size
+unfolding min_section_1
 length-head h optional = by (h.edition == 3)
   where
-    by : (third : Bool) → 3 + length (if third then octets_3 h (if optional then 128 else 0) else octets_4 h (if optional then 128 else 0)) ≡ 3 + (if third then 14 else 19)
+    by : (third : Bool) → 3 + length (if third then octets_3 h (if optional then 128 else 0) else octets_4 h (if optional then 128 else 0)) ≡ (if third then 17 else 22)
     by true = refl
     by false = refl
 
@@ -91,9 +100,11 @@ unfolding section_end
 section-at m prefix rest k least p n is at least_n three_n within = grind (arith, common_steps)
 
 second-at : (m prefix rest : List ℕ) (optional : Option (List ℕ)) (p : ℕ) → m ≡ prefix ++ (section2_octets optional ++ rest) → p ≡ length prefix → has_section2 m ≡ is_some optional
-    → p + section2_size optional + 4 ≤ length m → (if has_section2 m then section_end m 2 4 p else Ok p) ≡ Ok (p + section2_size optional)
+    → p + length (section2_octets optional) + 4 ≤ length m → (if has_section2 m then section_end m 2 4 p else Ok p) ≡ Ok (p + length (section2_octets optional))
 second-at m prefix rest None p is at has within = let e : p + 0 ≡ p = omega arith in rw (has, e) refl
-second-at m prefix rest (Some octets) p is at has within = rw has (section-at m prefix (0 ∷ octets ++ rest) 2 4 p (4 + length octets) is at (omega arith) (omega arith) within)
+second-at m prefix rest (Some octets) p is at has within =
+    let size : 4 + length octets ≡ length (section4_octets octets) = omega arith in
+    rw has (section-at m prefix (0 ∷ octets ++ rest) 2 4 p (4 + length octets) is at (omega arith) (omega arith) (omega (arith, size, within)) ∙ ap (λ n. Ok (p + n)) size)
 
 flag-test : (b : Bool) → nat_le 128 (if b then 128 else 0) ≡ b
 flag-test true = refl
@@ -141,16 +152,18 @@ compressed-test true false = refl
 compressed-test false true = refl
 compressed-test false false = refl
 
-length-section2_octets : (optional : Option (List ℕ)) → length (section2_octets optional) ≡ section2_size optional
-length-section2_octets None = refl
-length-section2_octets (Some octets) = omega arith
+-- the length of a message by the lengths of its parts
+pub message_size_is : (edition : ℕ) (p : MessageParts) → message_size edition p ≡ size_from edition (length p.local1) p.section2 (length p.descriptors) (length p.payload)
+message_size_is edition p =
+    let third = length-evened edition 7 (octets_of_words p.descriptors) ∙ ap (λ n. even_size edition (7 + n)) (length-octets_of_words p.descriptors) in
+    omega (arith, third, length-evened edition 4 p.payload)
 
 -- section 1 after its length
 first-split : (n : ℕ) (head local1 rest : List ℕ) → ((three_octets n ++ head) ++ local1) ++ rest ≡ three_octets n ++ ((head ++ local1) ++ rest)
 first-split n head local1 rest = refl
 
 -- section 2 read back
-second-part : (m prefix rest : List ℕ) (optional : Option (List ℕ)) (p q : ℕ) → m ≡ prefix ++ (section2_octets optional ++ rest) → p ≡ length prefix → q ≡ p + section2_size optional
+second-part : (m prefix rest : List ℕ) (optional : Option (List ℕ)) (p q : ℕ) → m ≡ prefix ++ (section2_octets optional ++ rest) → p ≡ length prefix → q ≡ p + length (section2_octets optional)
     → has_section2 m ≡ is_some optional
     → (if has_section2 m then Some (slice_range m (p + 4) q) else None) ≡ optional
 second-part m prefix rest None p q is at to has = rw has refl
@@ -245,12 +258,12 @@ read-back h p writable =
     let ho = head_octets h (is_some p.section2) in
     let lh = length-head h (is_some p.section2) in
     let n1 = least + length p.local1 in
-    let n2 = section2_size p.section2 in
+    let n2 = length (section2_octets p.section2) in
     let n3 = 7 + length c3 in
     let n4 = 4 + length c4 in
     let l0 : length s0 ≡ 8 = refl in
     let l1 : length s1 ≡ n1 = omega (arith, lh, length-append (three_octets n1 ++ ho) p.local1, length-append (three_octets n1) ho) in
-    let l2 : length s2 ≡ n2 = length-section2_octets p.section2 in
+    let l2 : length s2 ≡ n2 = refl in
     let l3 : length s3 ≡ n3 = omega arith in
     let l4 : length s4 ≡ n4 = omega arith in
     let k2 : 8 + n1 ≡ length f2 = omega (arith, length-append s0 s1, l1) in
@@ -265,7 +278,7 @@ read-back h p writable =
     let has : has_section2 m ≡ is_some p.section2 = ap (nat_le 128) (flags-back h (is_some p.section2) (message_size edition p) n1 p.local1 (s2 ++ (s3 ++ (s4 ++ end))) writable)
     ∙ flag-test (is_some p.section2) in
     let e1 : section_end m 1 (min_section_1 (edition_of m)) 8 ≡ Ok p1 =
-    section-at m s0 ((ho ++ p.local1) ++ (s2 ++ (s3 ++ (s4 ++ end)))) 1 least 8 n1 (ap (λ l. s0 ++ l) (first-split n1 ho p.local1 (s2 ++ (s3 ++ (s4 ++ end))))) refl (omega arith) (omega arith)
+    section-at m s0 ((ho ++ p.local1) ++ (s2 ++ (s3 ++ (s4 ++ end)))) 1 least 8 n1 (ap (λ l. s0 ++ l) (first-split n1 ho p.local1 (s2 ++ (s3 ++ (s4 ++ end))))) refl (omega arith) (omega (arith, lh))
     (omega (arith, lm)) in
     let e2 = second-at m f2 (s3 ++ (s4 ++ end)) p.section2 p1 at2 k2 has (omega (arith, lm)) in
     let e3 : section_end m 3 7 p2 ≡ Ok p3 = section-at m f3 ((0 ∷ two_octets p.subsets ++ flags ∷ c3) ++ (s4 ++ end)) 3 7 p2 n3 at3 k3 (omega arith) (omega arith) (omega (arith, lm)) in
@@ -295,7 +308,7 @@ read-back h p writable =
     let same4 : m ≡ (f4 ++ head4) ++ (c4 ++ end) = at4 ∙ sym (append_assoc f4 head4 (c4 ++ end)) in
     let payload : slice_range m (p3 + 4) p4 ≡ c4 =
     ap (λ l. slice_range l (p3 + 4) p4) same4 ∙ range-after (f4 ++ head4) c4 end (p3 + 4) p4 (omega (arith, length-append f4 head4, k4)) (omega arith) in
-    let size : length m ≡ message_size edition p = omega (arith, lm, size3, size4) in
+    let size : length m ≡ message_size edition p = omega (arith, lm, l2) in
     sections-are m p1 p2 p3 p4 known e1 e2 e3 e4 last short
     ∙ ap Ok (parts-make m p1 p2 p3 p4
     ∙ make-same (head_of m) h (slice_range m (8 + least) p1) p.local1 _ p.section2 (words (slice_range m (p2 + 7) p3)) p.descriptors (u16_at m (p2 + 4)) p.subsets _ p.observed _ p.compressed

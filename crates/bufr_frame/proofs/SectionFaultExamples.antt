@@ -2,7 +2,7 @@
 -- meet, the example shows which one is reported.
 use Rattle.std.proofs.Common.{◌≡◌, ℕ, ◌+◌, ◌-◌, Bool, true, false, List, [], ◌∷◌, ◌++◌, length, replicate, codes, slice_set, Result, Ok, Err, refl}
 use Rattle.bufr_bits.specs.Prelude.{◌>>=◌}
-use Rattle.bufr_frame.specs.Prelude.{head_size, sections_of, section_end, three_octets, edition_of, parts_if_end_matches, is_long_edition_3, is_writable, greatest_values, max_octets, max_reads, Head}
+use Rattle.bufr_frame.specs.Prelude.{min_section_1, sections_of, section_end, three_octets, edition_of, parts_if_end_matches, is_long_edition_3, is_writable, greatest_values, max_octets, max_reads, Head}
 use Rattle.bufr_frame.specs.declared.fault.SectionFault.{SectionFault}
 use Rattle.bufr_frame.specs.declared.fault.SectionFault.TheVariants.{Edition, SectionShort, SectionPast, SectionsEnd}
 
@@ -12,7 +12,7 @@ message edition octets = codes "BUFR" ++ three_octets (12 + length octets) ++ ed
 
 -- the length of a message whose sections can be taken apart, or the first fault
 taken : List ℕ → Result ℕ SectionFault
-unfolding sections_of section_end head_size
+unfolding sections_of section_end min_section_1
 taken m = sections_of m >>= λ s. Ok s.size
 
 of_edition_4 : List ℕ → Result ℕ SectionFault
@@ -168,7 +168,7 @@ flags-of-section-1 = (refl, refl, refl, refl)
 
 -- whether data with these flags are observed, and whether they are compressed
 flags : ℕ → Result (Bool × Bool) SectionFault
-unfolding message section sections_of section_end head_size
+unfolding message section sections_of section_end min_section_1
 flags octet =
     sections_of (message 4 (section 22 22 ++ slice_set (section 7 7) 6 octet ++ section 4 4))
     >>= λ s. Ok (s.observed, s.compressed)

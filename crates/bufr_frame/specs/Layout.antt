@@ -32,39 +32,12 @@ parts_of local1 section2 descriptors subsets observed compressed payload =
       payload = payload;
     }
 
--- the length of section 2: its length (3), a reserved octet, and the octets for local use
-abbrev pub section2_size : Option (List ℕ) → ℕ
-section2_size None = 0
-section2_size (Some octets) = 4 + length octets
-
--- the length of a section 3 or 4 with its padding
--- rule: least-lengths
-abbrev pub even_size : (edition size : ℕ) → ℕ
-even_size edition size = if is_padded edition size then size + 1 else size
-
--- octets, with a zero octet after them if `pads`
-abbrev pub with_pad_octet : (pads : Bool) → List ℕ → List ℕ
-with_pad_octet pads octets = if pads then octets ++ 0 ∷ [] else octets
-
--- what is written in a section 3 or 4 after its first `prefix` octets: the content and its padding
+-- what is written in a section 3 or 4 after its first `prefix` octets: the content, and in edition 3
+-- a zero octet if the length of the section would be odd
 -- rule: least-lengths, writes-no-pad-octet, writes-even-sections
 abbrev pub with_even_length : (edition prefix : ℕ) → List ℕ → List ℕ
-with_even_length edition prefix octets = with_pad_octet (is_padded edition (prefix + length octets))
-    octets
-
--- the length of a message of these parts: 8 octets of section 0, sections 1 to 4, and 4 octets of
--- section 5
-abbrev pub message_size : (edition : ℕ) → MessageParts → ℕ
-message_size edition p =
-    8 + (min_section_1 edition + length p.local1) + section2_size p.section2
-    + even_size edition (7 + 2 * length p.descriptors) + even_size edition (4 + length p.payload)
-    + 4
-
--- the same by the lengths of these parts
-abbrev pub size_from : (edition local1 : ℕ) → Option (List ℕ) → (descriptors payload : ℕ) → ℕ
-size_from edition local1 section2 descriptors payload =
-    8 + (min_section_1 edition + local1) + section2_size section2
-    + even_size edition (7 + 2 * descriptors) + even_size edition (4 + payload) + 4
+with_even_length edition prefix octets =
+    if is_padded edition (prefix + length octets) then octets ++ 0 ∷ [] else octets
 
 -- the greatest length of a message: 2^24 - 1, since three octets declare it
 -- rule: greatest-length
@@ -130,6 +103,14 @@ abbrev pub section3_octets : List ℕ → (subsets flags : ℕ) → List ℕ
 section3_octets content subsets flags =
     three_octets (7 + length content) ++ 0 ∷ two_octets subsets ++ flags ∷ content
 
+-- the length of a message of these parts: 8 octets of section 0, sections 1 to 4, and 4 octets of
+-- section 5
+abbrev pub message_size : (edition : ℕ) → MessageParts → ℕ
+message_size edition p =
+    8 + (min_section_1 edition + length p.local1) + length (section2_octets p.section2)
+    + (7 + length (with_even_length edition 7 (octets_of_words p.descriptors)))
+    + (4 + length (with_even_length edition 4 p.payload)) + 4
+
 -- the octets of a message, section by section
 -- rule: section-5
 abbrev pub message_octets : Head → MessageParts → List ℕ
@@ -157,3 +138,20 @@ sections_from h p = record {
 -- the parts from which a message of these sections is written
 abbrev pub parts_in : Sections → MessageParts
 parts_in s = parts_of s.local1 s.section2 s.descriptors s.subsets s.observed s.compressed s.payload
+
+-- ---- Private: the length of a message before it is written.
+
+-- the length of a section 3 or 4 with its padding
+-- rule: least-lengths
+abbrev pub even_size : (edition size : ℕ) → ℕ
+even_size edition size = if is_padded edition size then size + 1 else size
+
+-- octets, with a zero octet after them if `pads`
+abbrev pub with_pad_octet : (pads : Bool) → List ℕ → List ℕ
+with_pad_octet pads octets = if pads then octets ++ 0 ∷ [] else octets
+
+-- the length of a message by the lengths of its parts
+abbrev pub size_from : (edition local1 : ℕ) → Option (List ℕ) → (descriptors payload : ℕ) → ℕ
+size_from edition local1 section2 descriptors payload =
+    8 + (min_section_1 edition + local1) + length (section2_octets section2)
+    + even_size edition (7 + 2 * descriptors) + even_size edition (4 + payload) + 4

@@ -18,15 +18,10 @@ edition_of m = slice_index m 7
 abbrev pub octet_at : List ℕ → (n : ℕ) → ℕ
 octet_at m n = slice_index m (7 + n)
 
--- the number of octets of section 1 without its length and without octets for local use
-unfoldable pub head_size : (edition : ℕ) → ℕ
-head_size edition = if edition == 3 then 14 else 19
-
--- the least length of section 1: 17 in edition 3 and 22 in edition 4, of which 3 are the length
--- itself
+-- the least length of section 1, which is its length without octets for local use
 -- rule: local-use, length-under-least
-abbrev pub min_section_1 : (edition : ℕ) → ℕ
-min_section_1 edition = 3 + head_size edition
+unfoldable pub min_section_1 : (edition : ℕ) → ℕ
+min_section_1 edition = if edition == 3 then 17 else 22
 
 -- the flags of section 1: octet 8 in edition 3 and octet 10 in edition 4
 abbrev pub flags_of : List ℕ → ℕ

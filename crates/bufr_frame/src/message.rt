@@ -62,7 +62,7 @@ impl<'a> Model for Message<'a> {
 /// The values of octet 8 of section 0 and of section 1 after its length.
 // rule: odd-values-kept, section-1-of-edition-3, edition-3-lacks, year-of-the-century
 // rule: listing-of-edition-3, section-1-of-edition-4
-#[tactic(auto, unfolding(crate::specs::Section1::head_size))]
+#[tactic(auto, unfolding(crate::specs::Section1::min_section_1))]
 #[inline(always)]
 fn head_at(m: &[u8]) -> Head
     requires long { 8 ≤ length m.now }

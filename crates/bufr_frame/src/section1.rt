@@ -49,7 +49,7 @@ pub struct Head {
 pub(crate) const SECTION_0: usize = 8;
 
 /// Section 1 of an edition, without octets for local use.
-#[tactic(auto, unfolding(crate::specs::Section1::head_size))]
+#[tactic(auto, unfolding(crate::specs::Section1::min_section_1))]
 // rule: length-under-least
 pub(crate) fn min_section_1(edition: u8) -> usize
     ensures value { result ≡ min_section_1 edition }

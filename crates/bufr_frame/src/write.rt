@@ -1,7 +1,7 @@
 //! Writing a message from its parts.
-ghost use Rattle.std.specs.Prelude.{◌≡◌, ◌≤◌, ◌<◌, ◌+◌, ◌*◌, ◌/◌, ◌%◌, ◌^◌, ◌↔◌, ◌++◌, length, IfOk, OnOk, Ok, Err, Some, SomeIff, IsTrue, if◌then◌else◌};
+ghost use Rattle.std.specs.Prelude.{◌≡◌, ◌≤◌, ◌<◌, ◌+◌, ◌*◌, ◌/◌, ◌%◌, ◌^◌, ◌↔◌, ◌++◌, length, IfOk, OnOk, Ok, Err, Some, SomeIff, IsTrue, false, if◌then◌else◌};
 ghost use Rattle.std.specs.Option.{option_map};
-ghost use Rattle.bufr_frame.specs.Prelude.{three_octets, octets_of_words, sections_of, even_size, with_even_length, is_writable, message_octets, message_size, max_octets, with_pad_octet, parts_of, sections_from, head_octets, section2_octets, section3_octets, section4_octets, section2_size, size_from, octets_3, octets_4};
+ghost use Rattle.bufr_frame.specs.Prelude.{three_octets, octets_of_words, sections_of, even_size, with_even_length, is_writable, message_octets, message_size, max_octets, with_pad_octet, parts_of, sections_from, head_octets, section2_octets, section3_octets, section4_octets, size_from, octets_3, octets_4};
 
 use crate::fault::WriteFault;
 use crate::octets::{high_octet, low_octet};
@@ -14,7 +14,7 @@ use std::alloc::{AllocError, Global};
 const MAX_OCTETS: usize = 16_777_215;
 
 /// The number of octets of the message, or `TooLong`.
-#[tactic(auto, unfolding(crate::specs::Section1::head_size))]
+#[tactic(auto, unfolding(crate::specs::Section1::min_section_1))]
 // rule: greatest-length
 fn size_of(
     edition: u8,
@@ -23,10 +23,12 @@ fn size_of(
     descriptors: &[u16],
     payload: &[u8],
 ) -> Option<usize>
-    ensures { SomeIff result (size_from edition (length local1.now) (option_map (λ s. s.now)
-        section2.entry) (length descriptors.now) (length payload.now) ≤ max_octets)
-        (size_from edition (length local1.now) (option_map (λ s. s.now) section2.entry)
-        (length descriptors.now) (length payload.now)) }
+    ensures lengths { let n = size_from edition (length local1.now) (option_map (λ s. s.now)
+        section2.entry) (length descriptors.now) (length payload.now) in
+        SomeIff result (n ≤ max_octets) n }
+    ensures size { let p = parts_of local1.now (option_map (λ s. s.now) section2.entry)
+        descriptors.now 0 false false payload.now in
+        SomeIff result (message_size edition p ≤ max_octets) (message_size edition p) }
 {
     let second = match section2 {
         None => 0,
@@ -140,7 +142,7 @@ fn push_plain(octets: &mut Vec<u8>, content: &[u8], pads: bool) -> Result<(), Al
 
 // rule: section-2, sections-1-and-2-as-given
 fn push_section2(octets: &mut Vec<u8>, section2: Option<&[u8]>) -> Result<(), AllocError>
-    requires { section2_size (option_map (λ s. s.now) section2) < 2 ^ 24 }
+    requires { length (section2_octets (option_map (λ s. s.now) section2)) < 2 ^ 24 }
     ensures { OnOk result (octets.new.items
         ≡ octets.old.items ++ section2_octets (option_map (λ s. s.now) section2.entry)) }
 {

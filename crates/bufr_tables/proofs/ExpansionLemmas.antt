@@ -1,7 +1,7 @@
 -- Steps of the expansion: trees, cells that are read back, and one part at a time.
 use Rattle.std.proofs.lemmas.Grind.{common_steps}
-use Rattle.std.proofs.Common.{◌≡◌, max, Bool, true, false, ◌||◌, refl, ◌∙◌, ap, arith, ℕ, zero, suc, ◌+◌, ◌-◌, ◌<◌, List, [], ◌∷◌, drop, Option, Some, None, Result, Ok, Err, sym, sub-one, ◌++◌, length, subst, append_assoc, ◌≤◌, set, ◌≢◌, take, if◌then◌else◌, ◌==◌}
-use Rattle.bufr_tables.specs.Prelude.{Tree, bare, element, operator, fixed, delayed, join, depth, consumes, is_inserted_text, gives_width, size, places, TemplateFault, Tables, Expansion, part, ◌>>=◌, part_of, level, inner_of, ExpandedPart, unless, opened, with_places, body_of, sequence_part, element_part, group_part, operator_part, delayed_part, Cell, first_tree, cells_of, factor_first, prepend_cell, read_cells, trees_of_cells, AreCellsOf, IsTemplate, own_places, group_of, first_cell, factor_cells, BuilderModel, growth, places_so_far, push_tree, with_open_group, with_closed_group, PushesTree, PushesPart, IsFaultOrMemory, PushesTreeUnlessMemory, GivesPart, GivesGrowth, OpensGroup, f_of, x_of, y_of}
+use Rattle.std.proofs.Common.{◌≡◌, max, Bool, true, false, ◌||◌, refl, ◌∙◌, ap, arith, ℕ, zero, suc, ◌+◌, ◌-◌, ◌<◌, List, [], ◌∷◌, drop, Option, Some, None, Result, Ok, Err, sym, sub-one, ◌++◌, length, subst, append_assoc, ◌≤◌, set, ◌≢◌, take, if◌then◌else◌, ◌==◌, ok_or}
+use Rattle.bufr_tables.specs.Prelude.{Tree, bare, element, operator, fixed, delayed, join, depth, consumes, is_inserted_text, gives_width, size, places, TemplateFault, Tables, Expansion, part, ◌>>=◌, part_of, level, inner_of, ExpandedPart, unless, with_places, body_of, sequence_part, element_part, group_part, operator_part, delayed_part, Cell, first_tree, cells_of, factor_first, prepend_cell, read_cells, trees_of_cells, AreCellsOf, IsTemplate, own_places, group_of, first_cell, factor_cells, BuilderModel, growth, places_so_far, push_tree, with_open_group, with_closed_group, PushesTree, PushesPart, IsFaultOrMemory, PushesTreeUnlessMemory, GivesPart, GivesGrowth, OpensGroup, f_of, x_of, y_of}
 use Rattle.std.proofs.lemmas.List.{append-nil, length-append}
 use Rattle.std.proofs.lemmas.Bool.Decides.{nat_tests}
 use Rattle.std.proofs.Math.Seq.{set-append_seam}
@@ -264,7 +264,7 @@ opened_body expand places own d after =
     with_places places own d >>= λ _. expand (places + own) (take (x_of d) after) >>= λ body. unless (consumes body) (fault.EmptyGroup d) >>= λ _. Ok body
 
 body_fits : (inner : Option Expansion) (places own d : ℕ) (after : List ℕ) → x_of d ≤ length after
-    → body_of inner places own d after ≡ (opened inner d >>= λ expand. opened_body expand places own d after)
+    → body_of inner places own d after ≡ (ok_or inner (fault.Depth d) >>= λ expand. opened_body expand places own d after)
 body_fits inner places own d after h = grind (arith, common_steps)
 
 -- the expansion within, where there is room
@@ -299,7 +299,7 @@ pub body-ok : (tables : Tables) (room places own d : ℕ) (after : List ℕ) (tr
 body-ok tables room places own d after tree r h e f full = grind (arith, common_steps, body_room)
 
 sequence_listed : (tables : Tables) (inner : Option Expansion) (places d : ℕ) (members : List ℕ) → tables.members d ≡ Some members
-    → sequence_part tables inner places d ≡ (opened inner d >>= λ expand. expand places members >>= λ tree. Ok (part tree 0))
+    → sequence_part tables inner places d ≡ (ok_or inner (fault.Depth d) >>= λ expand. expand places members >>= λ tree. Ok (part tree 0))
 sequence_listed tables inner places d members e = grind (arith, common_steps)
 
 pub sequence-depth : (tables : Tables) (room places d : ℕ) (members : List ℕ) → room ≡ 0 → tables.members d ≡ Some members → sequence_part tables (inner_of tables room) places d ≡ Err (fault.Depth d)

@@ -17,9 +17,11 @@ use Rattle.csv.specs.declared.parser.State.{State}
 use Rattle.csv.specs.declared.parser.Terminator.{Terminator}
 use Rattle.csv.specs.declared.parser.Action.{Action}
 use Rattle.csv.specs.declared.reader.Reader.{Reader}
-use Rattle.bufr_tables.specs.Prelude.{◌>>=◌, Record, GivesNext, IsBetween, count_of, record_given, records_after, text_left, field_of, IsOpened, records_left, field_texts, has_fields, has_header, table_from, table_of, ReturnsUnlessMemory, only_if, fits_i64, i64_of, integer_of, natural_of, TableFault, ReadsTableD, Sequence, table_d_of, with_record_d}
+use Rattle.bufr_tables.specs.Prelude.{◌>>=◌, Record, GivesNext, IsBetween, count_of, record_given, records_after, text_left, field_of, IsOpened, records_left, field_texts, has_header, table_from, table_of, ReturnsUnlessMemory, only_if, fits_i64, i64_of, integer_of, natural_of, TableFault, ReadsTableD, Sequence, table_d_of, with_record_d}
 use Rattle.bufr_tables.specs.declared.rows.RecordReader.{RecordReader}
 use Rattle.std.specs.Str.{bytes_eq}
+use Rattle.std.specs.Cmp.Lexicographic.{pointwise}
+use Rattle.std.proofs.lemmas.Slice.Eq.{bytes_eq-Decides, slice_eq-Decides}
 use Rattle.csv.specs.Records.{field_at}
 use Rattle.bufr_tables.specs.declared.fault.TableFault.TheVariants.{Header, Row, Duplicate, Cycle, TableSize, Csv, Memory}
 use Rattle.csv.specs.declared.parser.State.TheVariants as st
@@ -193,19 +195,24 @@ gives-end old new fields was read = record {
 -- ---- The rows of a table, one record after another.
 
 -- records of other lengths
-pub other-length : (names : List (Bor (List ℕ))) (r : Record) → (length r ≡ length names → ⊥) → has_fields (field_texts names) r ≡ false
+pub other-length : (names : List (Bor (List ℕ))) (r : Record) → (length r ≡ length names → ⊥) → pointwise bytes_eq r (field_texts names) ≡ false
 other-length [] [] other = absurd (other refl)
 other-length [] (field ∷ fields) other = refl
 other-length (name ∷ names) [] other = refl
 other-length (name ∷ names) (field ∷ fields) other = by (bytes_eq field name.now) (other-length names fields (λ same. other (omega (arith, same))))
   where
-    by : (b : Bool) → has_fields (field_texts names) fields ≡ false → (b && has_fields (field_texts names) fields) ≡ false
+    by : (b : Bool) → pointwise bytes_eq fields (field_texts names) ≡ false → (b && pointwise bytes_eq fields (field_texts names)) ≡ false
     by true e = e
     by false e = refl
 
+-- fields that are equal to names one by one
+pub names-are : (r : Record) (names : List (List ℕ)) → pointwise bytes_eq r names ≡ true → r ≡ names
+names-are r names e = (slice_eq-Decides bytes_eq-Decides r names true (sym e)).0 refl
+
 -- the fields from one place on
 fields-at : (names : List (Bor (List ℕ))) (r : Record) (place : ℕ) (d : Bor (List ℕ)) → length r ≡ length names → place < length names
-    → has_fields (drop place (field_texts names)) (drop place r) ≡ (bytes_eq (field_of r place) (get_or names place d).now && has_fields (drop (suc place) (field_texts names)) (drop (suc place) r))
+    → pointwise bytes_eq (drop place r) (drop place (field_texts names))
+    ≡ (bytes_eq (field_of r place) (get_or names place d).now && pointwise bytes_eq (drop (suc place) r) (drop (suc place) (field_texts names)))
 unfolding field_at
 fields-at [] r place d same inside = absurd (omega arith)
 fields-at (name ∷ names) [] place d same inside = absurd (omega arith)
@@ -215,18 +222,19 @@ fields-at (name ∷ names) (field ∷ fields) (suc place) d same inside = fields
 -- one field, distinguished from its name or not
 module _ (names : List (Bor (List ℕ))) (r : Record) (place : ℕ) (d : Bor (List ℕ)) (field : List ℕ) (differs : Bool) (same : length r ≡ length names) (inside : place < length names)
     (is : field ≡ field_of r place) (reported : differs ≡ not (bytes_eq field (get_or names place d).now))
-    (so_far : has_fields (field_texts names) r ≡ has_fields (drop place (field_texts names)) (drop place r)) where
-  pub fields-other : differs ≡ true → false ≡ has_fields (field_texts names) r
+    (so_far : pointwise bytes_eq r (field_texts names) ≡ pointwise bytes_eq (drop place r) (drop place (field_texts names))) where
+  pub fields-other : differs ≡ true → false ≡ pointwise bytes_eq r (field_texts names)
   fields-other apart = by (bytes_eq field (get_or names place d).now) refl (sym reported ∙ apart)
     where
-      by : (b : Bool) → bytes_eq field (get_or names place d).now ≡ b → not b ≡ true → false ≡ has_fields (field_texts names) r
+      by : (b : Bool) → bytes_eq field (get_or names place d).now ≡ b → not b ≡ true → false ≡ pointwise bytes_eq r (field_texts names)
       by true e is_not = cc is_not
       by false e is_not = sym (so_far ∙ fields-at names r place d same inside ∙ rw (← is, e) refl)
 
-  pub fields-more : differs ≡ false → has_fields (field_texts names) r ≡ has_fields (drop (place + 1) (field_texts names)) (drop (place + 1) r)
+  pub fields-more : differs ≡ false → pointwise bytes_eq r (field_texts names) ≡ pointwise bytes_eq (drop (place + 1) r) (drop (place + 1) (field_texts names))
   fields-more alike = rw add-one (by (bytes_eq field (get_or names place d).now) refl (sym reported ∙ alike))
     where
-      by : (b : Bool) → bytes_eq field (get_or names place d).now ≡ b → not b ≡ false → has_fields (field_texts names) r ≡ has_fields (drop (suc place) (field_texts names)) (drop (suc place) r)
+      by : (b : Bool) → bytes_eq field (get_or names place d).now ≡ b → not b ≡ false
+          → pointwise bytes_eq r (field_texts names) ≡ pointwise bytes_eq (drop (suc place) r) (drop (suc place) (field_texts names))
       by true e is_not = so_far ∙ fields-at names r place d same inside ∙ rw (← is, e) refl
       by false e is_not = cc is_not
 

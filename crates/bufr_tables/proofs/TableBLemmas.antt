@@ -1,13 +1,16 @@
 -- The rows of Table B, and what is kept of them.
 use Rattle.std.proofs.lemmas.Grind.{common_steps}
 use Rattle.std.proofs.Common.{◌≡◌, ◌≢◌, ℕ, ◌+◌, ◌-◌, ◌<◌, ◌≤◌, Bool, true, false, List, [], ◌∷◌, ◌++◌, length, Option, Some, None, refl, sym, ap, ◌∙◌, arith, suc, eqb, inl, inr, option_map, get_or, set, length-append, rules, tests, append_assoc, append-nil, codes, ℤ, subst, Result, Ok, Err, cond, map, nat_eq, ◌==◌, ◌||◌, if◌then◌else◌, IfSome, slice_range, is_some, nat_le}
+use Rattle.std.specs.Str.{bytes_eq}
+use Rattle.bufr_tables.proofs.RecordLemmas.{names-are}
+use Rattle.std.specs.Cmp.Lexicographic.{pointwise}
 use Rattle.std.specs.Int.RustNames.{unsigned_abs}
 use Rattle.std.specs.List.{AllByRecursion, IsDistinct, find, list_any}
 use Rattle.std.proofs.lemmas.Bool.{cases_eq, eqb-true}
 use Rattle.std.proofs.lemmas.List.{get_or-set_same, get_or-set_other, map-append, map-id}
 use Rattle.std.proofs.lemmas.Map.Steps.{length-le_from_distinct_below}
 use Rattle.std.proofs.lemmas.Option.{same_Some, option_and_then_some}
-use Rattle.bufr_tables.specs.Prelude.{◌>>=◌, mark_of, place_of, f_of, fxy_text, key_of, ExtendsBlock, IsStored, row_parsed, rows_kept, IsRowKept, row_kept, Row, entry_of, row_comment, row_line_start, kind_of, IsRow, allows_width, element_of, is_name, plain_of, row_of, scale_of, width_of, AreRows, columns_b, table_b_of, with_record_b, with_row, i64_of, Record, field_of, only_if, has_fields, table_from, table_of, TableFault}
+use Rattle.bufr_tables.specs.Prelude.{◌>>=◌, mark_of, place_of, f_of, fxy_text, key_of, ExtendsBlock, IsStored, row_parsed, rows_kept, IsRowKept, row_kept, Row, entry_of, row_comment, row_line_start, kind_of, IsRow, allows_width, element_of, is_name, plain_of, row_of, scale_of, width_of, AreRows, columns_b, table_b_of, with_record_b, with_row, i64_of, Record, field_of, only_if, table_from, table_of, TableFault}
 use Rattle.bufr_tables.specs.declared.table_b.ParsedRow.{ParsedRow}
 use Rattle.bufr_tables.specs.declared.table_b.Stored.{Stored}
 use Rattle.bufr_tables.specs.declared.table_b.Kind.{Kind}
@@ -428,10 +431,10 @@ rows-add n rows (r ∷ rs) table is distinct = by (with_record_b n rows r) refl 
 pub rows-law : (records : List Record) (table : List Row) → table_b_of records ≡ Ok table → AreRows records table
 unfolding table_of
 rows-law [] table is = cc is
-rows-law (first ∷ rest) table is = by (has_fields columns_b first) refl is
+rows-law (first ∷ rest) table is = by (pointwise bytes_eq first columns_b) refl is
   where
-    by : (b : Bool) → has_fields columns_b first ≡ b → (if b then table_from with_record_b 2 [] rest else Err Header) ≡ Ok table → AreRows (first ∷ rest) table
+    by : (b : Bool) → pointwise bytes_eq first columns_b ≡ b → (if b then table_from with_record_b 2 [] rest else Err Header) ≡ Ok table → AreRows (first ∷ rest) table
     by false e is = cc is
     by true e is =
         let add = rows-add 2 [] rest table is distinct-none in
-        record { first = first; rest = rest; split = refl; named = e; rows = rw add.longer add.written; distinct = add.distinct }
+        record { rest = rest; split = ap (λ fields. fields ∷ rest) (names-are first _ e); rows = rw add.longer add.written; distinct = add.distinct }

@@ -1,10 +1,13 @@
 -- The sequences of Table D, and their members.
 use Rattle.std.proofs.lemmas.Grind.{common_steps}
 use Rattle.std.proofs.Common.{◌≡◌, ◌≢◌, ℕ, ◌+◌, ◌-◌, ◌/◌, ◌<◌, ◌≤◌, false, List, [], ◌∷◌, ◌++◌, length, map, set, Option, Some, None, refl, ap, ◌∙◌, arith, suc, zero, get_or, option_map, rules, tests, Bool, true, sym, Result, Ok, Err, ◌==◌, slice_index, slice_range, ◌&&◌, cond, if◌then◌else◌, is_some, nat_eq, nat_le, not, unwrap_or}
+use Rattle.std.specs.Str.{bytes_eq}
+use Rattle.bufr_tables.proofs.RecordLemmas.{names-are}
+use Rattle.std.specs.Cmp.Lexicographic.{pointwise}
 use Rattle.std.specs.List.{AllByRecursion, IsDistinct, find}
 use Rattle.std.proofs.lemmas.List.{take_all, drop_at, map-append, append-nil, append_assoc, map-id}
 use Rattle.bufr_tables.proofs.TableBLemmas.{find-absent, find-found, place-absent, range-append, distinct-added, distinct-none}
-use Rattle.bufr_tables.specs.Prelude.{◌>>=◌, place_of, f_of, key_of, IsMemberRange, LastEnds, run_key, sequence_kept, sequences_kept, Sequence, extended, fxys_of, is_last, members_of, AreSequences, Member, added, begins_again, columns_d, members_or_none, member_of, members_in, table_d_of, with_member, with_record_d, Record, has_fields, table_from, table_of, TableFault}
+use Rattle.bufr_tables.specs.Prelude.{◌>>=◌, place_of, f_of, key_of, IsMemberRange, LastEnds, run_key, sequence_kept, sequences_kept, Sequence, extended, fxys_of, is_last, members_of, AreSequences, Member, added, begins_again, columns_d, members_or_none, member_of, members_in, table_d_of, with_member, with_record_d, Record, table_from, table_of, TableFault}
 use Rattle.bufr_tables.specs.declared.table_d.MemberRange.{MemberRange}
 use Rattle.std.proofs.lemmas.Bool.{eqb-true}
 use Rattle.bufr_tables.specs.declared.fault.TableFault.TheVariants.{Csv, Duplicate, Header, TableSize}
@@ -325,10 +328,10 @@ rows-add n before (r ∷ rs) table is distinct = by (with_record_d n before r) r
 pub sequences-law : (records : List Record) (table : List Sequence) → table_d_of records ≡ Ok table → AreSequences records table
 unfolding table_of
 sequences-law [] table is = cc is
-sequences-law (first ∷ rest) table is = by (has_fields columns_d first) refl is
+sequences-law (first ∷ rest) table is = by (pointwise bytes_eq first columns_d) refl is
   where
-    by : (b : Bool) → has_fields columns_d first ≡ b → (if b then table_from with_record_d 2 [] rest else Err Header) ≡ Ok table → AreSequences (first ∷ rest) table
+    by : (b : Bool) → pointwise bytes_eq first columns_d ≡ b → (if b then table_from with_record_d 2 [] rest else Err Header) ≡ Ok table → AreSequences (first ∷ rest) table
     by false e is = cc is
     by true e is =
         let add = rows-add 2 [] rest table is distinct-none in
-        record { first = first; rest = rest; split = refl; named = e; rows = add.rows; written = add.written; members = add.members }
+        record { rest = rest; split = ap (λ fields. fields ∷ rest) (names-are first _ e); rows = add.rows; written = add.written; members = add.members }

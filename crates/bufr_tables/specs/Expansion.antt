@@ -47,12 +47,6 @@ pub record ExpandedPart : Type 0 where
 abbrev pub part : Tree → ℕ → ExpandedPart
 part tree taken = record { tree = tree; taken = taken }
 
--- how to expand the inner list of d, or a fault if too many groups and sequences are nested
--- rule: fault-26
-abbrev pub opened : Option Expansion → ℕ → Result Expansion TemplateFault
-opened None d = Err (template.Depth d)
-opened (Some inner) d = Ok inner
-
 -- whether a list begins with an element
 abbrev pub begins_with_element : List ℕ → Bool
 begins_with_element [] = false
@@ -76,16 +70,18 @@ operator_part places d after = do
   Ok (part (operator d bare) 0)
 
 -- The body of group d: the first X descriptors of `after`, which must all be in the same list
--- (own). `frame` is the number of places that the group takes besides those of its body. Some node
--- of the body must take bits of the data (own).
+-- (own). Fails if too many groups and sequences are nested. `own_places` is the number of places
+-- that the group takes besides those of its body. Some node of the body must take bits of the data
+-- (own).
 -- rule: replication-before-expansion, replication-nested, replication-in-one-list, fault-23
--- rule: order-at-a-replication
-abbrev pub body_of : Option Expansion → (places frame d : ℕ) → List ℕ → Result Tree TemplateFault
-body_of inner places frame d after = do
+-- rule: fault-26, order-at-a-replication
+abbrev pub body_of : Option Expansion → (places own_places d : ℕ) → List ℕ
+    → Result Tree TemplateFault
+body_of inner places own_places d after = do
   _ ← unless (nat_le (x_of d) (length after)) (template.GroupShape d)
-  expand ← opened inner d
-  _ ← with_places places frame d
-  body ← expand (places + frame) (take (x_of d) after)
+  expand ← ok_or inner (template.Depth d)
+  _ ← with_places places own_places d
+  body ← expand (places + own_places) (take (x_of d) after)
   _ ← unless (consumes body) (template.EmptyGroup d)
   Ok body
 
@@ -115,12 +111,12 @@ group_part tables inner places d after = do
   _ ← unless (nat_lt 0 (x_of d)) (template.GroupShape d)
   if y_of d == 0 then delayed_part tables inner places d after else fixed_part inner places d after
 
--- a sequence: its members take its place
--- rule: fault-21, order-at-a-sequence
+-- a sequence: its members take its place, unless too many groups and sequences are nested
+-- rule: fault-21, fault-26, order-at-a-sequence
 abbrev pub sequence_part : Tables → Option Expansion → ℕ → ℕ → Result ExpandedPart TemplateFault
 sequence_part tables inner places d = do
   members ← ok_or (tables.members d) (template.UnknownSequence d)
-  expand ← opened inner d
+  expand ← ok_or inner (template.Depth d)
   tree ← expand places members
   Ok (part tree 0)
 

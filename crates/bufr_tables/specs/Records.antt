@@ -12,6 +12,7 @@ use Rattle.csv.specs.Records.{field_at, fields_of}
 use Rattle.bufr_tables.specs.declared.fault.TableFault.{TableFault}
 use Rattle.bufr_tables.specs.declared.fault.TableFault.TheVariants.{Header, Memory}
 use Rattle.std.specs.Str.{bytes_eq}
+use Rattle.std.specs.Cmp.Lexicographic.{pointwise}
 use Rattle.std.specs.Borrow.{Bor}
 use Rattle.csv.specs.Machine.{ends_at_end}
 use Rattle.csv.specs.declared.parser.State.{State}
@@ -68,18 +69,11 @@ ReturnsUnlessMemory expected (Err fault) = fault ≢ Memory → expected ≡ Err
 
 -- A table as the records of its text: a header, and under it a row each. (own)
 
--- whether the fields of a record are exactly these names
-abbrev pub has_fields : List (List ℕ) → Record → Bool
-has_fields [] [] = true
-has_fields [] (field ∷ fields) = false
-has_fields (name ∷ names) [] = false
-has_fields (name ∷ names) (field ∷ fields) = bytes_eq field name && has_fields names fields
-
 -- whether the first record is this header
 -- rule: fault-40
 abbrev pub has_header : List (List ℕ) → List Record → Bool
 has_header header [] = false
-has_header header (first ∷ rest) = has_fields header first
+has_header header (first ∷ rest) = pointwise bytes_eq first header
 
 -- The table that comes from `table` by adding the given records one by one, or the first fault. The
 -- first of the records has number n; `with_record` adds one.

@@ -10,7 +10,7 @@ use Rattle.std.specs.Int.RustNames.{unsigned_abs}
 use Rattle.bufr_tables.specs.declared.fault.TableFault.{TableFault}
 use Rattle.bufr_tables.specs.declared.fault.TableFault.TheVariants.{Row as RowFault, Duplicate, Csv}
 use Rattle.bufr_tables.specs.Fxy.{◌>>=◌, only_if, f_of, fxy_of, fxy_text, is_factor, y_of}
-use Rattle.bufr_tables.specs.Records.{i64_of, natural_of, Record, field_of, has_fields, table_of}
+use Rattle.bufr_tables.specs.Records.{i64_of, natural_of, Record, field_of, table_of}
 use Rattle.bufr_tables.specs.declared.table_b.Stored.{Stored}
 use Rattle.bufr_tables.specs.declared.table_b.ParsedRow.{ParsedRow}
 use Rattle.bufr_tables.specs.declared.table_b.TableB.TheInside.{Inside}
@@ -157,10 +157,8 @@ table_b_of records = table_of columns_b with_record_b [] records
 -- These are the rows of a Table B: those of the records after the header, in order, without a
 -- second row of an element.
 pub record AreRows (records : List Record) (table : List Row) : Type 0 where
-  pub first : Record
   pub rest : List Record
-  pub split : records ≡ first ∷ rest
-  pub named : has_fields columns_b first ≡ true
+  pub split : records ≡ columns_b ∷ rest
   pub rows : map row_of rest ≡ map Some table
   pub distinct : IsDistinct nat_eq (map (λ row. row.fxy) table)
 

@@ -6,7 +6,7 @@ use Rattle.std.specs.List.{find, AllByRecursion}
 use Rattle.bufr_tables.specs.declared.fault.TableFault.{TableFault}
 use Rattle.bufr_tables.specs.declared.fault.TableFault.TheVariants.{Row as RowFault, Duplicate, TableSize, Csv, Cycle, Memory}
 use Rattle.bufr_tables.specs.Fxy.{◌>>=◌, only_if, f_of, fxy_of, key_of}
-use Rattle.bufr_tables.specs.Records.{Record, field_of, has_fields, table_of}
+use Rattle.bufr_tables.specs.Records.{Record, field_of, table_of}
 use Rattle.bufr_tables.specs.declared.table_d.MemberRange.{MemberRange}
 use Rattle.bufr_tables.specs.declared.table_d.TableD.TheInside.{Inside}
 
@@ -97,10 +97,8 @@ members_in (row ∷ rows) fxy =
 
 -- a sequence of a table has the members that the records under the header give it, in order
 pub record AreSequences (records : List Record) (table : List Sequence) : Type 0 where
-  pub first : Record
   pub rest : List Record
-  pub split : records ≡ first ∷ rest
-  pub named : has_fields columns_d first ≡ true
+  pub split : records ≡ columns_d ∷ rest
   pub rows : List Member
   pub written : map member_of rest ≡ map Some rows
   pub members : (fxy : ℕ) → members_or_none table fxy ≡ members_in rows fxy

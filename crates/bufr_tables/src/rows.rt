@@ -1,6 +1,8 @@
 //! The rows of a table's text: its records, one after another, and the whole numbers in them.
 ghost use Rattle.std.specs.Prelude.{◌≡◌, ◌≢◌, ◌-◌, ◌^◌, ◌<◌, ◌==◌, IfOk, IfErr, false, min, option_map, slice_index};
-ghost use Rattle.bufr_tables.specs.Records.{i64_of, natural_of, GivesNext, IsBetween, IsOpened, field_texts, field_of, records_of, has_fields, has_header};
+ghost use Rattle.bufr_tables.specs.Records.{i64_of, natural_of, GivesNext, IsBetween, IsOpened, field_texts, field_of, records_of, has_header};
+ghost use Rattle.std.specs.Str.{bytes_eq};
+ghost use Rattle.std.specs.Cmp.Lexicographic.{pointwise};
 ghost use Rattle.bufr_tables.specs.declared.fault.TableFault.TheVariants.{Header, Memory};
 ghost use Rattle.csv.specs.Records.{fields_of};
 
@@ -73,7 +75,7 @@ pub(crate) fn field(fields: &ByteRecord, place: usize) -> &[u8]
 
 // rule: fault-40
 fn has_fields(fields: &ByteRecord, names: &[&[u8]]) -> bool
-    ensures { result ≡ has_fields (field_texts names.now) (fields_of fields.now) }
+    ensures { result ≡ pointwise bytes_eq (fields_of fields.now) (field_texts names.now) }
 {
     if fields.len() != names.len() {
         return false;

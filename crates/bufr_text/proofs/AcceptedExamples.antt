@@ -7,7 +7,7 @@ use Rattle.bufr_tables.specs.declared.table_b.Kind.TheVariants as kind
 use Rattle.bufr_tables.specs.Prelude.{part_of, level, inner_of, tree_of, Row, element, bare}
 use Rattle.bufr_frame.specs.declared.section1.Head.{Head}
 use Rattle.bufr_frame.specs.declared.fault.SectionFault.TheVariants.{Edition3Long, SectionsEnd}
-use Rattle.bufr_frame.specs.Prelude.{head_size, max_octets, size_from, three_octets, u24_at, IsPlain, Sections, sections_of, section_end, parts, parts_if_end_matches, edition_of, is_long_edition_3, is_padded}
+use Rattle.bufr_frame.specs.Prelude.{min_section_1, max_octets, size_from, three_octets, u24_at, IsPlain, Sections, sections_of, section_end, parts, parts_if_end_matches, edition_of, is_long_edition_3, is_padded}
 use Rattle.bufr_walk.specs.declared.spec.Role.TheVariants as role
 use Rattle.bufr_walk.specs.Prelude.{number, missing, next_item, Values, apart, together}
 use Rattle.bufr_text.specs.Prelude.{IsCanonical, IsAccepted}
@@ -53,11 +53,11 @@ message size sections = codes "BUFR" ++ 0 ∷ 0 ∷ size ∷ 4
 
 -- one block number, in seven bits; the eighth is this
 one_block_number : (payload : ℕ) → List ℕ
-unfolding message head_size
+unfolding message min_section_1
 one_block_number payload = message 48 (0 ∷ 0 ∷ 9 ∷ 0 ∷ 0 ∷ 1 ∷ 0x80 ∷ 1 ∷ 1 ∷ 0 ∷ 0 ∷ 5 ∷ 0 ∷ payload ∷ [])
 
 its_sections : (payload : ℕ) → Sections
-unfolding the_head head_size
+unfolding the_head min_section_1
 its_sections payload = record { head = the_head; local1 = []; section2 = None; descriptors = 257 ∷ []; subsets = 1; observed = true; compressed = false; payload = payload ∷ []; size = 48 }
 
 block_number : Values
@@ -68,7 +68,7 @@ block_number = apart ((record {
 
 -- Seven bits are a reading, whatever the eighth is.
 block_accepted : IsAccepted the_table [] (one_block_number 0x14) (its_sections 0x14) (element 257 bare) block_number 7
-unfolding the_table the_head message one_block_number its_sections block_number sections_of section_end head_size tree_of level part_of inner_of next_item bits_of bits_in
+unfolding the_table the_head message one_block_number its_sections block_number sections_of section_end min_section_1 tree_of level part_of inner_of next_item bits_of bits_in
 block_accepted = record {
   octets = search arith;
   few = omega arith;
@@ -79,7 +79,7 @@ block_accepted = record {
 
 -- rule: canonical
 block_canonical : IsCanonical (one_block_number 0x14) (its_sections 0x14) block_number 7
-unfolding the_head message one_block_number its_sections block_number bits_of bits_in head_size
+unfolding the_head message one_block_number its_sections block_number bits_of bits_in min_section_1
 block_canonical = record {
   plain = record {
     octets = all_of (one_block_number 0x14) (search arith);
@@ -103,7 +103,7 @@ block_canonical = record {
 -- With a bit after its data the message is accepted, and is not as an encoder writes it.
 -- rule: bits-left-over
 bit_after_accepted : IsAccepted the_table [] (one_block_number 0x15) (its_sections 0x15) (element 257 bare) block_number 7
-unfolding the_table the_head message one_block_number its_sections block_number sections_of section_end head_size tree_of level part_of inner_of next_item bits_of bits_in
+unfolding the_table the_head message one_block_number its_sections block_number sections_of section_end min_section_1 tree_of level part_of inner_of next_item bits_of bits_in
 bit_after_accepted = record {
   octets = search arith;
   few = omega arith;
@@ -114,17 +114,17 @@ bit_after_accepted = record {
 
 -- rule: canonical
 bit_after_is_not_canonical : IsCanonical (one_block_number 0x15) (its_sections 0x15) block_number 7 → ⊥
-unfolding its_sections the_head bits_of head_size
+unfolding its_sections the_head bits_of min_section_1
 bit_after_is_not_canonical c = let with_bit : List ℕ = 0x15 ∷ [] in let without : List ℕ = 0x14 ∷ [] in let e : with_bit ≡ without = c.least in cc
 
 -- a temperature in two subsets, of which the second has none: a base of 16 bits, k = 1, and two
 -- increments of one bit
 two_temperatures : List ℕ
-unfolding message head_size
+unfolding message min_section_1
 two_temperatures = message 50 (0 ∷ 0 ∷ 9 ∷ 0 ∷ 0 ∷ 2 ∷ 0xC0 ∷ 0x0C ∷ 0x65 ∷ 0 ∷ 0 ∷ 7 ∷ 0 ∷ 0x70 ∷ 0x8F ∷ 5 ∷ [])
 
 their_sections : Sections
-unfolding the_head head_size
+unfolding the_head min_section_1
 their_sections = record { head = the_head; local1 = []; section2 = None; descriptors = 3173 ∷ []; subsets = 2; observed = true; compressed = true; payload = 0x70 ∷ 0x8F ∷ 5 ∷ []; size = 50 }
 
 temperatures : Values
@@ -134,7 +134,7 @@ temperatures = together (record {
 } ∷ [])
 
 temperatures_accepted : IsAccepted the_table [] two_temperatures their_sections (element 3173 bare) temperatures 24
-unfolding the_table the_head message two_temperatures their_sections temperatures sections_of section_end head_size tree_of level part_of inner_of next_item bits_of bits_in
+unfolding the_table the_head message two_temperatures their_sections temperatures sections_of section_end min_section_1 tree_of level part_of inner_of next_item bits_of bits_in
 temperatures_accepted = record {
   octets = search arith;
   few = omega arith;
@@ -144,7 +144,7 @@ temperatures_accepted = record {
 }
 
 temperatures_canonical : IsCanonical two_temperatures their_sections temperatures 24
-unfolding the_head message two_temperatures their_sections temperatures bits_of bits_in head_size
+unfolding the_head message two_temperatures their_sections temperatures bits_of bits_in min_section_1
 temperatures_canonical = record {
   plain = record {
     octets = all_of two_temperatures (search arith);
@@ -208,7 +208,7 @@ sections_of_3 last = record {
 
 -- With another octet than zero after the data, and left over in section 3, it is accepted.
 edition_3_accepted : IsAccepted the_table [] (edition_3 1 1) (sections_of_3 1) (element 257 bare) block_number 7
-unfolding the_table edition_3 sections_of_3 block_number sections_of section_end head_size tree_of level part_of inner_of next_item bits_of bits_in
+unfolding the_table edition_3 sections_of_3 block_number sections_of section_end min_section_1 tree_of level part_of inner_of next_item bits_of bits_in
 edition_3_accepted = record {
   octets = search arith;
   few = omega arith;
@@ -218,7 +218,7 @@ edition_3_accepted = record {
 }
 
 edition_3_plain : IsPlain (edition_3 0 0)
-unfolding edition_3 head_size
+unfolding edition_3 min_section_1
 edition_3_plain = record {
   octets = all_of (edition_3 0 0) (search arith);
   word = refl;
@@ -237,22 +237,22 @@ edition_3_plain = record {
 
 -- rule: canonical
 edition_3_canonical : IsCanonical (edition_3 0 0) (sections_of_3 0) block_number 7
-unfolding edition_3 sections_of_3 block_number bits_of bits_in head_size
+unfolding edition_3 sections_of_3 block_number bits_of bits_in min_section_1
 edition_3_canonical = record { plain = edition_3_plain; least = refl; bits = (λ h. h, tt) }
 
 -- The octet that is left over in section 3 is zero, and so is the one after the data.
 -- rule: canonical
 left_over_is_not_plain : IsPlain (edition_3 1 0) → ⊥
-unfolding edition_3 head_size
+unfolding edition_3 min_section_1
 left_over_is_not_plain p = let e : suc zero ≡ zero = p.left_over refl in cc
 
 octet_after_is_not_canonical : IsCanonical (edition_3 0 1) (sections_of_3 1) block_number 7 → ⊥
-unfolding sections_of_3 bits_of head_size
+unfolding sections_of_3 bits_of min_section_1
 octet_after_is_not_canonical c = let with_one : List ℕ = 0x14 ∷ 1 ∷ [] in let with_zero : List ℕ = 0x14 ∷ 0 ∷ [] in let e : with_one ≡ with_zero = c.least in cc
 
 -- An odd section 3 is not plain.
 odd_is_not_plain : IsPlain (slice_set (edition_3 0 0) 28 9) → ⊥
-unfolding edition_3 head_size
+unfolding edition_3 min_section_1
 odd_is_not_plain p = let e : suc zero ≡ zero = p.even3 refl in cc
 
 -- ---- the greatest length
@@ -266,7 +266,7 @@ greatest_read = refl
 
 -- rule: greatest-length
 greatest_written : size_from 4 16777170 None 0 0 ≡ max_octets
-unfolding head_size
+unfolding min_section_1
 greatest_written = refl
 
 -- With 16,777,214 octets a message of edition 3 is refused for its odd section 3: made even, it

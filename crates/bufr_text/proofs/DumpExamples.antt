@@ -5,7 +5,7 @@ use Rattle.bufr_bits.specs.Prelude.{decimal_text_of, unsigned_text}
 use Rattle.bufr_tables.specs.declared.table_b.Kind.{Kind}
 use Rattle.bufr_tables.specs.declared.table_b.Kind.TheVariants as kind
 use Rattle.bufr_tables.specs.Prelude.{Row}
-use Rattle.bufr_frame.specs.Prelude.{head_size, Sections, sections_of, section_end}
+use Rattle.bufr_frame.specs.Prelude.{min_section_1, Sections, sections_of, section_end}
 use Rattle.bufr_frame.specs.declared.fault.SectionFault.{SectionFault}
 use Rattle.bufr_walk.specs.declared.spec.Role.{Role}
 use Rattle.bufr_walk.specs.declared.spec.Role.TheVariants as role
@@ -43,7 +43,7 @@ text_in (Ok s) values = dump_text_of s (dump_items table s.subsets values)
 text_in (Err why) values = []
 
 unfoldable dumped : List ℕ → Values → List ℕ
-unfolding table sections_of section_end head_size
+unfolding table sections_of section_end min_section_1
 dumped octets values = text_in (sections_of octets) values
 
 item : {C : Type 0} → FieldSpec → C → Item C

@@ -1,6 +1,6 @@
 -- Documents and what they are encoded to.
 use Rattle.std.proofs.Common.{◌≡◌, ℕ, List, [], ◌∷◌, ◌++◌, replicate, Result, Ok, Err, refl, codes, ℤ, pos}
-use Rattle.bufr_frame.specs.Prelude.{head_size}
+use Rattle.bufr_frame.specs.Prelude.{min_section_1}
 use Rattle.bufr_bits.specs.Prelude.{bits_of, bits_in, decimal_value_of}
 use Rattle.bufr_tables.specs.declared.table_b.Kind.{Kind}
 use Rattle.bufr_tables.specs.Prelude.{part_of, level, inner_of, tree_of, Row}
@@ -104,7 +104,7 @@ documents_encoded :
     })
     ≡ Ok (codes "BUFR" ++ 0 ∷ 0 ∷ 0x2E ∷ 3 ∷ 0 ∷ 0 ∷ 0x12 ∷ 0 ∷ 0 ∷ 0x62 ∷ 0 ∷ 0 ∷ 0 ∷ 0 ∷ 0x0E ∷ 0 ∷ 0x18 ∷ 1 ∷ 2 ∷ 3 ∷ 4 ∷ 0
     ∷ 0 ∷ 0 ∷ 0x0A ∷ 0 ∷ 0 ∷ 1 ∷ 0x80 ∷ 1 ∷ 1 ∷ 0 ∷ 0 ∷ 0 ∷ 6 ∷ 0 ∷ 0x14 ∷ 0 ∷ codes "7777"))
-unfolding listed table document number encoded message encoding_in tree_of level part_of inner_of next_item decimal_value_of bits_in bits_of missing text head_size
+unfolding listed table document number encoded message encoding_in tree_of level part_of inner_of next_item decimal_value_of bits_in bits_of missing text min_section_1
 documents_encoded = (refl, refl, refl, refl, refl, refl, refl, refl, refl, refl, refl, refl, refl, refl, refl, refl, refl, refl, refl, refl)
 
 -- ---- How many turns the encoding of a document makes, computed from the definitions.
@@ -150,7 +150,7 @@ turns_made :
     × (turns (document 0 0 (0x0101 ∷ []) []) ≡ 0)
     × (turns (document 1 0 (0x0101 ∷ []) []) ≡ 0)
     × (turns (document 0 1 (0x0101 ∷ 0x0102 ∷ []) (block 24 (codes "10") ∷ Ends 25 ∷ [])) ≡ 0)
-unfolding turns block listed table document number tree_of level part_of inner_of next_item decimal_value_of bits_in factor missing head_size
+unfolding turns block listed table document number tree_of level part_of inner_of next_item decimal_value_of bits_in factor missing min_section_1
 turns_made = (refl, refl, refl, refl, refl, refl, refl, refl, refl, refl, refl, refl, refl, refl, refl, refl, refl, refl)
 
 -- ---- Documents and what they are encoded to in another form than they say.
@@ -174,5 +174,5 @@ documents_formed :
     -- 2 03 010, 0 12 101, 2 03 255: references that differ
     × (formed Compressed (document 0 2 (0x830A ∷ 0x0C65 ∷ 0x83FF ∷ []) (Holds (draft 24 0x0C65 (reference_token (codes "-400"))) ∷ Ends 25 ∷ Holds (draft 26 0x0C65 (reference_token (codes "-401"))) ∷ Ends 27 ∷ []))
     ≡ Err (fault.Item 24 wrong.Increment))
-unfolding listed table document number formed message encoding_in tree_of level part_of inner_of next_item decimal_value_of bits_in bits_of missing head_size
+unfolding listed table document number formed message encoding_in tree_of level part_of inner_of next_item decimal_value_of bits_in bits_of missing min_section_1
 documents_formed = (refl, refl, refl, refl, refl, refl)

@@ -13,7 +13,7 @@ use Rattle.bufr_frame.proofs.AgainLemmas.{sections-ended, edition-cases, head-sm
 use Rattle.bufr_fill.specs.Prelude.{IsDumped, AreDrafts, AreDumped, Draft, draft, DraftEntry, Ends, Subset, subset, prepend_to_subset, subsets_of}
 use Rattle.bufr_fill.proofs.FieldLemmas.{octet_bits_again, octets_in-are, length-octets_in}
 use Rattle.bufr_frame.specs.declared.section1.Head.{Head}
-use Rattle.bufr_frame.proofs.LayoutLemmas.{three-number, length-evened, length-octets_of_words, read-back, evened-bits, size-least}
+use Rattle.bufr_frame.proofs.LayoutLemmas.{three-number, message_size_is, read-back, evened-bits, size-least}
 use Rattle.bufr_frame.proofs.ScanLemmas.{scan_from-here}
 use Rattle.bufr_bits.proofs.BitLemmas.{length-bits_of}
 use Rattle.bufr_fill.proofs.WholeLaws.{plain_template_again, packed_template_again}
@@ -88,8 +88,6 @@ octets_small h p head local1 section2 descriptors subsets payload few =
     let s3 = section3_octets third p.subsets flags in
     let s4 = section4_octets fourth in
     let end = codes "7777" in
-    let long3 : 7 + length third ≡ even_size e (7 + 2 * length p.descriptors) = length-evened e 7 words ∙ ap (λ (k : ℕ). even_size e (7 + k)) (length-octets_of_words p.descriptors) in
-    let long4 : 4 + length fourth ≡ even_size e (4 + length p.payload) = length-evened e 4 p.payload in
     let edition_small : e < 256 = edition-cases e head.edition (λ is. omega (arith, is)) (λ is. omega (arith, is)) in
     both s0 (s1 ++ (s2 ++ (s3 ++ (s4 ++ end)))) (let t = three_small n (omega (arith, few)) in
     (omega arith, (omega arith, (omega arith, (omega arith, (t.0, (t.1.0, (t.1.1.0, (edition_small, tt)))))))))
@@ -97,9 +95,9 @@ octets_small h p head local1 section2 descriptors subsets payload few =
     (both (three_octets (least + length p.local1) ++ head_octets h (is_some p.section2)) p.local1
     (both (three_octets (least + length p.local1)) (head_octets h (is_some p.section2)) (three_small (least + length p.local1) (omega (arith, few))) (head-small h (is_some p.section2) head)) local1)
     (both s2 (s3 ++ (s4 ++ end)) (section2_small p.section2 n (omega (arith, few)) (section2_least e p) section2)
-    (both s3 (s4 ++ end) (section3_small third p.subsets flags (omega (arith, few, long3)) subsets (flags_small p.observed p.compressed)
+    (both s3 (s4 ++ end) (section3_small third p.subsets flags (omega (arith, few)) subsets (flags_small p.observed p.compressed)
     (evened_small e 7 words (words_small p.descriptors descriptors)))
-    (both s4 end (plain_small fourth (omega (arith, few, long4)) (evened_small e 4 p.payload payload)) (omega arith, (omega arith, (omega arith, (omega arith, tt))))))))
+    (both s4 end (plain_small fourth (omega (arith, few)) (evened_small e 4 p.payload payload)) (omega arith, (omega arith, (omega arith, (omega arith, tt))))))))
   where
     section3_small : (content : List ℕ) (subsets flags : ℕ) → 7 + length content < 2 ^ 24 → subsets < 65536 → flags < 256 → AllByRecursion IsOctet content
         → AllByRecursion IsOctet (section3_octets content subsets flags)
@@ -238,7 +236,11 @@ parts_back at s items payload = λ j. parts_of s.local1 (section2_back s.section
 pub size_least : (s : Sections) (payload : List ℕ) (n : ℕ) → length payload ≤ length s.payload → message_size s.head.edition (layout.parts_in s) ≤ n
     → message_size s.head.edition (parts_with s payload) ≤ n
 unfolding parts_with
-size_least s payload n h g = size-least s.head.edition (length s.local1) s.section2 (length s.descriptors) (length payload) (length s.payload) n h g
+size_least s payload n h g =
+    let e = s.head.edition in
+    let made = message_size_is e (parts_with s payload) in
+    let least = message_size_is e (layout.parts_in s) in
+    omega (arith, made, size-least e (length s.local1) s.section2 (length s.descriptors) (length payload) (length s.payload) n h (omega (arith, least, g)))
 
 pub size_is : (m : List ℕ) (s : Sections) → sections_of m ≡ Ok s → s.size ≡ length m
 size_is m s e = ap (λ (x : Sections). x.size) (sections-ended m s e).is

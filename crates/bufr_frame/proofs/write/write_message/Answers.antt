@@ -18,7 +18,7 @@ pub returns-clause-layout : goal.returns-clause-layout
 returns-clause-layout c =
     let h = c.args.head.now in
     let p : MessageParts = parts_of c.args.local1.now (option_map (λ s. s.now) c.args.section2) c.args.descriptors.now c.args.subsets c.args.observed c.args.compressed c.args.payload.now in
-    let size : c.in-Some.size ≡ message_size h.edition p = c.in-Some.ensures.1 in
+    let size : c.in-Some.size ≡ message_size h.edition p = c.in-Some.ensures.size.1 in
     let flags : 128 * c.from.result + 64 * c.from-2.result ≡ data_flags c.args.observed c.args.compressed =
     flags-are c.args.observed c.args.compressed c.from.result c.from-2.result c.from.ensures c.from-2.ensures in
     let optional = c.is_some.ensures ∙ is_some-map (λ s. s.now) c.args.section2 in
