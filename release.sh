@@ -1,9 +1,9 @@
 #!/usr/bin/env bash
 # Makes a release of the current commit: an archive that can be installed without the toolchain, a wheel, and checksums.
-# If the program is proved, the archive and the wheel contain the library for C.
+# If the program is proved, the archive and the wheel contain the C library.
 #
 #     ./release.sh [DIST]                         proves everything from scratch, which takes one to two hours
-#     ./release.sh --unproved PROGRAM [DIST]      packs this program, without the library for C, and records in BUILD that
+#     ./release.sh --unproved PROGRAM [DIST]      packs this program, without the C library, and records in BUILD that
 #                                                 it is unproved
 #
 # The files are written to the directory DIST (default: dist). If a step fails or is interrupted, the files there remain
@@ -77,7 +77,7 @@ if [ $proof = proved ]; then
     program=crates/bufr/out/bufr
     kit=$(rt version) || die 'the toolchain (rt) is not on PATH; use --unproved PROGRAM to release an unproved program'
     [ "${kit##* }" = "$logic" ] || die "the toolchain is $kit, but README.md names logic $logic"
-    command -v "${CC:-cc}" > /dev/null || die "the library for C needs a C compiler, but ${CC:-cc} is not on PATH"
+    command -v "${CC:-cc}" > /dev/null || die "building the C library requires a C compiler, but ${CC:-cc} is not on PATH"
     shopt -s nullglob
     proved=(crates/*/src crates/*/must-fail/*.edit)
     [ -z "$(git ls-files 'crates/*/out/*')" ] || die 'the commit contains files in crates/*/out, which only the toolchain may create; remove them from the repository'
@@ -99,7 +99,7 @@ git archive HEAD | tar -x -C "$work/$name"
 install -D -m 755 "$program" "$work/$name/bin/bufr"
 if [ $proof = proved ]; then
     lib=$work/$name/lib include=$work/$name/include
-    prove env TMPDIR="$work" library/build.sh "$lib" || die 'the library for C was not built; see the output above'
+    prove env TMPDIR="$work" library/build.sh "$lib" || die 'the C library was not built; see the output above'
     mkdir "$include" "$lib/pkgconfig"
     mv "$lib/bufr.h" "$include"
     mv "$lib/bufr.pc" "$lib/pkgconfig"

@@ -63,7 +63,7 @@ enum bufr_fault {
     BUFR_FAULT_SECTION_SHORT = 11,        /* A section is shorter than its minimum length. */
     BUFR_FAULT_SECTION_PAST_END = 12,     /* A section extends past the end of the message. */
     BUFR_FAULT_SECTIONS_DO_NOT_MEET = 13, /* Section 4 does not end where the 7777 begins. */
-    BUFR_FAULT_EDITION_3_LENGTH = 14,     /* An edition 3 message might be too long to encode again. */
+    BUFR_FAULT_EDITION_3_LENGTH = 14,     /* An edition 3 message might be too long to re-encode. */
     BUFR_FAULT_UNKNOWN_ELEMENT = 20,      /* An element is not in Table B. */
     BUFR_FAULT_UNKNOWN_SEQUENCE = 21,     /* A sequence is not in Table D. */
     BUFR_FAULT_OPERATOR = 22,             /* An operator or its operand is not supported. */
@@ -75,10 +75,10 @@ enum bufr_fault {
     BUFR_FAULT_LOCAL_SHAPE = 28,          /* 2 06 Y is not followed by an element. */
     BUFR_FAULT_DATA_END = 30,             /* Section 4 ends in the middle of an item. */
     BUFR_FAULT_WIDTH = 31,                /* The width of a field is less than 1 bit or more than 63 bits. */
-    BUFR_FAULT_DEFINING = 32,             /* Not allowed while 2 03 Y defines reference values. */
+    BUFR_FAULT_DEFINING = 32,             /* Not allowed while 2 03 Y is redefining reference values. */
     BUFR_FAULT_UNEQUAL_FACTOR = 33,       /* A compressed replication factor differs between subsets. */
     BUFR_FAULT_INCREMENT = 34,            /* The increments of compressed data are invalid. */
-    BUFR_FAULT_TOO_MANY_VALUES = 35       /* Compressed data contain too many values. */
+    BUFR_FAULT_TOO_MANY_VALUES = 35       /* Compressed data contains too many values. */
 };
 
 /* The form of the data that bufr_encode writes. */

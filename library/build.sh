@@ -1,5 +1,5 @@
 #!/bin/sh
-# Builds the library for C. See --help.
+# Builds the C library. See --help.
 set -eu
 umask 022
 unset CDPATH

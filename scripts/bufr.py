@@ -1,4 +1,4 @@
-"""Reads BUFR messages into NumPy arrays and pandas data frames, using the library for C.
+"""Reads BUFR messages into NumPy arrays and pandas data frames, using the C library.
 
     >>> import bufr
     >>> frame = bufr.frame("synop.bufr", ["001015", "012101"], header=["time"])
@@ -520,7 +520,7 @@ class Items(NamedTuple):
         try:
             row = self.items[operator.index(index)]
         except TypeError:
-            raise TypeError(f"expected the index of an item in items, found {index!r}") from None
+            raise TypeError(f"expected an index into items, found {index!r}") from None
         kind, value, scale, length = row[["kind", "integer", "scale", "length"]].tolist()
         if kind == MISSING:
             return None

@@ -99,7 +99,8 @@ class Feed:
 class Finder:
     """Finds the messages in a stream, block by block. Buffers only the current message and one block.
 
-    If a message declares more than `longest` bytes, the finder skips it: the search continues after its first four bytes.
+    If a message's declared length exceeds `longest` bytes, the finder skips it: the search continues after its first four
+    bytes.
     """
 
     def __init__(self, longest: Optional[int] = None) -> None:
@@ -157,7 +158,7 @@ def stray_line(offset: int, fault: bytes, prefix: bytes = b"") -> bytes:
 
 
 class Masker:
-    """Hides messages that declare more than `longest` bytes from the program that reads the stream, and reports them.
+    """Hides messages whose declared length exceeds `longest` bytes from the program that reads the stream, and reports them.
 
     The first four bytes of each hidden message are replaced with zeros, so the offsets of other messages do not change.
     """
@@ -577,7 +578,7 @@ def reasons(asked: Tables, tables: bufr_sets.TableSet) -> List[Reason]:
         found.append(Reason(text, CHANGED_SINCE_6.__contains__))
     if local != 0 and tables.own is None:
         own = bufr_sets.own_name(tables, centre, local)
-        text = f"there is no table set {own} for local version {local} of centre {centre}"
+        text = f"the table set {own} (local version {local} of centre {centre}) is missing"
         found.append(Reason(text, bufr_sets.is_local, lambda: bufr_sets.advice(tables, centre, version, local)))
     return found
 
@@ -804,7 +805,7 @@ class Work:
         return frozenset(found)
 
     def assigned(self, part: Part, piece: Bytes) -> Tuple[Run, List[Reason]]:
-        """Returns the run for a piece, and the reasons why the table set of the run may not match the piece exactly."""
+        """Returns the run for a piece, and the reasons why the run's table set may not match the piece exactly."""
         tables, notes = self.chooser.choose(piece)
         if tables not in part.runs:
             part.runs[tables] = self.kind(tables)
@@ -872,9 +873,9 @@ def dump(
     """Dumps files, writes the dumps to the descriptor `output`, and returns the exit status.
 
     A name of None stands for standard input. Fault lines, notes and progress go to standard error, as in bufr-auto. A
-    message is skipped if it declares more than `longest` bytes or does not meet the conditions. With `has_places`, a comment
-    before each document gives the place of its message: `# offset=595 length=422 file=NAME`. Whenever notes on a feed are
-    printed, `more_notes` is called, and the lines that it returns are printed as well.
+    message is skipped if its declared length exceeds `longest` bytes or if it does not meet the conditions. With
+    `has_places`, a comment before each document gives the place of its message: `# offset=595 length=422 file=NAME`.
+    Whenever notes on a feed are printed, `more_notes` is called, and the lines that it returns are printed as well.
     """
     work = Work(Dump, files, output)
     work.more_notes = more_notes

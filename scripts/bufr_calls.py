@@ -1,4 +1,4 @@
-"""Calls the library for C through ctypes and returns its rows as NumPy arrays.
+"""Calls the C library through ctypes and returns its rows as NumPy arrays.
 
     tables = bufr_calls.Tables("B.csv", "D.csv")
     items, messages, texts = tables.items(stream, bufr_calls.words(["012101"]))
@@ -99,15 +99,15 @@ def loaded() -> ctypes.CDLL:
             try:
                 library = ctypes.CDLL(path)
             except OSError as error:
-                raise ImportError(f"cannot load the library for C: {error}") from None
+                raise ImportError(f"cannot load the C library: {error}") from None
             lacking = [name for name in FUNCTIONS if not hasattr(library, name)]
             if lacking:
-                raise ImportError(f"{path} is not the library for C: it lacks the function {lacking[0]}")
+                raise ImportError(f"{path} is not the C library: it lacks the function {lacking[0]}")
             if library.bufr_version() != 1000:
                 raise ImportError(f"{path} and bufr.py have different versions; install both from the same release")
             return library
     missing = "libbufr.so.0 is not installed" if named is None else f"BUFR_LIBRARY is '{named}', which is not a file"
-    advice = "install a release that contains it, or build it with library/build.sh"
+    advice = "install a release that contains the library, or build it with library/build.sh"
     elsewhere = "; if libbufr.so.0 is elsewhere, set BUFR_LIBRARY to its path" if named is None else ""
     raise ImportError(f"{missing}; {advice}{elsewhere}")
 

@@ -115,7 +115,7 @@ class Conditions:
             return ""
         messages = "1 edition 3 message" if self.left_out == 1 else f"{self.left_out} edition 3 messages"
         both = f"{self.asked},{','.join(self.of_century)}"
-        advice = f"to select messages in editions 3 and 4, use {both}"
+        advice = f"to select messages of both editions, use {both}"
         return f"left out {messages}{so_far}, because edition 3 has only two-digit years; {advice}"
 
     def new_note(self, so_far: str) -> List[str]:

@@ -287,7 +287,7 @@ def say(lines: bytes) -> None:
 def bare(file: Optional[str], begin: bytes, piece: str = "message") -> bytes:
     """Returns the note for a file that contains no messages or, if `piece` is "document", no documents.
 
-    If possible, the note names the likely type of the file.
+    If possible, the note identifies the likely format of the file.
     """
     head = begin.lstrip()
     if head[:1] == b"<":
@@ -406,7 +406,7 @@ def lines_from(
         lines, end, rest = (rest + block).rpartition(b"\n")
         if len(rest) > BLOCK:
             what = "a line in the listing is longer than 1 MB, so it cannot have come from 'bufr ls'"
-            raise Failed(f"{what}; check BUFR and any --awk condition")
+            raise Failed(f"{what}; check the BUFR environment variable and any --awk condition")
         yield lines + end
     yield rest
 

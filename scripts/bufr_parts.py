@@ -35,8 +35,8 @@ Faults = Union[str, List[Fault]]
 
 _BYTES = bytes, bytearray, memoryview
 _SOURCES = "expected a file name, bytes, an open binary file, a Piece or a list of these"
-_NO_FILES = "no files were given: the list is empty, for example because a glob pattern matches no files"
-_TEXT = "the source is a text file; open it with mode 'rb'"
+_NO_FILES = "no files were given: the list is empty, for example because a glob pattern matched no files"
+_TEXT = "the source was opened in text mode; open it with mode 'rb'"
 _BLOCK = 1 << 20
 # The approximate number of bytes in a part: first if only some items are wanted, and then if all of them are.
 _PART, _PART_OF_ALL = 1 << 23, 1 << 20
@@ -257,7 +257,7 @@ class Reader:
         if tables is not None:
             are_names = isinstance(tables, (tuple, list)) and all(isinstance(name, (str, os.PathLike)) for name in tables)
             if not are_names or len(tables) != 2:
-                raise TypeError(f"expected tables=(B, D), the file names of Table B and Table D, found {tables!r}")
+                raise TypeError(f"expected the file names of Table B and Table D as tables=(B, D), found {tables!r}")
         self.source, self.conditions, self.faults = source, bufr_conditions.Conditions(where), checked_faults(faults)
         self.is_whole = True
         self.wanted, self.size = bufr_calls.words(columns), _PART_OF_ALL if columns is None else _PART

@@ -152,7 +152,7 @@ def is_number(word: str) -> bool:
 
 
 def folder_of_sets() -> str:
-    """Returns the directory that contains the table sets: the value of BUFR_TABLES if it is set, or the installed one."""
+    """Returns the directory that contains the table sets: the value of BUFR_TABLES or, if it is not set, the installed one."""
     named = os.environ.get("BUFR_TABLES")
     if named:
         places = [named]
@@ -164,7 +164,7 @@ def folder_of_sets() -> str:
             return os.path.abspath(place)
     if named:
         raise bufr_guard.Failed(f"BUFR_TABLES is {named}, which is not a directory")
-    raise bufr_guard.Failed(f"there is no directory {places[0]}; set BUFR_TABLES to the directory that contains the table sets")
+    raise bufr_guard.Failed(f"the directory {places[0]} does not exist; set BUFR_TABLES to the directory that contains the table sets")
 
 
 def words_of(message: Bytes) -> bytes:
@@ -194,11 +194,11 @@ def instead(fxy: str, tables: Optional[TableSet]) -> str:
     For a sequence, the part lists the elements of the sequence in a table set.
     """
     if fxy[0] != "3":
-        return f" but {'a replication' if fxy[0] == '1' else 'an operator'}, which has no value"
+        return f"{'a replication' if fxy[0] == '1' else 'an operator'}, not an element, so it has no value"
     members = tables.used((fxy[:6],)) if tables else iter(())
     found = [member for member in members if member[0] == "0"]
     elements = ", ".join(found[:10] + ["and others"] * (len(found) > 10))
-    return f" but a sequence; pass the descriptors of its elements{elements and ': '}{elements}"
+    return f"a sequence, not an element; pass the descriptors of its elements{elements and ': '}{elements}"
 
 
 # The table sets that can be made from public tables.

@@ -72,7 +72,7 @@ _LISTED = re.compile(
 )
 _FAULT = re.compile(rb"offset (\d+): (\d+) (.*)\n?")
 _NOTE = re.compile(rb"bufr-auto: (\d+) messages?(?: so far)?,(?: the first)? at offset (\d+): (.*)")
-_MESSAGES = "expected the name of a file, or messages from dump or read"
+_MESSAGES = "expected a file name, or messages from dump() or read()"
 _UNPRINTED = re.compile(rb'["\\]|[^ -~]')
 
 
@@ -95,11 +95,11 @@ _CAUSES = [
         (rb"[^\"#]* -?\d*,.*", "a decimal comma"),
         (rb"[^\"#]* -?(?:[Nn][Aa][Nn]|[Ii]nf)\b.*", "a value that is not a number; write MISSING for a missing value"),
         (rb"[^\"#]* (?!MISSING)(?i:missing)\b.*", "MISSING in lower or mixed case"),
-        (rb"[^\"#]* -?(?:\d+\.|\.\d+)(?: .*)?", "a decimal point without a digit on each side"),
+        (rb"[^\"#]* -?(?:\d+\.|\.\d+)(?: .*)?", "a decimal point that is not between two digits"),
         (rb"\d{6} ?", "no value; write MISSING for a missing value"),
         (rb".* ", "a space at the end"),
         (rb"[a-z][^#]*#.*", "a comment, which is allowed only after an item"),
-        (rb"\d{6} \"[^\"]*\\x(?![0-9A-F]{2}).*", "\\x without two upper-case hexadecimal digits"),
+        (rb"\d{6} \"[^\"]*\\x(?![0-9A-F]{2}).*", "\\x not followed by two uppercase hexadecimal digits"),
         (rb"\d{6} \"[^\"]*[^ -~].*", "a byte that must be escaped as \\xHH in a string"),
         (rb"\d{6} \".*", "an unescaped \" or \\ in a string, or no closing \""),
         (rb"\d{6} [^-.\d\"].*", "a string without quotes"),
@@ -360,7 +360,7 @@ def _read_message(lines: _Lines) -> Message:
         while line.startswith(word + b" "):
             digits = line[len(word) + 1 :]
             if not _HEX.fullmatch(digits):
-                raise lines.refused("hexadecimal digits for 1 to 32 bytes")
+                raise lines.refused("1 to 32 bytes in hexadecimal")
             octets += bytes.fromhex(digits.decode())
             line = lines.inside("'descriptors'")
     section2 = bytes(local_use[b"section2"]) if optional else None
@@ -542,7 +542,7 @@ def _by_library(
 
 
 def _reported(told: _Told, found: Iterator[Tuple[Cell, ...]]) -> Iterator[Tuple[Cell, ...]]:
-    """Yields rows and reports the faults as `dump` does."""
+    """Yields the rows, and reports faults in the same way as `dump`."""
     try:
         yield from found
     except BufrError as error:
@@ -573,7 +573,7 @@ def checked(
             raise TypeError(f"expected a list such as ['{example}'], found {words}")
     columns, header, keep = list(columns), list(header), list(keep)
     if has_levels and not columns:
-        raise ValueError("expected a list such as ['012101'], found an empty list; a level needs at least one column")
+        raise ValueError("expected a list such as ['012101'], found an empty list; a table of levels needs at least one column")
     form = _COLUMN if has_counts else _ELEMENT
     for word in (*columns, *keep):
         if not isinstance(word, str) or not form.fullmatch(word):
@@ -581,7 +581,7 @@ def checked(
                 allowed = "counts are allowed only in columns that apply to a whole subset"
                 raise ValueError(f"'{word}' has a count, but {allowed}; pass '{word[:6]}'")
             if re.fullmatch("[0-9]{6}", str(word)):
-                limits = "in a descriptor FXXYYY, F is at most 3, XX at most 63, and YYY at most 255"
+                limits = "F is at most 3, XX at most 63, and YYY at most 255 in a descriptor of the form FXXYYY"
                 raise ValueError(f"no table defines {word}, because {limits}")
             raise ValueError(f"expected a descriptor such as 012101, found {word!r}{_meant(str(word), keys)}")
         _refuse_valueless(word)
@@ -615,7 +615,7 @@ def _refuse_valueless(word: str) -> None:
     import bufr_sets
 
     if not bufr_sets.can_have_value(word):
-        raise ValueError(f"'{word}' is not an element{bufr_sets.instead(word, _latest())}")
+        raise ValueError(f"'{word}' is {bufr_sets.instead(word, _latest())}")
 
 
 def _latest() -> Optional[TableSet]:
@@ -1045,7 +1045,7 @@ def _opened(file: _Path) -> IO[bytes]:
 def _octets(stream: IO[bytes], place: Listed) -> bytes:
     octets = os.pread(stream.fileno(), place.length, place.offset)
     if len(octets) < place.length:
-        raise RunError(2, f"the file changed while it was being read: the message at offset {place.offset} is now incomplete")
+        raise RunError(2, f"the message at offset {place.offset} is now incomplete because the file has changed; try again")
     return octets
 
 

@@ -425,9 +425,9 @@ END {
     if (failed)
         exit failed
     if (is_open)
-        fail("the dump ends inside a message, so it is incomplete")
+        fail("the dump is incomplete: it ends in the middle of a message")
     if (is_joined && next_listed())
-        fail("the listing has more messages than the dump and the fault lines together; make all three from the same file")
+        fail("the listing has more messages than the dump and the fault lines combined; make all three from the same file")
     if (!message)
         exit
     for (column = 1; column <= kept_count; column++)

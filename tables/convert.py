@@ -65,7 +65,7 @@ def one_line(text: str) -> str:
 
 
 def of_csv(folder: pathlib.Path, pattern: str, columns: list):
-    """Yields a list with the values in these columns for each row of the matching files. Ignores byte order marks."""
+    """For each row of the matching files, yields a list of the values in the given columns. Ignores byte order marks."""
     for path in sorted(folder.glob(pattern)):
         with open(path, newline="", **{**AS_IT_IS, "encoding": "utf-8-sig"}) as file:
             rows = csv.reader(file)
@@ -216,7 +216,7 @@ def no_numbers(is_text: bool, scale: str, reference: str, width: str) -> str:
     if not is_whole(scale, -127, 127):
         return "the scale must be a whole number from -127 to 127"
     if not is_whole(reference, -(2**63), 2**63 - 1):
-        return "the reference value must be a signed 64-bit number"
+        return "the reference value must be a signed 64-bit integer"
     if is_text and not (is_whole(width, 8, 2040) and whole(width) % 8 == 0):
         return "the width of a string must be a multiple of 8 bits, from 8 to 2040"
     return "" if is_text or is_whole(width, 1, 63) else "the width must be from 1 to 63 bits"

@@ -5,7 +5,7 @@
 
 The comparison uses the streams in examples/ and vectors/, and random hostile streams. Other tests cover the kinds of
 sources, exact values, times, faults, several processes (one of which is killed), memory use, and the examples in
-docstrings. The tests need NumPy, pandas and the library for C, which the variable BUFR_LIBRARY names; one test needs Dask.
+docstrings. The tests need NumPy, pandas and the C library, which the variable BUFR_LIBRARY names; one test needs Dask.
 Tests whose requirements are missing are skipped.
 """
 import concurrent.futures
@@ -356,10 +356,10 @@ class Sources(WithFolder):
 
     def test_what_is_no_source(self):
         for source in (io.StringIO("BUFR"), open(SYNOP)):
-            with source, self.assertRaisesRegex(TypeError, "is a text file; open it with mode 'rb'"):
+            with source, self.assertRaisesRegex(TypeError, "was opened in text mode; open it with mode 'rb'"):
                 bufr.frame(source, ["012101"])
         # a text file that is not an instance of io.TextIOBase
-        with tempfile.NamedTemporaryFile("w+") as file, self.assertRaisesRegex(TypeError, "is a text file; open it with mode 'rb'"):
+        with tempfile.NamedTemporaryFile("w+") as file, self.assertRaisesRegex(TypeError, "was opened in text mode; open it with mode 'rb'"):
             bufr.frame(file, ["012101"])
         idle, end = os.pipe()
         os.set_blocking(idle, False)
@@ -392,7 +392,7 @@ class Sources(WithFolder):
         self.assertEqual(twice["012101"].shape, (3, 2))
 
     def test_an_empty_list_of_files_is_warned_of(self):
-        told = "no files were given: the list is empty, for example because a glob pattern matches no files"
+        told = "no files were given: the list is empty, for example because a glob pattern matched no files"
         for call in (bufr.messages, bufr.items, lambda *source, **named: bufr.frame(*source, ["012101"], ["time"], **named)):
             for source in ([], (), [[], ()], pandas.Series([], dtype=object), numpy.array([]), iter([])):
                 self.assertEqual(told_by(lambda: call(source))[1], [told])
@@ -634,11 +634,11 @@ class Values(WithFolder):
             ((["012101", 101],), "found 101$"),
             ((["time"],), "found 'time', which is a header key; pass header=.'time'.$"),
             ((["subset"],), "found 'subset', which is a header key; pass header=.'subset'.$"),
-            ((["301001"],), "'301001' is not an element but a sequence; pass the descriptors of its elements: 001001, 001002$"),
+            ((["301001"],), "'301001' is a sequence, not an element; pass the descriptors of its elements: 001001, 001002$"),
             ((["307080"],), "'307080' is .*: 008002, 007030, (0[0-9]*, ){8}and others$"),
-            ((["363255"],), "'363255' is not an element but a sequence; pass the descriptors of its elements$"),
-            ((["012101", "201132"],), "'201132' is not an element but an operator, which has no value$"),
-            ((["101000"],), "'101000' is not an element but a replication, which has no value$"),
+            ((["363255"],), "'363255' is a sequence, not an element; pass the descriptors of its elements$"),
+            ((["012101", "201132"],), "'201132' is an operator, not an element, so it has no value$"),
+            ((["101000"],), "'101000' is a replication, not an element, so it has no value$"),
             ((["AIR TEMPERATURE"],), "found 'AIR TEMPERATURE', which occurs in the names of 012001, 012101"),
             ((["012101"], ["place"]), "the header has no key 'place'; the keys are edition, .*, file, time$"),
         ]:
@@ -650,7 +650,7 @@ class Values(WithFolder):
                 call(SYNOP, ["012101:2"])
         for call in (bufr.frame, bufr.items, bufr_text.rows):
             for word in ("012999", "064001", "401001", 912101):
-                with self.assertRaisesRegex(ValueError, f"^no table defines {word}, because in a descriptor FXXYYY, "):
+                with self.assertRaisesRegex(ValueError, f"^no table defines {word}, because F is at most 3, "):
                     call(SYNOP, ["001015", word])
         for call in (bufr.levels, bufr_text.levels, lambda *words: bufr.frame(*words, levels=True)):
             for columns in ([], (), iter([])):
@@ -723,7 +723,7 @@ class Values(WithFolder):
         self.assertEqual(repr(bufr.items(SYNOP, ["001015"])), "<bufr.Items: 3 items in 1 message>")
         self.assertEqual(len(pickle.loads(pickle.dumps(found)).items), 684)
         for index in (slice(0, 2), [0, 1], found.items["fxy"] == 12101, found.items[0], 1.0, "0"):
-            with self.assertRaisesRegex(TypeError, "^expected the index of an item in items, found "):
+            with self.assertRaisesRegex(TypeError, "^expected an index into items, found "):
                 found.exact(index)
         with self.assertRaises(IndexError):
             found.exact(684)
@@ -999,7 +999,7 @@ class Faults(WithFolder):
             self.assertRegex(done.stderr.decode(), f"^table [BD]: {fault}$")
         wrong = 5, False, (), (1, 2), iter(TABLES), (TABLES[0].encode(), TABLES[1].encode()), {"B": 1, "D": 2}
         for tables in ((TABLES[0],), "tables/wmo-39", TOP / "tables/wmo-39", "BD", *wrong):
-            with self.assertRaisesRegex(TypeError, r"^expected tables=.B, D., the file names of Table B and Table D, found "):
+            with self.assertRaisesRegex(TypeError, r"^expected the file names of Table B and Table D as tables=.B, D., found "):
                 bufr.frame(SYNOP, ["012101"], tables=tables)
         with self.assertRaises(FileNotFoundError):
             bufr.frame(SYNOP, ["012101"], tables=(TABLES[0], "none"))
@@ -1011,8 +1011,8 @@ class Faults(WithFolder):
         other = re.search(r"/\S*/libc[.-]\S*", pathlib.Path("/proc/self/maps").read_text())[0]
         for name, told in [
             ("/none", "^BUFR_LIBRARY is '/none', which is not a file; "),
-            (str(SYNOP), f"^cannot load the library for C: {SYNOP}: .*invalid ELF header$"),
-            (other, f"^{other} is not the library for C: it lacks the function bufr_version$"),
+            (str(SYNOP), f"^cannot load the C library: {SYNOP}: .*invalid ELF header$"),
+            (other, f"^{other} is not the C library: it lacks the function bufr_version$"),
         ]:
             with unittest.mock.patch.dict(os.environ, BUFR_LIBRARY=str(name)), self.assertRaisesRegex(ImportError, told):
                 bufr_calls.loaded()
@@ -1021,7 +1021,7 @@ class Faults(WithFolder):
             with self.assertRaisesRegex(ImportError, "^libbufr.so.0 is not installed; .*; if libbufr.so.0 is elsewhere, set BUFR_LIBRARY to its path$"):
                 bufr_calls.loaded()
         with unittest.mock.patch("ctypes.CDLL", lambda _: unittest.mock.Mock(spec=["bufr_version", "bufr_list"])):
-            with self.assertRaisesRegex(ImportError, " is not the library for C: it lacks the function bufr_dump$"):
+            with self.assertRaisesRegex(ImportError, " is not the C library: it lacks the function bufr_dump$"):
                 bufr_calls.loaded()
         with unittest.mock.patch("ctypes.CDLL") as library, self.assertRaisesRegex(ImportError, "have different versions"):
             library.return_value.bufr_version.return_value = 2000

@@ -119,7 +119,7 @@ def main() -> None:
     }
     wrongs = [f"{awk} makes other tables than awk" for awk, tables in made.items() if tables != made["awk"]]
     for awk in there:
-        told = b"table.awk: the dump ends inside a message, so it is incomplete\n"
+        told = b"table.awk: the dump is incomplete: it ends in the middle of a message\n"
         for text, wanted in ((ODD, (0, ODD_ROWS, b"")), (ODD[:-4], (2, ODD_ROWS, told))):
             done = run([*awk, *SCRIPT], text)
             wrongs += [f"{awk}: table.awk makes {done} of {text}"] * (done != wanted)

@@ -231,7 +231,7 @@ class Trial:
         # The header of a document, and each of its descriptors, matter for notes.
         text = text.replace(b"masterversion 41", b"masterversion 13").replace(b"centre 98", b"centre 7")
         text = text.replace(b"master 0", b"master 10").replace(b"localversion 0", b"localversion 3")
-        reasons = [b"master table 10 is not WMO's", b"there is no table set wmo-13+7-3 for local version 3 of centre 7"]
+        reasons = [b"master table 10 is not WMO's", b"the table set wmo-13+7-3 (local version 3 of centre 7) is missing"]
         for descriptors in (b"descriptors 012101 001192", b"descriptors 012101\ndescriptors 001192"):
             done = self.auto("--encode", stream=text.replace(b"descriptors 012101", descriptors))
             told = [line.partition(b": ")[2] for line in done.stderr.splitlines() if line.startswith(b"bufr-auto: ")]
@@ -521,11 +521,11 @@ class Trial:
         """One for each kind, with a count and the first place, and only where such a descriptor is used."""
         for descriptor, is_local in (("001191", False), ("001192", True), ("047001", False), ("048001", True)):
             done = self.auto(stream=made(13, descriptor, b"\1", local=102))
-            self.holds(f"{descriptor} is local", (b"there is no table set wmo-13+98-102" in done.stderr) == is_local, done)
+            self.holds(f"{descriptor} is local", (b"the table set wmo-13+98-102" in done.stderr) == is_local, done)
         edition_3 = bytearray(lib.message(b"\1", lib.words("001192"), edition=3))
         edition_3[12:14], edition_3[18:20] = b"\7\x62", b"\x0d\x66"
         done = self.auto(stream=bytes(edition_3))
-        self.holds("edition 3", b"there is no table set wmo-13+98-102 for local version 102 of centre 98" in done.stderr, done)
+        self.holds("edition 3", b"the table set wmo-13+98-102 (local version 102 of centre 98) is missing" in done.stderr, done)
         # A sequence of a table that the centre's descriptor is in, and a version that has no set.
         done = self.auto("--encode", stream=b"message\nmasterversion 999999999\ndescriptors 012101\nsubset 1\nend\n")
         self.holds("a version of nine digits", done.stderr == b"line 2: 50 line\n", done)
@@ -539,7 +539,7 @@ class Trial:
         at = [found.start() for found in re.finditer(b"BUFR", stream)]
         wanted = [
             f"3 messages, the first at offset {at[3]}: table version 6 defines some descriptors differently from the table set wmo-13",
-            f"2 messages, the first at offset {at[9]}: there is no table set wmo-13+98-102 for local version 102 of centre 98; to make it",
+            f"2 messages, the first at offset {at[9]}: the table set wmo-13+98-102 (local version 102 of centre 98) is missing; to make it",
             f"1 message, at offset {at[11]}: table version 40 is later than that of the table set wmo-39{NEWER}",
         ]
         starts = [line[: len(note) + 11] for line, note in zip(told, wanted)]
@@ -607,7 +607,7 @@ class Trial:
         self.holds("an empty BUFR_TABLES", done.stdout == (TOP / "examples/synop.txt").read_bytes(), done)
         shutil.copytree(TOP / "scripts", self.place / "alone")
         done = subprocess.run([self.place / "alone/bufr-auto", file], env=self.environment, capture_output=True)
-        told = f"bufr-auto: there is no directory {self.place}/alone/tables; set BUFR_TABLES"
+        told = f"bufr-auto: the directory {self.place}/alone/tables does not exist; set BUFR_TABLES"
         self.holds("no tables", done.returncode == 2 and done.stderr.decode().startswith(told), done)
         shutil.copy(file, self.place / "-dashed")
         done = subprocess.run([*AUTO, "--", "-dashed"], cwd=self.place, env=self.environment, capture_output=True)

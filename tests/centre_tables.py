@@ -81,7 +81,7 @@ def of_definitions(place: pathlib.Path, script, holds) -> None:
     (folder / "element.table").write_text("#code|..\n063255|a|long|MADE UP|Numeric|0|0|8\n")
     (folder / "sequence.def").write_text('"363001" = [ 063255 ]\n')
     errors = script("bufr-lacks", made(19, 8, 78, "063255", b""))[2]
-    wanted = f"bufr-lacks: there is no table set wmo-37+78-8; {of_eccodes(place / 'tables/wmo-37', 78, 8)}"
+    wanted = f"bufr-lacks: the table set wmo-37+78-8 is missing; {of_eccodes(place / 'tables/wmo-37', 78, 8)}"
     holds("what ecCodes has", errors, wanted)
     message = made(17, 5, 7, "363001", b"\3")
     for name in ("bufr-auto", "bufr-lacks"):
@@ -127,7 +127,7 @@ def versions_and_editions(script, holds) -> None:
     """Whose set serves a version that is later than all, and where the list of descriptors begins in each edition."""
     holds("of a later version", script("bufr-lacks", made(41, 0, 98, "013164", b"\1")), (0, "", ""))
     wanted = "1 message from centre 98/0, tables 0/41/0, lacks 001255\n"
-    newer = "bufr-lacks: there is no table set wmo-41; get newer tables from WMO (wmo-im/BUFR4 on GitHub), and convert them with tables/convert.py\n"
+    newer = "bufr-lacks: the table set wmo-41 is missing; get newer tables from WMO (wmo-im/BUFR4 on GitHub), and convert them with tables/convert.py\n"
     holds("a row of a later version", script("bufr-lacks", made(41, 0, 98, "001191", b"\1")), (1, wanted.replace("255", "191"), newer))
     question = "ask centre 98 which table version its messages use " + LOOKUP.format(98)
     asking = "bufr-lacks: the table set wmo-13 lacks rows that the messages need; " + question
@@ -164,7 +164,7 @@ def limits(script, holds) -> None:
     many = " ".join(f"0{x}{y:03}" for x in range(48, 64) for y in range(256))
     status, output, errors = script("bufr-lacks", b"".join(made(13, 1, centre, many, b"") for centre in range(1, 15)))
     rows = sum(len(line.partition("lacks")[2].split()) for line in output.splitlines())
-    told = errors.startswith("bufr-lacks: left out more rows because bufr-lacks lists at most 50,000 missing rows\n")
+    told = errors.startswith("bufr-lacks: left out some missing rows because bufr-lacks lists at most 50,000\n")
     holds("the rows that are listed", (status, rows, told), (1, 50_000, True))
 
 
@@ -219,15 +219,15 @@ def main() -> None:
         debian = "" if WREPORT.exists() else "install wreport-common (Debian), then "
         made_by = f"to make it, {debian}run: {TOP}/tables/convert.py {tables}/wmo-13+98-102 {WREPORT} {tables}/wmo-13"
         other_notes = (
-            "bufr-lacks: there is no table set wmo-13+7-102; " + ASK.format(7)
-            + f"bufr-lacks: there is no table set wmo-13+98-1; {of_eccodes(tables / 'wmo-13', 98, 1)}"
-            + "bufr-lacks: there is no table set wmo-16+98-102; " + ASK.format(98)
+            "bufr-lacks: the table set wmo-13+7-102 is missing; " + ASK.format(7)
+            + f"bufr-lacks: the table set wmo-13+98-1 is missing; {of_eccodes(tables / 'wmo-13', 98, 1)}"
+            + "bufr-lacks: the table set wmo-16+98-102 is missing; " + ASK.format(98)
         )
-        errors = f"{cut}bufr-lacks: there is no table set wmo-13+98-102; {made_by}\n{other_notes}"
+        errors = f"{cut}bufr-lacks: the table set wmo-13+98-102 is missing; {made_by}\n{other_notes}"
         holds("bufr-lacks", script("bufr-lacks", stream), (1, lines + other_lines, errors))
-        earlier = "bufr-lacks: there is no table set wmo-13+98-102; " + ASK.format(98)
+        earlier = "bufr-lacks: the table set wmo-13+98-102 is missing; " + ASK.format(98)
         holds("an earlier version", script("bufr-lacks", made(12, 102, 98, "301250", b""))[2], earlier)
-        note = f"bufr-auto: 1 message, at offset 0: there is no table set wmo-13+98-102 for local version 102 of centre 98; {made_by}\n"
+        note = f"bufr-auto: 1 message, at offset 0: the table set wmo-13+98-102 (local version 102 of centre 98) is missing; {made_by}\n"
         refused = "offset 0: 21 unknown sequence 301250\n"
         holds("bufr-auto before", script("bufr-auto", message), (1, "", refused + note))
         of_definitions(place, script, holds)

@@ -115,7 +115,7 @@ def tries_wide(awk: list, text: bytes) -> None:
         status, output, _ = run(awk, text, **words)
         want((status, output) == (2, ""), f"{awk}: it takes {words}")
     status, _, errors = run(awk, text[:-4], columns="001001")
-    want((status, errors) == (2, "table.awk: the dump ends inside a message, so it is incomplete\n"), f"{awk}: a cut text gives {errors}")
+    want((status, errors) == (2, "table.awk: the dump is incomplete: it ends in the middle of a message\n"), f"{awk}: a cut text gives {errors}")
 
 
 class Stream:
@@ -292,7 +292,7 @@ def tries_levels(awk: list, sounding: bytes, synop: bytes) -> None:
     wanted = (0, [["1", "1", "74", "28.5", 'A \\"B\\\\']] * 3, "")
     want((status, rows, errors) == wanted, f"{awk}: of odd texts the levels are {rows}: {errors}")
     status, _, errors = run(awk, NESTED[:-4], levels="1", columns="007004")
-    want((status, errors) == (2, "table.awk: the dump ends inside a message, so it is incomplete\n"), f"{awk}: a cut text gives {errors}")
+    want((status, errors) == (2, "table.awk: the dump is incomplete: it ends in the middle of a message\n"), f"{awk}: a cut text gives {errors}")
     for word in WORDS:
         for names in ({"columns": word}, {"columns": "007004:2"}, {"keep": word, "columns": "007004"}):
             status, output, errors = run(awk, sounding, levels="1", **names)

@@ -72,8 +72,8 @@ REFUSED = [
     (["time=2024-01-02T03:04:5"], "the value in 'time=2024-01-02T03:04:5' can never match"),
     (["time=18"], "the value in 'time=18' can never match; write the time in the form time=2023-03-14T18"),
     (["time!=2024,2024-01-02T3"], "the value in 'time!=2024,2024-01-02T3' can never match"),
-    (["category", SYNOP], "the key 'category' has no value; write category=VALUE"),
-    ([SYNOP, "time"], "the key 'time' has no value; write time=VALUE"),
+    (["category", SYNOP], "the key 'category' has no value; use category=VALUE"),
+    ([SYNOP, "time"], "the key 'time' has no value; use time=VALUE"),
     (["--awk", "1)"], "awk rejected the --awk condition '1)' (see above)"),
     (["--awk", ""], "the --awk condition is empty"),
     (["--awk", " # length"], "the --awk condition is empty"),
@@ -216,7 +216,7 @@ def tells_years_of_the_century(folder: pathlib.Path) -> None:
     path = folder / "years.bufr"
     path.write_bytes(b"".join(messages.values()))
     first, second, next_year, whole, of_14, whole_next = dates
-    two_digits = ", because edition 3 has only two-digit years; to select messages in editions 3 and 4, use"
+    two_digits = ", because edition 3 has only two-digit years; to select messages of both editions, use"
     for words, taken, told in (
         (["time=2014"], [whole], f"2 edition 3 messages{two_digits} time=2014,0014"),
         (["time=2014-06"], [], f"1 edition 3 message{two_digits} time=2014-06,0014-06"),
@@ -325,7 +325,7 @@ def tells_a_feed() -> None:
     """The note on messages that are left out comes in a pause of a feed, or after a minute, and once."""
     message = lib.message(b"\x14", edition=3)
     year = 2000 + message[8 + 12]
-    rest = f", because edition 3 has only two-digit years; to select messages in editions 3 and 4, use time={year},00{year - 2000:02}\n"
+    rest = f", because edition 3 has only two-digit years; to select messages of both editions, use time={year},00{year - 2000:02}\n"
     note = f"bufr-extract: left out 2 edition 3 messages so far{rest}".encode()
     with subprocess.Popen([sys.executable, EXTRACT, f"time={year}"], stdin=subprocess.PIPE, stderr=subprocess.PIPE, bufsize=0) as feed:
         begin = time.monotonic()

@@ -35,7 +35,7 @@ exec 3> "$work/feed"
     umask 077
     PATH=$prefix/bin:$PATH PYTHONPATH=$prefix/share/bufr:$work "$top/install.sh" --program "$bufr" --unproved "$prefix"
 ) > "$work/again" || fail "install.sh fails where it installed before"
-[ "$(grep -c '^To ' "$work/told")" -eq 2 ] && ! grep '^To ' "$work/again" || fail "install.sh prints other lines for a shell profile"
+[ "$(grep -c 'to your shell profile: ' "$work/told")" -eq 2 ] && ! grep 'to your shell profile: ' "$work/again" || fail "install.sh prints other lines for a shell profile"
 exec 3>&-
 wait $!
 (cd "$prefix" && find . | sort) | diff "$work/once" - || fail "a second installation has other files"
@@ -44,7 +44,7 @@ test ! -s "$work/modes" || fail "who did not install them cannot read: $(< "$wor
 for program in "$prefix"/bin/*; do test -x "$program" || fail "$program is no program"; done
 find "$prefix" -xtype l > "$work/links"
 test ! -s "$work/links" || fail "links to nothing: $(< "$work/links")"
-grep -q "^For completions in zsh.*fpath=($prefix/share/zsh/site-functions" "$work/told" || fail "install.sh names no fpath"
+grep -q "^To enable completions in zsh.*fpath=($prefix/share/zsh/site-functions" "$work/told" || fail "install.sh names no fpath"
 
 # The documentation has each file that its pages may refer to, and each shell finds its completions.
 for file in NOTICE *.md docs/*.md {docs/pictures,examples,library/examples}/*.* library/b* scripts/{b*,*.awk} \
@@ -84,7 +84,7 @@ for words in '' '--wrong p' 'p --wrong' 'p q' '--program' '--uninstall'; do
     [ "$status" -eq 2 ] && [ -s "$work/errors" ] || fail "install.sh $words: status $status"
 done
 ! (cd "$work/other" && "$top/install.sh" --program "$bufr" --unproved '') > "$work/output" 2> "$work/errors" &&
-    grep -q 'the PREFIX to install in' "$work/errors" || fail "install.sh installs to '': $(< "$work/errors")"
+    grep -q 'the installation PREFIX' "$work/errors" || fail "install.sh installs to '': $(< "$work/errors")"
 for word in -h --help; do "$top/install.sh" $word | grep -q '^usage: ' || fail "install.sh $word"; done
 ! "$top/install.sh" --uninstall "$work/nothing" 2> "$work/errors" && grep -q MANIFEST "$work/errors" ||
     fail "install.sh uninstalls what is not installed: $(< "$work/errors")"

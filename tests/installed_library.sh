@@ -1,5 +1,5 @@
 #!/usr/bin/env bash
-# Tests the library for C after install.sh has installed it from a clone: pkg-config finds it in PREFIX and in DESTDIR, a C
+# Tests the C library after install.sh has installed it from a clone: pkg-config finds it in PREFIX and in DESTDIR, a C
 # program runs with it, and --uninstall removes it. Building the real library takes minutes, so this test uses one with a
 # single function. release.sh and proved_installation.sh test that a release contains the library.
 . "$(dirname "$0")/lib.sh"
@@ -22,7 +22,7 @@ refuses() { # refuses TEXT: install.sh says TEXT, and installs nothing in $work/
 
 builds 'echo no proof; exit 1'
 refuses 'no proof'
-CC=$work/none refuses 'needs a C compiler'
+CC=$work/none refuses 'requires a C compiler'
 builds "exec '$PWD/library/build.sh' --archive '$work/libbufr_c.a' \"\$@\""
 
 # Two ways of linking, with what pkg-config prints.
@@ -45,7 +45,7 @@ runs() {
     ! (unset LD_LIBRARY_PATH && "$work/shared") > "$work/told" 2>&1 || fail "the program does not use the shared library"
 }
 installs --library "$prefix"
-grep -q ', with the library for C$' "$work/told" || fail "install.sh does not say that it installed the library: $(< "$work/told")"
+grep -q ', with the C library$' "$work/told" || fail "install.sh does not say that it installed the library: $(< "$work/told")"
 grep -qx "library: $(sha256sum < "$prefix/lib/libbufr.a" | cut -c 1-64)" "$prefix/share/doc/bufr/BUILD" || fail 'BUILD has no checksum of the library'
 grep -qx "shared library: $(sha256sum < "$prefix/lib/libbufr.so.0" | cut -c 1-64)" "$prefix/share/doc/bufr/BUILD" || fail 'BUILD has no checksum of the shared library'
 (

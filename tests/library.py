@@ -1,5 +1,5 @@
 #!/usr/bin/env python3
-"""Compares the library for C with the program on examples/, tests/vectors and random hostile streams.
+"""Compares the C library with the program on examples/, tests/vectors and random hostile streams.
 
     tests/library.py [PROGRAM [FOLDER]]        FOLDER: the directory that library/build.sh filled (default: the library
                                                that the variable BUFR_LIBRARY names or, if it is not set, a new build)

@@ -451,8 +451,8 @@ MUTATIONS = [
     ),
     (
         "scripts/bufr_sets.py",
-        "there is no directory {places[0]};",
-        "there is no directory {places[-1]};",
+        "the directory {places[0]} does not exist;",
+        "the directory {places[-1]} does not exist;",
         "tests/bufr_auto.py",
     ),
     ("scripts/bufr_sets.py", "in sorted(os.listdir(self.folder)):", "in os.listdir(self.folder):", "tests/bufr_auto.py"),

@@ -82,13 +82,13 @@ MISTAKES = [
     (24, b"012101 -inf\n", "a value that is not a number; write MISSING for a missing value"),
     (24, b"012101 missing  # NAME [K]\n", "MISSING in lower or mixed case"),
     (24, b"012101 missing  # A +B 2.8E2 NaN, A#B\n", "MISSING in lower or mixed case"),
-    (24, b"012101 282.  # NAME [K]\n", "a decimal point without a digit on each side"),
-    (24, b"012101 .5\n", "a decimal point without a digit on each side"),
+    (24, b"012101 282.  # NAME [K]\n", "a decimal point that is not between two digits"),
+    (24, b"012101 .5\n", "a decimal point that is not between two digits"),
     (24, b"012101\n", "no value; write MISSING for a missing value"),
     (24, b"012101 282.55 \n", "a space at the end"),
     (2, b"edition 4 # NOTE\n", "a comment, which is allowed only after an item"),
-    (24, b'001015 "\\xc4"\n', "\\x without two upper-case hexadecimal digits"),
-    (24, b'001015 "\\xC"\n', "\\x without two upper-case hexadecimal digits"),
+    (24, b'001015 "\\xc4"\n', "\\x not followed by two uppercase hexadecimal digits"),
+    (24, b'001015 "\\xC"\n', "\\x not followed by two uppercase hexadecimal digits"),
     (24, b'001015 "B\xc3\x96BLINGEN"\n', "a byte that must be escaped as \\xHH in a string"),
     (24, b'001015 "a"b"\n', 'an unescaped " or \\ in a string, or no closing "'),
     (24, b'001015 "a\n', 'an unescaped " or \\ in a string, or no closing "'),
@@ -850,7 +850,7 @@ class Runs(unittest.TestCase):
         [message, *_] = bufr_text.read([*dump.open("rb")])
         for source, found in (([str(synop)], "'.*/synop.bufr'"), (b"BUFR", "66"), (None, "None"), (5, "5"), ([message.subsets], r"\[.*")):
             for call in (bufr_text.rows, bufr_text.levels):
-                told = f"^expected the name of a file, or messages from dump or read, found {found}"
+                told = f"^expected a file name, or messages from dump[(][)] or read[(][)], found {found}"
                 with self.assertRaisesRegex(TypeError, told):
                     list(call(source, ["012101"]))
         for faults in ("warn", "ignore", (), True):

@@ -132,7 +132,7 @@ refuses 1 '(rt) is not on PATH' env PATH=/usr/bin:/bin "$make" "$work/first"
 fake 0123456789abcdef
 refuses 1 "README.md names logic $logic" "$make" "$work/first"
 fake "$logic"
-refuses 1 'needs a C compiler' env CC="$work/none" "$make" "$work/first"
+refuses 1 'requires a C compiler' env CC="$work/none" "$make" "$work/first"
 fake "$logic" 'echo low: not proved; exit 1'
 mkdir "$work/one/crates/bufr/out"
 touch "$work/one/crates/bufr/out/bufr"
@@ -147,7 +147,7 @@ refuses 1 "there are $count crates and must-fail edits, but rt ci reports: $((co
 fake "$logic" "cp '$work/unmarked' crates/bufr/out/bufr"
 refuses 1 'built with logic none' "$make" "$work/first"
 fake "$logic" "printf '#!/bin/sh\necho no proof of bufr_c; exit 1\n' > library/build.sh"
-refuses 1 'the library for C was not built' "$make" "$work/first"
+refuses 1 'the C library was not built' "$make" "$work/first"
 grep -q 'no proof of bufr_c' "$work/told" || fail "release.sh hides what library/build.sh said: $(< "$work/told")"
 # A gate that takes so long that the run is interrupted: its script alone, as by `kill`, or all, as by Ctrl-C. Until it
 # ends, it makes the folders that the script removes.
@@ -195,7 +195,7 @@ done
 printf '%s\n' 'Wheel-Version: 1.0' 'Generator: build_wheel' 'Root-Is-Purelib: false' 'Tag: py3-none-manylinux_2_34_x86_64' |
     diff - "$work"/wheel/*.dist-info/WHEEL || fail 'the wheel has other tags'
 "$work/unpacked/install.sh" "$work/installed" > "$work/told" || fail "a proved release: $(< "$work/told")"
-grep -q ', with the library for C$' "$work/told" || fail "install.sh does not say that it installed the library: $(< "$work/told")"
+grep -q ', with the C library$' "$work/told" || fail "install.sh does not say that it installed the library: $(< "$work/told")"
 for place in lib/libbufr.{a,so,so.0} include/bufr.h; do
     cmp "$work/unpacked/$place" "$work/installed/$place" || fail "another $place is installed"
 done
@@ -246,7 +246,7 @@ refuses_damaged './tables/wmo-99,' 'mkdir tables/wmo-99'
 refuses_damaged './man/bufr.1,' 'echo x >> man/bufr.1; sed -i /man.bufr.1/d SHA256SUMS'
 refuses_damaged './docs/guide.md: ' 'rm docs/guide.md'
 # A library that BUILD does not describe.
-refuses_damaged 'the library for C in this release is not the one that BUILD describes' \
+refuses_damaged 'the C library in this release is not the one that BUILD describes' \
     'mkdir lib; touch lib/libbufr.a lib/libbufr.so.0; sha256sum ./lib/* >> SHA256SUMS'
 # What Python caches beside the scripts is none of them, nor what the toolchain builds.
 mkdir -p "$work/damaged/crates/bufr/out"
@@ -370,7 +370,7 @@ cron() {
     sed -n "s/^[0-9*]* [0-9*]* \* \* \* root \(.*$1\)/\1/p" crontab > line
     [ "$(wc -l < line)" -eq 1 ] && PATH=/home/stubs:$(sed -n 's/^PATH=//p' crontab) bash -eu line > told 2>&1 || fail "$1 of the crontab: $(cat line told)"
 }
-note='bufr-auto: 1 message, at offset 0: there is no table set wmo-99+254-9 for local version 9 of centre 254; to make it, run: true'
+note='bufr-auto: 1 message, at offset 0: the table set wmo-99+254-9 (local version 9 of centre 254) is missing; to make it, run: true'
 {
     yes 'offset 1: 1 cut' | head -n 20
     echo 'bufr-auto: offset 9: skipped a message that declares a length of 900000 bytes'

@@ -14,7 +14,7 @@ program=$(realpath -m "${1:-"$(dirname "$0")/../crates/bufr/out/bufr"}")
 cd "$(dirname "$0")/.."
 [ -x "$program" ] || { echo "$0: there is no program $program; build it first (see README.md)" >&2 && exit 2; }
 count=0 failed=()
-# Building the library for C takes minutes, so the tests share one copy.
+# Building the C library takes minutes, so the tests share one copy.
 if [ -z "${BUFR_LIBRARY-}" ] && command -v rt > /dev/null && command -v "${CC:-cc}" > /dev/null; then
     library=$(mktemp -d)
     trap 'rm -r "$library"' EXIT

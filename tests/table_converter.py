@@ -18,7 +18,7 @@ from lib import TOP, finish, program
 AS_IT_IS = {"encoding": "utf-8", "errors": "surrogateescape"}
 HEADERS = {"B": "fxy,name,unit,scale,reference,width", "D": "fxy,member"}
 WIDE, WHOLE = "the width must be from 1 to 63 bits", "the width of a string must be a multiple of 8 bits, from 8 to 2040"
-SCALE, REFERENCE = "the scale must be a whole number from -127 to 127", "the reference value must be a signed 64-bit number"
+SCALE, REFERENCE = "the scale must be a whole number from -127 to 127", "the reference value must be a signed 64-bit integer"
 FACTOR = "a replication factor must be a number with scale 0, reference 0 and width 8"
 
 # fxy,name,unit,scale,reference,width | the reason

@@ -62,7 +62,7 @@ const VERSION: &str = "0.1.0";
 /// The notes under the help of the program.
 const PROGRAM_NOTES: &str = "\
 Exit status:
-  0  no fault was reported
+  0  no faults were reported
   1  a message or a document was rejected, or the input contained a stray (an
      occurrence of BUFR that is not the start of a complete message)
   2  the command line or a table was invalid, a file could not be opened,
@@ -81,11 +81,11 @@ also gives the byte offset. The fault numbers are as follows:
   1-3    an occurrence of BUFR that does not start a complete message (a stray)
   10     an edition other than 3 or 4
   11-13  invalid section lengths
-  14     an edition 3 message that is too long to encode again
+  14     an edition 3 message that is too long to re-encode
   70-73  a read error, a write error, too much input, or not enough memory
 
 Exit status:
-  0  no fault was reported
+  0  no faults were reported
   1  a message was rejected, or the input contained a stray
   2  the command line was invalid, the file could not be opened, reading or
      writing failed, or memory ran out
@@ -101,9 +101,9 @@ also gives the byte offset. The fault numbers are as follows:
   1-3    an occurrence of BUFR that does not start a complete message (a stray)
   10     an edition other than 3 or 4
   11-13  invalid section lengths
-  14     an edition 3 message that is too long to encode again
+  14     an edition 3 message that is too long to re-encode
   20-28  an unknown or unsupported descriptor, or an invalid descriptor list
-  30-35  data that do not match the descriptors
+  30-35  data that does not match the descriptors
   40-45  an invalid table (bufr checks the tables before it opens the input)
   70-73  a read error, a write error, too much input, or not enough memory
 
@@ -111,14 +111,14 @@ The first line of each table contains the column names:
   B  fxy,name,unit,scale,reference,width
   D  fxy,member
 
-WMO's tables are in share/bufr/tables, in the directory where bufr was
+WMO's tables are in share/bufr/tables under the directory where bufr was
 installed. Use the table set (a directory with both tables) for the version that
 bufr ls prints: for example, tables=0/24/0 means version 24, so use the set
 wmo-37. If you use the wrong tables, values can be wrong even though no fault is
-reported. The script bufr-auto chooses the table set for each message.
+reported. The bufr-auto script chooses the table set for each message.
 
 Exit status:
-  0  no fault was reported
+  0  no faults were reported
   1  a message was rejected, or the input contained a stray
   2  the command line or a table was invalid, a file could not be opened,
      reading or writing failed, or memory ran out
@@ -157,7 +157,7 @@ compressed if any of them is longer than 63 bytes, not counting trailing spaces
 all (also fault 59). An uncompressed message may be too long (fault 60).
 
 Exit status:
-  0  no fault was reported
+  0  no faults were reported
   1  a document was rejected
   2  the command line or a table was invalid, a file could not be opened,
      reading or writing failed, or memory ran out
