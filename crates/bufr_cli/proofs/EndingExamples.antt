@@ -170,13 +170,13 @@ module _ {Standard File : Type 0} (inputs : Known Standard File) (before after :
 
 status-0-is-handed-on : {Standard File : Type 0} (words : List Text) (inputs : Known Standard File) (opened opened' : Option (List InputName)) (before after : Writers)
     → RunsProgram words inputs opened opened' before after 0 → after.output.all_flushed ≡ true
-status-0-is-handed-on words inputs opened opened' before after (Does job is (Ran tally) between comes same line status) =
+status-0-is-handed-on words inputs opened opened' before after (Does job accepted is (Ran tally) between comes same line status) =
     ap (λ w. w.all_flushed) same ∙ command-is-handed-on inputs before between (Opens opened opened') job.command job.file tally comes
-status-0-is-handed-on words inputs opened opened' before after (Does job is (Usage text) between comes same line status) = absurd (zero-is-not-two inputs before after status)
-status-0-is-handed-on words inputs opened opened' before after (Does job is (CannotOpen name) between comes same line status) = absurd (zero-is-not-two inputs before after status)
-status-0-is-handed-on words inputs opened opened' before after (Does job is (TableB fault) between comes same line status) = absurd (zero-is-not-two inputs before after status)
-status-0-is-handed-on words inputs opened opened' before after (Does job is (TableD fault) between comes same line status) = absurd (zero-is-not-two inputs before after status)
-status-0-is-handed-on words inputs opened opened' before after (Does job is (Run fault) between comes same line status) = absurd (zero-is-not-two inputs before after status)
+status-0-is-handed-on words inputs opened opened' before after (Does job accepted is (Usage text) between comes same line status) = absurd (zero-is-not-two inputs before after status)
+status-0-is-handed-on words inputs opened opened' before after (Does job accepted is (CannotOpen name) between comes same line status) = absurd (zero-is-not-two inputs before after status)
+status-0-is-handed-on words inputs opened opened' before after (Does job accepted is (TableB fault) between comes same line status) = absurd (zero-is-not-two inputs before after status)
+status-0-is-handed-on words inputs opened opened' before after (Does job accepted is (TableD fault) between comes same line status) = absurd (zero-is-not-two inputs before after status)
+status-0-is-handed-on words inputs opened opened' before after (Does job accepted is (Run fault) between comes same line status) = absurd (zero-is-not-two inputs before after status)
 status-0-is-handed-on words inputs opened opened' before after (Answers (line.Help text) why opens (InWhole wrote flushed stays errors status)) = flushed
 status-0-is-handed-on words inputs opened opened' before after (Answers (line.Help text) why opens (InPart wrote failed line status)) = absurd (zero-is-not-two inputs before after status)
 status-0-is-handed-on words inputs opened opened' before after (Answers (line.Usage text) why opens (same, wrote, status)) = absurd (zero-is-not-two inputs before after status)

@@ -203,13 +203,14 @@ AnswersFault Memory before after status =
     (after.output ≡ before.output)
     × WritesLine before.errors after.errors (run_line run_fault.Memory) × (status ≡ 2)
 
--- What a call of the program does. Either the command line is a job, and the last line and the
--- status report its outcome; or it is not, the program writes why not, and no input is opened.
+-- What a call of the program does. Either the command line is a job that clap accepts, and the last
+-- line and the status report its outcome; or it is not, the program writes why not, and no input is
+-- opened.
 -- rule: status-of-help
 pub data RunsProgram {Standard File : Type 0} (words : List Text) (inputs : Known Standard File)
     (opened opened' : Option (List InputName)) (before after : Writers) (status : ℕ) : Type 0 where
-  Does : (job : Job) → IsJobOf (subcommand_of bufr_app words) job → (outcome : Outcome)
-      → (between : Writers)
+  Does : (job : Job) → fault_of bufr_app words ≡ []
+      → IsJobOf (subcommand_of bufr_app words) job → (outcome : Outcome) → (between : Writers)
       → CommandOutcome inputs (Opens opened opened') job.command job.file before between outcome
       → after.output ≡ between.output
       → WritesLine between.errors after.errors (last_line outcome) → status ≡ status_of outcome

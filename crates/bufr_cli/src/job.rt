@@ -1,5 +1,5 @@
 //! The command line.
-ghost use Rattle.std.specs.Prelude.{◌≡◌, IfErr, IfNone, IfOk, IfSome, codes, map, false, Some};
+ghost use Rattle.std.specs.Prelude.{◌≡◌, [], IfErr, IfNone, IfOk, IfSome, codes, map, false, Some};
 ghost use Rattle.clap.specs.declared.builder.command.Command.TheViews.{out-Command};
 ghost use Rattle.clap.specs.Words.{app_of, fault_of, first_of, found_of, new_app, new_rule, rows_of, rule_of, subcommand_of, with_rule, with_subcommand};
 ghost use Rattle.bufr_cli.specs.declared.job.LineFault.TheVariants.{Memory};
@@ -374,6 +374,8 @@ fn command_of<'a>(name: &str, found: &ArgMatches<'a>) -> Result<Subcommand<'a>, 
 pub fn parse_line<'a, S: AsStr>(alloc: Global, words: &'a [S]) -> Result<Job<'a>, LineFault>
     ensures job { IfOk result
         (λ job. IsJobOf (subcommand_of bufr_app (map S.text words.entry.now)) job) }
+    ensures accepted { IfOk result (λ _.
+        fault_of bufr_app (map S.text words.entry.now) ≡ []) }
     // Help only where clap's rules for the line ask for it, a usage fault only where they refuse it
     // or no job is met.
     ensures fault { IfErr result (SaysWhy (fault_of bufr_app (map S.text words.entry.now))

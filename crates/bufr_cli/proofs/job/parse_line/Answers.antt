@@ -1,4 +1,4 @@
-use Rattle.std.proofs.Common.{rules, codes, List, Option, ◌∙◌, ◌≡◌, inr, map, string_bytes, true, Some, refl, subst}
+use Rattle.std.proofs.Common.{rules, codes, List, Option, ◌∙◌, ◌≡◌, [], inr, map, string_bytes, true, Some, refl, subst}
 use Rattle.clap.specs.Values.{kind_of}
 use Rattle.bufr_cli.specs.declared.job.LineFault.TheVariants.{Help, Usage}
 use Rattle.clap.proofs.WalkLemmas.{first_value-rows}
@@ -32,3 +32,9 @@ returns-in-Ok-command_of-clause-job g c =
     let met : Some (c.in-Some.name.now, rows_of (found_of c.in-Some.found.now)) ≡ subcommand_of bufr_app (map g.S.AsStr.text c.args.words.now) = search rules in
     let J : Option (Text × List Row) → Type 0 = λ subcommand. IsJobOf subcommand (record { command = c.in-Ok-command_of.command; file = c.get_str.result }) in
     subst J met (c.in-Ok-command_of.ensures.name, c.in-Ok-command_of.ensures.tables, c.get_str.ensures ∙ first_value-rows (found_of c.in-Some.found.now) (codes "FILE"))
+
+pub returns-in-Ok-command_of-clause-accepted : goal.returns-in-Ok-command_of-clause-accepted
+returns-in-Ok-command_of-clause-accepted g c =
+    let words = map g.S.AsStr.text c.args.words.now in
+    let P : App → Type 0 = λ app. is_simple_and_free app ≡ true → fault_of app words ≡ [] in
+    subst P c.in_ok-command.ensures c.in-Ok.ensures.kinds refl

@@ -6,7 +6,8 @@ use Rattle.bufr_cli.proofs.program.run.Goals as goal
 
 pub returns-in-Ok : goal.returns-in-Ok
 returns-in-Ok g c =
-    Does c.in-Ok.job c.in-Ok.ensures.job c.run_job-outcome.result (writers_of g.W.Sink c.run_job-outcome.new.w g.E.Sink c.run_job-outcome.new.e) c.run_job-outcome.ensures.comes
+    Does c.in-Ok.job c.in-Ok.ensures.accepted c.in-Ok.ensures.job c.run_job-outcome.result (writers_of g.W.Sink c.run_job-outcome.new.w g.E.Sink c.run_job-outcome.new.e)
+        c.run_job-outcome.ensures.comes
     refl
     (c.finish.ensures.prefix, c.finish.ensures.whole, c.finish.ensures.flushes) c.finish.ensures.status
 
@@ -24,7 +25,7 @@ returns-in-Err-Help g c =
     Answers (Help c.in-Err-Help.text) (rw c.in-Err-Help.field-0-is at c.in-Err-Help.ensures.fault) (opens-none _)
     (subst Q value
     (help-in-part c.as_bytes.result.now _ _ c.finish-in-Err.result c.in-Err.fault c.in-Err.ensures.writes c.in-Err.ensures.counts
-        (c.finish-in-Err.ensures.prefix, c.finish-in-Err.ensures.whole, c.finish-in-Err.ensures.flushes)
+    (c.finish-in-Err.ensures.prefix, c.finish-in-Err.ensures.whole, c.finish-in-Err.ensures.flushes)
     c.finish-in-Err.ensures.status))
 
 pub returns-in-Err-Usage : goal.returns-in-Err-Usage
