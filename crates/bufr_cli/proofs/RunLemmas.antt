@@ -1,6 +1,6 @@
 -- What a run leaves, by its steps, and what comes of a job.
 use Rattle.bufr_frame.specs.Prelude.{max_reads, read_failures_after, AddsReads}
-use Rattle.std.proofs.Common.{◌≡◌, ◌≢◌, ◌∙◌, ◌<◌, ◌≤◌, ◌^◌, ℕ, ◌+◌, ◌-◌, Bool, true, false, List, [], ◌∷◌, ◌++◌, length, length-append, refl, sym, ap, subst, arith, append_assoc, Option, None, Ok, Err, append-nil, Some, inl, inr, Result, flat_map, map, count_by, IfSome}
+use Rattle.std.proofs.Common.{◌≡◌, ◌≢◌, ◌⊎◌, ◌∙◌, ◌<◌, ◌≤◌, ◌^◌, ℕ, ◌+◌, ◌-◌, Bool, true, false, List, [], ◌∷◌, ◌++◌, length, length-append, refl, sym, ap, subst, arith, append_assoc, Option, None, Ok, Err, append-nil, Some, inl, inr, Result, flat_map, map, count_by, IfSome}
 use Rattle.std.specs.Io.KnownBytes.{Consumes, IsAtEnd, Keeps}
 use Rattle.std.proofs.KnownBytes.{Appends-nil, Appends-trans, Appends-kept, Consumes-trans}
 use Rattle.std.proofs.lemmas.Bool.{false≢true}
@@ -147,7 +147,7 @@ flushes-by : (reads reads' n : ℕ) (before after : Writers) → AddsReads reads
 flushes-by reads reads' n before after counts is = let e : n - 0 ≡ n = omega arith in (n, counts.made ∙ ap (counted reads) e, is)
 
 -- `NoFlushFails` and `FlushFails` exclude each other
-none-fails : (before after : Writers) → NoFlushFails before after → FlushFails before after → ⊥
+none-fails : (before after : Writers) → NoFlushFails before after → FlushFails before.output after.output ⊎ FlushFails before.errors after.errors → ⊥
 none-fails before after none (inl output) = output none.0
 none-fails before after none (inr errors) = errors none.1
 

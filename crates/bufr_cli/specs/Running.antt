@@ -194,6 +194,10 @@ HasFlushed before after (Err Read) =
 -- after other faults, `FlushesRest` applies to the output
 HasFlushed before after (Err fault) = Unit {0}
 
+-- Between these states, a flush of the writer failed.
+abbrev pub FlushFails : (before after : Writer) → Type 0
+FlushFails before after = after.flushes.failed ≢ before.flushes.failed
+
 abbrev pub FlushesAtMost : (n : ℕ) → (before after : Writers) → Type 0
 FlushesAtMost n before after =
     (after.output.flushes.made ≤ counted before.output.flushes.made n)
@@ -213,8 +217,7 @@ pub record FlushesBoth {X : Type 0} (before after : Writers) (result : Result X 
     pub flushed : OnOk result
         ((after.output.all_flushed ≡ true) × (after.errors.all_flushed ≡ true))
     pub none : OnOk result (NoFlushFails before after)
-    pub order : after.errors.flushes.failed ≢ before.errors.flushes.failed
-        → after.output.all_flushed ≡ true
+    pub order : FlushFails before.errors after.errors → after.output.all_flushed ≡ true
     pub once : FlushesAtMost 1 before after
     pub fault : IfErr result (λ fault. fault ≡ Write)
     pub counts : BlamesWriter before after result
@@ -245,7 +248,7 @@ pub record FlushesWritten (waits : Bool) (unflushed unflushed' : Unflushed)
       × IsFlushedIf unflushed.errors before.errors after.errors)
       ⊎ ((waits ≡ false) × (unflushed' ≡ unflushed) × (after ≡ before)))
   pub none : OnOk result (NoFlushFails before after)
-  pub order : after.errors.flushes.failed ≢ before.errors.flushes.failed
+  pub order : FlushFails before.errors after.errors
       → IsFlushedIf unflushed.output before.output after.output
   pub once : FlushesAtMost 1 before after
   pub fault : IfErr result (λ fault. fault ≡ Write)
@@ -291,12 +294,6 @@ pub record ReadsAndWrites (pieces : RunPieces) (from to : Input) (before after :
 abbrev pub IsUnrefused : RunPieces → List Piece → Type 0
 IsUnrefused pieces given = pieces.stops ≡ true → count_by is_refused given ≡ 0
 
--- A flush of a writer failed.
-abbrev pub FlushFails : (before after : Writers) → Type 0
-FlushFails before after =
-    (after.output.flushes.failed ≢ before.output.flushes.failed)
-    ⊎ (after.errors.flushes.failed ≢ before.errors.flushes.failed)
-
 -- What is known of a run (`so`) that ended with this result.
 -- rule: input-not-read, fault-line-not-written, reader-gone, fault-70
 abbrev pub RunEnds : {pieces : RunPieces} → {from to : Input} → {before after : Writers}
@@ -310,7 +307,8 @@ RunEnds {pieces} {from} {to} {before} {after} so (Ok tally) =
     → WritesWhole pieces before after tally (so.octets ++ t))
 -- A write or a flush failed. If it was a flush, all pieces had been written.
 RunEnds {pieces} {from} {to} {before} {after} so (Err Write) =
-    FlushFails before after → IsAllWritten so.written
+    FlushFails before.output after.output ⊎ FlushFails before.errors after.errors
+    → IsAllWritten so.written
 -- Memory ran out before any refused piece that stops the run. In a run that refused pieces do not
 -- stop, it was needed to write a piece (`next`), or fewer than 2^32 reads had been made: after that
 -- many, the fault is `InputTooLong`.
@@ -334,8 +332,7 @@ pub record LeavesDevices (pieces : RunPieces) (from to : Input) (before after : 
   -- counted
   pub whole : IfOk result (λ tally. IfSome from.left (WritesWhole pieces before after tally))
   -- the errors are flushed after the output: if that fails, the output was already flushed
-  pub order : after.errors.flushes.failed ≢ before.errors.flushes.failed
-      → IsFlushed before.output after.output
+  pub order : FlushFails before.errors after.errors → IsFlushed before.output after.output
   pub flushed : HasFlushed before after result
   -- the input counts a `Read` fault
   pub failures : to.failures ≡ read_failures_after from.failures result
