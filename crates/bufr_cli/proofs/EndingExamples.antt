@@ -125,8 +125,9 @@ no-read-fault pieces before after fault f of is ends =
 module _ (pieces : RunPieces) (before after : Writers) where
   -- so a run over it answers neither 70 nor 72
   run-is-not-70 : (fault : RunFault) → IsOfReads fault → (file : Option (Bor (List ℕ))) → RunOutcome pieces quiet_inputs file before after (Run fault) → ⊥
-  run-is-not-70 fault of file (IsNotOpened name some closed none same) = absurd cc
-  run-is-not-70 fault of file (WantsMemory is same) = let memory : fault ≡ Memory = cc in subst IsOfReads memory of
+  run-is-not-70 fault of file (IsNotOpened name some (inl closed) same) = let is = closed.0 in absurd cc
+  run-is-not-70 fault of file (IsNotOpened name some (inr is) same) = let memory : fault ≡ Memory = cc in subst IsOfReads memory of
+  run-is-not-70 fault of file (WantsMemory none is same) = let memory : fault ≡ Memory = cc in subst IsOfReads memory of
   run-is-not-70 fault of file (Runs (Ok tally) is over) = absurd cc
   run-is-not-70 fault of None (Runs (Err f) is (from, to, left, ends)) = no-read-fault pieces before after fault f of is ends
   run-is-not-70 fault of (Some name) (Runs (Err f) is (from, to, left, ends)) = no-read-fault pieces before after fault f of is ends
@@ -134,8 +135,9 @@ module _ (pieces : RunPieces) (before after : Writers) where
   -- a run that went through has handed its output on
   run-is-handed-on : {Standard File : Type 0} (inputs : Known Standard File) (file : Option (Bor (List ℕ))) (tally : Tally) → RunOutcome pieces inputs file before after (Ran tally)
       → after.output.all_flushed ≡ true
-  run-is-handed-on inputs file tally (IsNotOpened name some closed none same) = absurd cc
-  run-is-handed-on inputs file tally (WantsMemory is same) = absurd cc
+  run-is-handed-on inputs file tally (IsNotOpened name some (inl closed) same) = let is = closed.0 in absurd cc
+  run-is-handed-on inputs file tally (IsNotOpened name some (inr is) same) = absurd cc
+  run-is-handed-on inputs file tally (WantsMemory none is same) = absurd cc
   run-is-handed-on inputs file tally (Runs (Err fault) is over) = absurd cc
   run-is-handed-on inputs None tally (Runs (Ok tally') is (from, to, left, ends)) = ap (λ w. w.all_flushed) ends.rest ∙ ends.leaves.flushed.0
   run-is-handed-on inputs (Some name) tally (Runs (Ok tally') is (from, to, left, ends)) = ap (λ w. w.all_flushed) ends.rest ∙ ends.leaves.flushed.0

@@ -1,6 +1,6 @@
 -- What a run leaves, by its steps, and what comes of a job.
 use Rattle.bufr_frame.specs.Prelude.{max_reads, read_failures_after, AddsReads}
-use Rattle.std.proofs.Common.{◌≡◌, ◌≢◌, ◌∙◌, ◌<◌, ◌≤◌, ◌^◌, ℕ, ◌+◌, ◌-◌, Bool, true, false, List, [], ◌∷◌, ◌++◌, length, length-append, refl, sym, ap, subst, arith, append_assoc, Option, None, Ok, Err, append-nil, Some, inl, inr, Result, flat_map, map, count_by, IfSome}
+use Rattle.std.proofs.Common.{◌≡◌, ◌≢◌, ◌⊎◌, ◌∙◌, ◌<◌, ◌≤◌, ◌^◌, ℕ, ◌+◌, ◌-◌, Bool, true, false, List, [], ◌∷◌, ◌++◌, length, length-append, refl, sym, ap, subst, arith, append_assoc, Option, None, Ok, Err, append-nil, Some, inl, inr, Result, flat_map, map, count_by, IfSome}
 use Rattle.std.specs.Io.KnownBytes.{Consumes, IsAtEnd, Keeps}
 use Rattle.std.proofs.KnownBytes.{Appends-nil, Appends-trans, Appends-kept, Consumes-trans}
 use Rattle.std.proofs.lemmas.Bool.{false≢true}
@@ -11,8 +11,7 @@ use Rattle.bufr_frame.proofs.FinderLemmas.{adds-then}
 use Rattle.bufr_frame.specs.declared.fault.RunFault.{RunFault}
 use Rattle.bufr_frame.specs.declared.fault.RunFault.TheVariants.{Read, Write, InputTooLong, Memory}
 use Rattle.bufr_text.specs.Prelude.{GrowsByPrefix, Stays, Fails, Writes}
-use Rattle.bufr_cli.specs.Prelude.{BlamesWriter, CountsCalls, CountsRead, EndsRun, FlushesRest, TakesStep, HasFlushed, FlushesBoth, FlushesWritten, IsFlushedIf, IsFlushed, LeavesOther, unflushed_after, Writer, Input, IsClosed, IsCut, IsDone, InputName, IsNotOpened, IsOpen, Opens, HasNotFailed, InPart, Known, LeavesDevices, FlushesAtMost, FlushesByRead, FlushFails, NoFlushFails, OnErrors, OnOutput, Piece, Progress, ReadsAndWrites, ReadsAtMost, ReadsFewer, ReadsOctets, RunOutcome, RunPieces, RunReads, RunsOver, RunsOverInput, StopsPiece, Tallies, Tally, Verdict, WantsMemory, Writers, WritesHelp, WritesLine, WritesPieces, WritesPrefixes, WrittenInPart, counted_accepted, counted_refused, errors_of, is_accepted, is_refused, output_of, run_line, tally_after}
-use Rattle.bufr_cli.specs.declared.outcome.Outcome.{Outcome}
+use Rattle.bufr_cli.specs.Prelude.{BlamesWriter, CountsCalls, CountsRead, EndsRun, FlushesRest, TakesStep, HasFlushed, FlushesBoth, FlushesWritten, IsFlushedIf, IsFlushed, LeavesOther, unflushed_after, Writer, Input, IsCut, IsDone, InputName, IsOpen, Opens, HasNotFailed, InPart, Known, LeavesDevices, FlushesAtMost, FlushesByRead, FlushFails, NoFlushFails, OnErrors, OnOutput, Piece, Progress, ReadsAndWrites, ReadsAtMost, ReadsFewer, ReadsOctets, RunPieces, RunReads, RunsOver, RunsOverInput, StopsPiece, Tallies, Tally, Verdict, Writers, WritesHelp, WritesLine, WritesPieces, WritesPrefixes, WrittenInPart, counted_accepted, counted_refused, errors_of, is_accepted, is_refused, output_of, run_line, tally_after}
 use Rattle.bufr_cli.specs.declared.run_pieces.RunStep.{RunStep}
 use Rattle.bufr_cli.specs.declared.run_pieces.Unflushed.{Unflushed}
 use Rattle.bufr_cli.specs.declared.outcome.Verdict.TheVariants as verdict
@@ -586,12 +585,6 @@ runs-standard inputs file run none runs = rw none runs
 pub runs-file : {Standard File : Type 0} (inputs : Known Standard File) (file : Option (Bor (List ℕ))) (name : Bor (List ℕ)) (run : (from to : Input) → Type 0) → file ≡ Some name
     → RunsOver inputs.of_file (inputs.named name.now) run → RunsOverInput inputs file run
 runs-file inputs file name run some runs = rw some runs
-
--- a file was not opened
-pub not-opened : {Standard File : Type 0} (pieces : RunPieces) (inputs : Known Standard File) (file : Option (Bor (List ℕ))) (name : Bor (List ℕ)) (before : Writers) (outcome : Outcome)
-    → file ≡ Some name → IsClosed inputs.named name outcome → RunOutcome pieces inputs file before before outcome
-not-opened pieces inputs file name before outcome some (inl closed) = IsNotOpened name some closed.0 closed.1 refl
-not-opened pieces inputs file name before outcome some (inr memory) = WantsMemory memory refl
 
 -- help that was written in part ends with the line of a fault of a write
 pub help-in-part : (text : List ℕ) (before after : Writers) (status : ℕ) (fault : RunFault) → Writes {X = Unit {0}} before.output.taken after.output.taken text (Err fault)

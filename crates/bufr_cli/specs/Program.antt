@@ -86,14 +86,13 @@ abbrev pub RunsOverInput : {Standard File : Type 0} → Known Standard File
 RunsOverInput inputs None run = RunsOver inputs.of_standard inputs.standard run
 RunsOverInput inputs (Some name) run = RunsOver inputs.of_file (inputs.named name.now) run
 
--- The outcome of a run that reads the file with this name, or standard input: the file cannot be
--- opened, or memory runs out before the run, and nothing is written; or the run ends.
+-- The outcome of a run that reads the file with this name, or standard input: the input is not
+-- opened (standard input only if memory ran out), and nothing is written; or the run ends.
 pub data RunOutcome {Standard File : Type 0} (pieces : RunPieces) (inputs : Known Standard File)
     (file : Option (Bor (List ℕ))) (before after : Writers) (outcome : Outcome) : Type 0 where
-  IsNotOpened : (name : Bor (List ℕ)) → file ≡ Some name → outcome ≡ CannotOpen name
-      → inputs.named name.now ≡ None → after ≡ before
-      → RunOutcome pieces inputs file before after outcome
-  WantsMemory : outcome ≡ Run run_fault.Memory → after ≡ before
+  IsNotOpened : (name : Bor (List ℕ)) → file ≡ Some name → IsClosed inputs.named name outcome
+      → after ≡ before → RunOutcome pieces inputs file before after outcome
+  WantsMemory : file ≡ None → outcome ≡ Run run_fault.Memory → after ≡ before
       → RunOutcome pieces inputs file before after outcome
   Runs : (ran : Result Tally RunFault) → outcome ≡ ran_outcome ran
       → RunsOverInput inputs file (λ from to. EndsRun pieces from to before after ran)

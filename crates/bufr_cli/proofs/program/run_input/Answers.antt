@@ -1,5 +1,6 @@
-use Rattle.bufr_cli.specs.Prelude.{Runs}
-use Rattle.bufr_cli.proofs.RunLemmas.{not-opened, runs-file, runs-standard}
+use Rattle.std.proofs.Common.{refl}
+use Rattle.bufr_cli.specs.Prelude.{IsNotOpened, Runs}
+use Rattle.bufr_cli.proofs.RunLemmas.{runs-file, runs-standard}
 use Rattle.bufr_cli.proofs.program.run_input.Goals as goal
 
 pub returns-in-Ok-clause-comes : goal.returns-in-Ok-clause-comes
@@ -11,4 +12,4 @@ returns-in-Ok-open_file-clause-comes g c =
     (runs-file _ _ c.in-Some.name _ c.in-Some.is (_, _, c.in-Ok-open_file.ensures.file, c.run_source-in-Ok-open_file.ensures))
 
 pub returns-in-Err-open_file-clause-comes : goal.returns-in-Err-open_file-clause-comes
-returns-in-Err-open_file-clause-comes g c = not-opened _ _ _ c.in-Some.name _ _ c.in-Some.is c.in-Err-open_file.ensures.closed
+returns-in-Err-open_file-clause-comes g c = IsNotOpened c.in-Some.name c.in-Some.is c.in-Err-open_file.ensures.closed refl
