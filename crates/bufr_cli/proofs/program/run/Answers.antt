@@ -24,7 +24,7 @@ returns-in-Err-Help g c =
     Answers (Help c.in-Err-Help.text) (rw c.in-Err-Help.field-0-is at c.in-Err-Help.ensures.fault) (opens-none _)
     (subst Q value
     (help-in-part c.as_bytes.result.now _ _ c.finish-in-Err.result c.in-Err.fault c.in-Err.ensures.writes c.in-Err.ensures.counts
-        (c.finish-in-Err.ensures.prefix, c.finish-in-Err.ensures.whole, c.finish-in-Err.ensures.flushes)
+    (c.finish-in-Err.ensures.prefix, c.finish-in-Err.ensures.whole, c.finish-in-Err.ensures.flushes)
     c.finish-in-Err.ensures.status))
 
 pub returns-in-Err-Usage : goal.returns-in-Err-Usage
