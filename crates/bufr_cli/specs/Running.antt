@@ -329,7 +329,7 @@ pub record LeavesDevices (pieces : RunPieces) (from to : Input) (before after : 
   -- what the result says about that
   pub ends : RunEnds ran result
   -- if the run completed and its whole input is known, the pieces of that input were written and
-  -- counted
+  -- counted (this follows from `ran` and `ends`)
   pub whole : IfOk result (λ tally. IfSome from.left (WritesWhole pieces before after tally))
   -- the errors are flushed after the output: if that fails, the output was already flushed
   pub order : FlushFails before.errors after.errors → IsFlushed before.output after.output
