@@ -93,8 +93,8 @@ abbrev pub is_character : Kind → Bool
 is_character Character = true
 is_character _ = false
 
--- whether a row is valid: that of a factor, which needs this width, must have scale 0 and reference
--- 0, and must not be text
+-- whether a row is valid, given its `factor_width`: the row of a factor must have this width, scale 0
+-- and reference 0, and must not be text
 abbrev pub is_valid_factor : Option ℕ → Row → Bool
 is_valid_factor None row = true
 is_valid_factor (Some width) row =
