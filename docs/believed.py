@@ -119,18 +119,22 @@ LAWS = {
     "walk/specs/Rules.antt": ["elements_have_their_rows"],
     "walk/specs/Pass.antt": ["data_are_read_item_by_item"],
 }
-# Our notes on definitions of the kit, by crate and name.
+# Our notes on definitions of the kit, by crate and name. A note in REPLACED is printed instead of the definition's own comment,
+# which describes another definition, or refers to one that is not printed.
+REPLACED = [("clap", "accepts"), ("clap", "unwrap_or_range")]
 NOTES = {
     ("csv", "step"): 'What comes after a closing quote belongs to the field: `"a"b` is ab.',
+    ("csv", "next_record"): "The arguments are the configuration, the state, the fields so far, the field at hand, and the text.",
     ("csv", "records_from"): "`length xs + 1` records are enough, since each one uses at least one byte.",
     ("clap", "accepts"): "Whether a parser accepts a text. `ignore_case` only affects values that are listed.",
-    ("clap", "unwrap_or_range"): "The number of values of an argument: one, if it is not set. The comment below belongs to `parser_of_value`.",
+    ("clap", "unwrap_or_range"): "The number of values of an argument: one, if it is not set.",
     ("clap", "check_kinds"): "`wants_help`: nothing was given, although help is shown then. `wants_subcommand` and `wants_argument`: a"
         " subcommand, or an argument, is required but missing.",
     ("clap", "Rule"): "`value_names` is their number, and `missing` the values of an option that is given without one. `is_simple` and"
         " `is_free` are false if a setting changes how words are read, or relates the argument to others.",
     ("clap", "Held"): "In the definitions printed here, `skip` is always 0.",
     ("clap", "started"): "What is pending: an argument and its values so far, or else the argument id without values.",
+    ("clap", "bundle_step"): "One step of `bundle_met` (below), at the character x. `next` continues with the flags after it.",
     ("clap", "after_flag"): "The last case is a flag that is refused, which `fault_of` reports.",
     ("clap", "with_leaf_noted"): "A command without subcommands gets no subcommand `help`.",
     ("clap", "attached_value"): "`-B=` has an empty value, and `-B` has none.",
@@ -482,8 +486,11 @@ class Printer:
         first, used, name = self.codes.setdefault(code, (section, uses, self.name(item)))
         if used == uses and section != first:
             shown = f"-- `{self.name(item)}` is {'the same as' if name == self.name(item) else f'`{name}`'} in section {first}"
-        if (crate_of(item), item.name) in NOTES:
-            shown = "\n".join([*comment(f"(our note) {NOTES[crate_of(item), item.name]}"), shown])
+        noted = crate_of(item), item.name
+        if noted in REPLACED:
+            shown = re.sub(r"^(?:--.*\n)*", "", shown)
+        if noted in NOTES:
+            shown = "\n".join([*comment(f"(our note) {NOTES[noted]}"), shown])
         if item.module and item.module != module:
             shown = f"{item.module}\n{shown}"
         print(f"\n{shown}")

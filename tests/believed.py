@@ -121,6 +121,8 @@ def main() -> None:
     for law in ("data_are_read_item_by_item", "elements_have_their_rows"):
         if not re.search(rf"^pub fn {law}\b", texts["3"], re.M):
             wrongs.append(f"the law {law} is not printed")
+    if "abbrev pub is_simple : App " in texts["3"]:
+        wrongs.append("a definition is printed only because a field of a record has its name")
     if "-- crates/bufr_tables/specs/TableB.antt\n-- Table B: " not in texts["3"]:
         wrongs.append("the first lines of a file are not printed")
     for fault, report in ("TemplateFault", "template_report"), ("ItemFault", "item_report"), ("RunFault", "run_report"):
