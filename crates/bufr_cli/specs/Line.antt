@@ -17,7 +17,7 @@ use Rattle.bufr_cli.specs.declared.job.Subcommand.{Subcommand}
 use Rattle.bufr_cli.specs.declared.job.Subcommand.TheVariants.{Ls, Dump, Encode}
 use Rattle.bufr_cli.specs.declared.job.TableNames.{TableNames}
 
--- the option `-B FILE` or `-D FILE`: it has one value and is required; `letter` is the octet B or D
+-- the required option `-B FILE` or `-D FILE`, which takes one value; `letter` is the octet of B or D
 abbrev pub table_rule : (id : Text) → (letter : ℕ) → Rule
 table_rule id letter =
     record (new_rule id) { short = Some letter; value_names = 1; required = true }

@@ -191,7 +191,7 @@ HasFlushed before after (Ok x) =
 -- before a read that fails, everything that the run wrote was flushed
 HasFlushed before after (Err Read) =
     IsFlushed before.output after.output × IsFlushed before.errors after.errors
--- after other faults, not everything need be flushed (`FlushesRest` says what is done about that)
+-- after other faults, the output need not be flushed yet; `FlushesRest` says what happens to it
 HasFlushed before after (Err fault) = Unit {0}
 
 -- Between these states, a flush of the writer failed.

@@ -297,8 +297,8 @@ pack_across spec a =
       result_map_both (written_item cs) (packing_fault cs a.cells) (packing spec cs)
 
 -- How the rows of compressed data are written. `many` is whether a row after the last one would make
--- too many values: then that is the fault if it is missing. Faults after the last row are reported
--- on the line that ends the first subset (`end_line`).
+-- too many values, which is then reported instead of a missing item. Faults after the last row are
+-- reported on the line that ends the first subset (`end_line`).
 -- rule: fault-62
 abbrev pub packed_filler : (end_line : ℕ) (many : Bool) → Filler ItemRow (List Content) DraftFault
 packed_filler end_line many = record {

@@ -99,8 +99,8 @@ read_field coding spec items (Ok f) = Ok (record {
   state = record { items = items + 1; left = f.suffix };
 })
 
--- How data are read. Before a field that the walk does not refuse is read, `many` is checked: whether
--- one more item would be too many.
+-- How data are read. `many` says whether one more item would be too many: this is checked if the
+-- walk does not refuse the field, before it is read.
 -- rule: compressed-fault-order
 abbrev pub reading : {C : Type 0} → DataCoding C → (many : ℕ → Bool) → Passing Place C Stop
 reading coding many = record {

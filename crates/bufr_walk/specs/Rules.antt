@@ -230,7 +230,7 @@ abbrev pub factor_by : Option Row → ℕ → Result FieldSpec TurnRefusal
 factor_by None fxy = Err (refusal.Width fxy)
 factor_by (Some row) fxy = if_valid_width (factor_field row fxy)
 
--- the same, unless the factor is refused, as it is while references are being redefined (own)
+-- the same, but refused while references are being redefined (own)
 -- rule: factor-by-entry, defining-no-delayed-group
 abbrev pub factor_spec : List Row → OperatorModel → ℕ → Result FieldSpec TurnRefusal
 factor_spec table s fxy =
