@@ -7,12 +7,13 @@
 The output begins with an explanation of the notation. The contracts come next, followed by the definitions under headings:
 first those of the format, then those of how a run uses its devices, and last what the kit's crates csv and clap guarantee.
 Most definitions come after those that they use. The name of each file of definitions is followed by its first lines, and by
-the names from later sections that these definitions use. A law that justifies a file is printed after the file, and
-definitions that only the laws need come last. Types and traits in a signature are printed with their ghost items. Imports,
-tags and derives are left out. An enum of faults is also left out if its report, which lists the number and the text of each
-fault, is printed. The report is printed before the first definition that names a fault of the enum. If two definitions have
-the same name, that of a kit's crate is printed with the crate's name, as in `clap.Row`. A definition that repeats an earlier
-one word for word is printed with a note instead of its comment. Some definitions of the kit are printed with a note of ours.
+the names from later sections that these definitions use. A law that justifies a file is named after the file, and printed at
+the end, after the definitions that only the laws need. Types and traits in a signature are printed with their ghost items.
+Imports, tags and derives are left out. An enum of faults is also left out if its report, which lists the number and the text
+of each fault, is printed. The report is printed before the first definition that names a fault of the enum. If two
+definitions have the same name, that of a kit's crate is printed with the crate's name, as in `clap.Row`. A definition that
+repeats one of an earlier section word for word is replaced by a line that refers to the earlier one. Some definitions of the
+kit are printed with a note of ours.
 
 Names from std, and names that the checker itself derives from a contract (specs.contracts), are not followed. If any other
 imported name is not found, believed.py prints an error instead and exits with status 1. The numbers of definitions, lines
@@ -66,8 +67,9 @@ and `(x : A) ×` "for some x". `Unit` and `⊤` are always true, and `⊥` never
 out. `λ x. e` is a function, `x ∷ xs` is the list xs with x in front, and `++` joins lists. In `do`, a line `x ← e` stops at
 the first fault or `None`, as `>>=` does.
 
-A number in ℕ is `zero` or `suc n` (n + 1), and one in ℤ is `pos n` (n) or `negsuc n` (-n - 1). A text is a list of octets:
-10 is a line feed, 32 a space, 34 `"`, 35 `#`, 45 `-`, 46 `.`, and 92 `\\`; 48 to 57 are the digits.
+A number in ℕ is `zero` or `suc n` (n + 1), and one in ℤ is `pos n` (n) or `negsuc n` (-n - 1). In ℕ, `m - n` is 0 if n is
+greater than m, `/` rounds down, and `%` is the remainder. A text is a list of octets: 10 is a line feed, 32 a space, 34 `"`,
+35 `#`, 45 `-`, 46 `.`, and 92 `\\`; 48 to 57 are the digits.
 
 A word before a constructor, as in `data_fault.DataEnd`, stands for its type (`DataFault`), since several types have
 constructors of the same name. Most types of faults are not printed. Instead, a report lists the number and the text of each
@@ -85,8 +87,9 @@ known before and after a call. If nothing is known before the call, they always 
   `Consumes old new octets`    old is these octets, followed by new
   `Keeps old new`              new is old
   `IsAtEnd new`                no octet is left
-`ReadConsumes` and `WriteAppends` mean `Consumes` and `Appends` for a call that returns a count, and `Keeps` for a call that
-fails. `IfSome`, `IfOk` and `IfErr` apply a statement to the value in an option or a result, if there is one.
+`ReadConsumes` and `WriteAppends` mean `Consumes` and `Appends` for a call that returns a count n, where the octets are the
+first n of its buffer, and `Keeps` for a call that fails. `ReadConsumes` also means that n is 0 only at the end or if the
+buffer is empty. `IfSome`, `IfOk` and `IfErr` apply a statement to the value in an option or a result, if there is one.
 
 Names that are not defined below come from std (rattle/std and rattle/core in the kit, and rattle/ANTT.md), such as:
   `codes "ab"`, `decimal n`                    the octets of a text; those of n in decimal digits
@@ -99,7 +102,14 @@ Names that are not defined below come from std (rattle/std and rattle/core in th
   `position p xs`                              the index of that element, from 0, if there is one
   `unwrap_or o d`, `option_map_or f o d`       the value in the option o, or f of that value; d if o is `None`
   `option_and_then f o`                        f of the value in o, where f returns an option; `None` if o is `None`
+  `option_zip a b`                             the pair of the values in a and b; `None` if one of them is `None`
   `ok_or o e`                                  `Ok` with the value in o; `Err e` if o is `None`
+  `result_map_both f g r`                      `Ok` of f of the value in r, or `Err` of g of its fault
+  `list_all p xs`, `count_by p xs`             whether all elements pass the test p; how many do
+  `find p xs`                                  the first element that passes p, if there is one
+  `concat xs`, `flat_map f xs`                 the lists in xs joined; the lists that f gives for the elements of xs joined
+  `pointwise p xs ys`                          whether the lists are equally long and p holds for each pair of elements
+  `from_bool b`                                1 for true, 0 for false
 
 Names that are defined in later sections are listed after the first lines of a file. These lines cite the part of FM 94 that
 the file defines. `(own)` marks a rule that is our choice.
@@ -109,17 +119,24 @@ LAWS = {
     "walk/specs/Rules.antt": ["elements_have_their_rows"],
     "walk/specs/Pass.antt": ["data_are_read_item_by_item"],
 }
-# Our notes on definitions of the kit, by crate and name.
+# Our notes on definitions of the kit, by crate and name. A note in REPLACED is printed instead of the definition's own comment,
+# which describes another definition, or refers to one that is not printed.
+REPLACED = [("clap", "accepts"), ("clap", "unwrap_or_range")]
 NOTES = {
     ("csv", "step"): 'What comes after a closing quote belongs to the field: `"a"b` is ab.',
+    ("csv", "next_record"): "The arguments are the configuration, the state, the fields so far, the field at hand, and the text.",
     ("csv", "records_from"): "`length xs + 1` records are enough, since each one uses at least one byte.",
     ("clap", "accepts"): "Whether a parser accepts a text. `ignore_case` only affects values that are listed.",
-    ("clap", "unwrap_or_range"): "The number of values of an argument: one, if it is not set. The comment below belongs to `parser_of_value`.",
+    ("clap", "unwrap_or_range"): "The number of values of an argument: one, if it is not set.",
     ("clap", "check_kinds"): "`wants_help`: nothing was given, although help is shown then. `wants_subcommand` and `wants_argument`: a"
         " subcommand, or an argument, is required but missing.",
     ("clap", "Rule"): "`value_names` is their number, and `missing` the values of an option that is given without one. `is_simple` and"
         " `is_free` are false if a setting changes how words are read, or relates the argument to others.",
     ("clap", "Held"): "In the definitions printed here, `skip` is always 0.",
+    ("clap", "started"): "What is pending: an argument and its values so far, or else the argument id without values.",
+    ("clap", "bundle_step"): "One step of `bundle_met` (below), at the character x. `next` continues with the flags after it.",
+    ("clap", "after_flag"): "The last case is a flag that is refused, which `fault_of` reports.",
+    ("clap", "with_leaf_noted"): "A command without subcommands gets no subcommand `help`.",
     ("clap", "attached_value"): "`-B=` has an empty value, and `-B` has none.",
     ("clap", "Shape"): "`is_leaf`: it has no subcommands. `is_built`: the arguments that `built` adds are there.",
     ("clap", "repeat_fault"): "`again`, here and below, is `args_override_self`: whether an argument may be given again.",
@@ -300,7 +317,7 @@ class House:
     @functools.cache
     def uses(self, item):
         """Returns the items that an item names."""
-        text = f"{item.code()}\n{item.module or ''}"
+        text = re.sub(r"(?m)(?:^|[{;])\s*\w+ = ", " ", f"{item.code()}\n{item.module or ''}")  # without names of fields
         items = [found for token in TOKEN.findall(text) for found in [self.named(item, token)] if found]
         if item.path.suffix == ".rt":
             items += filter(None, (self.rust(item.path, name) for name in re.findall(r"\b[A-Z]\w*", text)))
@@ -466,10 +483,14 @@ class Printer:
         """Prints an item of a section. `module` is the module line that was printed last in the same file, if any."""
         shown, uses = self.text(item), set(self.house.uses(item)) - {item}
         code = re.sub(r"(?m)^\s*(?:--|//).*\n|\b(?:clap|csv)\.(?=[a-z_\d]+\b)", "", shown)
-        if self.codes.setdefault(code, (section, uses))[1] == uses and section != self.codes[code][0]:
-            shown = f"-- the same as in section {self.codes[code][0]}\n" + re.sub(r"^(?:--.*\n)*", "", shown)
-        if (crate_of(item), item.name) in NOTES:
-            shown = "\n".join([*comment(f"(our note) {NOTES[crate_of(item), item.name]}"), shown])
+        first, used, name = self.codes.setdefault(code, (section, uses, self.name(item)))
+        if used == uses and section != first:
+            shown = f"-- `{self.name(item)}` is {'the same as' if name == self.name(item) else f'`{name}`'} in section {first}"
+        noted = crate_of(item), item.name
+        if noted in REPLACED:
+            shown = re.sub(r"^(?:--.*\n)*", "", shown)
+        if noted in NOTES:
+            shown = "\n".join([*comment(f"(our note) {NOTES[noted]}"), shown])
         if item.module and item.module != module:
             shown = f"{item.module}\n{shown}"
         print(f"\n{shown}")
@@ -522,16 +543,19 @@ def main():
         section = numbers.index(number) + 1
         print(f"\n== {section}. {titles[number]}")
         for path, items in itertools.groupby(inside, lambda item: item.path):
-            items, module = list(items), None
-            file = f"{path.relative_to(TOP if is_own(items[0]) else kit())}{' (continued)' if path in begun else ''}"
-            print(f"\n-- {file}", *([] if path in begun else about(path)), *printer.later(items, section), sep="\n")
+            items, module, is_new = list(items), None, path not in begun
+            file = f"{path.relative_to(TOP if is_own(items[0]) else kit())}{'' if is_new else ' (continued)'}"
+            print(f"\n-- {file}", *(about(path) if is_new else []), *printer.later(items, section), sep="\n")
             begun.add(path)
             for item in items:
                 printer.put(item, section, module)
                 module = item.module
-            for law in laws.pop(path, []):
-                print("\n-- a proved law that justifies these definitions", *printer.later([law], section), sep="\n", end="")
-                printer.put(law, section)
+            for law in laws.get(path, []) if is_new else []:
+                print(f"\n-- The law `{law.name}`, which is printed at the end, justifies these definitions.")
+    for path, ones in laws.items():
+        for law in ones:
+            print(f"\n-- a proved law that justifies the definitions of {path.relative_to(TOP)}", end="")
+            printer.put(law, 0)
     own = calls + [item for item in definitions if is_own(item)]
     print(f"{printer.size(own)}, {len({item.path for item in own})} files", file=sys.stderr)
     print(f"from the kit's crates: {printer.size([item for item in definitions if item not in own])}", file=sys.stderr)

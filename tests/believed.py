@@ -120,7 +120,9 @@ def main() -> None:
         wrongs.append("the notation is not explained first")
     for law in ("data_are_read_item_by_item", "elements_have_their_rows"):
         if not re.search(rf"^pub fn {law}\b", texts["3"], re.M):
-            wrongs.append(f"the law {law} is not printed beside what it justifies")
+            wrongs.append(f"the law {law} is not printed")
+    if "abbrev pub is_simple : App " in texts["3"]:
+        wrongs.append("a definition is printed only because a field of a record has its name")
     if "-- crates/bufr_tables/specs/TableB.antt\n-- Table B: " not in texts["3"]:
         wrongs.append("the first lines of a file are not printed")
     for fault, report in ("TemplateFault", "template_report"), ("ItemFault", "item_report"), ("RunFault", "run_report"):
@@ -132,7 +134,7 @@ def main() -> None:
         wrongs.append("a module line is printed without a definition, or a definition without the line of its module")
     if re.search(r"(?m)^[\w ]*pub record Row ", texts["3"].partition("crate clap guarantees")[2]) or "List clap.Row" not in texts["3"]:
         wrongs.append("two definitions are called Row")
-    if texts["3"].count("-- the same as in section ") != 2 or "`with_subcommand` (section 15).\n" not in texts["3"]:
+    if len(re.findall(r"\n\n-- `[^`]+` is (?:the same as|`[^`]+`) in section \d+\n", texts["3"])) != 2 or "`with_subcommand` (section 15).\n" not in texts["3"]:
         wrongs.append("a definition that is repeated, or a name that is defined later, is not noted")
     if texts["3"].count("\n-- (our note) ") != len(runpy.run_path(str(TOP / "docs/believed.py"))["NOTES"]):
         wrongs.append("a note on a definition of the kit is not printed")

@@ -38,8 +38,8 @@ empty_writes_after count octets (Ok (suc taken)) = count
 empty_writes_after count [] (Ok zero) = count
 empty_writes_after count (octet ∷ more) (Ok zero) = counted count 1
 
--- the count of whole writes after a write of these octets; a write is whole if it took all of them
--- (only the contract of `Sink` uses this count)
+-- The count of whole writes after a write of these octets; a write is whole if it took all of them.
+-- (`run` does not need this count. It bounds the writes of a buffered writer.)
 abbrev pub whole_writes_after : {E : Type 0} → ℕ → List ℕ → Result ℕ E → ℕ
 whole_writes_after count octets (Err e) = count
 whole_writes_after count octets (Ok taken) =
@@ -55,8 +55,7 @@ abbrev pub flushes_after : {A E : Type 0} → Flushes → Result A E → Flushes
 flushes_after flushes result =
     record { made = counted flushes.made 1; failed = failures_after flushes.failed result }
 
--- whether all octets taken are flushed after a write: not if the write took any; otherwise as
--- before
+-- whether all octets taken are flushed after a write: no if it took any; otherwise as before
 abbrev pub all_flushed_after_write : {E : Type 0} → Bool → Result ℕ E → Bool
 all_flushed_after_write before (Err e) = before
 all_flushed_after_write before (Ok zero) = before

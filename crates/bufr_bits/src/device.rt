@@ -28,11 +28,11 @@ pub trait Source {
     /// The number of octets that all reads requested: the sum of the lengths of their buffers.
     ghost asked: { Self → ℕ };
 
-    /// Whether the next read may block or fail. The program flushes its output before such a read,
-    /// so that live feeds work.
+    /// Whether the next read may block or fail.
     ghost waits: { Self → Bool } = { λ _. true };
 
-    /// Whether the next read may block or fail. A source that cannot tell returns `true`.
+    /// Returns `false` only if the next read neither blocks nor fails. The program flushes its
+    /// output before all other reads, so that live feeds work.
     fn may_wait(&self) -> bool
         ensures { result ≡ false → waits self.now ≡ false }
     {

@@ -1,6 +1,6 @@
--- The command line of `bufr`, in terms of the kit's crate clap: an `App` has subcommands, a `Rule`
--- describes an option or argument, a `Row` is what a command line gives for it, and `Kinds` are the
--- errors that clap reports. (own)
+-- The command line of `bufr`, in terms of the kit's crate clap: an `App` is a command (`top`) and its
+-- subcommands, a `Rule` describes an option or argument, a `Row` has the values that a command line
+-- gives for it (`first_of` finds the first one), and `Kinds` are the errors that clap reports. (own)
 -- Cited by public contracts.
 use Rattle.std.specs.Prelude.{◌≡◌, ◌≢◌, ◌⊎◌, ℕ, List, ◌++◌, Option, Some, None, true, codes, option_map, string_bytes}
 use Rattle.clap.specs.Words.{App, IsAmong, Kinds, Row, Rule, Text, first_of, new_app, new_rule, with_rule, with_subcommand}
@@ -17,7 +17,7 @@ use Rattle.bufr_cli.specs.declared.job.Subcommand.{Subcommand}
 use Rattle.bufr_cli.specs.declared.job.Subcommand.TheVariants.{Ls, Dump, Encode}
 use Rattle.bufr_cli.specs.declared.job.TableNames.{TableNames}
 
--- the option `-B FILE` or `-D FILE`, which is required; `letter` is the octet of B or D
+-- the required option `-B FILE` or `-D FILE`, which takes one value; `letter` is the octet of B or D
 abbrev pub table_rule : (id : Text) → (letter : ℕ) → Rule
 table_rule id letter =
     record (new_rule id) { short = Some letter; value_names = 1; required = true }
@@ -32,7 +32,7 @@ tables_app name =
 abbrev pub form_rule : Rule
 form_rule = record (new_rule (codes "form")) { long = Some (codes "form"); value_names = 1 }
 
--- the command `bufr`, which has a version and needs a subcommand
+-- the command `bufr` without its subcommands; it has a version and needs a subcommand
 abbrev pub top_app : App
 top_app =
     record (new_app (codes "bufr")) {
@@ -40,8 +40,8 @@ top_app =
           { has_version = true; subcommand_required = true };
     }
 
--- the command `bufr` with its subcommands `ls [FILE]`, `dump`, and `encode`, which also has
--- `[--form WORD]`
+-- the command `bufr` with its subcommands, each the `top` of an `App`: `ls [FILE]`, `dump`, and
+-- `encode`, which also has `[--form WORD]`
 -- rule: version, one-file
 abbrev pub bufr_app : App
 bufr_app =
@@ -108,8 +108,8 @@ GivesNoJob None text = text ≡ no_job_text UnknownCommand
 GivesNoJob (Some subcommand) text =
     (why : NoJob) × IsWhyNoJob subcommand.0 subcommand.1 why × (text ≡ no_job_text why)
 
--- Why a command line is not a job. clap reports help or the version; or it reports another error,
--- or its subcommand is not a job; or memory ran out. `kinds` are the errors that clap reports.
+-- Why a command line is not a job: clap reports help, the version or another error (one of `kinds`;
+-- its wording is not stated), or the subcommand is not a job, or memory ran out.
 -- rule: help, usage
 abbrev pub SaysWhy : Kinds → Option (Text × List Row) → LineFault → Type 0
 SaysWhy kinds subcommand (Help text) = IsAmong DisplayHelp kinds ⊎ IsAmong DisplayVersion kinds

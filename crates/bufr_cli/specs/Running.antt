@@ -191,7 +191,7 @@ HasFlushed before after (Ok x) =
 -- before a read that fails, everything that the run wrote was flushed
 HasFlushed before after (Err Read) =
     IsFlushed before.output after.output × IsFlushed before.errors after.errors
--- after other faults, `FlushesRest` applies to the output
+-- after other faults, the output need not be flushed yet; `FlushesRest` says what happens to it
 HasFlushed before after (Err fault) = Unit {0}
 
 -- Between these states, a flush of the writer failed.
@@ -329,7 +329,7 @@ pub record LeavesDevices (pieces : RunPieces) (from to : Input) (before after : 
   -- what the result says about that
   pub ends : RunEnds ran result
   -- if the run completed and its whole input is known, the pieces of that input were written and
-  -- counted
+  -- counted (this follows from `ran` and `ends`)
   pub whole : IfOk result (λ tally. IfSome from.left (WritesWhole pieces before after tally))
   -- the errors are flushed after the output: if that fails, the output was already flushed
   pub order : FlushFails before.errors after.errors → IsFlushed before.output after.output

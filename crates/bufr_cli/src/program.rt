@@ -100,8 +100,9 @@ pub fn read_all<R: Source>(alloc: Global, r: &mut R) -> Result<Vec<u8>, RunFault
 }
 
 /// Does what a command line asks for; the first of its words is the program's name. It returns the
-/// exit status: that of [`finish`], or 0 if help or the version was written to `w`. It opens Table
-/// B first, Table D if Table B is valid, and the input if both are valid, each at most once.
+/// exit status: that of `status_of` (specs/Ending), or 0 if help or the version was written to `w`.
+/// It opens Table B first, Table D if Table B is valid, and the input if both are valid, each at
+/// most once.
 pub fn run<'a, S: AsStr, I: Inputs, W: Sink, E: Sink>(
     alloc: Global,
     words: &'a [S],

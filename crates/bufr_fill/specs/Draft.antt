@@ -28,8 +28,8 @@ use Rattle.bufr_fill.specs.declared.draft.DraftValue as given
 use Rattle.bufr_fill.specs.declared.draft.DraftValue.TheVariants as item_value
 use Rattle.bufr_fill.specs.declared.draft.DraftItem.{DraftItem}
 
--- the value of an item, as it appears in its line: the digits of a number, a text, `MISSING`, or
--- the digits of a redefined reference
+-- the value of an item, as it appears in its line: the octets of a number (digits, `-` and `.`), a
+-- text, `MISSING`, or the octets of a redefined reference
 pub data DraftValue : Type 0 where
   number_token : (digits : List ℕ) → DraftValue
   text_form : (octets : List ℕ) → DraftValue

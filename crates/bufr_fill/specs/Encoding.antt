@@ -111,10 +111,10 @@ lowest [] = None
 lowest (number n ∷ cs) = Some (option_map_or (min n) (lowest cs) n)
 lowest (_ ∷ cs) = lowest cs
 
--- Whether a content can be read back from an increment of this k. The increment of a number must
--- fit into k bits, without being all ones if these mean missing. A text must be its first k octets
--- and then spaces, and those k octets must not all be 255. Missing always has an increment, of all
--- ones.
+-- Whether a content can be read back from an increment of this k. (`base` is at most each number,
+-- and k at most the length of a text.) The increment of a number must fit into k bits, without being
+-- all ones if these mean missing. A text must be its first k octets and then spaces, and those k
+-- octets must not all be 255. Missing always has an increment, of all ones.
 -- rule: packs-numbers, packs-texts-not-missing
 abbrev pub has_increment : Coding → (base k : ℕ) → Content → Bool
 has_increment (numbers width m) base k (number n) = nat_lt (n - base) (raw_limit m k)
@@ -162,8 +162,7 @@ packed_unlike role.Factor spec cs = Err unequal_factor
 packed_unlike role.Reference spec cs = Err increment
 packed_unlike _ spec cs = packed_over spec cs
 
--- The contents of one item in all subsets: if they are the same, that content is the base and k is
--- 0.
+-- the contents of one item in all subsets: if they are the same, that is the base, and k is 0
 -- rule: packs-equal, packs-all-missing
 abbrev pub packing : FieldSpec → List Content → Result (List Bool) FieldFault
 packing spec [] = Ok []
@@ -297,9 +296,9 @@ pack_across spec a =
       cs ← contents_here spec a.cells
       result_map_both (written_item cs) (packing_fault cs a.cells) (packing spec cs)
 
--- How the rows of compressed data are written. `many` is whether one more row would make too many
--- values: this fault comes before that of a missing item. Faults after the last row are reported on
--- the line that ends the first subset (`end_line`).
+-- How the rows of compressed data are written. `many` is whether a row after the last one would make
+-- too many values, which is then reported instead of a missing item. Faults after the last row are
+-- reported on the line that ends the first subset (`end_line`).
 -- rule: fault-62
 abbrev pub packed_filler : (end_line : ℕ) (many : Bool) → Filler ItemRow (List Content) DraftFault
 packed_filler end_line many = record {

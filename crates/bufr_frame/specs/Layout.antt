@@ -66,8 +66,7 @@ pub record IsFitting (h : Head) : Type 0 where
   pub edition : is_edition h.edition ≡ true
   pub fits : (i : ℕ) → slice_index (values_of h) i ≤ slice_index (greatest_values h.edition) i
 
--- section 1 from octet 4 to the last octet before local use; flag bit 1 (128) means that section 2
--- is present
+-- section 1 from octet 4 up to local use; flag bit 1 (128) means that there is a section 2
 -- rule: section-2-flag
 abbrev pub head_octets : Head → (optional : Bool) → List ℕ
 head_octets h optional =
@@ -103,8 +102,7 @@ abbrev pub section3_octets : List ℕ → (subsets flags : ℕ) → List ℕ
 section3_octets content subsets flags =
     three_octets (7 + length content) ++ 0 ∷ two_octets subsets ++ flags ∷ content
 
--- the length of a message of these parts: 8 octets of section 0, sections 1 to 4, and 4 octets of
--- section 5
+-- the length of a message of these parts: sections 0 to 5
 abbrev pub message_size : (edition : ℕ) → MessageParts → ℕ
 message_size edition p =
     8 + (min_section_1 edition + length p.local1) + length (section2_octets p.section2)

@@ -66,9 +66,9 @@ parts m p1 p2 p3 p4 = record {
   size = length m;
 }
 
--- Whether a message of edition 3 is refused (own), because encoding its dump might give a message
--- that is too long: each odd section 3 or 4 gets a padding octet, and a message has at most 2^24 -
--- 1 octets. For simplicity, the limit is 2^24 - 1 - 2 even if only one section is odd.
+-- Whether a message of edition 3 is refused (own), because encoding its dump might give more than
+-- 2^24 - 1 octets: each odd section 3 or 4 gets a padding octet. (Nothing else gets longer.) For
+-- simplicity, the limit is 2^24 - 1 - 2 even if only one section is odd.
 -- rule: edition-3-length
 abbrev pub is_long_edition_3 : List ℕ → (p2 p3 p4 : ℕ) → Bool
 is_long_edition_3 m p2 p3 p4 =

@@ -70,9 +70,8 @@ operator_part places d after = do
   Ok (part (operator d bare) 0)
 
 -- The body of group d: the first X descriptors of `after`, which must all be in the same list
--- (own). Fails if too many groups and sequences are nested. `own_places` is the number of places
--- that the group takes besides those of its body. Some node of the body must take bits of the data
--- (own).
+-- (own). Fails if too many groups and sequences are nested. `own_places` is the number of places of
+-- the group without its body (see `size`). Some node of the body must take bits of the data (own).
 -- rule: replication-before-expansion, replication-nested, replication-in-one-list, fault-23
 -- rule: fault-26, order-at-a-replication
 abbrev pub body_of : Option Expansion → (places own_places d : ℕ) → List ℕ

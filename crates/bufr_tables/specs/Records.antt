@@ -46,7 +46,8 @@ i64_of text = option_and_then (λ z. only_if (fits_i64 z) z) (integer_of text)
 abbrev pub Record : Type 0
 Record = List (List ℕ)
 
--- the records of a text; a byte order mark at its beginning is ignored
+-- The records of a text; a byte order mark at its beginning is ignored. Empty lines are no records,
+-- and a quoted field that is not closed extends to the end of the text.
 abbrev pub records_of : List ℕ → List Record
 records_of text = records default_config (strip_bom text)
 

@@ -8,7 +8,7 @@ use Rattle.bufr_tables.specs.declared.table_b.Kind.TheVariants.{Character, Coded
 use Rattle.std.specs.List.{IsDistinct, find, list_all, AllByRecursion}
 use Rattle.std.specs.Int.RustNames.{unsigned_abs}
 use Rattle.bufr_tables.specs.declared.fault.TableFault.{TableFault}
-use Rattle.bufr_tables.specs.declared.fault.TableFault.TheVariants.{Row as RowFault, Duplicate, Csv}
+use Rattle.bufr_tables.specs.declared.fault.TableFault.TheVariants as table
 use Rattle.bufr_tables.specs.Fxy.{◌>>=◌, only_if, f_of, fxy_of, fxy_text, is_factor, y_of}
 use Rattle.bufr_tables.specs.Records.{i64_of, natural_of, Record, field_of, table_of}
 use Rattle.bufr_tables.specs.declared.table_b.Stored.{Stored}
@@ -93,8 +93,8 @@ abbrev pub is_character : Kind → Bool
 is_character Character = true
 is_character _ = false
 
--- whether a row is valid: that of a factor, which needs this width, must have scale 0 and reference
--- 0, and must not be text
+-- whether a row is valid, given its `factor_width`: the row of a factor must have this width, scale 0
+-- and reference 0, and must not be text
 abbrev pub is_valid_factor : Option ℕ → Row → Bool
 is_valid_factor None row = true
 is_valid_factor (Some width) row =
@@ -137,18 +137,18 @@ pub record IsRow (row : Row) : Type 0 where
 abbrev pub entry_of : List Row → ℕ → Option Row
 entry_of rows fxy = find (λ row. row.fxy == fxy) rows
 
--- The rows so far with the row of record n, or the fault of this record: it has no valid row, or an
--- earlier row has its element. (`RowFault` is `table.Row` in `table_report`.)
+-- the rows so far with the row of record n, or the fault of this record: it has no valid row, or an
+-- earlier row has its element
 -- rule: fault-42
 abbrev pub with_row : ℕ → List Row → Option Row → Result (List Row) TableFault
-with_row n rows None = Err (RowFault n)
+with_row n rows None = Err (table.Row n)
 with_row n rows (Some row) =
-    if is_some (entry_of rows row.fxy) then Err (Duplicate row.fxy) else Ok (rows ++ row ∷ [])
+    if is_some (entry_of rows row.fxy) then Err (table.Duplicate row.fxy) else Ok (rows ++ row ∷ [])
 
 -- the rows so far with the row of record n, which must have six fields
 -- rule: fault-45, order-in-a-record
 unfoldable pub with_record_b : ℕ → List Row → Record → Result (List Row) TableFault
-with_record_b n rows r = if length r == 6 then with_row n rows (row_of r) else Err Csv
+with_record_b n rows r = if length r == 6 then with_row n rows (row_of r) else Err table.Csv
 
 -- Table B of these records, or the first fault
 abbrev pub table_b_of : List Record → Result (List Row) TableFault

@@ -4,7 +4,8 @@
 use Rattle.std.specs.Prelude.{◌≡◌, ◌≢◌, ℕ, ◌-◌, ◌==◌, ◌&&◌, Bool, true, false, not, nat_le, if◌then◌else◌, List, [], ◌∷◌, ◌++◌, length, map, codes, Option, Some, None, is_some, option_map, unwrap_or, Result, Ok, Err, IsSome, Contains, All, ⊤, ◌≤◌, ◌<◌, slice_range, ◌+◌, ◌⊎◌, slice_index, slice_index_or}
 use Rattle.std.specs.List.{find, AllByRecursion}
 use Rattle.bufr_tables.specs.declared.fault.TableFault.{TableFault}
-use Rattle.bufr_tables.specs.declared.fault.TableFault.TheVariants.{Row as RowFault, Duplicate, TableSize, Csv, Cycle, Memory}
+use Rattle.bufr_tables.specs.declared.fault.TableFault.TheVariants as table
+use Rattle.bufr_tables.specs.declared.fault.TableFault.TheVariants.{Cycle, Memory}
 use Rattle.bufr_tables.specs.Fxy.{◌>>=◌, only_if, f_of, fxy_of, key_of}
 use Rattle.bufr_tables.specs.Records.{Record, field_of, table_of}
 use Rattle.bufr_tables.specs.declared.table_d.MemberRange.{MemberRange}
@@ -75,15 +76,16 @@ begins_again table row = not (is_last table row.sequence) && is_some (members_of
 -- before it, since the header is record 1; a table has at most 65,536 rows.
 -- rule: fault-44, order-in-a-record
 abbrev pub with_member : ℕ → List Sequence → Option Member → Result (List Sequence) TableFault
-with_member n table None = Err (RowFault n)
-with_member n table (Some row) =
-    if begins_again table row then Err (Duplicate row.sequence)
-    else if nat_le 65536 (n - 2) then Err TableSize else Ok (added table row)
+with_member n sequences None = Err (table.Row n)
+with_member n sequences (Some row) =
+    if begins_again sequences row then Err (table.Duplicate row.sequence)
+    else if nat_le 65536 (n - 2) then Err table.TableSize else Ok (added sequences row)
 
 -- the sequences so far with the row of record n, which must have two fields
 -- rule: fault-45, order-in-a-record
 unfoldable pub with_record_d : ℕ → List Sequence → Record → Result (List Sequence) TableFault
-with_record_d n table r = if length r == 2 then with_member n table (member_of r) else Err Csv
+with_record_d n sequences r =
+    if length r == 2 then with_member n sequences (member_of r) else Err table.Csv
 
 -- Table D of these records, or the first fault; cycles are not checked here
 abbrev pub table_d_of : List Record → Result (List Sequence) TableFault

@@ -35,7 +35,7 @@ abbrev pub blank : (line : ℕ) → Document
 blank line =
     record { line = line; header = []; local1 = []; section2 = []; descriptors = []; entries = [] }
 
--- what the header lines say; `optional` means that there is a section 2
+-- what the header lines say
 pub record DocumentHeader : Type 0 where
   pub head : Head
   pub observed : Bool
@@ -196,7 +196,7 @@ reported_at_end at Between = []
 reported_at_end at Stopped = []
 reported_at_end at state = Refused at NotAllowed ∷ []
 
--- the documents and the fault in the last lines of a text, the first of which has number `at`
+-- the documents and the fault in the remaining lines of a text, the first of which has number `at`
 -- rule: reading-line-numbers
 unfoldable pub parse_lines : (at : ℕ) → Parsing → List (List ℕ) → List ParseResult
 parse_lines at p [] = reported_at_end at p.0

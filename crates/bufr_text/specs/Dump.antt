@@ -43,7 +43,7 @@ section2_line octets = codes "section2 " ++ hex_text octets
 abbrev pub descriptors_line : List ℕ → List ℕ
 descriptors_line words = codes "descriptors" ++ descriptors_text words
 
--- the value of an item, as it appears in its line
+-- the text of a shown value
 -- rule: text-number
 abbrev pub dump_value_of : ShownValue → DraftValue
 dump_value_of (shown_number v scale) = number_token (decimal_text_of v scale)
@@ -51,8 +51,7 @@ dump_value_of (shown_text octets) = text_form octets
 dump_value_of shown_missing = missing_form
 dump_value_of (shown_reference v) = reference_token (decimal_text_of v (pos 0))
 
--- the comment of an item that was read by a row of Table B: two spaces, `# `, the name, and the
--- unit in brackets
+-- the comment of an item that was read by a row of Table B: `  # `, its name, and `[UNIT]`
 -- rule: text-comment, text-no-comment
 abbrev pub comment_text : Option Row → List ℕ
 comment_text None = []
@@ -173,8 +172,7 @@ pub record IsDumpable (s : Sections) (subsets : List (List View)) : Type 0 where
 
 -- ---- The line that lists a message.
 
--- the first part of a listing line: where the message is, where it comes from, its category and its
--- tables
+-- the first part of a listing line: the location, origin, category and tables of a message
 abbrev pub source_texts : (offset size : ℕ) → Head → List (List ℕ)
 source_texts offset size h =
     codes "offset=" ∷ decimal offset ∷ codes " length=" ∷ decimal size ∷ codes " edition="
@@ -189,8 +187,7 @@ time_texts h =
     codes " time=" ∷ zero_padded 4 h.year ∷ codes "-" ∷ zero_padded 2 h.month ∷ codes "-" ∷ zero_padded 2 h.day ∷
     codes "T" ∷ zero_padded 2 h.hour ∷ codes ":" ∷ zero_padded 2 h.minute ∷ codes ":" ∷ zero_padded 2 h.second ∷ []
 
--- the last part of a listing line: the number of subsets, the flags (1 or 0), and the number of
--- descriptors
+-- the last part: the numbers of subsets and of descriptors, and between them the flags (1 or 0)
 -- rule: listing-flags
 abbrev pub counts_texts : (subsets : ℕ) (observed compressed optional : Bool)
     (descriptors : ℕ) → List (List ℕ)

@@ -50,7 +50,6 @@ document_report (document.Template line why) =
     (56, codes "template " ∷ decimal (template_report why).0 ∷ codes " " ∷ (template_report why).1)
 -- the message would have more than 16,777,215 octets
 document_report (document.TooLong line) = (60, codes "too long" ∷ [])
--- no text, since it stops a run, and the last line of the run reports it
 document_report document.Memory = (73, [])
 
 -- the line of a fault; `Memory` has none

@@ -105,8 +105,7 @@ abbrev pub number_read : List ℕ → Option ℕ
 number_read text = if nat_lt 0 (length text) && list_all is_ascii_digit text
     then Some (min (digits_value 10 text) 65536) else None
 
--- whether an octet is written as itself in a text: a printed character of ASCII other than `"` and
--- `\`
+-- whether an octet is written as itself in a text: a printed one of ASCII, except `"` and `\`
 abbrev pub is_unescaped : ℕ → Bool
 is_unescaped c = nat_le 32 c && nat_le c 126 && not (c == 34) && not (c == 92)
 
@@ -190,7 +189,7 @@ pub data Line : Type 0 where
   Closes : Line
   Wrong : Line
 
--- the keys of the header lines, in their order
+-- the keys of the header lines, in their order; `optional` says whether there is a section 2
 -- rule: text-header
 unfoldable pub keys : List (List ℕ)
 keys =
@@ -233,8 +232,7 @@ number_value form (c ∷ more) = if is_number_octet c then Some (
   suffix_while is_number_octet (c ∷ more),
 ) else None
 
--- the value at the beginning of a text (a quoted text, a number or `MISSING`), and the text after
--- it
+-- the value at the beginning of a text (quoted, a number or `MISSING`), and the text after it
 unfoldable pub value_read : List ℕ → Option (DraftValue × List ℕ)
 value_read [] = None
 value_read (c ∷ more) =

@@ -196,7 +196,7 @@ abbrev pub reference_in : Content → ℤ
 reference_in (reference value) = value
 reference_in _ = pos 0
 
--- the answer of a field: the part of its content that affects the walk, depending on its role
+-- the answer of a field, which depends on its role
 abbrev pub answer_by_role : Role → Content → Taken
 answer_by_role role.Factor c = taken.Count (count_in c)
 answer_by_role role.Reference c = taken.Reference (reference_in c)
@@ -223,7 +223,7 @@ shown spec (reference value) = shown_reference value
 
 -- ---- One field of data that are not compressed.
 
--- why a field cannot be read; `data_report` explains each fault
+-- why a field cannot be read: the data end (30), an increment is invalid (34), factors differ (33)
 pub data FieldFault : Type 0 where
   data_end : FieldFault
   increment : FieldFault
@@ -271,10 +271,9 @@ sum_within width m sum =
     else Some (if m && (sum == ones width) then missing else number sum)
 
 -- The content of one subset if k is not 0, or `None` (fault 34). A number is missing if its base or
--- its increment is all ones, and otherwise their sum. A text ignores its base: it is the k octets
--- of the increment and then spaces, or missing if all k octets are 255; k must not exceed its
--- length. A redefined reference has no increments. (own, except for increments of numbers and the
--- meaning of k)
+-- its increment is all ones, and otherwise their sum. A text has k octets of its own and then spaces
+-- (own). It is missing if these octets are all 255 (own), and refused if k exceeds its length (own).
+-- Its base is ignored (own). A redefined reference has no increments (own).
 -- rule: compressed-all-missing, compressed-missing-increment, compressed-text
 -- rule: compressed-text-missing, compressed-text-past-width, compressed-text-base
 -- rule: compressed-references
@@ -295,7 +294,7 @@ all_there (None ∷ more) = None
 all_there (Some a ∷ more) = option_map (λ others. a ∷ others) (all_there more)
 
 -- The contents of an item, one for each of n subsets, or `None` (fault 34). If k is 0, every subset
--- has the base.
+-- has the content of the base.
 -- rule: compressed-equal
 abbrev pub contents_across : Coding → (k subsets : ℕ) → (base suffix : List Bool)
     → Option (List Content)
@@ -318,8 +317,7 @@ if_equal role.Factor (c ∷ cs) =
 if_equal _ cs = Ok cs
 
 -- The item at the beginning of bits, in compressed data of n subsets: a base, 6 bits for k, and n
--- increments if k is not 0. Faults come in this order: the data end (30), an increment is invalid
--- (34), the factors differ (33).
+-- increments if k is not 0. The first fault counts, in the order 30, 34, 33.
 -- rule: compressed-item, compressed-increments-there, fault-30-before-34, fault-34-before-33
 abbrev pub packed_field : (subsets : ℕ) → FieldSpec → List Bool
     → Result (FieldRead (List Content)) FieldFault

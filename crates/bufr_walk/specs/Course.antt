@@ -32,14 +32,16 @@ abbrev pub Rest : Type 0
 Rest = List ℕ → Turns
 
 -- n passes of a body, and then the turns of `rest`. A body is a function of the turns after it,
--- which get the counts that it does not use (`left`).
+-- which get the counts that it does not use (`left`). For example, `passes 1 body rest counts` is
+-- `body (λ left. pass_end (rest left)) counts`.
 -- rule: passes-by-count
 abbrev pub passes : ℕ → (Rest → Rest) → Rest → Rest
 passes zero body rest counts = rest counts
 passes (suc n) body rest counts = body (λ left. pass_end (passes n body rest left)) counts
 
--- The turns of nodes, and then those of `rest`, given the counts of all factors that were read so
--- far. If the counts run out, the last turn is the factor that is read next.
+-- The turns of nodes, and then those of `rest`, given the counts of the factors read so far. The
+-- nodes use the first of these counts, and `rest` gets the others. If the counts run out, the last
+-- turn is the factor that is read next.
 abbrev pub unroll : Tree → Rest → Rest
 unroll bare rest counts = rest counts
 unroll (element fxy more) rest counts = element_turn fxy (unroll more rest counts)

@@ -21,8 +21,8 @@ pub record Step (S C : Type 0) : Type 0 where
   pub returned : Taken
   pub state : S
 
--- How a pass is made, from field to field. S is the state between two fields, and E is a reason to
--- stop.
+-- How a pass is made, from field to field: it reads (`reading`) or writes (`filling`). S is the state
+-- between two fields, and E is a reason to stop.
 pub record Passing (S C E : Type 0) : Type 0 where
   -- the step at a field: it is read or written, or the reason why not
   pub step : FieldSpec → S → Result (Step S C) E
@@ -74,9 +74,9 @@ module _ {S C E : Type 0} (how : Passing S C E) where
   EndsPass astray s stop = ⊥
 
   -- The pass along a course, on which `course []` comes next. If that is a field with the answer t,
-  -- the pass continues along the course after it, which is λ answers. course (t ∷ answers). `most`
-  -- bounds the recursion: it is greater than the number of bits (or of items to write), and each
-  -- field uses at least one of them.
+  -- the pass continues along the course after it, on which `course (t ∷ [])` comes next, and after
+  -- one more answer `course (t ∷ u ∷ [])`. `most` bounds the recursion: it is greater than the number
+  -- of bits (or of items to write), and each field uses at least one of them.
   abbrev pub pass : (most : ℕ) → Course → S → Pass S C E
   pass zero course s = last_turn (course []).turns s (Some how.lost)
   pass (suc more) course s = pass_next (course []).turns (course []).next s
@@ -92,21 +92,20 @@ pub record Place : Type 0 where
 -- the step at a field: the item that was read, or the fault of its field
 abbrev pub read_field : {C : Type 0} → DataCoding C → FieldSpec → (items : ℕ)
     → Result (FieldRead C) FieldFault → Result (Step Place C) Stop
-read_field form spec items (Err why) = Err (stops.Field (wrong_of spec.fxy why))
-read_field form spec items (Ok f) = Ok (record {
+read_field coding spec items (Err why) = Err (stops.Field (wrong_of spec.fxy why))
+read_field coding spec items (Ok f) = Ok (record {
   content = f.content;
-  returned = form.gives spec f.content;
+  returned = coding.gives spec f.content;
   state = record { items = items + 1; left = f.suffix };
 })
 
--- How data are read. At one item, faults come in this order: the walk refuses it (32, 31), there
--- are too many values (35), or the field cannot be read (30, 34, 33). `many` says whether one more
--- item would be too many. `lost` is never used.
+-- How data are read. `many` says whether one more item would be too many: this is checked if the
+-- walk does not refuse the field, before it is read.
 -- rule: compressed-fault-order
 abbrev pub reading : {C : Type 0} → DataCoding C → (many : ℕ → Bool) → Passing Place C Stop
-reading form many = record {
+reading coding many = record {
   step = λ spec p. if many p.items then Err (stops.Field (data_fault.TooManyValues spec.fxy))
-      else read_field form spec p.items (form.field spec p.left);
+      else read_field coding spec p.items (coding.field spec p.left);
   refuses = λ why p. stop_by why;
   ends = λ p. None;
   lost = stops.Field (data_fault.TooManyValues 0);
@@ -115,8 +114,8 @@ reading form many = record {
 -- one pass over bits; `suc (length bits)` is enough, since each field takes at least one bit
 abbrev pub read_pass : {C : Type 0} → DataCoding C → (many : ℕ → Bool) → Course → List Bool
     → Pass Place C Stop
-read_pass form many course bits =
-    pass (reading form many) (suc (length bits)) course (record { items = 0; left = bits })
+read_pass coding many course bits =
+    pass (reading coding many) (suc (length bits)) course (record { items = 0; left = bits })
 
 -- ---- The reading of data: a pass for each subset, or one for all where they are compressed.
 

@@ -222,7 +222,6 @@ data_report (walk_fault.UnequalFactor s) = (33, spot_text (codes "unequal factor
 data_report (walk_fault.Increment s) = (34, spot_text (codes "increment") s)
 -- compressed data have more than 134,217,728 values
 data_report (walk_fault.TooManyValues s) = (35, spot_text (codes "too many values") s)
--- no text, since it stops a run, and the last line of the run reports it
 data_report walk_fault.Memory = (73, [])
 
 -- ---- What the reading of a message returns.

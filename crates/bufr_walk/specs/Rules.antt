@@ -22,7 +22,8 @@ pub record Redefined : Type 0 where
 
 -- The operators in effect: the operand Y of each, and the redefined references. 0 means that the
 -- operator is not in effect: Y = 0 cancels 2 01, 2 02, 2 07 and 2 08, and is no width for 2 03 and
--- 2 06.
+-- 2 06. All but 2 06 stay in effect until they are cancelled, another one of the same X replaces them
+-- (own), or the subset ends, so they may outlast the group or sequence that contains them (own).
 pub record OperatorModel : Type 0 where
   -- 2 01 Y: Y - 128 is added to the width of a quantity
   pub width_change : ℕ
@@ -154,8 +155,8 @@ coded_spec s row = record (unsigned_field row.fxy row.width) {
 }
 
 -- A quantity: 2 01, 2 02, 2 03 and 2 07 apply, and what is not given here is as in `coded_spec`.
--- How they combine is our choice: 2 07 may be used together with 2 01 and 2 02, and also multiplies
--- a redefined reference.
+-- They may be in effect together, and their changes then add up (own); 2 07 also multiplies a
+-- redefined reference (own).
 -- rule: 2-07-y, 2-01-2-02-2-07-add-up, 2-07-y-of-a-new-reference, new-reference-of-quantities
 abbrev pub numeric_spec : OperatorModel → Row → FieldSpec
 numeric_spec s row = record (coded_spec s row) {
@@ -205,9 +206,8 @@ local_width_spec (Some row) s fxy =
     if row.width == s.local_width then spec_by_kind row.kind begin row
     else if_valid_width (unsigned_field fxy s.local_width)
 
--- The specification of an element that does not follow 2 06 Y, from its row: a redefined reference
--- or a value. By the law below, the row always exists; `None` is covered because a definition must
--- have a value for all arguments.
+-- The specification of an element that does not follow 2 06 Y: a redefined reference or a value. By
+-- the law `elements_have_their_rows`, its row always exists, so the case `None` does not matter.
 -- rule: fault-32-before-31
 abbrev pub listed_by : Option Row → OperatorModel → ℕ → Result FieldSpec TurnRefusal
 listed_by None s fxy = Err (refusal.Width fxy)
@@ -219,8 +219,8 @@ element_spec table s fxy =
     if nat_lt 0 s.local_width then local_width_spec (entry_of table fxy) s fxy
     else listed_by (entry_of table fxy) s fxy
 
--- The factor of a delayed replication, as its row gives it: no operator applies, it is never missing
--- (own), and it is shown as a quantity whatever its unit.
+-- The factor of a delayed replication, as its row gives it: no operator applies (own), it is never
+-- missing (own), and it is shown as a quantity whatever its unit (own).
 abbrev pub factor_field : Row → ℕ → FieldSpec
 factor_field row fxy = record (coded_spec begin row)
     { fxy = fxy; role = role.Factor; kind = kind.Numeric; may_be_missing = false }
@@ -230,15 +230,13 @@ abbrev pub factor_by : Option Row → ℕ → Result FieldSpec TurnRefusal
 factor_by None fxy = Err (refusal.Width fxy)
 factor_by (Some row) fxy = if_valid_width (factor_field row fxy)
 
--- the specification of the factor of a delayed replication; factors are refused while references
--- are being redefined (own)
+-- the same, but refused while references are being redefined (own)
 -- rule: factor-by-entry, defining-no-delayed-group
 abbrev pub factor_spec : List Row → OperatorModel → ℕ → Result FieldSpec TurnRefusal
 factor_spec table s fxy =
     if is_defining s then Err (refusal.Defining fxy) else factor_by (entry_of table fxy) fxy
 
--- the specification of the Y characters that 2 05 Y inserts; they are refused while references are
--- being redefined (own)
+-- the Y characters that 2 05 Y inserts; refused while references are being redefined (own)
 -- rule: 2-05-y, defining-no-inserted-text
 abbrev pub inserted_spec : OperatorModel → ℕ → Result FieldSpec TurnRefusal
 inserted_spec s fxy =

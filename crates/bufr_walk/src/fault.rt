@@ -97,7 +97,7 @@ pub enum DataFault {
     /// There are more than 134,217,728 values up to this item.
     #[error("too many values")]
     TooManyValues(Fxy),
-    /// Memory ran out. (Only the first of every 64 items allocates memory.)
+    /// Memory ran out.
     #[error("out of memory")]
     Memory,
 }

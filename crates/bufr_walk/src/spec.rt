@@ -20,8 +20,7 @@ pub enum Role {
     Reference,
 }
 
-/// Why a walk over a template refuses a step (a turn), and at which descriptor. A walk visits the
-/// nodes of a template in order, and each answer of a field may affect what it visits next.
+/// Why an element, a factor or an operator of a template is refused, with its descriptor.
 #[derive(Clone, Copy, Debug, PartialEq, Eq)]
 pub enum TurnRefusal {
     /// A field that is not text is under 1 or over 63 bits wide, or Table B lacks its element.
@@ -30,10 +29,10 @@ pub enum TurnRefusal {
     Defining(Fxy),
 }
 
-/// The answer of a field: the part of its value that affects the walk.
+/// The answer of a field: the part of its value that affects what comes after it.
 #[derive(Clone, Copy, Debug, PartialEq, Eq)]
 pub enum Taken {
-    /// Nothing: only factors and redefined references affect the walk.
+    /// Nothing: only factors and redefined references affect that.
     Plain,
     /// The number of passes of the group that follows.
     Count(u64),

@@ -16,13 +16,13 @@ use std::marker::Model;
 /// Why a walk over a template stopped.
 #[derive(Debug, PartialEq, Eq, Drop)]
 pub enum WalkStop<E> {
-    /// The walk refused a step: [`TurnRefusal::Width`].
+    /// As [`TurnRefusal::Width`].
     Width(Fxy),
-    /// The walk refused a step: [`TurnRefusal::Defining`].
+    /// As [`TurnRefusal::Defining`].
     Defining(Fxy),
     /// The field itself could not be read or written, for this reason.
     Field(E),
-    /// Memory ran out before a redefined reference was read.
+    /// Memory ran out for a redefined reference.
     Memory,
 }
 
