@@ -20,3 +20,4 @@ pub mod ShownLemmas
 pub mod PackedNumbers
 pub mod CacheLemmas
 pub mod RowLemmas
+mod TurnLemmas
