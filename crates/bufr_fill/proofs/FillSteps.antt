@@ -1,8 +1,8 @@
 -- A pass that writes, step by step.
 use Rattle.std.proofs.Common.{Result, Ok, Err, Option, Some, None, Bool, List, [], ◌∷◌, ◌++◌, ◌≡◌, refl, sym, ◌∙◌, ap, suc, length}
-use Rattle.bufr_walk.specs.Prelude.{FieldSpec, Course, Next, take_next, at_end, Pass, pass}
+use Rattle.bufr_walk.specs.Prelude.{FieldSpec, Course, Next, take_next, at_end, Pass, pass, would_be_many}
 use Rattle.bufr_walk.specs.Pass.{pass_next, pass_field}
-use Rattle.bufr_fill.specs.Prelude.{Taken, WrittenItem, Filler, filling, fill_pass, bits_written, fill, with_bits_before, Subset, DraftFault, Writing, bits_of_writing, writing_then, pass_writing, plain_filler, plain_writing, plain_data, ◌>>=◌}
+use Rattle.bufr_fill.specs.Prelude.{Taken, WrittenItem, Filler, filling, fill_pass, bits_written, fill, with_bits_before, Subset, DraftFault, Writing, bits_of_writing, writing_then, pass_writing, plain_filler, plain_writing, plain_data, packed_filler, packed_data, rows, most_items, ◌>>=◌}
 use Rattle.std.specs.Option.{option_map_or}
 
 module _ {D C E : Type 0} (filler : Filler D C E) where
@@ -72,3 +72,31 @@ pub plain_both : (course : Course) (s : Subset) (ss : List Subset) (x y : List B
     → plain_data course (s ∷ ss) ≡ Ok (x ++ y)
 plain_both course s ss x y first rest =
     plain_more course s ss ∙ ap (λ r. r >>= λ x. plain_data course ss >>= λ y. Ok (x ++ y)) first ∙ ap (λ r. r >>= λ y. Ok (x ++ y)) rest
+
+-- ---- the same data without writings
+
+-- plain data: one subset after another, up to the first fault
+abbrev pub data_apart : Course → List Subset → Result (List Bool) DraftFault
+data_apart course [] = Ok []
+data_apart course (s ∷ subsets) = do
+  first ← fill (plain_filler s.end_line) course s.items
+  rest ← data_apart course subsets
+  Ok (first ++ rest)
+
+-- compressed data: one pass over the rows of all subsets
+abbrev pub data_together : Course → List Subset → Result (List Bool) DraftFault
+data_together course [] = Ok []
+data_together course (s ∷ subsets) =
+    let most = most_items (s ∷ subsets) in
+    let filler = packed_filler s.end_line (would_be_many (length (s ∷ subsets)) most) in
+    fill filler course (rows most 0 (s ∷ subsets))
+
+-- both are what is written
+pub apart_same : (course : Course) (subsets : List Subset) → plain_data course subsets ≡ data_apart course subsets
+apart_same course [] = refl
+apart_same course (s ∷ subsets) =
+    plain_more course s subsets ∙ ap (λ r. fill (plain_filler s.end_line) course s.items >>= λ x. r >>= λ y. Ok (x ++ y)) (apart_same course subsets)
+
+pub together_same : (course : Course) (subsets : List Subset) → packed_data course subsets ≡ data_together course subsets
+together_same course [] = refl
+together_same course (s ∷ subsets) = refl
