@@ -20,4 +20,3 @@ pub mod ShownLemmas
 pub mod PackedNumbers
 pub mod CacheLemmas
 pub mod RowLemmas
-mod TurnLemmas
