@@ -9,7 +9,7 @@ use Rattle.std.specs.Option.{option_map_or}
 use Rattle.bufr_bits.specs.Prelude.{◌>>=◌, map_err}
 use Rattle.bufr_tables.specs.Prelude.{template_report}
 use Rattle.bufr_tables.specs.declared.fault.TemplateFault.{TemplateFault}
-use Rattle.bufr_walk.specs.Prelude.{next_item, data_report, Read, data_of, Data, AnswersReading, ReadsData, reading_of, values_read, fault_of, fault_at}
+use Rattle.bufr_walk.specs.Prelude.{next_item, counted_item, data_report, Read, data_of, Data, AnswersReading, ReadsData, reading_of, values_read, fault_of, fault_at}
 use Rattle.bufr_walk.specs.declared.fault.WalkFault.{WalkFault}
 use Rattle.bufr_walk.specs.declared.fault.WalkFault.TheVariants as walk
 use Rattle.bufr_text.specs.Prelude.{dump_text_of, WritesPrefix, GrowsByPrefix, Writes, dump_items}
@@ -118,7 +118,7 @@ pub refused-line : (specs table : List Row) (offset : ℕ) (s : Sections) (templ
     → (piece : Piece) → piece ≡ data_piece table offset s template → piece ≡ OnErrors (fault_line offset (data_report why))
 refused-line specs table offset s template why steps cached some so piece is =
     let course = next_item table template in
-    let reads : ReadsData course (data_of s) (Err why) steps = subst (λ t. ReadsData (next_item t template) (data_of s) (Err why) steps) cached so in
+    let reads : ReadsData (counted_item table template) (data_of s) (Err why) steps = subst (λ t. ReadsData (counted_item t template) (data_of s) (Err why) steps) cached so in
     let fault : fault_of (data_of s) (reading_of course (data_of s)) ≡ Some why =
     elim reads as (λ _. fault_of (data_of s) (reading_of course (data_of s)) ≡ Some why) [ inl x ↦ x.0 | inr y ↦ absurd (some y.0) ] in
     is ∙ ap (λ o. text_or_fault offset (data_or_report o (dump_text_of s (dump_items table s.subsets (reading_of course (data_of s)).values)))) fault

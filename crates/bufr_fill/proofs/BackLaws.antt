@@ -8,7 +8,7 @@ use Rattle.std.specs.List.{AllByRecursion}
 use Rattle.bufr_tables.specs.Prelude.{IsLegal, Record, Row, AreRows, Tree}
 use Rattle.bufr_walk.specs.Prelude.{FieldSpec, IsSpec, Content, bits_for, FieldFault, found, content_at, Course, Next, take_next, at_end, astray, refused, next_item, max_values, Item, DataCoding, plain, packed, ReadsPass, items_of_subset, subsets_from, would_be_many}
 use Rattle.bufr_fill.specs.Prelude.{packing_fault, Draft, Subset, ItemFault, DraftFault, at_line, too_many_values, content_of, plain_filler, RowCell, ItemRow, cells_at, rows, most_items, map_err, content_here, contents_here, pack_across, packed_filler, plain_data, packed_data, first_line, ◌>>=◌, WrittenItem, written_item, Filler, fill, with_bits_before, packing, Fits, AllFit, HasOctets, AllHaveOctets, IsSaid, IsReadBack, IsPackedReadBack, AreDrafts, AreSaid}
-use Rattle.bufr_fill.proofs.FillSteps.{filled, bits_with, fill_at, plain_more}
+use Rattle.bufr_fill.proofs.FillSteps.{filled, bits_with, fill_at}
 use Rattle.bufr_walk.proofs.NextField.{table_read, IsGoodCourse, next_field}
 use Rattle.bufr_walk.specs.Prelude.{IsWithin}
 use Rattle.bufr_fill.proofs.GoodReads.{draft_fits, answer_within}
@@ -32,7 +32,7 @@ pub record IsOneBack {C D : Type 0} (form : DataCoding C) (of_item : Item C → 
 module _ {C D E : Type 0} (form : DataCoding C) (filler : Filler D C E) (of_item : Item C → D → Type 0) (HasText : D → Type 0)
     (same_answer : (spec : FieldSpec) (c : C) → filler.gives spec c ≡ form.gives spec c)
     (one : (spec : FieldSpec) (d : D) (w : WrittenItem C) → IsSpec spec → HasText d → filler.fills spec d ≡ Ok w → IsOneBack form of_item spec d w) where
-  back_end : (course : Course) (out : List Bool) (n : Next) → (course []).next ≡ n → fill_at filler course [] n ≡ Ok out → IsBack form of_item course [] out
+  back_end : (course : Course) (out : List Bool) (n : Next) → course [] ≡ n → fill_at filler course [] n ≡ Ok out → IsBack form of_item course [] out
   back_end course out (take_next spec) q e = cc
   back_end course out at_end q e = record { items = []; said = tt; read = λ more. (ap (λ x. x ++ more) (sym (same_ok [] out e)), q) }
   back_end course out astray q e = cc
@@ -40,7 +40,7 @@ module _ {C D E : Type 0} (form : DataCoding C) (filler : Filler D C E) (of_item
 
   module _ (course : Course) (d : D) (ds : List D) (out : List Bool) (good : IsGoodCourse course) (text : HasText d)
       (others : (next : Course) (rest : List Bool) → IsGoodCourse next → fill filler next ds ≡ Ok rest → IsBack form of_item next ds rest) where
-    back_rest : (spec : FieldSpec) (w : WrittenItem C) → (course []).next ≡ take_next spec → IsOneBack form of_item spec d w → (r : Result (List Bool) E)
+    back_rest : (spec : FieldSpec) (w : WrittenItem C) → course [] ≡ take_next spec → IsOneBack form of_item spec d w → (r : Result (List Bool) E)
         → fill filler (λ answers. course (form.gives spec w.content ∷ answers)) ds ≡ r → with_bits_before filler w.bits r ≡ Ok out → IsBack form of_item course (d ∷ ds) out
     back_rest spec w q here (Err why) p e = cc
     back_rest spec w q here (Ok rest) p e =
@@ -55,7 +55,7 @@ module _ {C D E : Type 0} (form : DataCoding C) (filler : Filler D C E) (of_item
               ((rest ++ more, q, subst (λ bits. form.field spec bits ≡ Ok (found w.content (rest ++ more))) turned (here.read (rest ++ more)), r.0), r.1);
         }
 
-    back_fill : (spec : FieldSpec) → (course []).next ≡ take_next spec → (r : Result (WrittenItem C) E) → filler.fills spec d ≡ r
+    back_fill : (spec : FieldSpec) → course [] ≡ take_next spec → (r : Result (WrittenItem C) E) → filler.fills spec d ≡ r
         → filled filler spec r (λ t. fill filler (λ answers. course (t ∷ answers)) ds) ≡ Ok out → IsBack form of_item course (d ∷ ds) out
     back_fill spec q (Err why) p e = cc
     back_fill spec q (Ok w) p e =
@@ -63,15 +63,15 @@ module _ {C D E : Type 0} (form : DataCoding C) (filler : Filler D C E) (of_item
         back_rest spec w q here (fill filler (λ answers. course (form.gives spec w.content ∷ answers)) ds) refl
         (subst (λ t. with_bits_before filler w.bits (fill filler (λ answers. course (t ∷ answers)) ds) ≡ Ok out) (same_answer spec w.content) e)
 
-    back_next : (n : Next) → (course []).next ≡ n → fill_at filler course (d ∷ ds) n ≡ Ok out → IsBack form of_item course (d ∷ ds) out
+    back_next : (n : Next) → course [] ≡ n → fill_at filler course (d ∷ ds) n ≡ Ok out → IsBack form of_item course (d ∷ ds) out
     back_next (take_next spec) q e = back_fill spec q (filler.fills spec d) refl (sym (bits_with filler course d ds spec (filler.fills spec d)) ∙ e)
     back_next at_end q e = cc
     back_next astray q e = cc
     back_next (refused why) q e = cc
 
   pub back : (course : Course) (ds : List D) (out : List Bool) → IsGoodCourse course → AllByRecursion HasText ds → fill filler course ds ≡ Ok out → IsBack form of_item course ds out
-  back course [] out good texts e = back_end course out (course []).next refl e
-  back course (d ∷ ds) out good texts e = back_next course d ds out good texts.0 (λ next rest g p. back next ds rest g texts.1 p) (course []).next refl e
+  back course [] out good texts e = back_end course out (course []) refl e
+  back course (d ∷ ds) out good texts e = back_next course d ds out good texts.0 (λ next rest g p. back next ds rest g texts.1 p) (course []) refl e
 
 -- ---- data that are not compressed
 
@@ -108,7 +108,7 @@ module _ (course : Course) (good : IsGoodCourse course) where
   pub plain_back : (ss : List Subset) (out : List Bool) → AllHaveOctets ss → plain_data course ss ≡ Ok out → IsReadBack course ss out
   plain_back [] out text e = record { subsets = []; said = tt; read = λ more. ap (λ x. x ++ more) (sym (same_ok [] out e)) }
   plain_back (s ∷ ss) out text e = plain_join s ss out text.0 (λ rest q. plain_back ss rest text.1 q) (fill (plain_filler s.end_line) course s.items) (plain_data course ss) refl refl
-      (sym (plain_more course s ss) ∙ e)
+      e
 
 -- ---- compressed data
 

@@ -1,8 +1,8 @@
 -- A pass that writes, step by step.
 use Rattle.std.proofs.Common.{Result, Ok, Err, Option, Some, None, Bool, List, [], ◌∷◌, ◌++◌, ◌≡◌, refl, sym, ◌∙◌, ap, suc, length}
-use Rattle.bufr_walk.specs.Prelude.{FieldSpec, Course, Next, take_next, at_end, Pass, pass}
+use Rattle.bufr_walk.specs.Prelude.{FieldSpec, Course, CountedCourse, uncounted, Next, take_next, at_end, Pass, pass}
 use Rattle.bufr_walk.specs.Pass.{pass_next, pass_field}
-use Rattle.bufr_fill.specs.Prelude.{Taken, WrittenItem, Filler, filling, fill_pass, bits_written, fill, with_bits_before, Subset, DraftFault, Writing, bits_of_writing, writing_then, pass_writing, plain_filler, plain_writing, plain_data, ◌>>=◌}
+use Rattle.bufr_fill.specs.Prelude.{Taken, WrittenItem, Filler, filling, fill_pass, bits_written, bits_of_pass, fill, with_bits_before, Subset, DraftFault, Writing, bits_of_writing, writing_then, pass_writing, plain_filler, plain_writing, plain_data, ◌>>=◌}
 use Rattle.std.specs.Option.{option_map_or}
 
 module _ {D C E : Type 0} (filler : Filler D C E) where
@@ -13,17 +13,13 @@ module _ {D C E : Type 0} (filler : Filler D C E) where
 
   -- the pass of drafts, by what comes next
   abbrev pub pass_at : Course → List D → Next → Pass (List D) (WrittenItem C) E
-  pass_at course ds n = pass_next (filling filler) (course []).turns n ds (λ f. pass (filling filler) (length ds) (λ answers. course (f.returned ∷ answers)) f.state)
+  pass_at course ds n = pass_next (filling filler) n ds (λ f. pass (filling filler) (length ds) (λ answers. course (f.returned ∷ answers)) f.state)
 
   -- the same at a field, by what is made of the first draft
   abbrev pub pass_with : Course → D → List D → FieldSpec → Result (WrittenItem C) E → Pass (List D) (WrittenItem C) E
   pass_with course d ds spec r =
-      pass_field (filling filler) (course []).turns spec (d ∷ ds) (r >>= λ w. Ok (record { content = w; returned = filler.gives spec w.content; state = ds }))
+      pass_field (filling filler) spec (d ∷ ds) (r >>= λ w. Ok (record { content = w; returned = filler.gives spec w.content; state = ds }))
       (λ f. pass (filling filler) (suc (length ds)) (λ answers. course (f.returned ∷ answers)) f.state)
-
-  -- what a pass wrote
-  abbrev pub bits_of_pass : Pass (List D) (WrittenItem C) E → Result (List Bool) E
-  bits_of_pass p = option_map_or (λ why. Err why) p.stop (Ok (bits_written p.items))
 
   before : (w bits : List Bool) (o : Option E) → option_map_or (λ why. Err why) o (Ok (w ++ bits)) ≡ with_bits_before filler w (option_map_or (λ why. Err why) o (Ok bits))
   before w bits None = refl
@@ -35,11 +31,11 @@ module _ {D C E : Type 0} (filler : Filler D C E) where
     bits_with (Ok w) = let p = fill_pass filler (λ answers. course (filler.gives spec w.content ∷ answers)) ds in before w.bits (bits_written p.items) p.stop
 
     -- a pass at a field
-    pub pass_more : (r : Result (WrittenItem C) E) → (course []).next ≡ take_next spec → filler.fills spec d ≡ r → fill_pass filler course (d ∷ ds) ≡ pass_with course d ds spec r
+    pub pass_more : (r : Result (WrittenItem C) E) → course [] ≡ take_next spec → filler.fills spec d ≡ r → fill_pass filler course (d ∷ ds) ≡ pass_with course d ds spec r
     pass_more r next e = ap (pass_at course (d ∷ ds)) next ∙ ap (pass_with course d ds spec) e
 
     -- drafts are written as the first of them, and then the rest
-    pub fill_more : (r : Result (WrittenItem C) E) → (course []).next ≡ take_next spec → filler.fills spec d ≡ r
+    pub fill_more : (r : Result (WrittenItem C) E) → course [] ≡ take_next spec → filler.fills spec d ≡ r
         → fill filler course (d ∷ ds) ≡ filled spec r (λ t. fill filler (λ answers. course (t ∷ answers)) ds)
     fill_more r next e = ap bits_of_pass (pass_more r next e) ∙ bits_with r
 
@@ -48,7 +44,7 @@ module _ {D C E : Type 0} (filler : Filler D C E) where
   fill_at course ds n = bits_of_pass (pass_at course ds n)
 
   -- at the end of the template
-  pub fill_end : (course : Course) → (course []).next ≡ at_end → fill filler course [] ≡ Ok []
+  pub fill_end : (course : Course) → course [] ≡ at_end → fill filler course [] ≡ Ok []
   fill_end course h = ap (fill_at course []) h
 
 -- ---- subset after subset
@@ -63,12 +59,14 @@ written_both w rest None e = bits_both w.bits rest.bits rest.stop ∙ sym (ap (�
 written_both w rest (Some why) e = ap (λ (o : Option DraftFault). option_map_or (λ why. Err why) o (Ok w.bits)) e ∙ sym (ap (λ o. option_map_or (λ why. Err why) o (Ok w.bits)
     >>= λ x. bits_of_writing rest >>= λ y. Ok (x ++ y)) e)
 
--- the data of subsets are those of the first, and then those of the others
-pub plain_more : (course : Course) (s : Subset) (ss : List Subset)
-    → plain_data course (s ∷ ss) ≡ (fill (plain_filler s.end_line) course s.items >>= λ x. plain_data course ss >>= λ y. Ok (x ++ y))
-plain_more course s ss = let w = pass_writing (fill_pass (plain_filler s.end_line) course s.items) in written_both w (plain_writing course ss) w.stop refl
+-- the bits of plain data are those that are written
+pub plain_written : (course : CountedCourse) (ss : List Subset) → plain_data (uncounted course) ss ≡ bits_of_writing (plain_writing course ss)
+plain_written course [] = refl
+plain_written course (s ∷ ss) =
+    let w = pass_writing (plain_filler s.end_line) course s.items in
+    ap (λ r. bits_of_writing w >>= λ x. r >>= λ y. Ok (x ++ y)) (plain_written course ss) ∙ sym (written_both w (plain_writing course ss) w.stop refl)
 
 pub plain_both : (course : Course) (s : Subset) (ss : List Subset) (x y : List Bool) → fill (plain_filler s.end_line) course s.items ≡ Ok x → plain_data course ss ≡ Ok y
     → plain_data course (s ∷ ss) ≡ Ok (x ++ y)
 plain_both course s ss x y first rest =
-    plain_more course s ss ∙ ap (λ r. r >>= λ x. plain_data course ss >>= λ y. Ok (x ++ y)) first ∙ ap (λ r. r >>= λ y. Ok (x ++ y)) rest
+    ap (λ r. r >>= λ x. plain_data course ss >>= λ y. Ok (x ++ y)) first ∙ ap (λ r. r >>= λ y. Ok (x ++ y)) rest

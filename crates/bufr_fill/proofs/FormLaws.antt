@@ -57,8 +57,8 @@ packed_rewritten n end_line many some i a bits mid good row e = let r = by i.con
 
 -- each item is what comes next after those before it, and fits
 abbrev pub Follows : Course → List (Item Content) → Type 0
-Follows course [] = (course []).next ≡ at_end
-Follows course (i ∷ items) = ((course []).next ≡ take_next i.spec) × IsSpec i.spec × Fits i.spec i.content × Follows (after plain course i) items
+Follows course [] = course [] ≡ at_end
+Follows course (i ∷ items) = (course [] ≡ take_next i.spec) × IsSpec i.spec × Fits i.spec i.content × Follows (after plain course i) items
 
 -- the drafts with the contents of items are written, and read again
 pub record ArePlain (end_line : ℕ) (course : Course) (items : List (Item Content)) (ds : List Draft) : Type 0 where
@@ -251,14 +251,14 @@ IsHeaded spec (i ∷ items) = (i.spec ≡ spec) × Fits spec i.content
 abbrev AreHeaded : FieldSpec → List (List (Item Content)) → Type 0
 AreHeaded spec rs = AllByRecursion (λ (r : List (Item Content)). IsHeaded spec r) rs
 
-one_headed : (course : Course) (spec : FieldSpec) (r : List (Item Content)) → (course []).next ≡ take_next spec → Follows course r → IsHeaded spec r
+one_headed : (course : Course) (spec : FieldSpec) (r : List (Item Content)) → course [] ≡ take_next spec → Follows course r → IsHeaded spec r
 one_headed course spec [] e h = let x : take_next spec ≡ at_end = sym e ∙ h in absurd cc
 one_headed course spec (i ∷ items) e h = let same = asked_same i.spec spec (sym h.0 ∙ e) in (same, subst (λ s. Fits s i.content) same h.2)
   where
     asked_same : (a b : FieldSpec) → take_next a ≡ take_next b → a ≡ b
     asked_same a b e = cc
 
-headed : (course : Course) (spec : FieldSpec) (rs : List (List (Item Content))) → (course []).next ≡ take_next spec → AllFollow course rs → AreHeaded spec rs
+headed : (course : Course) (spec : FieldSpec) (rs : List (List (Item Content))) → course [] ≡ take_next spec → AllFollow course rs → AreHeaded spec rs
 headed course spec [] e h = tt
 headed course spec (r ∷ rs) e h = (one_headed course spec r e h.0, headed course spec rs e h.1)
 
@@ -358,7 +358,7 @@ at_drop zero (x ∷ cs) c rest e = (cc, cc)
 at_drop (suc j) [] c rest e = absurd cc
 at_drop (suc j) (x ∷ cs) c rest e = at_drop j cs c rest e
 
-no_parts : (course : Course) (j : ℕ) (rs : List (List (Item Content))) → (course []).next ≡ at_end → AllFollow course rs → AreParts j [] rs × (longest_left rs ≡ 0)
+no_parts : (course : Course) (j : ℕ) (rs : List (List (Item Content))) → course [] ≡ at_end → AllFollow course rs → AreParts j [] rs × (longest_left rs ≡ 0)
 no_parts course j [] e f = (tt, refl)
 no_parts course j ([] ∷ rs) e f = let rest = no_parts course (suc j) rs e f.1 in ((refl, rest.0), omega (arith, rest.1))
 no_parts course j ((i ∷ items) ∷ rs) e f = let x : take_next i.spec ≡ at_end = sym f.0.0 ∙ e in absurd cc
@@ -392,7 +392,7 @@ abbrev Either : (n : ℕ) → Course → List (List (Item Content)) → List Ite
 Either n course rests drafts end_line many = IsTogether n course rests drafts end_line many ⊎ IsNot course drafts end_line many
 
 module _ (end_line : ℕ) (many : Bool) where
-  fill_first : (course : Course) (spec : FieldSpec) (a : ItemRow) (more : List ItemRow) (r : Result (List Bool) FieldFault) (cs : List Content) → (course []).next ≡ take_next spec
+  fill_first : (course : Course) (spec : FieldSpec) (a : ItemRow) (more : List ItemRow) (r : Result (List Bool) FieldFault) (cs : List Content) → course [] ≡ take_next spec
       → pack_across spec a ≡ result_map_both (written_item cs) (packing_fault cs a.cells) r
       → fill (packed_filler end_line many) course (a ∷ more) ≡ filled (packed_filler end_line many) spec (result_map_both (written_item cs) (packing_fault cs a.cells) r)
       (λ t. fill (packed_filler end_line many) (λ answer_of. course (t ∷ answer_of)) more)
@@ -405,7 +405,7 @@ module _ (end_line : ℕ) (many : Bool) where
 
   -- the first row, and those after it
   onto : (n : ℕ) (course : Course) (spec : FieldSpec) (c : Content) (cs : List Content) (rs : List (List (Item Content))) (a : ItemRow) (more : List ItemRow) → IsSpec spec
-      → (course []).next ≡ take_next spec → AreHeaded spec rs → firsts rs ≡ c ∷ cs → length rs ≡ n
+      → course [] ≡ take_next spec → AreHeaded spec rs → firsts rs ≡ c ∷ cs → length rs ≡ n
       → (r : Result (List Bool) FieldFault) → packing spec (c ∷ cs) ≡ r → pack_across spec a ≡ result_map_both (written_item (c ∷ cs)) (packing_fault (c ∷ cs) a.cells) r
       → ((out : List Bool) → packing spec (c ∷ cs) ≡ Ok out → Either n (λ answer_so. course (answer_of spec c ∷ answer_so)) (tails rs) more end_line many)
       → Either n course rs (a ∷ more) end_line many

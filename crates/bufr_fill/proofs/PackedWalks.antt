@@ -147,7 +147,7 @@ module _ (course : Course) (s : Subset) (more : List Subset) where
       }
 
   -- where the walk is refused
-  refused_here : (c : Course) (index : ℕ) (why : refusal.the_data) → (c []).next ≡ refused why → index ≤ most_items (s ∷ more)
+  refused_here : (c : Course) (index : ℕ) (why : refusal.the_data) → c [] ≡ refused why → index ≤ most_items (s ∷ more)
       → fill_from c index ≡ Err (at_line (first_line_at index (s ∷ more)) (walk_refused why))
   refused_here c index why e h = by (most_items (s ∷ more) - index) refl
     where
@@ -161,7 +161,7 @@ module _ (course : Course) (s : Subset) (more : List Subset) where
           ∙ ap (fill_at filler c (item_row index (s ∷ more) ∷ rows k (index + 1) (s ∷ more))) e
 
   -- where an item is at fault
-  fault_here : (c : Course) (index : ℕ) (spec : FieldSpec) (f : DraftFault) → (c []).next ≡ take_next spec → index ≤ most_items (s ∷ more) → pack_across spec (item_row index (s ∷ more)) ≡ Err f
+  fault_here : (c : Course) (index : ℕ) (spec : FieldSpec) (f : DraftFault) → c [] ≡ take_next spec → index ≤ most_items (s ∷ more) → pack_across spec (item_row index (s ∷ more)) ≡ Err f
       → fill_from c index ≡ Err f
   fault_here c index spec f e h p = by (most_items (s ∷ more) - index) refl
     where
@@ -190,7 +190,7 @@ module _ (course : Course) (s : Subset) (more : List Subset) where
           (item_row index (s ∷ more) ∷ rows k (index + 1) (s ∷ more)) spec f e p
 
   -- where an item is left over
-  over_here : (c : Course) (index : ℕ) (f : DraftFault) → (c []).next ≡ at_end → all_at_end (cells_at index (s ∷ more)) ≡ Err f → fill_from c index ≡ Err f
+  over_here : (c : Course) (index : ℕ) (f : DraftFault) → c [] ≡ at_end → all_at_end (cells_at index (s ∷ more)) ≡ Err f → fill_from c index ≡ Err f
   over_here c index f e p =
       let b = ends_before index (s ∷ more) f p in
       ap (fill filler c) (row_first (most_items (s ∷ more)) index (s ∷ more) b.0)
@@ -200,35 +200,35 @@ module _ (course : Course) (s : Subset) (more : List Subset) where
   later : (items : List TakenField) (mid : PackedOutModel) → Came items mid → (f : DraftFault) → fill_from (course_after course items) mid.index ≡ Err f → packed_data course (s ∷ more) ≡ Err f
   later items mid h f e = h.is ∙ ap (with_bits_before filler h.bits) e
 
-  stops : (items : List TakenField) (mid : PackedOutModel) (f : DraftFault) → Takes (oks PackedFills) course (new_packed_out (s ∷ more)) items mid → IsFaultHere (course (answers_of items)).next mid f
+  stops : (items : List TakenField) (mid : PackedOutModel) (f : DraftFault) → Takes (oks PackedFills) course (new_packed_out (s ∷ more)) items mid → IsFaultHere (course (answers_of items)) mid f
       → packed_data course (s ∷ more) ≡ Err f
-  stops items mid f h x = later items mid k f (by (course (answers_of items)).next (ap (λ a. a.next) (after_answers course items)) x)
+  stops items mid f h x = later items mid k f (by (course (answers_of items)) (after_answers course items) x)
     where
       k : Came items mid
       k = came items mid h
 
-      by : (next : Next) → (course_after course items []).next ≡ next → IsFaultHere next mid f → fill_from (course_after course items) mid.index ≡ Err f
+      by : (next : Next) → course_after course items [] ≡ next → IsFaultHere next mid f → fill_from (course_after course items) mid.index ≡ Err f
       by (take_next spec) e x = fault_here (course_after course items) mid.index spec f e k.near (ap (λ ss. pack_across spec (item_row mid.index ss)) (sym k.subsets) ∙ x)
       by (refused why) e x = refused_here (course_after course items) mid.index why e k.near ∙ ap (λ ss. Err (at_line (first_line_at mid.index ss) (walk_refused why))) (sym k.subsets) ∙ ap Err (sym x)
       by at_end e x = over_here (course_after course items) mid.index f e (ap (λ ss. all_at_end (cells_at mid.index ss)) (sym k.subsets) ∙ x)
       by astray e x = absurd x
 
-  ends : (items : List TakenField) (mid : PackedOutModel) → Takes (oks PackedFills) course (new_packed_out (s ∷ more)) items mid → (course (answers_of items)).next ≡ at_end
+  ends : (items : List TakenField) (mid : PackedOutModel) → Takes (oks PackedFills) course (new_packed_out (s ∷ more)) items mid → course (answers_of items) ≡ at_end
       → all_at_end (cells_at mid.index mid.subsets) ≡ Ok tt → packed_data course (s ∷ more) ≡ Ok mid.bits
   ends items mid h e x =
       let k = came items mid h in
       let past = ends_past mid.index (s ∷ more) (ap (λ ss. all_at_end (cells_at mid.index ss)) (sym k.subsets) ∙ x) in
       let none : fill_from (course_after course items) mid.index ≡ Ok [] =
-      ap (fill filler (course_after course items)) (no_row mid.index (s ∷ more) past) ∙ fill_end filler (course_after course items) (ap (λ a. a.next) (after_answers course items) ∙ e) in
+      ap (fill filler (course_after course items)) (no_row mid.index (s ∷ more) past) ∙ fill_end filler (course_after course items) (after_answers course items ∙ e) in
       k.is ∙ ap (with_bits_before filler k.bits) none ∙ ap Ok (append-nil k.bits ∙ sym k.are)
 
 pub fault_as_defined : (course : Course) (subsets : List Subset) (items : List TakenField) (s : PackedOutModel) (f : DraftFault) → 1 ≤ length subsets
-    → Takes (oks PackedFills) course (new_packed_out subsets) items s → IsFaultHere (course (answers_of items)).next s f → packed_data course subsets ≡ Err f
+    → Takes (oks PackedFills) course (new_packed_out subsets) items s → IsFaultHere (course (answers_of items)) s f → packed_data course subsets ≡ Err f
 fault_as_defined course [] items s f some h x = absurd (omega (arith, some))
 fault_as_defined course (first ∷ more) items s f some h x = stops course first more items s f h x
 
 pub written_as_defined : (course : Course) (subsets : List Subset) (items : List TakenField) (s : PackedOutModel) → 1 ≤ length subsets
-    → Takes (oks PackedFills) course (new_packed_out subsets) items s → (course (answers_of items)).next ≡ at_end → all_at_end (cells_at s.index s.subsets) ≡ Ok tt
+    → Takes (oks PackedFills) course (new_packed_out subsets) items s → course (answers_of items) ≡ at_end → all_at_end (cells_at s.index s.subsets) ≡ Ok tt
     → packed_data course subsets ≡ Ok s.bits
 written_as_defined course [] items s some h e x = absurd (omega (arith, some))
 written_as_defined course (first ∷ more) items s some h e x = ends course first more items s h e x

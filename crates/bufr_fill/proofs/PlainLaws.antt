@@ -59,7 +59,7 @@ pub record AreRewritten {C D E : Type 0} (form : DataCoding C) (filler : Filler 
 
 module _ {C D E : Type 0} (form : DataCoding C) (filler : Filler D C E) (same_answer : (spec : FieldSpec) (c : C) → filler.gives spec c ≡ form.gives spec c) where
   -- the bits of the first item, and those of the rest
-  pub join : (course : Course) (i : Item C) (d : D) (ds : List D) (w out : List Bool) → (course []).next ≡ take_next i.spec → filler.fills i.spec d ≡ Ok (written_item i.content w)
+  pub join : (course : Course) (i : Item C) (d : D) (ds : List D) (w out : List Bool) → course [] ≡ take_next i.spec → filler.fills i.spec d ≡ Ok (written_item i.content w)
       → fill filler (after form course i) ds ≡ Ok out → fill filler course (d ∷ ds) ≡ Ok (w ++ out)
   join course i d ds w out next fills rest =
       fill_more filler course d ds i.spec (Ok (written_item i.content w)) next fills

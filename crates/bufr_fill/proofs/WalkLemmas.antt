@@ -24,13 +24,13 @@ IsUnfilled filler (d ∷ ds) spec e = filler.fills spec d ≡ Err e
 -- ---- A walk over drafts writes as the definition does.
 
 -- what comes after the items of a walk
-pub after_answers : (course : Course) (items : List TakenField) → course_after course items [] ≡ course (answers_of items)
+pub after_answers : {N : Type 0} (course : List Taken → N) (items : List TakenField) → course_after course items [] ≡ course (answers_of items)
 after_answers course [] = refl
 after_answers course (i ∷ items) = after_answers (λ answers. course (i.taken ∷ answers)) items
 
 module _ {D C E S : Type 0} (filler : Filler D C E) (left : S → List D) (out : S → List Bool) (takes : S → FieldSpec → Taken → S → Type 0)
     (fills : (s : S) (spec : FieldSpec) (t : Taken) (s' : S) → takes s spec t s' → HasFilled filler (left s) (out s) spec t (left s') (out s')) where
-  one : (course : Course) (s : S) (spec : FieldSpec) (t : Taken) (mid : S) → (course []).next ≡ take_next spec → (h : HasFilled filler (left s) (out s) spec t (left mid) (out mid))
+  one : (course : Course) (s : S) (spec : FieldSpec) (t : Taken) (mid : S) → course [] ≡ take_next spec → (h : HasFilled filler (left s) (out s) spec t (left mid) (out mid))
       → fill filler course (left s) ≡ with_bits_before filler h.item.bits (fill filler (λ answers. course (t ∷ answers)) (left mid))
   one course s spec t mid next h =
       ap (fill filler course) h.here
@@ -60,7 +60,7 @@ module _ {D C E S : Type 0} (filler : Filler D C E) (left : S → List D) (out :
       )
 
   -- the fault of a field that could not be written is that of the definition
-  pub unfilled : (course : Course) (ds : List D) (spec : FieldSpec) (e : E) → (course []).next ≡ take_next spec → IsUnfilled filler ds spec e → fill filler course ds ≡ Err e
+  pub unfilled : (course : Course) (ds : List D) (spec : FieldSpec) (e : E) → course [] ≡ take_next spec → IsUnfilled filler ds spec e → fill filler course ds ≡ Err e
   unfilled course [] spec e next h = ap (fill_at filler course []) next ∙ ap Err (sym h)
   unfilled course (d ∷ ds) spec e next h = fill_more filler course d ds spec (Err e) next h
 
@@ -83,7 +83,7 @@ pub walk_of_items : (end : ℕ) (course : Course) (s : PlainOutModel) (items : L
 walk_of_items end course s items s' h = walk_fills (plain_filler end) (λ (p : PlainOutModel). items_left p.left) (λ (p : PlainOutModel). p.bits) (oks PlainFills) (fills end) course s items s' h
 
 -- the fault of the next item is that of the definition
-pub fault_of_items : (course : Course) (left : List DraftEntry) (spec : FieldSpec) (f : DraftFault) → (course []).next ≡ take_next spec → IsFaultOf spec left f
+pub fault_of_items : (course : Course) (left : List DraftEntry) (spec : FieldSpec) (f : DraftFault) → course [] ≡ take_next spec → IsFaultOf spec left f
     → fill (plain_filler (end_left left)) course (items_left left) ≡ Err f
 fault_of_items course left spec f next h = unfilled (plain_filler (end_left left)) (λ (p : PlainOutModel). items_left p.left) (λ (p : PlainOutModel). p.bits) (oks PlainFills) (fills (end_left left))
     course (items_left left) spec f next (by left h)
@@ -94,14 +94,14 @@ fault_of_items course left spec f next h = unfilled (plain_filler (end_left left
     by (Holds d ∷ more) h = ap (result_map_both (λ c. written_item c (bits_for spec.width c)) (at_line d.line)) h.1 ∙ ap Err (sym h.2)
 
 -- and so is each other fault where a walk stops
-pub at_refused : (course : Course) (left : List DraftEntry) (why : refusal.the_data) → (course []).next ≡ refused why
+pub at_refused : (course : Course) (left : List DraftEntry) (why : refusal.the_data) → course [] ≡ refused why
     → fill (plain_filler (end_left left)) course (items_left left) ≡ Err (at_line (line_at left) (walk_refused why))
 at_refused course [] why h = ap (fill_at (plain_filler 0) course []) h
 at_refused course (Ends line ∷ left) why h = ap (fill_at (plain_filler line) course []) h
 at_refused course (Holds d ∷ left) why h =
     ap (fill_at (plain_filler (end_left left)) course (d ∷ items_left left)) h
 
-left_over : (course : Course) (left : List DraftEntry) (f : DraftFault) → (course []).next ≡ at_end → 1 ≤ length left → after_end left ≡ Err f
+left_over : (course : Course) (left : List DraftEntry) (f : DraftFault) → course [] ≡ at_end → 1 ≤ length left → after_end left ≡ Err f
     → fill (plain_filler (end_left left)) course (items_left left) ≡ Err f
 left_over course [] f h some e = absurd (omega (arith, some))
 left_over course (Ends line ∷ left) f h some e = absurd cc e
@@ -111,10 +111,10 @@ left_over course (Holds d ∷ left) f h some e =
     same : after_end (Holds d ∷ left) ≡ Err f → ◌≡◌ {A = Result (List Bool) DraftFault} (Err (at_line d.line item_too_many)) (Err f)
     same e = let x : at_line d.line item_too_many ≡ f = cc in ap Err x
 
-pub fault_as_defined : (course : Course) (left : List DraftEntry) (f : DraftFault) → IsFaultNext (course []).next left f → fill (plain_filler (end_left left)) course (items_left left) ≡ Err f
-fault_as_defined course left f h = by (course []).next refl h
+pub fault_as_defined : (course : Course) (left : List DraftEntry) (f : DraftFault) → IsFaultNext (course []) left f → fill (plain_filler (end_left left)) course (items_left left) ≡ Err f
+fault_as_defined course left f h = by (course []) refl h
   where
-    by : (next : Next) → (course []).next ≡ next → IsFaultNext next left f → fill (plain_filler (end_left left)) course (items_left left) ≡ Err f
+    by : (next : Next) → course [] ≡ next → IsFaultNext next left f → fill (plain_filler (end_left left)) course (items_left left) ≡ Err f
     by (take_next spec) e h = fault_of_items course left spec f e h
     by (refused why) e h = at_refused course left why e ∙ ap Err (sym h)
     by at_end e h = left_over course left f e h.0 h.1

@@ -1,7 +1,7 @@
 -- The data bits of a document: how its items are written, plain or compressed. (WMO-No. 306, Volume
 -- I.2, FM 94: section 4; the order of the faults, the base and the least k are our choices)
 -- Cited by public contracts.
-use Rattle.std.specs.Prelude.{Bool, List, [], ◌∷◌, ◌++◌, Result, Ok, Err, ℕ, zero, suc, ◌+◌, ◌-◌, ◌==◌, ◌&&◌, nat_lt, nat_le, min, not, true, false, if◌then◌else◌, take, replicate, length, Option, Some, None, unwrap_or, ◌≡◌, ◌≤◌, drop, max, map, slice_get}
+use Rattle.std.specs.Prelude.{Bool, List, [], ◌∷◌, ◌++◌, Result, Ok, Err, ℕ, zero, suc, ◌+◌, ◌-◌, ◌==◌, ◌&&◌, nat_lt, nat_le, min, not, true, if◌then◌else◌, take, replicate, length, Option, Some, None, unwrap_or, ◌≡◌, ◌≤◌, drop, max, map, slice_get}
 pub use Rattle.bufr_walk.specs.declared.spec.Taken.{Taken}
 use Rattle.bufr_walk.specs.Prelude.{Coding, numbers, texts, coding_of, step_of, same, FieldSpec, Content, number, text, bits_for, FieldFault, increment, unequal_factor, found, answer_of, packed_field, answer_first, Course, Item, Step, Passing, Pass, pass, would_be_many}
 use Rattle.std.specs.List.{list_all, flat_map}
@@ -80,29 +80,13 @@ module _ {D C E : Type 0} (filler : Filler D C E) where
 abbrev pub bits_written : {C : Type 0} → List (Item (WrittenItem C)) → List Bool
 bits_written {C} items = flat_map (λ (i : Item (WrittenItem C)). i.content.bits) items
 
--- what is written: the bits up to the first fault, that fault (if any), and the number of turns
-pub record Writing (E : Type 0) : Type 0 where
-  pub bits : List Bool
-  pub stop : Option E
-  pub turns : ℕ
-
--- what a pass writes
-abbrev pub pass_writing : {S C E : Type 0} → Pass S (WrittenItem C) E → Writing E
-pass_writing p = record { bits = bits_written p.items; stop = p.stop; turns = p.turns }
-
--- what w writes and then, unless w stopped, what `rest` writes; the second argument is `w.stop`
-abbrev pub writing_then : {E : Type 0} → Writing E → Option E → Writing E → Writing E
-writing_then w (Some why) rest = w
-writing_then w None rest =
-    record { bits = w.bits ++ rest.bits; stop = rest.stop; turns = w.turns + rest.turns }
-
--- the bits that are written, or the fault
-abbrev pub bits_of_writing : {E : Type 0} → Writing E → Result (List Bool) E
-bits_of_writing w = option_map_or (λ why. Err why) w.stop (Ok w.bits)
+-- the bits that a pass wrote, or what stopped it
+abbrev pub bits_of_pass : {S C E : Type 0} → Pass S (WrittenItem C) E → Result (List Bool) E
+bits_of_pass p = option_map_or (λ why. Err why) p.stop (Ok (bits_written p.items))
 
 -- the bits of drafts, or what stops their pass
 abbrev pub fill : {D C E : Type 0} → Filler D C E → Course → List D → Result (List Bool) E
-fill filler course drafts = bits_of_writing (pass_writing (fill_pass filler course drafts))
+fill filler course drafts = bits_of_pass (fill_pass filler course drafts)
 
 -- the least number among contents, if there is one; other contents are ignored
 -- rule: packs-numbers
@@ -199,15 +183,14 @@ plain_filler end_line = record {
   lost = at_line end_line item_too_many;
 }
 
--- plain data: one subset after another, each from the beginning of the template
-abbrev pub plain_writing : Course → List Subset → Writing DraftFault
-plain_writing course [] = record { bits = []; stop = None; turns = 0 }
-plain_writing course (s ∷ subsets) =
-    let w = pass_writing (fill_pass (plain_filler s.end_line) course s.items) in
-    writing_then w w.stop (plain_writing course subsets)
-
+-- the bits of plain data, or the first fault: one subset after another, each from the beginning of
+-- the template
 abbrev pub plain_data : Course → List Subset → Result (List Bool) DraftFault
-plain_data course subsets = bits_of_writing (plain_writing course subsets)
+plain_data course [] = Ok []
+plain_data course (s ∷ subsets) = do
+  first ← fill (plain_filler s.end_line) course s.items
+  rest ← plain_data course subsets
+  Ok (first ++ rest)
 
 -- ---- compressed data
 
@@ -312,18 +295,11 @@ packed_filler end_line many = record {
   lost = at_line end_line item_too_many;
 }
 
--- Compressed data: one pass over the rows of all subsets. Without subsets, nothing is written.
-abbrev pub packed_writing : Course → List Subset → Writing DraftFault
-packed_writing course [] = record { bits = []; stop = None; turns = 0 }
-packed_writing course (s ∷ subsets) =
+-- The bits of compressed data, or the first fault: one pass over the rows of all subsets. Without
+-- subsets, nothing is written.
+abbrev pub packed_data : Course → List Subset → Result (List Bool) DraftFault
+packed_data course [] = Ok []
+packed_data course (s ∷ subsets) =
     let most = most_items (s ∷ subsets) in
     let filler = packed_filler s.end_line (would_be_many (length (s ∷ subsets)) most) in
-    pass_writing (fill_pass filler course (rows most 0 (s ∷ subsets)))
-
-abbrev pub packed_data : Course → List Subset → Result (List Bool) DraftFault
-packed_data course subsets = bits_of_writing (packed_writing course subsets)
-
--- what is written of the data of a document, plain or compressed
-abbrev pub writing_of : (compressed : Bool) → Course → List Subset → Writing DraftFault
-writing_of true course subsets = packed_writing course subsets
-writing_of false course subsets = plain_writing course subsets
+    fill filler course (rows most 0 (s ∷ subsets))

@@ -101,7 +101,7 @@ pub fn walks_write_as_defined()
     ensures whole { (course : Course) (subsets : List Subset) (items : List TakenField)
         (s : PackedOutModel) → 1 ≤ length subsets
         → Takes (oks PackedFills) course (new_packed_out subsets) items s
-        → (course (answers_of items)).next ≡ at_end
+        → course (answers_of items) ≡ at_end
         → all_at_end (cells_at s.index s.subsets) ≡ Ok tt → packed_data course subsets ≡ Ok s.bits }
 {}
 
@@ -111,10 +111,10 @@ pub fn walks_write_as_defined()
 #[tactic(auto, using(crate::proofs::WalkLemmas::fault_as_defined, crate::proofs::PackedWalks::fault_as_defined))]
 pub fn faults_are_as_defined()
     ensures plain { (course : Course) (left : List DraftEntry) (f : DraftFault)
-        → IsFaultNext (course []).next
+        → IsFaultNext (course [])
         left f → fill (plain_filler (end_left left)) course (items_left left) ≡ Err f }
     ensures packed { (course : Course) (subsets : List Subset) (items : List TakenField)
         (s : PackedOutModel) (f : DraftFault) → 1 ≤ length subsets
         → Takes (oks PackedFills) course (new_packed_out subsets) items s
-        → IsFaultHere (course (answers_of items)).next s f → packed_data course subsets ≡ Err f }
+        → IsFaultHere (course (answers_of items)) s f → packed_data course subsets ≡ Err f }
 {}

@@ -1,10 +1,10 @@
 -- The bits and the turns of a walk that writes.
 use Rattle.std.proofs.Common.{inl, inr, ◌≡◌, ◌+◌, ℕ, suc, Bool, List, [], ◌∷◌, ◌++◌, length, length-append, Option, Some, None, Result, Ok, Err, refl, sym, ◌∙◌, ap, subst, arith, ◌<◌, get_or, true, false, ◌≤◌, zero, ◌-◌, ◌*◌, append_assoc, if◌then◌else◌}
 use Rattle.bufr_walk.specs.declared.spec.Taken.{Taken}
-use Rattle.bufr_walk.specs.Prelude.{bits_for, FieldSpec, octets_in, Course, Next, take_next, at_end, astray, refused, NextTurn, asked, operated, ahead, counts_of, next_item, Turns, finish, open_end, group, pass_end, factor_turn, element_turn, operator_turn, Rest, passes, unroll, TakenField, Takes, course_after, ticked, answers_of, oks, StopsWalk, Walked, element_spec, factor_spec, inserted_spec, OperatorModel, after_operator, after_field, would_be_many}
-use Rattle.bufr_fill.specs.Prelude.{written_item, IfDraftFault, at_line, DraftEntry, Holds, Ends, Subset, subset, prepend_to_subset, subsets_of, WrittenItem, Filler, fill_pass, bits_written, fill, with_bits_before, Writing, pass_writing, writing_then, bits_of_writing, plain_filler, plain_writing, plain_data, packed_writing, cells_at, rows, most_items, packed_filler, packed_data, AreOctets, PlainOutModel, PlainFills, IsFaultNext, after_end, line_at, items_left, end_left, ends_of, PackedOutModel, new_packed_out, PackedFills, IsFaultHere, all_at_end, first_line_at, rows_left}
+use Rattle.bufr_walk.specs.Prelude.{bits_for, FieldSpec, octets_in, Course, Next, take_next, at_end, astray, refused, counts_of, Turns, finish, open_end, group, pass_end, factor_turn, element_turn, operator_turn, Rest, passes, unroll, TakenField, Takes, course_after, ticked, answers_of, oks, StopsWalk, Walked, element_spec, factor_spec, inserted_spec, OperatorModel, after_operator, after_field, would_be_many, CountedCourse, uncounted, counted_item, turns_ahead, turns_asked, turns_operated}
+use Rattle.bufr_fill.specs.Prelude.{written_item, IfDraftFault, at_line, DraftEntry, Holds, Ends, Subset, subset, prepend_to_subset, subsets_of, WrittenItem, Filler, fill_pass, bits_written, fill, with_bits_before, Writing, pass_writing, writing_then, bits_of_writing, turns_written, plain_filler, plain_writing, plain_data, packed_writing, cells_at, rows, most_items, packed_filler, packed_data, AreOctets, PlainOutModel, PlainFills, IsFaultNext, after_end, line_at, items_left, end_left, ends_of, PackedOutModel, new_packed_out, PackedFills, IsFaultHere, all_at_end, first_line_at, rows_left}
 use Rattle.bufr_fill.specs.declared.fault.DraftFault.{DraftFault}
-use Rattle.bufr_fill.proofs.FillSteps.{pass_at, pass_with, pass_more, fill_end}
+use Rattle.bufr_fill.proofs.FillSteps.{plain_written, pass_at, pass_with, pass_more, fill_end}
 use Rattle.bufr_fill.proofs.WalkLemmas.{HasFilled, after_answers, fills, walk_of_items, fault_as_defined}
 use Rattle.bufr_text.specs.Prelude.{map_err, document_fault, octets_of_bits, message_of, IsDocumentRefusal, stop_fault, AreOctetsOf, CountsSteps, IsData, IsNoData, DocumentFault}
 use Rattle.bufr_bits.specs.Prelude.{padding, bits_of}
@@ -29,24 +29,24 @@ use Rattle.std.specs.Result.{result_map_both}
 -- ---- A walk that writes counts as the definition does.
 
 -- how many bits a pass writes, and how many turns it takes
-abbrev count_filled : {D C E : Type 0} → Filler D C E → Course → List D → ℕ
-count_filled filler course drafts = length (bits_written (fill_pass filler course drafts).items)
+abbrev count_filled : {D C E : Type 0} → Filler D C E → CountedCourse → List D → ℕ
+count_filled filler course drafts = length (bits_written (fill_pass filler (uncounted course) drafts).items)
 
-abbrev turns_filled : {D C E : Type 0} → Filler D C E → Course → List D → ℕ
-turns_filled filler course drafts = (fill_pass filler course drafts).turns
+abbrev turns_filled : {D C E : Type 0} → Filler D C E → CountedCourse → List D → ℕ
+turns_filled filler course drafts = turns_written filler course (fill_pass filler (uncounted course) drafts).items
 
 module _ {D C E S : Type 0} (filler : Filler D C E) (left : S → List D) (out : S → List Bool) (takes : S → FieldSpec → Taken → S → Type 0)
     (fills : (s : S) (spec : FieldSpec) (t : Taken) (s' : S) → takes s spec t s' → HasFilled filler (left s) (out s) spec t (left s') (out s')) where
-  one : (course : Course) (s : S) (spec : FieldSpec) (t : Taken) (mid : S) → (course []).next ≡ take_next spec → (h : HasFilled filler (left s) (out s) spec t (left mid) (out mid))
+  one : (course : CountedCourse) (s : S) (spec : FieldSpec) (t : Taken) (mid : S) → (course []).next ≡ take_next spec → (h : HasFilled filler (left s) (out s) spec t (left mid) (out mid))
       → count_filled filler course (left s) ≡ length h.item.bits + count_filled filler (λ results. course (t ∷ results)) (left mid)
   one course s spec t mid next h =
       ap (count_filled filler course) h.here
-      ∙ ap (λ p. length (bits_written p.items)) (pass_more filler course h.draft (left mid) spec (Ok h.item) next h.fills)
-      ∙ length-append h.item.bits (bits_written (fill_pass filler (λ results. course (filler.gives spec h.item.content ∷ results)) (left mid)).items)
+      ∙ ap (λ p. length (bits_written p.items)) (pass_more filler (uncounted course) h.draft (left mid) spec (Ok h.item) next h.fills)
+      ∙ length-append h.item.bits (bits_written (fill_pass filler (uncounted (λ results. course (filler.gives spec h.item.content ∷ results))) (left mid)).items)
       ∙ ap (λ x. length h.item.bits + count_filled filler (λ results. course (x ∷ results)) (left mid)) (sym h.gives)
 
   -- the bits that a walk wrote, and those that are left, are those of all
-  pub walk_counts : (course : Course) (s : S) (items : List TakenField) (s' : S) → Takes takes course s items s'
+  pub walk_counts : (course : CountedCourse) (s : S) (items : List TakenField) (s' : S) → Takes takes (uncounted course) s items s'
       → length (out s') + count_filled filler (course_after course items) (left s') ≡ length (out s) + count_filled filler course (left s)
   walk_counts course s [] s' h = ap (λ x. length (out x) + count_filled filler course (left x)) h
   walk_counts course s (i ∷ items) s' h =
@@ -111,61 +111,61 @@ unroll_extends (delayed fxy body t) rest g (n ∷ counts) more = (
 )
 
 -- whatever comes, it takes a turn
-asked_some : (r : Result FieldSpec TurnRefusal) (go : Taken → List Taken → NextTurn) (results : List Taken) → 1 ≤ (asked r go results).turns
+asked_some : (r : Result FieldSpec TurnRefusal) (go : Taken → List Taken → ℕ) (results : List Taken) → 1 ≤ turns_asked r go results
 asked_some r go results = grind (arith, nat_tests, common_steps)
 
-operated_some : (r : Result OperatorModel TurnRefusal) (go : OperatorModel → NextTurn) → 1 ≤ (operated r go).turns
+operated_some : (r : Result OperatorModel TurnRefusal) (go : OperatorModel → ℕ) → 1 ≤ turns_operated r go
 operated_some (Err why) go = omega arith
 operated_some (Ok s) go = omega arith
 
-ahead_some : (table : List Row) (u : Turns) (s : OperatorModel) (results : List Taken) → 1 ≤ (ahead table u s results).turns
+ahead_some : (table : List Row) (u : Turns) (s : OperatorModel) (results : List Taken) → 1 ≤ turns_ahead table u s results
 ahead_some table finish s results = omega arith
 ahead_some table open_end s results = omega arith
 ahead_some table (group t) s results = omega arith
 ahead_some table (pass_end t) s results = omega arith
-ahead_some table (factor_turn fxy t) s results = asked_some (factor_spec table s fxy) (λ x more. ahead table t (after_field s fxy x) more) results
-ahead_some table (element_turn fxy t) s results = asked_some (element_spec table s fxy) (λ x more. ahead table t (after_field s fxy x) more) results
+ahead_some table (factor_turn fxy t) s results = asked_some (factor_spec table s fxy) (λ x more. turns_ahead table t (after_field s fxy x) more) results
+ahead_some table (element_turn fxy t) s results = asked_some (element_spec table s fxy) (λ x more. turns_ahead table t (after_field s fxy x) more) results
 ahead_some table (operator_turn fxy t) s results = by (is_inserted_text fxy)
   where
-    by : (b : Bool) → 1 ≤ (if b then asked (inserted_spec s fxy) (λ x more. ahead table t (after_field s fxy x) more) results else operated (after_operator s fxy)
-        (λ s'. ahead table t s' results)).turns
-    by true = asked_some (inserted_spec s fxy) (λ x more. ahead table t (after_field s fxy x) more) results
-    by false = operated_some (after_operator s fxy) (λ s'. ahead table t s' results)
+    by : (b : Bool) → 1 ≤ (if b then turns_asked (inserted_spec s fxy) (λ x more. turns_ahead table t (after_field s fxy x) more) results else turns_operated (after_operator s fxy)
+        (λ s'. turns_ahead table t s' results))
+    by true = asked_some (inserted_spec s fxy) (λ x more. turns_ahead table t (after_field s fxy x) more) results
+    by false = operated_some (after_operator s fxy) (λ s'. turns_ahead table t s' results)
 
-asked_grows : (r : Result FieldSpec TurnRefusal) (go go' : Taken → List Taken → NextTurn) (results more : List Taken) → ((t : Taken) (l : List Taken) → (go t l).turns ≤ (go' t (l ++ more)).turns)
-    → (asked r go results).turns ≤ (asked r go' (results ++ more)).turns
+asked_grows : (r : Result FieldSpec TurnRefusal) (go go' : Taken → List Taken → ℕ) (results more : List Taken) → ((t : Taken) (l : List Taken) → go t l ≤ go' t (l ++ more))
+    → turns_asked r go results ≤ turns_asked r go' (results ++ more)
 asked_grows r go go' results more h1 = grind (arith, nat_tests, common_steps)
 
-operated_grows : (r : Result OperatorModel TurnRefusal) (go go' : OperatorModel → NextTurn) → ((s : OperatorModel) → (go s).turns ≤ (go' s).turns) → (operated r go).turns ≤ (operated r go').turns
+operated_grows : (r : Result OperatorModel TurnRefusal) (go go' : OperatorModel → ℕ) → ((s : OperatorModel) → go s ≤ go' s) → turns_operated r go ≤ turns_operated r go'
 operated_grows (Err why) go go' g = omega arith
 operated_grows (Ok s) go go' g = omega (arith, g s)
 
-ahead_grows : (table : List Row) (u u' : Turns) (s : OperatorModel) (results more : List Taken) → Extends u u' → (ahead table u s results).turns ≤ (ahead table u' s (results ++ more)).turns
-ahead_grows table finish u' s results more h = subst (λ x. 1 ≤ (ahead table x s (results ++ more)).turns) (sym h) (omega arith)
+ahead_grows : (table : List Row) (u u' : Turns) (s : OperatorModel) (results more : List Taken) → Extends u u' → turns_ahead table u s results ≤ turns_ahead table u' s (results ++ more)
+ahead_grows table finish u' s results more h = subst (λ x. 1 ≤ turns_ahead table x s (results ++ more)) (sym h) (omega arith)
 ahead_grows table open_end u' s results more h = ahead_some table u' s (results ++ more)
 ahead_grows table (group t) u' s results more h =
-    subst (λ x. (ahead table (group t) s results).turns ≤ (ahead table x s (results ++ more)).turns) (sym h.1) (omega (arith, ahead_grows table t h.0 s results more h.2))
+    subst (λ x. turns_ahead table (group t) s results ≤ turns_ahead table x s (results ++ more)) (sym h.1) (omega (arith, ahead_grows table t h.0 s results more h.2))
 ahead_grows table (pass_end t) u' s results more h =
-    subst (λ x. (ahead table (pass_end t) s results).turns ≤ (ahead table x s (results ++ more)).turns) (sym h.1) (omega (arith, ahead_grows table t h.0 s results more h.2))
+    subst (λ x. turns_ahead table (pass_end t) s results ≤ turns_ahead table x s (results ++ more)) (sym h.1) (omega (arith, ahead_grows table t h.0 s results more h.2))
 ahead_grows table (factor_turn fxy t) u' s results more h =
-    subst (λ x. (ahead table (factor_turn fxy t) s results).turns ≤ (ahead table x s (results ++ more)).turns) (sym h.1)
-    (asked_grows (factor_spec table s fxy) (λ x l. ahead table t (after_field s fxy x) l) (λ x l. ahead table h.0 (after_field s fxy x) l) results more
+    subst (λ x. turns_ahead table (factor_turn fxy t) s results ≤ turns_ahead table x s (results ++ more)) (sym h.1)
+    (asked_grows (factor_spec table s fxy) (λ x l. turns_ahead table t (after_field s fxy x) l) (λ x l. turns_ahead table h.0 (after_field s fxy x) l) results more
     (λ x l. ahead_grows table t h.0 (after_field s fxy x) l more h.2))
 ahead_grows table (element_turn fxy t) u' s results more h =
-    subst (λ x. (ahead table (element_turn fxy t) s results).turns ≤ (ahead table x s (results ++ more)).turns) (sym h.1)
-    (asked_grows (element_spec table s fxy) (λ x l. ahead table t (after_field s fxy x) l) (λ x l. ahead table h.0 (after_field s fxy x) l) results more
+    subst (λ x. turns_ahead table (element_turn fxy t) s results ≤ turns_ahead table x s (results ++ more)) (sym h.1)
+    (asked_grows (element_spec table s fxy) (λ x l. turns_ahead table t (after_field s fxy x) l) (λ x l. turns_ahead table h.0 (after_field s fxy x) l) results more
     (λ x l. ahead_grows table t h.0 (after_field s fxy x) l more h.2))
 ahead_grows table (operator_turn fxy t) u' s results more h =
-    subst (λ x. (ahead table (operator_turn fxy t) s results).turns ≤ (ahead table x s (results ++ more)).turns) (sym h.1)
+    subst (λ x. turns_ahead table (operator_turn fxy t) s results ≤ turns_ahead table x s (results ++ more)) (sym h.1)
     (by (is_inserted_text fxy) (λ x l. ahead_grows table t h.0 (after_field s fxy x) l more h.2) (λ s'. ahead_grows table t h.0 s' results more h.2))
   where
-    by : (b : Bool) → ((x : Taken) (l : List Taken) → (ahead table t (after_field s fxy x) l).turns ≤ (ahead table h.0 (after_field s fxy x) (l ++ more)).turns)
-        → ((s' : OperatorModel) → (ahead table t s' results).turns ≤ (ahead table h.0 s' (results ++ more)).turns)
-        → (if b then asked (inserted_spec s fxy) (λ x l. ahead table t (after_field s fxy x) l) results else operated (after_operator s fxy) (λ s'. ahead table t s' results)).turns
-        ≤ (if b then asked (inserted_spec s fxy) (λ x l. ahead table h.0 (after_field s fxy x) l) (results ++ more) else operated (after_operator s fxy)
-        (λ s'. ahead table h.0 s' (results ++ more))).turns
-    by true f g = asked_grows (inserted_spec s fxy) (λ x l. ahead table t (after_field s fxy x) l) (λ x l. ahead table h.0 (after_field s fxy x) l) results more f
-    by false f g = operated_grows (after_operator s fxy) (λ s'. ahead table t s' results) (λ s'. ahead table h.0 s' (results ++ more)) g
+    by : (b : Bool) → ((x : Taken) (l : List Taken) → turns_ahead table t (after_field s fxy x) l ≤ turns_ahead table h.0 (after_field s fxy x) (l ++ more))
+        → ((s' : OperatorModel) → turns_ahead table t s' results ≤ turns_ahead table h.0 s' (results ++ more))
+        → (if b then turns_asked (inserted_spec s fxy) (λ x l. turns_ahead table t (after_field s fxy x) l) results else turns_operated (after_operator s fxy) (λ s'. turns_ahead table t s' results))
+        ≤ (if b then turns_asked (inserted_spec s fxy) (λ x l. turns_ahead table h.0 (after_field s fxy x) l) (results ++ more) else turns_operated (after_operator s fxy)
+        (λ s'. turns_ahead table h.0 s' (results ++ more)))
+    by true f g = asked_grows (inserted_spec s fxy) (λ x l. turns_ahead table t (after_field s fxy x) l) (λ x l. turns_ahead table h.0 (after_field s fxy x) l) results more f
+    by false f g = operated_grows (after_operator s fxy) (λ s'. turns_ahead table t s' results) (λ s'. turns_ahead table h.0 s' (results ++ more)) g
 
 counts_append : (results more : List Taken) → counts_of (results ++ more) ≡ counts_of results ++ counts_of more
 counts_append [] more = refl
@@ -174,14 +174,13 @@ counts_append (taken.Count n ∷ results) more = ap (λ c. n ∷ c) (counts_appe
 counts_append (taken.Reference r ∷ results) more = counts_append results more
 
 -- what comes after more items takes no fewer turns
-abbrev pub AddsTurns : Course → Type 0
+abbrev pub AddsTurns : CountedCourse → Type 0
 AddsTurns course = (results more : List Taken) → (course results).turns ≤ (course (results ++ more)).turns
 
-pub template_adds : (table : List Row) (template : Tree) → AddsTurns (next_item table template)
-unfolding next_item
+pub template_adds : (table : List Row) (template : Tree) → AddsTurns (counted_item table template)
 template_adds table template = grind (arith, nat_tests, common_steps, ahead_grows, counts_append, unroll_extends)
 
-adds_after : (course : Course) (items : List TakenField) → AddsTurns course → AddsTurns (course_after course items)
+adds_after : (course : CountedCourse) (items : List TakenField) → AddsTurns course → AddsTurns (course_after course items)
 adds_after course [] g results more = g results more
 adds_after course (i ∷ items) g results more = adds_after (λ l. course (i.taken ∷ l)) items (λ l m. g (i.taken ∷ l) m) results more
 
@@ -189,15 +188,15 @@ adds_after course (i ∷ items) g results more = adds_after (λ l. course (i.tak
 
 module _ {D C E S : Type 0} (filler : Filler D C E) (left : S → List D) (out : S → List Bool) (takes : S → FieldSpec → Taken → S → Type 0)
     (fills : (s : S) (spec : FieldSpec) (t : Taken) (s' : S) → takes s spec t s' → HasFilled filler (left s) (out s) spec t (left s') (out s')) where
-  turns_of_one : (course : Course) (s : S) (spec : FieldSpec) (t : Taken) (mid : S) → (course []).next ≡ take_next spec → HasFilled filler (left s) (out s) spec t (left mid) (out mid)
+  turns_of_one : (course : CountedCourse) (s : S) (spec : FieldSpec) (t : Taken) (mid : S) → (course []).next ≡ take_next spec → HasFilled filler (left s) (out s) spec t (left mid) (out mid)
       → turns_filled filler course (left s) ≡ turns_filled filler (λ results. course (t ∷ results)) (left mid)
   turns_of_one course s spec t mid next h =
       ap (turns_filled filler course) h.here
-      ∙ ap (λ p. p.turns) (pass_more filler course h.draft (left mid) spec (Ok h.item) next h.fills)
+      ∙ ap (λ p. turns_written filler course p.items) (pass_more filler (uncounted course) h.draft (left mid) spec (Ok h.item) next h.fills)
       ∙ ap (λ x. turns_filled filler (λ results. course (x ∷ results)) (left mid)) (sym h.gives)
 
   -- the turns of all drafts are those of the drafts that a walk left, after its items
-  pub walk_turns : (course : Course) (s : S) (items : List TakenField) (s' : S) → Takes takes course s items s'
+  pub walk_turns : (course : CountedCourse) (s : S) (items : List TakenField) (s' : S) → Takes takes (uncounted course) s items s'
       → turns_filled filler course (left s) ≡ turns_filled filler (course_after course items) (left s')
   walk_turns course s [] s' h = ap (λ x. turns_filled filler course (left x)) (sym h)
   walk_turns course s (i ∷ items) s' h = turns_of_one course s i.spec i.taken h.0 h.1 (fills s i.spec i.taken h.0 h.2) ∙ walk_turns (λ results. course (i.taken ∷ results)) h.0 items s' h.3
@@ -211,20 +210,20 @@ module _ {D C E : Type 0} (filler : Filler D C E) where
   IsLast (refused why) ds = Unit {0}
   IsLast astray ds = Unit {0}
 
-  here : (course : Course) (ds : List D) (n : Next) → (course []).next ≡ n → IsLast n ds → turns_filled filler course ds ≡ (course []).turns
-  here course ds n e h = ap (λ n. (pass_at filler course ds n).turns) e ∙ by n ds h
+  here : (course : CountedCourse) (ds : List D) (n : Next) → (course []).next ≡ n → IsLast n ds → turns_filled filler course ds ≡ (course []).turns
+  here course ds n e h = ap (λ n. turns_written filler course (pass_at filler (uncounted course) ds n).items) e ∙ by n ds h
     where
-      by : (n : Next) (ds : List D) → IsLast n ds → (pass_at filler course ds n).turns ≡ (course []).turns
+      by : (n : Next) (ds : List D) → IsLast n ds → turns_written filler course (pass_at filler (uncounted course) ds n).items ≡ (course []).turns
       by (take_next spec) [] h = refl
-      by (take_next spec) (d ∷ ds) h = ap (λ r. (pass_with filler course d ds spec r).turns) h.1
+      by (take_next spec) (d ∷ ds) h = ap (λ r. turns_written filler course (pass_with filler (uncounted course) d ds spec r).items) h.1
       by at_end ds h = refl
       by (refused why) ds h = refl
       by astray ds h = refl
 
-  at_least : (course : Course) (ds : List D) → AddsTurns course → (course []).turns ≤ turns_filled filler course ds
+  at_least : (course : CountedCourse) (ds : List D) → AddsTurns course → (course []).turns ≤ turns_filled filler course ds
   at_least course [] g = by (course []).next
     where
-      by : (n : Next) → (course []).turns ≤ (pass_at filler course [] n).turns
+      by : (n : Next) → (course []).turns ≤ turns_written filler course (pass_at filler (uncounted course) [] n).items
       by (take_next spec) = omega arith
       by at_end = omega arith
       by (refused why) = omega arith
@@ -233,21 +232,23 @@ module _ {D C E : Type 0} (filler : Filler D C E) where
       by (course []).next (λ t. omega (arith, g [] (t ∷ []), at_least (λ results. course (t ∷ results)) ds (λ results more. g (t ∷ results) more)))
     where
       at_field : (spec : FieldSpec) (r : Result (WrittenItem C) E) → ((t : Taken) → (course []).turns ≤ turns_filled filler (λ results. course (t ∷ results)) ds)
-          → (course []).turns ≤ (pass_with filler course d ds spec r).turns
+          → (course []).turns ≤ turns_written filler course (pass_with filler (uncounted course) d ds spec r).items
       at_field spec (Ok w) h = h (filler.gives spec w.content)
       at_field spec (Err why) h = omega arith
 
-      by : (n : Next) → ((t : Taken) → (course []).turns ≤ turns_filled filler (λ results. course (t ∷ results)) ds) → (course []).turns ≤ (pass_at filler course (d ∷ ds) n).turns
+      by : (n : Next) → ((t : Taken) → (course []).turns ≤ turns_filled filler (λ results. course (t ∷ results)) ds)
+          → (course []).turns ≤ turns_written filler course (pass_at filler (uncounted course) (d ∷ ds) n).items
       by (take_next spec) h = at_field spec (filler.fills spec d) h
       by n h = omega arith
 
   -- where a walk comes to the last turn, its turns are all
-  pub last_turns : (course : Course) (items : List TakenField) (ds : List D) (n : Next) (all : ℕ) → all ≡ turns_filled filler (course_after course items) ds → (course (answers_of items)).next ≡ n
+  pub last_turns : (course : CountedCourse) (items : List TakenField) (ds : List D) (n : Next) (all : ℕ) → all ≡ turns_filled filler (course_after course items) ds
+      → (course (answers_of items)).next ≡ n
       → IsLast n ds → (course (answers_of items)).turns ≡ all
   last_turns course items ds n all total next h =
       sym (total ∙ here (course_after course items) ds n (ap (λ a. a.next) (after_answers course items) ∙ next) h ∙ ap (λ a. a.turns) (after_answers course items))
 
-  pub some_turns : (course : Course) (items : List TakenField) (ds : List D) (all : ℕ) → AddsTurns course → all ≡ turns_filled filler (course_after course items) ds
+  pub some_turns : (course : CountedCourse) (items : List TakenField) (ds : List D) (all : ℕ) → AddsTurns course → all ≡ turns_filled filler (course_after course items) ds
       → (course (answers_of items)).turns ≤ all
   some_turns course items ds all g total =
       omega (arith, ap (λ a. a.turns) (after_answers course items), at_least (course_after course items) ds (adds_after course items g), total)
@@ -282,10 +283,10 @@ left_after (Holds d ∷ more) = left_after more
 left_after (Ends line ∷ more) = more
 
 -- the writing of the next subset
-abbrev pub next_writing : Course → List DraftEntry → Writing DraftFault
-next_writing course left = pass_writing (fill_pass (plain_filler (end_left left)) course (items_left left))
+abbrev pub next_writing : CountedCourse → List DraftEntry → Writing DraftFault
+next_writing course left = pass_writing (plain_filler (end_left left)) course (items_left left)
 
-abbrev pub fill_next : Course → List DraftEntry → Result (List Bool) DraftFault
+abbrev pub fill_next : CountedCourse → List DraftEntry → Result (List Bool) DraftFault
 fill_next course left = bits_of_writing (next_writing course left)
 
 -- bits that were written, in so many turns
@@ -297,7 +298,7 @@ wrote_all : (bits all : List Bool) (stop : Option DraftFault) (turns : ℕ) → 
 wrote_all bits all None turns h = let same : all ≡ bits = cc in ap (λ x. wrote x turns) same
 wrote_all bits all (Some why) turns h = absurd cc h
 
-pub record IsSubset (places : ℕ) (course : Course) (s : PlainOutModel) (steps : ℕ)
+pub record IsSubset (places : ℕ) (course : CountedCourse) (s : PlainOutModel) (steps : ℕ)
     (s' : PlainOutModel) (steps' : ℕ) : Type 0 where
   pub bits : List Bool
   pub turns : ℕ
@@ -307,7 +308,7 @@ pub record IsSubset (places : ℕ) (course : Course) (s : PlainOutModel) (steps 
   pub made : steps' ≡ ticked steps turns
   pub few : steps' ≤ steps + places * length bits
 
-pub record IsNoSubset (places : ℕ) (course : Course) (s : PlainOutModel) (steps : ℕ)
+pub record IsNoSubset (places : ℕ) (course : CountedCourse) (s : PlainOutModel) (steps : ℕ)
     (why : DocumentFault) (steps' : ℕ) : Type 0 where
   pub refuses : IsDocumentRefusal why (map_err document_fault (fill_next course s.left))
   pub made : CountsSteps (why ≡ document.Memory) steps (next_writing course s.left).turns steps'
@@ -319,7 +320,7 @@ record Keeps (s s' : PlainOutModel) : Type 0 where
   end : end_left s'.left ≡ end_left s.left
   count : length (subsets_of s'.left) ≡ length (subsets_of s.left)
 
-keeps : (course : Course) (s : PlainOutModel) (items : List TakenField) (s' : PlainOutModel) → Takes (oks PlainFills) course s items s' → Keeps s s'
+keeps : (course : CountedCourse) (s : PlainOutModel) (items : List TakenField) (s' : PlainOutModel) → Takes (oks PlainFills) (uncounted course) s items s' → Keeps s s'
 keeps course s [] s' h = record {
   suffix = ap (λ (p : PlainOutModel). left_after p.left) h;
   end = ap (λ (p : PlainOutModel). end_left p.left) h;
@@ -333,7 +334,7 @@ keeps course s (i ∷ items) s' h =
       count = k.count ∙ sym (ap (λ x. length (subsets_of x)) h.2.here ∙ length-prepended h.2.draft (subsets_of h.0.left));
     }
 
-counts : (end : ℕ) (course : Course) (s : PlainOutModel) (items : List TakenField) (s' : PlainOutModel) → Takes (oks PlainFills) course s items s'
+counts : (end : ℕ) (course : CountedCourse) (s : PlainOutModel) (items : List TakenField) (s' : PlainOutModel) → Takes (oks PlainFills) (uncounted course) s items s'
     → length s'.bits ≤ length s.bits + count_filled (plain_filler end) course (items_left s.left)
 counts end course s items s' h = omega (
   arith,
@@ -342,7 +343,7 @@ counts end course s items s' h = omega (
 )
 
 -- the turns of the next subset are those that a walk comes to
-turns_left : (course : Course) (s : PlainOutModel) (items : List TakenField) (mid : PlainOutModel) → Takes (oks PlainFills) course s items mid
+turns_left : (course : CountedCourse) (s : PlainOutModel) (items : List TakenField) (mid : PlainOutModel) → Takes (oks PlainFills) (uncounted course) s items mid
     → (next_writing course s.left).turns ≡ turns_filled (plain_filler (end_left s.left)) (course_after course items) (items_left mid.left)
 turns_left course s items mid h = walk_turns (plain_filler (end_left s.left)) (λ (p : PlainOutModel). items_left p.left) (λ (p : PlainOutModel). p.bits) (oks PlainFills) (fills (end_left s.left))
     course s items mid h
@@ -356,12 +357,12 @@ fault_is_last end (refused r) left f h = tt
 fault_is_last end astray left f h = tt
 
 -- a walk to the end makes all turns of its subset
-all_turns : (course : Course) (s : PlainOutModel) (c : ℕ) (mid : PlainOutModel) (c' : ℕ) → Walked PlainFills course s c (Ok tt) mid c' → c' ≡ ticked c ((next_writing course s.left).turns)
+all_turns : (course : CountedCourse) (s : PlainOutModel) (c : ℕ) (mid : PlainOutModel) (c' : ℕ) → Walked PlainFills course s c (Ok tt) mid c' → c' ≡ ticked c ((next_writing course s.left).turns)
 all_turns course s c mid c' w =
     w.3 ∙ ap (ticked c) (last_turns (plain_filler (end_left s.left)) course w.0 (items_left mid.left) at_end ((next_writing course s.left).turns) (turns_left course s w.0 mid w.1) w.2 tt)
 
 -- at the end of the template
-at_end_none : (end : ℕ) (course : Course) (left more : List DraftEntry) → (course []).next ≡ at_end → after_end left ≡ Ok more
+at_end_none : (end : ℕ) (course : Course) (left more : List DraftEntry) → course [] ≡ at_end → after_end left ≡ Ok more
     → (fill (plain_filler end) course (items_left left) ≡ Ok []) × (left_after left ≡ more)
 at_end_none end course [] more h1 h2 =
     let same : [] ≡ more = cc in (fill_end (plain_filler end) course h1, same)
@@ -377,22 +378,23 @@ prefixed : (end : ℕ) (bits : List Bool) (r : Result (List Bool) DraftFault) (f
 prefixed end bits r f h = ap (with_bits_before (plain_filler end) bits) h
 
 -- the subset was written
-pub subset_written : (n : ℕ) (course : Course) (s : PlainOutModel) (c : ℕ) (mid : PlainOutModel) (c' : ℕ) (s' : PlainOutModel) → Walked PlainFills course s c (Ok tt) mid c'
+pub subset_written : (n : ℕ) (course : CountedCourse) (s : PlainOutModel) (c : ℕ) (mid : PlainOutModel) (c' : ℕ) (s' : PlainOutModel) → Walked PlainFills course s c (Ok tt) mid c'
     → after_end mid.left ≡ Ok s'.left → s'.bits ≡ mid.bits → c' ≤ c + n * (length mid.bits - length s.bits)
     → IsSubset n course s c s' c'
 subset_written n course s c mid c' s' w passed same few =
     let end = end_left s.left in
-    let filled = walk_of_items end course s w.0 mid w.1 in
+    let filled = walk_of_items end (uncounted course) s w.0 mid w.1 in
     let k = keeps course s w.0 mid w.1 in
-    let next : (course_after course w.0 []).next ≡ at_end = ap (λ a. a.next) (after_answers course w.0) ∙ w.2 in
-    let none = at_end_none end (course_after course w.0) mid.left s'.left next passed in
+    let next : course_after (uncounted course) w.0 [] ≡ at_end = after_answers (uncounted course) w.0 ∙ w.2 in
+    let none = at_end_none end (course_after (uncounted course) w.0) mid.left s'.left next passed in
     let e : length mid.bits - length s.bits ≡ length filled.0 = omega (arith, ap length filled.1, length-append s.bits filled.0) in
     record {
       bits = filled.0;
       turns = (next_writing course s.left).turns;
       is =
-          let p = fill_pass (plain_filler end) course (items_left s.left) in
-          wrote_all filled.0 (bits_written p.items) p.stop p.turns (filled.2 ∙ ap (with_bits_before (plain_filler end) filled.0) none.0 ∙ ap Ok (append-nil filled.0));
+          let p = fill_pass (plain_filler end) (uncounted course) (items_left s.left) in
+          wrote_all filled.0 (bits_written p.items) p.stop (turns_written (plain_filler end) course p.items)
+          (filled.2 ∙ ap (with_bits_before (plain_filler end) filled.0) none.0 ∙ ap Ok (append-nil filled.0));
       written = same ∙ filled.1;
       left = sym none.1 ∙ k.suffix;
       made = all_turns course s c mid c' w;
@@ -400,17 +402,17 @@ subset_written n course s c mid c' s' w passed same few =
     }
 
 -- the fault where a walk stopped is that of its subset
-refused_later : (course : Course) (s mid : PlainOutModel) (items : List TakenField) (f : DraftFault) → Takes (oks PlainFills) course s items mid
+refused_later : (course : CountedCourse) (s mid : PlainOutModel) (items : List TakenField) (f : DraftFault) → Takes (oks PlainFills) (uncounted course) s items mid
     → IsFaultNext (course (answers_of items)).next mid.left f
     → fill_next course s.left ≡ Err f
 refused_later course s mid items f h x =
     let k = keeps course s items mid h in
-    let filled = walk_of_items (end_left s.left) course s items mid h in
-    let is = fault_as_defined (course_after course items) mid.left f (subst (λ n. IsFaultNext n mid.left f) (sym (ap (λ a. a.next) (after_answers course items))) x) in
-    filled.2 ∙ prefixed (end_left s.left) filled.0 _ f (ap (λ n. fill (plain_filler n) (course_after course items) (items_left mid.left)) (sym k.end) ∙ is)
+    let filled = walk_of_items (end_left s.left) (uncounted course) s items mid h in
+    let is = fault_as_defined (course_after (uncounted course) items) mid.left f (subst (λ n. IsFaultNext n mid.left f) (sym (after_answers (uncounted course) items)) x) in
+    filled.2 ∙ prefixed (end_left s.left) filled.0 _ f (ap (λ n. fill (plain_filler n) (course_after (uncounted course) items) (items_left mid.left)) (sym k.end) ∙ is)
 
 -- an item is left over
-pub subset_over : (n : ℕ) (course : Course) (s : PlainOutModel) (c : ℕ) (mid : PlainOutModel) (c' : ℕ) (e : DraftFault) (why : DocumentFault) → Walked PlainFills course s c (Ok tt) mid c'
+pub subset_over : (n : ℕ) (course : CountedCourse) (s : PlainOutModel) (c : ℕ) (mid : PlainOutModel) (c' : ℕ) (e : DraftFault) (why : DocumentFault) → Walked PlainFills course s c (Ok tt) mid c'
     → 1 ≤ length (subsets_of s.left)
     → after_end mid.left ≡ Err e → why ≡ document_fault e → c' ≤ c + n * (length mid.bits - length s.bits)
     → IsNoSubset n course s c why c'
@@ -438,7 +440,7 @@ still : (next : Next) (mid : PlainOutModel) (stop : WalkStop DraftFault) (s' : P
 still next mid stop s' h1 = grind (arith, nat_tests, common_steps)
 
 -- the walk stopped
-pub subset_stopped : (n : ℕ) (course : Course) (s : PlainOutModel) (c : ℕ) (s' : PlainOutModel) (c' line : ℕ) (stop : WalkStop DraftFault) (why : DocumentFault) → AddsTurns course
+pub subset_stopped : (n : ℕ) (course : CountedCourse) (s : PlainOutModel) (c : ℕ) (s' : PlainOutModel) (c' line : ℕ) (stop : WalkStop DraftFault) (why : DocumentFault) → AddsTurns course
     → Walked PlainFills course s c (Err stop) s' c' → line ≡ line_at s'.left
     → why ≡ document_fault (stop_fault line stop) → c' ≤ c + n * (length s'.bits - length s.bits + 1)
     → IsNoSubset n course s c why c'
@@ -465,7 +467,7 @@ subset_stopped n course s c s' c' line stop why g w at results few =
 
 -- ---- all subsets
 
-pub record PlainSoFar (places : ℕ) (course : Course) (all : List Subset) (done : ℕ) (left : List DraftEntry) (bits : List Bool) (steps : ℕ) : Type 0 where
+pub record PlainSoFar (places : ℕ) (course : CountedCourse) (all : List Subset) (done : ℕ) (left : List DraftEntry) (bits : List Bool) (steps : ℕ) : Type 0 where
   pub made : ℕ
   pub is : plain_writing course all ≡ writing_then (wrote bits made) None (plain_writing course (subsets_of left))
   pub ticks : steps ≡ ticked 0 made
@@ -477,7 +479,7 @@ cut [] h = absurd (omega (arith, h))
 cut (Ends line ∷ more) h = refl
 cut (Holds d ∷ more) h = ap (prepend_to_subset d) (cut more (omega (arith, h, length-prepended d (subsets_of more))))
 
-pub none_written : (n : ℕ) (course : Course) (all : List DraftEntry) (s : PlainOutModel) (steps : ℕ) → s.left ≡ all → s.bits ≡ [] → steps ≡ 0
+pub none_written : (n : ℕ) (course : CountedCourse) (all : List DraftEntry) (s : PlainOutModel) (steps : ℕ) → s.left ≡ all → s.bits ≡ [] → steps ≡ 0
     → PlainSoFar n course (subsets_of all) 0 s.left s.bits steps
 none_written n course all s steps left none start = record {
   made = 0;
@@ -491,7 +493,7 @@ none_written n course all s steps left none start = record {
     from_none : (w : Writing DraftFault) → w ≡ writing_then (wrote [] 0) None w
     from_none w = let same : w.turns ≡ 0 + w.turns = omega arith in ap (λ turns. record { bits = w.bits; stop = w.stop; turns = turns }) same
 
-module _ (n : ℕ) (course : Course) (all : List Subset) (done : ℕ) (s : PlainOutModel) (steps : ℕ) (h : PlainSoFar n course all done s.left s.bits steps)
+module _ (n : ℕ) (course : CountedCourse) (all : List Subset) (done : ℕ) (s : PlainOutModel) (steps : ℕ) (h : PlainSoFar n course all done s.left s.bits steps)
     (some : 1 ≤ length (subsets_of s.left)) where
   -- the subsets after the next one
   abbrev rest : Writing DraftFault
@@ -560,9 +562,10 @@ module _ (n : ℕ) (course : Course) (all : List Subset) (done : ℕ) (s : Plain
           last w more None e r = absurd cc (sym (ap (λ o. map_err document_fault (option_map_or (λ why. Err why) o (Ok w.bits))) e) ∙ r)
           last w more (Some why) e r = refl
 
-      by : (f : DocumentFault) → IsDocumentRefusal f (map_err document_fault (fill_next course s.left)) → IsDocumentRefusal f (map_err document_fault (plain_data course all))
+      by : (f : DocumentFault) → IsDocumentRefusal f (map_err document_fault (fill_next course s.left)) → IsDocumentRefusal f (map_err document_fault (plain_data (uncounted course) all))
       by f (inl out) = inl out
-      by f (inr r) = inr (ap (λ w. map_err document_fault (bits_of_writing w)) (by_next ∙ ap (writing_then (wrote s.bits h.made) None) (is_last f r))
+      by f (inr r) = inr (ap (map_err document_fault) (plain_written course all)
+          ∙ ap (λ w. map_err document_fault (bits_of_writing w)) (by_next ∙ ap (writing_then (wrote s.bits h.made) None) (is_last f r))
           ∙ same_refusal (next_writing course s.left).stop r)
         where
           same_refusal : (o : Option DraftFault) → map_err document_fault (option_map_or (λ why. Err why) o (Ok (next_writing course s.left).bits)) ≡ Err f
@@ -591,14 +594,15 @@ module _ (n : ℕ) (course : Course) (all : List Subset) (done : ℕ) (s : Plain
           inr (m ∙ ap (λ x. ticked x turns) h.ticks ∙ ticked_more h.made turns
           ∙ ap (λ (w : Writing DraftFault). ticked 0 w.turns) (sym (by_next ∙ ap (writing_then (wrote s.bits h.made) None) (is_last f r))))
 
-pub all_written : (n : ℕ) (course : Course) (all : List Subset) (done : ℕ) (s : PlainOutModel) (steps : ℕ) (octets : List ℕ) → PlainSoFar n course all done s.left s.bits steps → done ≡ length all
+pub all_written : (n : ℕ) (course : CountedCourse) (all : List Subset) (done : ℕ) (s : PlainOutModel) (steps : ℕ) (octets : List ℕ) → PlainSoFar n course all done s.left s.bits steps
+    → done ≡ length all
     → AreOctetsOf octets s.bits → IsData n false course all octets steps
 all_written n course all done s steps octets h end o =
     let none : length (subsets_of s.left) ≡ 0 = omega (arith, h.rest, end) in
     let is = h.is ∙ by (subsets_of s.left) none in
     record {
       out = s.bits;
-      is = ap bits_of_writing is;
+      is = plain_written course all ∙ ap bits_of_writing is;
       octets_are = o;
       made = h.ticks ∙ ap (λ (w : Writing DraftFault). ticked 0 w.turns) (sym is);
       few = omega (arith, h.few, ap (λ (w : Writing DraftFault). n * length w.bits) is);
@@ -613,7 +617,7 @@ all_written n course all done s steps octets h end o =
 -- ---- The subsets of a document, written together.
 
 -- the bits that a walk wrote are among those that count
-packed_counts : (course : Course) (ss : List Subset) (items : List TakenField) (mid : PackedOutModel) → 1 ≤ length ss → Takes (oks PackedFills) course (new_packed_out ss) items mid
+packed_counts : (course : CountedCourse) (ss : List Subset) (items : List TakenField) (mid : PackedOutModel) → 1 ≤ length ss → Takes (oks PackedFills) (uncounted course) (new_packed_out ss) items mid
     → length mid.bits ≤ length (packed_writing course ss).bits
 packed_counts course [] items mid some h = absurd (omega (arith, some))
 packed_counts course (s ∷ more) items mid some h =
@@ -625,7 +629,8 @@ packed_counts course (s ∷ more) items mid some h =
 -- ---- the turns
 
 -- the turns of all subsets are those that a walk comes to
-packed_turns_left : (course : Course) (s : Subset) (more : List Subset) (items : List TakenField) (mid : PackedOutModel) → Takes (oks PackedFills) course (new_packed_out (s ∷ more)) items mid
+packed_turns_left : (course : CountedCourse) (s : Subset) (more : List Subset) (items : List TakenField) (mid : PackedOutModel)
+    → Takes (oks PackedFills) (uncounted course) (new_packed_out (s ∷ more)) items mid
     → (packed_writing course (s ∷ more)).turns ≡ turns_filled (packed_filler s.end_line (would_be_many (length (s ∷ more)) (most_items (s ∷ more)))) (course_after course items) (rows_left mid)
 packed_turns_left course s more items mid h =
     let many = would_be_many (length (s ∷ more)) (most_items (s ∷ more)) in
@@ -634,7 +639,8 @@ packed_turns_left course s more items mid h =
     ∙ walk_turns (packed_filler s.end_line many) rows_left (λ (p : PackedOutModel). p.bits) (oks PackedFills) (packed_fills s.end_line many) course (new_packed_out (s ∷ more)) items mid h
 
 -- at most so many were made
-turns_at_most : (course : Course) (ss : List Subset) (items : List TakenField) (mid : PackedOutModel) → AddsTurns course → 1 ≤ length ss → Takes (oks PackedFills) course (new_packed_out ss) items mid
+turns_at_most : (course : CountedCourse) (ss : List Subset) (items : List TakenField) (mid : PackedOutModel) → AddsTurns course → 1 ≤ length ss
+    → Takes (oks PackedFills) (uncounted course) (new_packed_out ss) items mid
     → (course (answers_of items)).turns ≤ (packed_writing course ss).turns
 turns_at_most course [] items mid g some h = absurd (omega (arith, some))
 turns_at_most course (s ∷ more) items mid g some h =
@@ -642,7 +648,8 @@ turns_at_most course (s ∷ more) items mid g some h =
     (packed_turns_left course s more items mid h)
 
 -- where nothing more is taken, whatever the filler, all were made
-packed_all_turns : (course : Course) (ss : List Subset) (items : List TakenField) (mid : PackedOutModel) → 1 ≤ length ss → Takes (oks PackedFills) course (new_packed_out ss) items mid
+packed_all_turns : (course : CountedCourse) (ss : List Subset) (items : List TakenField) (mid : PackedOutModel) → 1 ≤ length ss
+    → Takes (oks PackedFills) (uncounted course) (new_packed_out ss) items mid
     → ((end : ℕ) (many : Bool) → IsLast (packed_filler end many) (course (answers_of items)).next (rows_left mid)) → (course (answers_of items)).turns ≡ (packed_writing course ss).turns
 packed_all_turns course [] items mid some h l = absurd (omega (arith, some))
 packed_all_turns course (s ∷ more) items mid some h l =
@@ -665,34 +672,35 @@ packed_fault_is_last end many (take_next spec) mid f h = by (most_items mid.subs
 packed_fault_is_last end many n mid f h = tt
 
 -- a walk to the end makes all turns
-walk_makes_all : (course : Course) (ss : List Subset) (start : PackedOutModel) (c : ℕ) (mid : PackedOutModel) (c' : ℕ) → start ≡ new_packed_out ss → 1 ≤ length ss → c ≡ 0
+walk_makes_all : (course : CountedCourse) (ss : List Subset) (start : PackedOutModel) (c : ℕ) (mid : PackedOutModel) (c' : ℕ) → start ≡ new_packed_out ss → 1 ≤ length ss → c ≡ 0
     → Walked PackedFills course start c (Ok tt) mid c' → c' ≡ ticked 0 ((packed_writing course ss).turns)
 walk_makes_all course ss start c mid c' h1 h2 h3 h4 = grind (arith, nat_tests, common_steps, packed_all_turns, end_is_last)
 
 -- ---- the data
 
 -- the data were written
-pub packed_written : (n : ℕ) (course : Course) (ss : List Subset) (start : PackedOutModel) (c : ℕ) (mid : PackedOutModel) (c' : ℕ) (octets : List ℕ) → start ≡ new_packed_out ss → 1 ≤ length ss
+pub packed_written : (n : ℕ) (course : CountedCourse) (ss : List Subset) (start : PackedOutModel) (c : ℕ) (mid : PackedOutModel) (c' : ℕ) (octets : List ℕ) → start ≡ new_packed_out ss → 1 ≤ length ss
     → c ≡ 0 → Walked PackedFills course start c (Ok tt) mid c'
     → all_at_end (cells_at mid.index mid.subsets) ≡ Ok tt → c' ≤ c + n * (length mid.bits - length start.bits) → AreOctetsOf octets mid.bits → IsData n true course ss octets c'
 packed_written n course ss start c mid c' octets at some z w e few o =
-    let h = subst (λ x. Takes (oks PackedFills) course x w.0 mid) at w.1 in
+    let h = subst (λ x. Takes (oks PackedFills) (uncounted course) x w.0 mid) at w.1 in
     record {
       out = mid.bits;
-      is = written_as_defined course ss w.0 mid some h w.2 e;
+      is = written_as_defined (uncounted course) ss w.0 mid some h w.2 e;
       octets_are = o;
       made = walk_makes_all course ss start c mid c' at some z w;
       few = omega (arith, z, few, mul_most n (length mid.bits - length start.bits) (length (packed_writing course ss).bits) (omega (arith, packed_counts course ss w.0 mid some h)));
     }
 
 -- an item is left over
-pub packed_over : (n : ℕ) (course : Course) (ss : List Subset) (start : PackedOutModel) (c : ℕ) (mid : PackedOutModel) (c' : ℕ) (e : DraftFault) (why : DocumentFault) → start ≡ new_packed_out ss
+pub packed_over : (n : ℕ) (course : CountedCourse) (ss : List Subset) (start : PackedOutModel) (c : ℕ) (mid : PackedOutModel) (c' : ℕ) (e : DraftFault) (why : DocumentFault)
+    → start ≡ new_packed_out ss
     → 1 ≤ length ss → c ≡ 0 → Walked PackedFills course start c (Ok tt) mid c'
     → all_at_end (cells_at mid.index mid.subsets) ≡ Err e → why ≡ document_fault e
     → c' ≤ c + n * (length mid.bits - length start.bits) → IsNoData n true course ss why c'
 packed_over n course ss start c mid c' e why at some z w fault results few =
-    let h = subst (λ x. Takes (oks PackedFills) course x w.0 mid) at w.1 in
-    let is = packed_fault_as_defined course ss w.0 mid e some h (subst (λ next. IsFaultHere next mid e) (sym w.2) fault) in
+    let h = subst (λ x. Takes (oks PackedFills) (uncounted course) x w.0 mid) at w.1 in
+    let is = packed_fault_as_defined (uncounted course) ss w.0 mid e some h (subst (λ next. IsFaultHere next mid e) (sym w.2) fault) in
     record {
       refuses = inr (ap (map_err document_fault) is ∙ ap Err (sym results));
       made = inr (walk_makes_all course ss start c mid c' at some z w);
@@ -708,17 +716,17 @@ packed_still : (next : Next) (mid : PackedOutModel) (stop : WalkStop DraftFault)
 packed_still next mid stop s' h1 = grind (arith, nat_tests, common_steps)
 
 -- the walk stopped
-pub packed_stopped : (n : ℕ) (course : Course) (ss : List Subset) (start : PackedOutModel) (c : ℕ) (s' : PackedOutModel) (c' line : ℕ) (stop : WalkStop DraftFault) (why : DocumentFault)
+pub packed_stopped : (n : ℕ) (course : CountedCourse) (ss : List Subset) (start : PackedOutModel) (c : ℕ) (s' : PackedOutModel) (c' line : ℕ) (stop : WalkStop DraftFault) (why : DocumentFault)
     → AddsTurns course → start ≡ new_packed_out ss → 1 ≤ length ss → c ≡ 0 → Walked PackedFills course start c (Err stop) s' c'
     → line ≡ first_line_at s'.index s'.subsets → why ≡ document_fault (stop_fault line stop) → c' ≤ c + n * (length s'.bits - length start.bits + 1)
     → IsNoData n true course ss why c'
 packed_stopped n course ss start c s' c' line stop why g at some z w l results few =
-    let h = subst (λ x. Takes (oks PackedFills) course x w.0 w.1) at w.2 in
+    let h = subst (λ x. Takes (oks PackedFills) (uncounted course) x w.0 w.1) at w.2 in
     let next = (course (answers_of w.0)).next in
     let ticks : c' ≡ ticked 0 (course (answers_of w.0)).turns = w.4 ∙ ap (λ x. ticked x (course (answers_of w.0)).turns) z in
     record {
-      refuses = refuses_so (stop_fault line stop) why (packed_data course ss) results
-          (if_fault (stop_fault line stop) (reported_here line next w.1 stop s' w.3 l) (λ f. packed_fault_as_defined course ss w.0 w.1 f some h));
+      refuses = refuses_so (stop_fault line stop) why (packed_data (uncounted course) ss) results
+          (if_fault (stop_fault line stop) (reported_here line next w.1 stop s' w.3 l) (λ f. packed_fault_as_defined (uncounted course) ss w.0 w.1 f some h));
       made = makes_so (stop_fault line stop) why 0 (packed_writing course ss).turns c' results
           (omega (arith, ticks, ticked_at_most 0 (course (answers_of w.0)).turns ((packed_writing course ss).turns) (turns_at_most course ss w.0 w.1 g some h)))
           (if_fault (stop_fault line stop) (reported_here line next w.1 stop s' w.3 l)
@@ -733,12 +741,12 @@ packed_stopped n course ss start c s' c' line stop why g at some z w l results f
     }
 
 -- without subsets there are no data
-pub none_packed : (n : ℕ) (course : Course) (ss : List Subset) (steps : ℕ) (octets : List ℕ) → ss ≡ [] → octets ≡ [] → steps ≡ 0 → IsData n true course ss octets steps
+pub none_packed : (n : ℕ) (course : CountedCourse) (ss : List Subset) (steps : ℕ) (octets : List ℕ) → ss ≡ [] → octets ≡ [] → steps ≡ 0 → IsData n true course ss octets steps
 unfolding bits_of
 none_packed n course ss steps octets h1 h2 h3 = grind (arith, nat_tests, common_steps)
 
 -- a walk stays with its subsets
-pub some_before : (course : Course) (ss : List Subset) (start : PackedOutModel) (c : ℕ) (r : Result (Unit {0}) (WalkStop DraftFault)) (s' : PackedOutModel) (c' : ℕ)
+pub some_before : (course : CountedCourse) (ss : List Subset) (start : PackedOutModel) (c : ℕ) (r : Result (Unit {0}) (WalkStop DraftFault)) (s' : PackedOutModel) (c' : ℕ)
     → Walked PackedFills course start c r s' c' → start ≡ new_packed_out ss → 1 ≤ length s'.subsets → 1 ≤ length ss
 some_before course ss start c r s' c' h1 h2 h3 = grind (arith, nat_tests, common_steps, stays, packed_still)
 

@@ -13,7 +13,7 @@ use Rattle.bufr_frame.specs.Prelude.{Sections}
 use Rattle.bufr_frame.specs.declared.fault.RunFault.TheVariants.{Write, Memory}
 use Rattle.bufr_tables.specs.Prelude.{Row, fxy_text, row_comment, row_line_start}
 use Rattle.bufr_walk.specs.declared.fault.ShowFault.{ShowFault}
-use Rattle.bufr_walk.specs.Prelude.{item_call, Timed, View, shown_missing, shown_number, view_of, item_calls, subset_calls, calls_for, calls_of, turns_shown, values_read, Shows, EndsAt, Content, Course, ticked, Item, Values, plain, after, turns_after, walk_shown, each_subset, turns_in}
+use Rattle.bufr_walk.specs.Prelude.{item_call, Timed, View, shown_missing, shown_number, view_of, item_calls, subset_calls, calls_for, calls_of, turns_shown, values_read, Shows, EndsAt, Content, ticked, Item, Values, plain, turns_after, walk_shown, each_subset, turns_in, CountedCourse, after_counted}
 use Rattle.bufr_bits.specs.Prelude.{decimal_text_of}
 use Rattle.std.proofs.lemmas.Bool.Decides.{nat_tests}
 use Rattle.bufr_walk.specs.declared.fault.ShowFault.TheVariants as show
@@ -250,18 +250,18 @@ abbrev pub calls_text : List Timed → List ℕ
 calls_text calls = flat_map (λ t. call_line t.call ++ 10 ∷ []) calls
 
 -- the items of a subset
-pub items-text : (table : List Row) (before : ℕ) (course : Course) (items : List (Item Content))
+pub items-text : (table : List Row) (before : ℕ) (course : CountedCourse) (items : List (Item Content))
     → calls_text (item_calls table before course items) ≡ text_of_lines (map item_text (items_shown table items))
 items-text table before course [] = refl
 items-text table before course (i ∷ items) =
-    ap (λ l. (call_line (item_call (view_of table i.spec i.content)) ++ 10 ∷ []) ++ l) (items-text table before (after plain course i) items)
+    ap (λ l. (call_line (item_call (view_of table i.spec i.content)) ++ 10 ∷ []) ++ l) (items-text table before (after_counted plain course i) items)
 
 -- a subset, and those after it
 subset-text : (number : ℕ) (calls more : List Timed) (lines suffix : List (List ℕ)) → calls_text calls ≡ text_of_lines lines → calls_text more ≡ text_of_lines suffix
     → (subset_line number ++ 10 ∷ []) ++ calls_text (calls ++ more) ≡ text_of_lines (subset_line number ∷ (lines ++ suffix))
 subset-text number calls more lines suffix h1 h2 = grind (arith, nat_tests, common_steps)
 
-subsets-text : (table : List Row) (course : Course) (before number : ℕ) (subsets : List (List (Item Content)))
+subsets-text : (table : List Row) (course : CountedCourse) (before number : ℕ) (subsets : List (List (Item Content)))
     → calls_text (subset_calls table course before number subsets) ≡ text_of_lines (subset_lines number (map (items_shown table) subsets))
 unfolding subset_lines
 subsets-text table course before number [] = refl
@@ -364,7 +364,7 @@ steps-of calls turns steps (Err fault) made = all-steps calls turns steps made
 pub no-steps : (r : outcome.Read) → StepsWithin (calls_of r) (turns_shown r) 0
 no-steps r = by (each_subset r.source.subsets (values_read r))
   where
-    course : Course
+    course : CountedCourse
     course = walk_shown r (values_read r)
 
     by : (subsets : List (List (Item Content))) → StepsWithin (subset_calls r.table course 0 1 subsets) (turns_in course subsets) 0

@@ -252,6 +252,12 @@ template_then_items : (octets : List ℕ)
 unfolding encoded document number listed
 template_then_items octets = (refl, refl, refl, refl)
 
+-- If two subsets of plain data have a fault, that of the first one is reported.
+first_subset_refused :
+    encoded (document 0 2 (0x0101 ∷ []) (number 24 0x0101 (codes "127") ∷ Ends 25 ∷ number 26 0x0101 (codes "127") ∷ Ends 27 ∷ [])) ≡ Err (fault.Item 24 wrong.OutOfRange)
+unfolding encoded document number listed
+first_subset_refused = refl
+
 -- A message of 16,777,215 octets is written, and one of 16,777,216 is too long.
 -- rule: fault-60
 greatest_length : (line : ℕ) (head : Head) (parts : MessageParts)

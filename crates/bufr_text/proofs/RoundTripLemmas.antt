@@ -4,7 +4,7 @@ use Rattle.std.specs.List.{AllByRecursion}
 use Rattle.std.proofs.lemmas.Bool.Decides.{nat_tests}
 use Rattle.bufr_tables.specs.Prelude.{Row, IsLegal, tree_of, tables_of, Tree, Sequence, places}
 use Rattle.bufr_walk.proofs.NextField.{AreRead}
-use Rattle.bufr_walk.specs.Prelude.{FieldSpec, Content, shown, Course, next_item, data_of, Item, IsPackedReading, IsReading, Values, apart, together, View, subsets_from, IsPlainReading}
+use Rattle.bufr_walk.specs.Prelude.{FieldSpec, Content, shown, Course, next_item, data_of, Item, IsPackedReading, IsReading, Values, apart, together, View, subsets_from, IsPlainReading, counted_item}
 use Rattle.bufr_text.specs.Prelude.{header_in, IsDescriptorWord, items_shown, IsOctet, dump_value_of, item_entries, subset_entries, document_of, dump_text_of, lines_before, IsAccepted, dump_items, extra_octets, SaySame, HasSameReading, IsEncodedAgain, Document, ◌>>=◌, map_err, data_bits, octets_of_bits, message_of, encoding_in, encoding_of, compressed_as, parts_as, AreOctetsOf, IsData, IsDocumentRefusal, Form, WritesForm, DocumentFault, document_fault}
 use Rattle.std.proofs.lemmas.List.{take_at, drop_at, length-replicate}
 use Rattle.bufr_bits.specs.Prelude.{bits_of, padding}
@@ -412,12 +412,12 @@ module _ (form : Form) (table : List Row) (sequences : List Sequence) (d : Docum
       ∙ ap (λ o. message_of d.line (header_in d).head (parts_as (compressed_as form d) d o)) (sym p)
 
   pub whole : (n : ℕ) (template : Tree) (payload octets : List ℕ) (steps : ℕ) → tree_of (tables_of table sequences) d.descriptors ≡ Ok template
-      → (h : IsData n (compressed_as form d) (next_item table template) (subsets_of d.entries) payload steps) → ((bits : List Bool) → AreOctetsOf payload bits → payload ≡ octets_of_bits bits)
+      → (h : IsData n (compressed_as form d) (counted_item table template) (subsets_of d.entries) payload steps) → ((bits : List Bool) → AreOctetsOf payload bits → payload ≡ octets_of_bits bits)
       → message_of d.line (header_in d).head (parts_as (compressed_as form d) d payload) ≡ Ok octets → encoding_in form table sequences d ≡ Ok octets
   whole n template payload octets steps e h p m = as_written template h.out payload e h.is (p h.out h.octets_are) ∙ m
 
   pub not_whole : (n : ℕ) (template : Tree) (payload : List ℕ) (steps : ℕ) (o : DocumentFault) → tree_of (tables_of table sequences) d.descriptors ≡ Ok template
-      → (h : IsData n (compressed_as form d) (next_item table template) (subsets_of d.entries) payload steps) → ((bits : List Bool) → AreOctetsOf payload bits → payload ≡ octets_of_bits bits)
+      → (h : IsData n (compressed_as form d) (counted_item table template) (subsets_of d.entries) payload steps) → ((bits : List Bool) → AreOctetsOf payload bits → payload ≡ octets_of_bits bits)
       → IsDocumentRefusal o (message_of d.line (header_in d).head (parts_as (compressed_as form d) d payload)) → IsDocumentRefusal o (encoding_in form table sequences d)
   not_whole n template payload steps o e h p m = subst (λ r. IsDocumentRefusal o r) (sym (as_written template h.out payload e h.is (p h.out h.octets_are))) m
 
@@ -457,7 +457,7 @@ module _ (form : Form) (table : List Row) (sequences : List Sequence) (d : Docum
   pub record IsWrittenForm (octets : List ℕ) (steps : ℕ) : Type 0 where
     pub template : Tree
     pub is : tree_of (tables_of table sequences) d.descriptors ≡ Ok template
-    pub written : IsData (places template) (compressed_as form d) (next_item table template) (subsets_of d.entries) octets steps
+    pub written : IsData (places template) (compressed_as form d) (counted_item table template) (subsets_of d.entries) octets steps
 
   pub written_form : (made : Result Tree TemplateFault) (octets : Vec ℕ Global) (steps : ℕ) → tree_of (tables_of table sequences) d.descriptors ≡ made → WritesForm form table d made (Ok octets) steps
       → IsWrittenForm octets.items steps

@@ -8,8 +8,8 @@ use Rattle.bufr_tables.specs.declared.fault.TemplateFault.{TemplateFault}
 use Rattle.bufr_tables.specs.Prelude.{tree_of, tables_of, template_report, Row, Sequence, Tree, places}
 use Rattle.bufr_frame.specs.declared.section1.Head.{Head}
 use Rattle.bufr_frame.specs.Prelude.{MessageParts, message_octets, message_size, max_octets}
-use Rattle.bufr_walk.specs.Prelude.{octets_in, Course, next_item, ticked}
-use Rattle.bufr_fill.specs.Prelude.{Writing, bits_of_writing, writing_of, Subset, subsets_of, item_report, walk_refused, at_line}
+use Rattle.bufr_walk.specs.Prelude.{octets_in, Course, next_item, CountedCourse, uncounted, counted_item, ticked}
+use Rattle.bufr_fill.specs.Prelude.{plain_data, packed_data, Writing, writing_of, Subset, subsets_of, item_report, walk_refused, at_line}
 use Rattle.bufr_text.specs.declared.encode.Form.TheVariants.{AsWritten}
 use Rattle.bufr_text.specs.Documents.{header_in, Document, section2_in}
 use Rattle.bufr_text.specs.declared.fault.DocumentFault.{DocumentFault}
@@ -61,7 +61,8 @@ line_of_fault document.Memory = None
 
 -- the data bits of the subsets of a document, or the first fault
 abbrev pub data_bits : (compressed : Bool) → Course → List Subset → Result (List Bool) DraftFault
-data_bits compressed course subsets = bits_of_writing (writing_of compressed course subsets)
+data_bits true course subsets = packed_data course subsets
+data_bits false course subsets = plain_data course subsets
 
 -- bits as octets, with zero bits after them up to a whole octet
 -- rule: writes-section-4
@@ -117,7 +118,7 @@ IsDocumentRefusal why defined = (why ≡ document.Memory) ⊎ (defined ≡ Err w
 -- the writing of a document's data in a form, by a template
 abbrev pub writing_in : Form → List Row → Document → Tree → Writing DraftFault
 writing_in form table d template =
-    writing_of (compressed_as form d) (next_item table template) (subsets_of d.entries)
+    writing_of (compressed_as form d) (counted_item table template) (subsets_of d.entries)
 
 -- what a template counts, none where there is none
 abbrev pub of_template : (Tree → ℕ) → Result Tree TemplateFault → ℕ
@@ -164,24 +165,24 @@ pub record AreOctetsOf (octets : List ℕ) (bits : List Bool) : Type 0 where
   pub count : length octets ≡ (length bits + 7) / 8
 
 -- octets, or the definition's first refusal, and the steps that were made for them
-pub record IsData (places : ℕ) (compressed : Bool) (course : Course) (subsets : List Subset)
+pub record IsData (places : ℕ) (compressed : Bool) (course : CountedCourse) (subsets : List Subset)
     (octets : List ℕ) (steps : ℕ) : Type 0 where
   pub out : List Bool
-  pub is : data_bits compressed course subsets ≡ Ok out
+  pub is : data_bits compressed (uncounted course) subsets ≡ Ok out
   pub octets_are : AreOctetsOf octets out
   pub made : steps ≡ ticked 0 (writing_of compressed course subsets).turns
   pub few : steps ≤ places * length (writing_of compressed course subsets).bits
 
-pub record IsNoData (places : ℕ) (compressed : Bool) (course : Course) (subsets : List Subset)
-    (why : DocumentFault) (steps : ℕ) : Type 0 where
+pub record IsNoData (places : ℕ) (compressed : Bool) (course : CountedCourse)
+    (subsets : List Subset) (why : DocumentFault) (steps : ℕ) : Type 0 where
   pub refuses : IsDocumentRefusal why
-      (map_err document_fault (data_bits compressed course subsets))
+      (map_err document_fault (data_bits compressed (uncounted course) subsets))
   pub made : CountsSteps (why ≡ document.Memory) 0 (writing_of compressed course subsets).turns
       steps
   pub few : steps ≤ places * (length (writing_of compressed course subsets).bits + 1)
 
 -- what the writing of data answers, for a document
-abbrev pub WritesData : (places : ℕ) (compressed : Bool) → Course → List Subset
+abbrev pub WritesData : (places : ℕ) (compressed : Bool) → CountedCourse → List Subset
     → Result (Vec ℕ Global) DocumentFault → (steps : ℕ) → Type 0
 WritesData places compressed course subsets (Ok octets) steps =
     IsData places compressed course subsets octets.items steps
@@ -192,6 +193,6 @@ WritesData places compressed course subsets (Err why) steps =
 abbrev pub WritesForm : Form → List Row → Document → Result Tree TemplateFault
     → Result (Vec ℕ Global) DocumentFault → (steps : ℕ) → Type 0
 WritesForm form table d (Ok template) result steps = WritesData (places template)
-    (compressed_as form d) (next_item table template) (subsets_of d.entries) result steps
+    (compressed_as form d) (counted_item table template) (subsets_of d.entries) result steps
 WritesForm form table d (Err why) result steps =
     (result ≡ Err (document.Template d.line why)) × (why ≢ template_fault.Memory) × (steps ≡ 0)

@@ -170,7 +170,7 @@ line_and table _ d rest = []
 -- the lines of a subset's items, each at the field that comes next in the template
 abbrev pub normal_items : List Row → Course → List Draft → List (List ℕ)
 normal_items table course [] = []
-normal_items table course (d ∷ ds) = line_and table (course []).next d
+normal_items table course (d ∷ ds) = line_and table (course []) d
     (λ t. normal_items table (λ answer_of. course (t ∷ answer_of)) ds)
 
 -- the lines of the subsets from a number on

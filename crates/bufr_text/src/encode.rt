@@ -2,7 +2,7 @@
 ghost use Rattle.std.specs.Prelude.{ℕ, ◌≡◌, ◌≢◌, ◌≤◌, ◌*◌, ◌+◌, ◌^◌, List, Bool, length, IfOk, IfErr, OnOk, OnErr, Ok, false, true};
 ghost use Rattle.bufr_tables.specs.Prelude.{Tree, places, Record, AreRows, tree_of, tables_of};
 ghost use Rattle.bufr_frame.specs.Prelude.{Sections};
-ghost use Rattle.bufr_walk.specs.Prelude.{Values, next_item, ticked};
+ghost use Rattle.bufr_walk.specs.Prelude.{Values, counted_item, ticked};
 ghost use Rattle.bufr_text.specs.Prelude.{header_in, document_of, IsAccepted, dump_items, EncodesAgain, EncodesForm, encoding_in, encoding_of, octets_of_bits, message_of, compressed_as, parts_as, IsDocumentRefusal, AreOctetsOf, WritesData, stop_fault, CountsSteps, places_by, bits_by, turns_by, compressed_by, AsWritten, WritesForm};
 ghost use Rattle.bufr_fill.specs.Prelude.{subsets_of};
 
@@ -51,7 +51,7 @@ fn write_plain(
     requires few { length entries.now ≤ 2 ^ 45 }
     requires many { length (subsets_of entries.now) ≡ subsets }
     ensures same { cache.new ≡ cache.old }
-    ensures written { WritesData (places template.now) false (next_item cache.old template.now)
+    ensures written { WritesData (places template.now) false (counted_item cache.old template.now)
         (subsets_of entries.now) result steps.new }
 {
     let mut out = PlainOut::new(cache.allocator(), entries);
@@ -74,7 +74,7 @@ fn write_packed(
     requires none { steps.old ≡ 0 }
     requires few { length entries.now ≤ 2 ^ 45 }
     ensures same { cache.new ≡ cache.old }
-    ensures written { WritesData (places template.now) true (next_item cache.old template.now)
+    ensures written { WritesData (places template.now) true (counted_item cache.old template.now)
         (subsets_of entries.now) result steps.new }
 {
     let alloc = cache.allocator();

@@ -1,49 +1,52 @@
 -- Bounds on the items and the steps of readings and showings.
-use Rattle.std.proofs.Common.{◌≡◌, ℕ, zero, suc, ◌+◌, ◌-◌, ◌*◌, ◌<◌, ◌≤◌, List, [], ◌∷◌, length, Bool, true, false, ◌||◌, Result, Ok, Err, refl, ap, subst, arith, ◌++◌, inl, inr, drop, sym, ◌∙◌, if◌then◌else◌}
+use Rattle.std.proofs.Common.{◌≡◌, ℕ, zero, suc, ◌+◌, ◌-◌, ◌*◌, ◌<◌, ◌≤◌, List, [], ◌∷◌, length, Bool, true, false, ◌||◌, Result, Ok, Err, refl, ap, subst, arith, ◌++◌, inl, inr, drop, sym, ◌∙◌}
 use Rattle.std.proofs.Math.Nat.{mul-le-mul_left}
 use Rattle.bufr_tables.specs.Prelude.{Tree, bare, element, operator, fixed, delayed, size, places, consumes, is_inserted_text, Row, EveryGroupConsumes, IsSound}
-use Rattle.bufr_walk.specs.Prelude.{Taken, TurnRefusal, FieldSpec, Content, OperatorModel, begin, after_operator, after_field, element_spec, factor_spec, inserted_spec, Turns, finish, operator_turn, Rest, unroll, passes, pass_end, at_end, astray, NextTurn, ahead, asked, operated, in_one_turn, Course, next_item, counts_of, TakenField, Takes, oks, answers_of, Walked, ticked, WalkStop, ShowFault, Call, Timed, item_calls, subset_calls, calls_for, items_called, turns_for, Shows, IsStoredReading, PaysBits, items_in, Read, course_of, Item, plain, item_answer, after, next_after, turns_after, turns_in, ReadsSubsets, Values, apart, together, IsReading, IsPackedReading, max_values, items_of_subset, subsets_from, each_subset, without_turns, walk_shown, group}
+use Rattle.bufr_walk.specs.Prelude.{Course, next_item, Taken, TurnRefusal, FieldSpec, Content, OperatorModel, begin, after_operator, after_field, element_spec, factor_spec, inserted_spec, Turns, finish, operator_turn, Rest, unroll, passes, pass_end, at_end, astray, counts_of, TakenField, Takes, oks, answers_of, Walked, ticked, WalkStop, ShowFault, Call, Timed, item_calls, subset_calls, calls_for, items_called, turns_for, Shows, IsStoredReading, PaysBits, items_in, Read, course_of, Item, plain, item_answer, next_after, turns_after, turns_in, ReadsSubsets, Values, apart, together, IsReading, IsPackedReading, max_values, items_of_subset, subsets_from, each_subset, without_turns, walk_shown, group, NextTurn, CountedCourse, uncounted, counted_item, after_counted}
 use Rattle.bufr_walk.specs.declared.reading.StoredItems.{StoredItems}
 use Rattle.bufr_walk.specs.Pass.{values_read, calls_of, turns_shown}
 use Rattle.bufr_walk.proofs.WalkLemmas.{stop_cases}
+use Rattle.bufr_walk.proofs.WalkProgress.{in_one_turn, counted_ahead, counted_asked, counted_operated, counted_either}
 use Rattle.bufr_walk.proofs.PackedShowing.{no_turns, no_turns_in}
 
 module _ (table : List Row) (n : ℕ) where
   -- each item pays for n turns, and what follows for `a`
   abbrev pub Bounded : ℕ → Rest → Type 0
-  Bounded a rest = (counts : List ℕ) (s : OperatorModel) (items : List Taken) → (ahead table (rest counts) s items).turns ≤ a + n * length items
+  Bounded a rest = (counts : List ℕ) (s : OperatorModel) (items : List Taken) → (counted_ahead table (rest counts) s items).turns ≤ a + n * length items
 
   asked_turns : (r : Result FieldSpec TurnRefusal) (go : Taken → List Taken → NextTurn) (items : List Taken) (a : ℕ) → ((t : Taken) (more : List Taken) → (go t more).turns ≤ a + n * length more)
-      → (asked r go items).turns ≤ 1 + (a - n) + n * length items
+      → (counted_asked r go items).turns ≤ 1 + (a - n) + n * length items
   asked_turns (Err why) go items a h = omega arith
   asked_turns (Ok spec) go [] a h = omega arith
   asked_turns (Ok spec) go (t ∷ items) a h = omega (arith, h t items)
 
   operated_turns : (r : Result OperatorModel TurnRefusal) (go : OperatorModel → NextTurn) (items : List Taken) (a : ℕ) → ((s : OperatorModel) → (go s).turns ≤ a + n * length items)
-      → (operated r go).turns ≤ 1 + a + n * length items
+      → (counted_operated r go).turns ≤ 1 + a + n * length items
   operated_turns (Err why) go items a h = omega arith
   operated_turns (Ok s) go items a h = omega (arith, h s)
 
   -- an operator, or a text of the template
-  operator_turns : (fxy : ℕ) (s : OperatorModel) (next : Turns) (items : List Taken) (a : ℕ) → ((s' : OperatorModel) (more : List Taken) → (ahead table next s' more).turns ≤ a + n * length more)
-      → (ahead table (operator_turn fxy next) s items).turns ≤ 1 + a + n * length items
+  operator_turns : (fxy : ℕ) (s : OperatorModel) (next : Turns) (items : List Taken) (a : ℕ)
+      → ((s' : OperatorModel) (more : List Taken) → (counted_ahead table next s' more).turns ≤ a + n * length more)
+      → (counted_ahead table (operator_turn fxy next) s items).turns ≤ 1 + a + n * length items
   operator_turns fxy s next items a h = by (is_inserted_text fxy)
     where
-      by : (b : Bool) → (if b then asked (inserted_spec s fxy) (λ t more. ahead table next (after_field s fxy t) more) items else operated (after_operator s fxy)
-          (λ s'. ahead table next s' items)).turns ≤ 1 + a + n * length items
-      by true = omega (arith, asked_turns (inserted_spec s fxy) (λ t more. ahead table next (after_field s fxy t) more) items a (λ t more. h (after_field s fxy t) more))
-      by false = operated_turns (after_operator s fxy) (λ s'. ahead table next s' items) items a (λ s'. h s' items)
+      by : (b : Bool) → (counted_either b (counted_asked (inserted_spec s fxy) (λ t more. counted_ahead table next (after_field s fxy t) more) items) (counted_operated (after_operator s fxy)
+          (λ s'. counted_ahead table next s' items))).turns ≤ 1 + a + n * length items
+      by true = omega (arith, asked_turns (inserted_spec s fxy) (λ t more. counted_ahead table next (after_field s fxy t) more) items a (λ t more. h (after_field s fxy t) more))
+      by false = operated_turns (after_operator s fxy) (λ s'. counted_ahead table next s' items) items a (λ s'. h s' items)
 
   operator_pays : (fxy : ℕ) (suffix : Bool) (s : OperatorModel) (next : Turns) (items : List Taken) (a z : ℕ) → a - n ≤ z
-      → ((s' : OperatorModel) (more : List Taken) → (ahead table next s' more).turns ≤ a + n * length more)
-      → (suffix ≡ true → (s' : OperatorModel) → (ahead table next s' items).turns ≤ z + n * length items) → (is_inserted_text fxy || suffix) ≡ true
-      → (ahead table (operator_turn fxy next) s items).turns ≤ 1 + z + n * length items
+      → ((s' : OperatorModel) (more : List Taken) → (counted_ahead table next s' more).turns ≤ a + n * length more)
+      → (suffix ≡ true → (s' : OperatorModel) → (counted_ahead table next s' items).turns ≤ z + n * length items) → (is_inserted_text fxy || suffix) ≡ true
+      → (counted_ahead table (operator_turn fxy next) s items).turns ≤ 1 + z + n * length items
   operator_pays fxy suffix s next items a z near h g c = by (is_inserted_text fxy) c
     where
-      by : (b : Bool) → (b || suffix) ≡ true → (if b then asked (inserted_spec s fxy) (λ t more. ahead table next (after_field s fxy t) more) items else operated (after_operator s fxy)
-          (λ s'. ahead table next s' items)).turns ≤ 1 + z + n * length items
-      by true q = omega (arith, near, asked_turns (inserted_spec s fxy) (λ t more. ahead table next (after_field s fxy t) more) items a (λ t more. h (after_field s fxy t) more))
-      by false q = operated_turns (after_operator s fxy) (λ s'. ahead table next s' items) items z (λ s'. g q s')
+      by : (b : Bool) → (b || suffix) ≡ true → (counted_either b (counted_asked (inserted_spec s fxy) (λ t more. counted_ahead table next (after_field s fxy t) more) items)
+          (counted_operated (after_operator s fxy)
+          (λ s'. counted_ahead table next s' items))).turns ≤ 1 + z + n * length items
+      by true q = omega (arith, near, asked_turns (inserted_spec s fxy) (λ t more. counted_ahead table next (after_field s fxy t) more) items a (λ t more. h (after_field s fxy t) more))
+      by false q = operated_turns (after_operator s fxy) (λ s'. counted_ahead table next s' items) items z (λ s'. g q s')
 
   -- a body that pays for itself
   abbrev pub Pays : Tree → Type 0
@@ -63,13 +66,14 @@ module _ (table : List Row) (n : ℕ) where
   passes_any body h pays (suc k) a rest b = λ counts s items. omega (arith, passes_some body h pays k a rest b counts s items)
 
   delayed_turns : (fxy : ℕ) (body more : Tree) (rest : Rest) (a : ℕ) → ((c : ℕ) → Bounded (size body + (size more + a)) (passes c (unroll body) (unroll more rest)))
-      → (counts : List ℕ) (s : OperatorModel) (items : List Taken) → (ahead table (unroll (delayed fxy body more) rest counts) s items).turns ≤ 3 + size body + size more + (a - n) + n * length items
+      → (counts : List ℕ) (s : OperatorModel) (items : List Taken)
+      → (counted_ahead table (unroll (delayed fxy body more) rest counts) s items).turns ≤ 3 + size body + size more + (a - n) + n * length items
   delayed_turns fxy body more rest a h [] s items =
       omega (arith, asked_turns (factor_spec table s fxy) (λ t more_items. in_one_turn astray) items 1 (λ t more_items. omega arith))
   delayed_turns fxy body more rest a h (c ∷ counts) s items =
       omega (
         arith,
-        asked_turns (factor_spec table s fxy) (λ t more_items. ahead table (passes c (unroll body) (unroll more rest) counts) (after_field s fxy t) more_items) items
+        asked_turns (factor_spec table s fxy) (λ t more_items. counted_ahead table (passes c (unroll body) (unroll more rest) counts) (after_field s fxy t) more_items) items
             (size body + (size more + a)) (λ t more_items. h c counts (after_field s fxy t) more_items),
       )
 
@@ -79,7 +83,7 @@ module _ (table : List Row) (n : ℕ) where
     bounded (element fxy more) h g a rest b = λ counts s items.
         omega (
           arith,
-          asked_turns (element_spec table s fxy) (λ t more_items. ahead table (unroll more rest counts) (after_field s fxy t) more_items) items (size more + a)
+          asked_turns (element_spec table s fxy) (λ t more_items. counted_ahead table (unroll more rest counts) (after_field s fxy t) more_items) items (size more + a)
               (λ t more_items. bounded more (omega arith) g a rest b counts (after_field s fxy t) more_items),
         )
     bounded (operator fxy more) h g a rest b = λ counts s items.
@@ -98,7 +102,7 @@ module _ (table : List Row) (n : ℕ) where
     pays (element fxy more) h g c a rest b = λ counts s items.
         omega (
           arith,
-          asked_turns (element_spec table s fxy) (λ t more_items. ahead table (unroll more rest counts) (after_field s fxy t) more_items) items (size more + a)
+          asked_turns (element_spec table s fxy) (λ t more_items. counted_ahead table (unroll more rest counts) (after_field s fxy t) more_items) items (size more + a)
               (λ t more_items. bounded more (omega arith) g a rest b counts (after_field s fxy t) more_items),
         )
     pays (operator fxy more) h g c a rest b = λ counts s items.
@@ -119,18 +123,18 @@ module _ (table : List Row) (n : ℕ) where
 
   -- the same walk to its end, with n turns more there
   abbrev Longer : Rest → Rest → Type 0
-  Longer rest rest' = (counts : List ℕ) (s : OperatorModel) (items : List Taken) → (ahead table (rest counts) s items).next ≡ at_end
-      → (ahead table (rest counts) s items).turns + n ≤ (ahead table (rest' counts) s items).turns
+  Longer rest rest' = (counts : List ℕ) (s : OperatorModel) (items : List Taken) → (counted_ahead table (rest counts) s items).next ≡ at_end
+      → (counted_ahead table (rest counts) s items).turns + n ≤ (counted_ahead table (rest' counts) s items).turns
 
   asked_longer : (r : Result FieldSpec TurnRefusal) (go go' : Taken → List Taken → NextTurn) (items : List Taken)
-      → ((t : Taken) (more : List Taken) → (go t more).next ≡ at_end → (go t more).turns + n ≤ (go' t more).turns) → (asked r go items).next ≡ at_end
-      → (asked r go items).turns + n ≤ (asked r go' items).turns
+      → ((t : Taken) (more : List Taken) → (go t more).next ≡ at_end → (go t more).turns + n ≤ (go' t more).turns) → (counted_asked r go items).next ≡ at_end
+      → (counted_asked r go items).turns + n ≤ (counted_asked r go' items).turns
   asked_longer (Err why) go go' items h e = cc
   asked_longer (Ok spec) go go' [] h e = cc
   asked_longer (Ok spec) go go' (t ∷ items) h e = omega (arith, h t items e)
 
   operated_longer : (r : Result OperatorModel TurnRefusal) (go go' : OperatorModel → NextTurn) → ((s : OperatorModel) → (go s).next ≡ at_end → (go s).turns + n ≤ (go' s).turns)
-      → (operated r go).next ≡ at_end → (operated r go).turns + n ≤ (operated r go').turns
+      → (counted_operated r go).next ≡ at_end → (counted_operated r go).turns + n ≤ (counted_operated r go').turns
   operated_longer (Err why) go go' h e = cc
   operated_longer (Ok s) go go' h e = omega (arith, h s e)
 
@@ -138,12 +142,13 @@ module _ (table : List Row) (n : ℕ) where
   operator_longer fxy rest rest' h counts s items e = by (is_inserted_text fxy) e
     where
       turn : Bool → Rest → NextTurn
-      turn b rest = if b then asked (inserted_spec s fxy) (λ t more. ahead table (rest counts) (after_field s fxy t) more) items
-          else operated (after_operator s fxy) (λ s'. ahead table (rest counts) s' items)
+      turn b rest = counted_either b (counted_asked (inserted_spec s fxy) (λ t more. counted_ahead table (rest counts) (after_field s fxy t) more) items)
+          (counted_operated (after_operator s fxy) (λ s'. counted_ahead table (rest counts) s' items))
 
       by : (b : Bool) → (turn b rest).next ≡ at_end → (turn b rest).turns + n ≤ (turn b rest').turns
-      by true q = asked_longer (inserted_spec s fxy) _ _ items (λ t more. h counts (after_field s fxy t) more) q
-      by false q = operated_longer (after_operator s fxy) _ _ (λ s'. h counts s' items) q
+      by true q = asked_longer (inserted_spec s fxy) (λ t more. counted_ahead table (rest counts) (after_field s fxy t) more)
+          (λ t more. counted_ahead table (rest' counts) (after_field s fxy t) more) items (λ t more. h counts (after_field s fxy t) more) q
+      by false q = operated_longer (after_operator s fxy) (λ s'. counted_ahead table (rest counts) s' items) (λ s'. counted_ahead table (rest' counts) s' items) (λ s'. h counts s' items) q
 
   abbrev LongerAfter : Tree → Type 0
   LongerAfter body = (rest rest' : Rest) → Longer rest rest' → Longer (unroll body rest) (unroll body rest')
@@ -159,13 +164,14 @@ module _ (table : List Row) (n : ℕ) where
   delayed_longer fxy body more rest rest' h [] s items e =
       omega (arith, asked_longer (factor_spec table s fxy) (λ t answers. in_one_turn astray) (λ t answers. in_one_turn astray) items (λ t answers q. cc) e)
   delayed_longer fxy body more rest rest' h (k ∷ counts) s items e =
-      let go : Rest → Taken → List Taken → NextTurn = λ end t answers. ahead table (passes k (unroll body) (unroll more end) counts) (after_field s fxy t) answers in
+      let go : Rest → Taken → List Taken → NextTurn = λ end t answers. counted_ahead table (passes k (unroll body) (unroll more end) counts) (after_field s fxy t) answers in
       omega (arith, asked_longer (factor_spec table s fxy) (go rest) (go rest') items (λ t answers. h k counts (after_field s fxy t) answers) e)
 
   pub longer : (t : Tree) → LongerAfter t
   longer bare rest rest' h = h
   longer (element fxy more) rest rest' h = λ counts s items.
-      asked_longer (element_spec table s fxy) _ _ items (λ t answers. longer more rest rest' h counts (after_field s fxy t) answers)
+      asked_longer (element_spec table s fxy) (λ t answers. counted_ahead table (unroll more rest counts) (after_field s fxy t) answers)
+      (λ t answers. counted_ahead table (unroll more rest' counts) (after_field s fxy t) answers) items (λ t answers. longer more rest rest' h counts (after_field s fxy t) answers)
   longer (operator fxy more) rest rest' h = operator_longer fxy (unroll more rest) (unroll more rest') (longer more rest rest' h)
   longer (fixed count body more) rest rest' h = λ counts s items e.
       omega (arith, passes_longer body (longer body) count (unroll more rest) (unroll more rest') (longer more rest rest' h) counts s items e)
@@ -177,17 +183,16 @@ abbrev groups : ℕ → Turns
 groups zero = finish
 groups (suc k) = group (groups k)
 
-group_turns : (table : List Row) (k : ℕ) (s : OperatorModel) (items : List Taken) → (ahead table (groups k) s items).turns ≡ k + 1
+group_turns : (table : List Row) (k : ℕ) (s : OperatorModel) (items : List Taken) → (counted_ahead table (groups k) s items).turns ≡ k + 1
 group_turns table zero s items = refl
 group_turns table (suc k) s items = omega (arith, group_turns table k s items)
 
 -- up to any next: at most n turns for each item, and n more
-pub turns_before : (table : List Row) (t : Tree) (answers : List Taken) → IsSound t → (next_item table t answers).turns ≤ places t * (length answers + 1)
-unfolding next_item
+pub turns_before : (table : List Row) (t : Tree) (answers : List Taken) → IsSound t → (counted_item table t answers).turns ≤ places t * (length answers + 1)
 turns_before table t answers g = omega (arith, bounded table (1 + size t) t (omega arith) g.0 1 (λ _. finish) (λ counts s items'. omega arith) (counts_of answers) begin answers)
 
 -- up to the end: at most n turns for each item
-pub turns_in_all : (table : List Row) (t : Tree) (answers : List Taken) → IsSound t → (next_item table t answers).next ≡ at_end → (next_item table t answers).turns ≤ places t * length answers
+pub turns_in_all : (table : List Row) (t : Tree) (answers : List Taken) → IsSound t → (counted_item table t answers).next ≡ at_end → (counted_item table t answers).turns ≤ places t * length answers
 unfolding next_item
 turns_in_all table t answers g e =
     let n : ℕ = 1 + size t in
@@ -211,28 +216,28 @@ module _ {S E : Type 0} (takes : S → FieldSpec → Result Taken E → S → Ty
     (advances : (s : S) (spec : FieldSpec) (t : Taken) (s' : S) → takes s spec (Ok t) s' → used s < used s')
     (refuses : (s : S) (spec : FieldSpec) (e : E) (s' : S) → takes s spec (Err e) s' → used s' ≡ used s) where
   -- each item uses a bit
-  items_used : (n : Course) (s : S) (items : List TakenField) (s' : S) → Takes (oks takes) n s items s' → used s + length items ≤ used s'
+  items_used : (n : CountedCourse) (s : S) (items : List TakenField) (s' : S) → Takes (oks takes) (uncounted n) s items s' → used s + length items ≤ used s'
   items_used n s [] s' w = omega (arith, ap used w)
   items_used n s (i ∷ items) s' w = omega (arith, advances s i.spec i.taken w.0 w.2, items_used (λ more. n (i.taken ∷ more)) w.0 items s' w.3)
 
-  pub steps_ok : (table : List Row) (t : Tree) (s : S) (c : ℕ) (s' : S) (c' : ℕ) → IsSound t → Walked takes (next_item table t) s c (Ok tt) s' c' → c' ≤ c + places t * (used s' - used s)
+  pub steps_ok : (table : List Row) (t : Tree) (s : S) (c : ℕ) (s' : S) (c' : ℕ) → IsSound t → Walked takes (counted_item table t) s c (Ok tt) s' c' → c' ≤ c + places t * (used s' - used s)
   steps_ok table t s c s' c' sound w =
-      let paid : used s + length w.0 ≤ used s' = items_used (next_item table t) s w.0 s' w.1 in
-      let turns : (next_item table t (answers_of w.0)).turns ≤ places t * length w.0 =
-      subst (λ k. (next_item table t (answers_of w.0)).turns ≤ places t * k) (answer_length w.0) (turns_in_all table t (answers_of w.0) sound w.2) in
+      let paid : used s + length w.0 ≤ used s' = items_used (counted_item table t) s w.0 s' w.1 in
+      let turns : (counted_item table t (answers_of w.0)).turns ≤ places t * length w.0 =
+      subst (λ k. (counted_item table t (answers_of w.0)).turns ≤ places t * k) (answer_length w.0) (turns_in_all table t (answers_of w.0) sound w.2) in
       let bits : places t * length w.0 ≤ places t * (used s' - used s) = by_bits (places t) (used s) (used s') (length w.0) paid in
-      ticks_at_most c (next_item table t (answers_of w.0)).turns c' _ w.3 (omega (arith, turns, bits))
+      ticks_at_most c (counted_item table t (answers_of w.0)).turns c' _ w.3 (omega (arith, turns, bits))
 
-  pub steps_err : (table : List Row) (t : Tree) (s : S) (c : ℕ) (why : WalkStop E) (s' : S) (c' : ℕ) → IsSound t → Walked takes (next_item table t) s c (Err why) s' c'
+  pub steps_err : (table : List Row) (t : Tree) (s : S) (c : ℕ) (why : WalkStop E) (s' : S) (c' : ℕ) → IsSound t → Walked takes (counted_item table t) s c (Err why) s' c'
       → c' ≤ c + places t * (used s' - used s + 1)
   steps_err table t s c why s' c' sound w =
       let same : used w.1 ≤ used s' = stop_cases takes (λ next y. used w.1 ≤ used s') w.1 s' (λ spec e h. omega (arith, refuses w.1 spec e s' h)) (λ spec r h. omega (arith, ap used h))
-      (λ x h. omega (arith, ap used h)) (next_item table t (answers_of w.0)).next why w.3 in
-      let paid : used s + length w.0 ≤ used w.1 = items_used (next_item table t) s w.0 w.1 w.2 in
-      let turns : (next_item table t (answers_of w.0)).turns ≤ places t * (length w.0 + 1) =
-      subst (λ k. (next_item table t (answers_of w.0)).turns ≤ places t * (k + 1)) (answer_length w.0) (turns_before table t (answers_of w.0) sound) in
+      (λ x h. omega (arith, ap used h)) (counted_item table t (answers_of w.0)).next why w.3 in
+      let paid : used s + length w.0 ≤ used w.1 = items_used (counted_item table t) s w.0 w.1 w.2 in
+      let turns : (counted_item table t (answers_of w.0)).turns ≤ places t * (length w.0 + 1) =
+      subst (λ k. (counted_item table t (answers_of w.0)).turns ≤ places t * (k + 1)) (answer_length w.0) (turns_before table t (answers_of w.0) sound) in
       let bits : places t * (length w.0 + 1) ≤ places t * (used s' - used s + 1) = mul-le-mul_left (places t) (let h : length w.0 + 1 ≤ used s' - used s + 1 = omega (arith, same, paid) in h) in
-      ticks_at_most c (next_item table t (answers_of w.0)).turns c' _ w.4 (omega (arith, turns, bits))
+      ticks_at_most c (counted_item table t (answers_of w.0)).turns c' _ w.4 (omega (arith, turns, bits))
 
 -- ---- Bounds on the items and the steps of a showing.
 
@@ -241,11 +246,12 @@ called_more : (a b : List Timed) → items_called (a ++ b) ≡ items_called a + 
 called_more [] b = omega arith
 called_more (t ∷ a) b = omega (arith, called_more a b)
 
-called_items : (table : List Row) (before : ℕ) (course : Course) (items : List (Item Content)) → items_called (item_calls table before course items) ≡ length items
+called_items : (table : List Row) (before : ℕ) (course : CountedCourse) (items : List (Item Content)) → items_called (item_calls table before course items) ≡ length items
 called_items table before course [] = refl
-called_items table before course (i ∷ items) = omega (arith, called_items table before (after plain course i) items)
+called_items table before course (i ∷ items) = omega (arith, called_items table before (after_counted plain course i) items)
 
-called_subsets : (table : List Row) (course : Course) (before number : ℕ) (subsets : List (List (Item Content))) → items_called (subset_calls table course before number subsets) ≡ items_in subsets
+called_subsets : (table : List Row) (course : CountedCourse) (before number : ℕ) (subsets : List (List (Item Content)))
+    → items_called (subset_calls table course before number subsets) ≡ items_in subsets
 called_subsets table course before number [] = refl
 called_subsets table course before number (items ∷ subsets) =
     let suffix : List Timed = subset_calls table course (before + turns_after plain course items) (number + 1) subsets in
@@ -311,16 +317,16 @@ gives_length : (items : List (Item Content)) → length (answers_all items) ≡ 
 gives_length [] = refl
 gives_length (i ∷ items) = ap suc (gives_length items)
 
-turns_are : (course : Course) (items : List (Item Content)) → turns_after plain course items ≡ (course (answers_all items)).turns
+turns_are : (course : CountedCourse) (items : List (Item Content)) → turns_after plain course items ≡ (course (answers_all items)).turns
 turns_are course [] = refl
-turns_are course (i ∷ items) = turns_are (after plain course i) items
+turns_are course (i ∷ items) = turns_are (after_counted plain course i) items
 
-next_is : (course : Course) (items : List (Item Content)) → next_after plain course items ≡ (course (answers_all items)).next
+next_is : (course : CountedCourse) (items : List (Item Content)) → next_after plain (uncounted course) items ≡ (course (answers_all items)).next
 next_is course [] = refl
-next_is course (i ∷ items) = next_is (after plain course i) items
+next_is course (i ∷ items) = next_is (after_counted plain course i) items
 
 -- a bound on the turns up to what comes after some items
-abbrev TurnsWithin : ℕ → ℕ → Course → Type 0
+abbrev TurnsWithin : ℕ → ℕ → CountedCourse → Type 0
 TurnsWithin n done course = (answers : List Taken) → (course answers).turns ≤ n * (done + length answers + 1)
 
 split : (n a b : ℕ) → n * (a + b) ≡ n * a + n * b
@@ -329,12 +335,12 @@ split n a b = grind arith
 mono : (n a b : ℕ) → a ≤ b → n * a ≤ n * b
 mono n a b h = mul-le-mul_left n h
 
-items_within : (n most : ℕ) (table : List Row) (before paid done : ℕ) (course : Course) (items : List (Item Content)) → TurnsWithin n done course → before ≤ n * paid
+items_within : (n most : ℕ) (table : List Row) (before paid done : ℕ) (course : CountedCourse) (items : List (Item Content)) → TurnsWithin n done course → before ≤ n * paid
     → n * (paid + (done + length items)) ≤ most → AllWithin most (item_calls table before course items)
 items_within n most table before paid done course [] h b m = tt
 items_within n most table before paid done course (i ∷ items) h b m = (
   omega (arith, h [], b, m, split n paid (done + 0 + 1), mono n (paid + (done + 0 + 1)) (paid + (done + suc (length items))) (omega arith)),
-  items_within n most table before paid (done + 1) (after plain course i) items
+  items_within n most table before paid (done + 1) (after_counted plain course i) items
       (λ answers. subst (λ k. (course (item_answer plain i ∷ answers)).turns ≤ n * k) (counted done (length answers)) (h (item_answer plain i ∷ answers))) b
       (subst (λ k. n * (paid + k) ≤ most) (moved done (length items)) m),
 )
@@ -346,12 +352,12 @@ items_within n most table before paid done course (i ∷ items) h b m = (
     moved d l = omega arith
 
 subsets_within : (most : ℕ) (table : List Row) (template : Tree) (before paid number : ℕ) (subsets : List (List (Item Content))) (bits suffix : List Bool) → IsSound template
-    → ReadsSubsets (next_item table template) subsets bits suffix → before ≤ places template * paid → places template * (paid + items_in subsets) ≤ most
-    → AllWithin most (subset_calls table (next_item table template) before number subsets) × (before + turns_in (next_item table template) subsets ≤ most)
+    → ReadsSubsets (uncounted (counted_item table template)) subsets bits suffix → before ≤ places template * paid → places template * (paid + items_in subsets) ≤ most
+    → AllWithin most (subset_calls table (counted_item table template) before number subsets) × (before + turns_in (counted_item table template) subsets ≤ most)
 subsets_within most table template before paid number [] bits suffix sound h b m = (tt, omega (arith, b, m, mono (places template) paid (paid + 0) (omega arith)))
 subsets_within most table template before paid number (items ∷ subsets) bits suffix sound h b m =
     let n : ℕ = places template in
-    let course : Course = next_item table template in
+    let course : CountedCourse = counted_item table template in
     let turns : turns_after plain course items ≤ n * length items =
     subst (λ k. turns_after plain course items ≤ n * k) (gives_length items)
     (subst (λ k. k ≤ n * length (answers_all items)) (sym (turns_are course items)) (turns_in_all table template (answers_all items) sound (sym (next_is course items) ∙ h.1.1))) in

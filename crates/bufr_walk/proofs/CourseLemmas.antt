@@ -5,7 +5,7 @@ use Rattle.std.proofs.lemmas.Bool.{leb-true, ltb-false}
 use Rattle.std.proofs.lemmas.Bool.Decides.{nat_tests}
 use Rattle.bufr_bits.proofs.DecimalLemmas.{and_first}
 use Rattle.bufr_tables.specs.Prelude.{y_of, IsLegal, is_legal_operator, Tree, bare, element, operator, fixed, delayed, is_inserted_text, Row, entry_of, allows_width, row_of, Record}
-use Rattle.bufr_walk.specs.Prelude.{Role, TurnRefusal, Taken, FieldSpec, IsFor, IsForRole, Content, content_in, answer_by_role, FieldFault, data_end, FieldRead, found, plain_field, packed_field, answer_first, Course, Next, take_next, astray, refused, at_end, NextTurn, asked, operated, ahead, counts_of, next_item, finish, open_end, group, pass_end, operator_turn, Rest, passes, unroll, if_valid_width, numeric_spec, coded_spec, text_spec, text_width, spec_by_kind, defined_field, new_reference_spec, unsigned_field, begin, element_spec, factor_field, factor_by, factor_spec, inserted_spec, OperatorModel, is_defining, after_operator, after_field, DataCoding, plain, packed, Kind, step_of, coding_of, contents_across}
+use Rattle.bufr_walk.specs.Prelude.{Role, TurnRefusal, Taken, FieldSpec, IsFor, IsForRole, Content, content_in, answer_by_role, FieldFault, data_end, FieldRead, found, plain_field, packed_field, answer_first, Course, Next, take_next, astray, refused, at_end, asked, operated, ahead, counts_of, next_item, finish, open_end, group, pass_end, operator_turn, Rest, passes, unroll, if_valid_width, numeric_spec, coded_spec, text_spec, text_width, spec_by_kind, defined_field, new_reference_spec, unsigned_field, begin, element_spec, factor_field, factor_by, factor_spec, inserted_spec, OperatorModel, is_defining, after_operator, after_field, DataCoding, plain, packed, Kind, step_of, coding_of, contents_across}
 use Rattle.bufr_walk.proofs.SpecLemmas.{inserted_width}
 use Rattle.bufr_walk.proofs.WalkLemmas.{no_count, element_cases}
 use Rattle.bufr_walk.proofs.PackedLemmas.{item_parts, some_across, neither}
@@ -24,17 +24,17 @@ use Rattle.bufr_walk.specs.declared.spec.Taken.TheVariants as taken
 abbrev pub IsSane : ℕ → Course → Type 0
 IsSane zero course = Unit {0}
 IsSane (suc n) course =
-    ((course []).next ≡ astray → ⊥)
-    × ((spec : FieldSpec) → (course []).next ≡ take_next spec → (1 ≤ spec.width) × ((t : Taken) → IsFor spec t → IsSane n (λ answers. course (t ∷ answers))))
+    (course [] ≡ astray → ⊥)
+    × ((spec : FieldSpec) → course [] ≡ take_next spec → (1 ≤ spec.width) × ((t : Taken) → IsFor spec t → IsSane n (λ answers. course (t ∷ answers))))
 
-sane_same : (n : ℕ) (c d : Course) → ((answers : List Taken) → (c answers).next ≡ (d answers).next) → IsSane n c → IsSane n d
+sane_same : (n : ℕ) (c d : Course) → ((answers : List Taken) → c answers ≡ d answers) → IsSane n c → IsSane n d
 sane_same zero c d same h = tt
 sane_same (suc n) c d same h = (
   λ e. h.0 (same [] ∙ e),
   λ spec e. let k = h.1 spec (same [] ∙ e) in (k.0, λ t f. sane_same n (λ answers. c (t ∷ answers)) (λ answers. d (t ∷ answers)) (λ answers. same (t ∷ answers)) (k.1 t f)),
 )
 
-sane_end : (n : ℕ) (c : Course) (x : Next) → (c []).next ≡ x → (x ≡ astray → ⊥) → ((spec : FieldSpec) → x ≡ take_next spec → ⊥) → IsSane n c
+sane_end : (n : ℕ) (c : Course) (x : Next) → c [] ≡ x → (x ≡ astray → ⊥) → ((spec : FieldSpec) → x ≡ take_next spec → ⊥) → IsSane n c
 sane_end zero c x e h g = tt
 sane_end (suc n) c x e h g = (λ q. h (sym e ∙ q), λ spec q. absurd (g spec (sym e ∙ q)))
 
@@ -43,19 +43,19 @@ abbrev first_next : Result FieldSpec TurnRefusal → Next
 first_next (Ok spec) = take_next spec
 first_next (Err why) = refused why
 
-asked_first : (r : Result FieldSpec TurnRefusal) (go : Taken → List Taken → NextTurn) → (asked r go []).next ≡ first_next r
+asked_first : (r : Result FieldSpec TurnRefusal) (go : Taken → List Taken → Next) → asked r go [] ≡ first_next r
 asked_first (Ok spec) go = refl
 asked_first (Err why) go = refl
 
-asked_next : (r : Result FieldSpec TurnRefusal) (go : Taken → List Taken → NextTurn) (spec : FieldSpec) (t : Taken) (answers : List Taken) → r ≡ Ok spec
-    → (asked r go (t ∷ answers)).next ≡ (go t answers).next
+asked_next : (r : Result FieldSpec TurnRefusal) (go : Taken → List Taken → Next) (spec : FieldSpec) (t : Taken) (answers : List Taken) → r ≡ Ok spec
+    → asked r go (t ∷ answers) ≡ go t answers
 asked_next (Ok s) go spec t answers e = refl
 asked_next (Err why) go spec t answers e = absurd cc
 
 same_take : (a b : FieldSpec) → take_next a ≡ take_next b → a ≡ b
 same_take a b e = cc
 
-field_sane : (n : ℕ) (r : Result FieldSpec TurnRefusal) (c : Course) → (c []).next ≡ first_next r → ((spec : FieldSpec) → r ≡ Ok spec → 1 ≤ spec.width)
+field_sane : (n : ℕ) (r : Result FieldSpec TurnRefusal) (c : Course) → c [] ≡ first_next r → ((spec : FieldSpec) → r ≡ Ok spec → 1 ≤ spec.width)
     → ((spec : FieldSpec) → r ≡ Ok spec → (t : Taken) → IsFor spec t → (m : ℕ) → IsSane m (λ answers. c (t ∷ answers))) → IsSane n c
 field_sane n (Err why) c e w h = sane_end n c (refused why) e (λ q. absurd cc) (λ spec q. absurd cc)
 field_sane zero (Ok spec) c e w h = tt
@@ -142,7 +142,7 @@ module _ (table : List Row) (rows : (fxy : ℕ) (row : Row) → entry_of table f
       (λ spec e t f m. sane_same m (λ answers. ahead table (rest (counts_of answers)) (after_field s fxy t) answers)
       (λ answers. asked r (λ u more. ahead table (rest (counts_of (t ∷ answers))) (after_field s fxy u) more) (t ∷ answers))
       (λ answers. sym (asked_next r (λ u more. ahead table (rest (counts_of (t ∷ answers))) (after_field s fxy u) more) spec t answers e
-      ∙ ap (λ cs. (ahead table (rest cs) (after_field s fxy t) answers).next)
+      ∙ ap (λ cs. ahead table (rest cs) (after_field s fxy t) answers)
       (no_count spec.role t (counts_of answers) (λ q. absurd (let c : is_counting role.Factor ≡ false = subst (λ z. is_counting z ≡ false) q (good spec e).1 in cc)) f)))
       (h m (after_field s fxy t)))
 
@@ -173,7 +173,7 @@ module _ (table : List Row) (rows : (fxy : ℕ) (row : Row) → entry_of table f
   counted_goes : (fxy : ℕ) (body more : Rest → Rest) (rest : Rest) (s : OperatorModel) (spec : FieldSpec) (t : Taken) (c : Course)
       → ((k : ℕ) (n : ℕ) (z : OperatorModel) → IsSane n (λ answers. ahead table (passes k body (more rest) (counts_of answers)) z answers))
       → role.Factor ≡ spec.role → IsFor spec t → ((k : ℕ) (answers : List Taken)
-      → (c (taken.Count k ∷ answers)).next ≡ (ahead table (passes k body (more rest) (counts_of answers)) (after_field s fxy (taken.Count k)) answers).next)
+      → c (taken.Count k ∷ answers) ≡ ahead table (passes k body (more rest) (counts_of answers)) (after_field s fxy (taken.Count k)) answers)
       → (m : ℕ) → IsSane m (λ answers. c (t ∷ answers))
   counted_goes fxy body more rest s spec t c h r f e m = by t (subst (λ x. IsForRole x t) (sym r) f)
     where

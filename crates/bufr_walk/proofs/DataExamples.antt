@@ -2,7 +2,7 @@
 use Rattle.std.proofs.Common.{◌≡◌, ℕ, Bool, true, false, List, [], ◌∷◌, length, Option, Some, None, refl, zero, suc, ◌+◌, ◌-◌, Result, Ok, Err, if◌then◌else◌, option_map}
 use Rattle.bufr_bits.specs.Prelude.{bits_of}
 use Rattle.bufr_tables.specs.Prelude.{Tree, bare, element, operator, fixed}
-use Rattle.bufr_walk.specs.Prelude.{next_item, Stop, data_in, Course, DataCoding, plain, packed, Content, FieldSpec, FieldRead, FieldFault, unequal_factor, data_end, increment, Next, take_next, at_end, astray, refused, would_be_many, fault_at, Data, fault_of}
+use Rattle.bufr_walk.specs.Prelude.{next_item, counted_item, turns_read, Stop, data_in, Course, DataCoding, plain, packed, Content, FieldSpec, FieldRead, FieldFault, unequal_factor, data_end, increment, Next, take_next, at_end, astray, refused, would_be_many, fault_at, Data, fault_of}
 use Rattle.bufr_walk.specs.Pass.{reading_of, reading_in, Pass, Place, Step, DataPass, pass, pass_next, pass_field, read_field, reading, read_pass, stop_of, passes_apart}
 use Rattle.bufr_walk.specs.Readers.{place_at}
 use Rattle.bufr_walk.specs.declared.walker.WalkStop.TheVariants as stops
@@ -18,7 +18,7 @@ unfoldable pub ends : (compressed : Bool) → ℕ → Tree → List ℕ → Opti
 unfolding table next_item bits_of
 ends compressed n tree octets =
     let r = reading_of (next_item table tree) (data_in compressed n octets) in
-    (r.stop, r.subset, length r.left, r.turns)
+    (r.stop, r.subset, length r.left, turns_read (counted_item table tree) (data_in compressed n octets))
 
 block : Tree
 unfolding fxy
@@ -102,13 +102,13 @@ IsNoneOrOther (Some why) = IsOther why
 
 pass_stop : {C : Type 0} (form : DataCoding C) (many : ℕ → Bool) (most : ℕ) (course : Course) (s : Place) → IsNoneOrOther (pass (reading form many) most course s).stop
 pass_stop form many zero course s = tt
-pass_stop {C} form many (suc more) course s = by (course []).next (pass_stop form many more)
+pass_stop {C} form many (suc more) course s = by (course []) (pass_stop form many more)
   where
     go : Step Place C → Pass Place C Stop
     go f = pass (reading form many) more (λ answers. course (f.returned ∷ answers)) f.state
 
     field : (spec : FieldSpec) (b : Bool) (r : Result (FieldRead C) FieldFault) → ((course : Course) (s : Place) → IsNoneOrOther (pass (reading form many) more course s).stop)
-        → IsNoneOrOther (pass_field (reading form many) (course []).turns spec s (if b then Err (stops.Field (wrong.TooManyValues spec.fxy)) else read_field form spec s.items r) go).stop
+        → IsNoneOrOther (pass_field (reading form many) spec s (if b then Err (stops.Field (wrong.TooManyValues spec.fxy)) else read_field form spec s.items r) go).stop
     field spec true r rest = tt
     field spec false (Err data_end) rest = tt
     field spec false (Err increment) rest = tt
@@ -116,7 +116,7 @@ pass_stop {C} form many (suc more) course s = by (course []).next (pass_stop for
     field spec false (Ok f) rest = rest (λ answers. course (form.gives spec f.content ∷ answers)) (place_at (s.items + 1) f.suffix)
 
     by : (next : Next) → ((course : Course) (s : Place) → IsNoneOrOther (pass (reading form many) more course s).stop)
-        → IsNoneOrOther (pass_next (reading form many) (course []).turns next s go).stop
+        → IsNoneOrOther (pass_next (reading form many) next s go).stop
     by (take_next spec) rest = field spec (many s.items) (form.field spec s.left) rest
     by at_end rest = tt
     by astray rest = tt

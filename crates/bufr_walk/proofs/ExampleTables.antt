@@ -4,7 +4,7 @@ use Rattle.std.proofs.Common.{ℕ, ◌+◌, ◌*◌, List, [], ◌∷◌, length
 use Rattle.bufr_bits.specs.Prelude.{bits_of}
 use Rattle.bufr_tables.specs.declared.table_b.Kind.TheVariants as kind
 use Rattle.bufr_tables.specs.Prelude.{Row, Tree}
-use Rattle.bufr_walk.specs.Prelude.{Kind, TurnRefusal, FieldSpec, ShownValue, shown, FieldFault, next_item, Stop, stop_by, wrong_of}
+use Rattle.bufr_walk.specs.Prelude.{Kind, TurnRefusal, FieldSpec, ShownValue, shown, FieldFault, next_item, counted_item, CountedCourse, DataCoding, plain, packed, turns_after, Stop, stop_by, wrong_of}
 use Rattle.bufr_walk.specs.declared.walker.WalkStop.TheVariants as stops
 use Rattle.bufr_walk.specs.Pass.{Pass as DataPass, Place, passes_apart, passes_together}
 
@@ -59,9 +59,9 @@ ending_of None left turns = done left turns
 ending_of (Some stop) left turns = stopped stop left turns
 
 -- what a pass of the definitions shows
-seen : {C V : Type 0} → (FieldSpec → C → V) → DataPass Place C Stop → Pass V
+seen : {C V : Type 0} → DataCoding C → CountedCourse → (FieldSpec → C → V) → DataPass Place C Stop → Pass V
 unfolding ending_of
-seen shows p = record { items = map (λ i. (i.spec.fxy, shows i.spec i.content)) p.items; ending = ending_of p.stop (length p.state.left) p.turns }
+seen form course shows p = record { items = map (λ i. (i.spec.fxy, shows i.spec i.content)) p.items; ending = ending_of p.stop (length p.state.left) (turns_after form course p.items) }
 
 first : {V : Type 0} → List (Pass V) → Pass V
 first [] = record { items = []; ending = unknown }
@@ -70,18 +70,18 @@ first (p ∷ passes) = p
 -- one subset of data that are not compressed
 unfoldable pub one : Tree → List ℕ → Pass ShownValue
 unfolding table seen first next_item bits_of
-one tree octets = first (map (seen shown) (passes_apart (next_item table tree) 1 (bits_of octets)))
+one tree octets = first (map (seen plain (counted_item table tree) shown) (passes_apart (next_item table tree) 1 (bits_of octets)))
 
 -- all of so many compressed subsets
 unfoldable pub together : ℕ → Tree → List ℕ → Pass (List ShownValue)
 unfolding table seen first next_item bits_of
-together n tree octets = first (map (seen (λ spec cs. map (shown spec) cs)) (passes_together (next_item table tree) n (bits_of octets)))
+together n tree octets = first (map (seen (packed n) (counted_item table tree) (λ spec cs. map (shown spec) cs)) (passes_together (next_item table tree) n (bits_of octets)))
 
 -- two subsets of data that are not compressed, each from the beginning of the template; nothing is
 -- read after a fault
 unfoldable pub two : Tree → List ℕ → List (Pass ShownValue)
 unfolding table seen next_item bits_of
-two tree octets = map (seen shown) (passes_apart (next_item table tree) 2 (bits_of octets))
+two tree octets = map (seen plain (counted_item table tree) shown) (passes_apart (next_item table tree) 2 (bits_of octets))
 
 -- the expected pass
 unfoldable pub gives : {V : Type 0} → List (ℕ × V) → Ending → Pass V

@@ -5,7 +5,7 @@ use Rattle.bufr_bits.specs.Prelude.{bits_of}
 use Rattle.bufr_tables.specs.declared.table_b.Kind.TheVariants as kind
 use Rattle.bufr_tables.specs.Prelude.{Tree, bare, element, operator, fixed, delayed}
 use Rattle.bufr_walk.specs.declared.spec.Role.TheVariants as role
-use Rattle.bufr_walk.specs.Prelude.{next_item, Content, reference, number, text, shown_number, shown_text, shown_reference, data_end, Item, turns_in, IsPlainReading}
+use Rattle.bufr_walk.specs.Prelude.{next_item, counted_item, Content, reference, number, text, shown_number, shown_text, shown_reference, data_end, Item, turns_in, IsPlainReading}
 use Rattle.bufr_walk.proofs.ExampleTables.{fxy, table, done, field_fault, one, two, gives}
 
 -- A group of so many passes leaves the operators of its passes in force. Fails where a pass or a
@@ -141,6 +141,6 @@ unfolding table text_width_after letter next_item bits_of
 reading_of_letters = ((bits_of (66 ∷ []), ((bits_of (66 ∷ []), refl, refl, refl), refl), ([], (([], refl, refl, refl), refl), refl)), refl)
 
 -- The turns are those of all subsets: fails where they begin anew.
-turns_of_both : turns_in (next_item table changed_after) ((at_288_15 ∷ minus_400 3173 ∷ []) ∷ (at_288_15 ∷ minus_400 3173 ∷ []) ∷ []) ≡ 16
+turns_of_both : turns_in (counted_item table changed_after) ((at_288_15 ∷ minus_400 3173 ∷ []) ∷ (at_288_15 ∷ minus_400 3173 ∷ []) ∷ []) ≡ 16
 unfolding table changed_after at_288_15 minus_400 next_item
 turns_of_both = refl

@@ -5,7 +5,7 @@ use Rattle.bufr_tables.proofs.TableBLemmas.{row-limits}
 use Rattle.std.proofs.lemmas.Bool.{eqb-true, leb-true, ltb-true}
 use Rattle.bufr_tables.specs.Prelude.{f_of, fxy_of, is_factor, IsRow, Row, allows_width, entry_of, kind_of, AreRows, element_of, plain_of, row_of, scale_of, width_of, is_legal_operator, has_legal_operand, Tree, bare, element, operator, fixed, delayed, is_inserted_text, x_of, y_of, IsLegal, i64_of, fits_i64, integer_of, Record, field_of, only_if}
 use Rattle.bufr_walk.specs.declared.spec.Taken.{Taken}
-use Rattle.bufr_walk.specs.Prelude.{OperatorModel, Redefined, current_reference, is_defining, if_valid_width, scale_change_of, numeric_spec, coded_spec, text_spec, text_width, spec_by_kind, defined_field, new_reference_spec, unsigned_field, begin, local_width_spec, listed_by, element_spec, factor_field, factor_by, factor_spec, with_references, with_operator, after_operator, after_field, with_reference, inserted_spec, Turns, finish, open_end, group, pass_end, factor_turn, element_turn, operator_turn, Rest, passes, unroll, turns_of, take_next, NextTurn, asked, operated, ahead, next_item, counts_of, FieldSpec, IsSpec, HasWidth, Course, IsField, IsWithin, AreWithin}
+use Rattle.bufr_walk.specs.Prelude.{OperatorModel, Redefined, current_reference, is_defining, if_valid_width, scale_change_of, numeric_spec, coded_spec, text_spec, text_width, spec_by_kind, defined_field, new_reference_spec, unsigned_field, begin, local_width_spec, listed_by, element_spec, factor_field, factor_by, factor_spec, with_references, with_operator, after_operator, after_field, with_reference, inserted_spec, Turns, finish, open_end, group, pass_end, factor_turn, element_turn, operator_turn, Rest, passes, unroll, turns_of, take_next, asked, operated, ahead, next_item, counts_of, FieldSpec, IsSpec, HasWidth, Course, IsField, IsWithin, AreWithin, Next}
 use Rattle.std.proofs.Common.{ℕ, suc, ◌+◌, ◌*◌, ◌%◌, ◌&&◌, eqb, Bool, false, Option, Some, None, Result, Ok, Err, refl, ◌∙◌, ap, subst, arith, ℤ, pos, negsuc, ◌+ℤ◌, zero, ◌||◌, not, sym, map, ◌≡◌, ◌≤◌, ◌<◌, ◌/◌, ◌^◌, true, List, [], ◌∷◌, unsigned_abs, ◌==◌, nat_le, nat_lt, if◌then◌else◌}
 use Rattle.std.specs.List.{find, AllByRecursion}
 use Rattle.std.proofs.lemmas.Bool.Decides.{nat_tests}
@@ -361,14 +361,14 @@ factor_class : (fxy : ℕ) → is_factor fxy ≡ true → IsWord fxy
 factor_class fxy h1 = grind (arith, nat_tests, common_steps)
 
 module _ (table : List Row) (rows : AreRead table) where
-  asked_good : (r : Result FieldSpec TurnRefusal) (go : Taken → List Taken → NextTurn) (answers : List Taken) (spec : FieldSpec) → AreWithin answers → ((x : FieldSpec) → r ≡ Ok x → IsField x)
-      → ((t : Taken) (more : List Taken) → IsWithin t → AreWithin more → (go t more).next ≡ take_next spec → IsField spec) → (asked r go answers).next ≡ take_next spec → IsField spec
+  asked_good : (r : Result FieldSpec TurnRefusal) (go : Taken → List Taken → Next) (answers : List Taken) (spec : FieldSpec) → AreWithin answers → ((x : FieldSpec) → r ≡ Ok x → IsField x)
+      → ((t : Taken) (more : List Taken) → IsWithin t → AreWithin more → go t more ≡ take_next spec → IsField spec) → asked r go answers ≡ take_next spec → IsField spec
   asked_good (Err why) go answers spec w h g e = absurd cc
   asked_good (Ok x) go [] spec w h g e = let is : x ≡ spec = cc in subst IsField is (h x refl)
   asked_good (Ok x) go (t ∷ answers) spec w h g e = g t answers w.0 w.1 e
 
-  operated_good : (r : Result OperatorModel TurnRefusal) (go : OperatorModel → NextTurn) (spec : FieldSpec) → ((s : OperatorModel) → r ≡ Ok s → (go s).next ≡ take_next spec → IsField spec)
-      → (operated r go).next ≡ take_next spec → IsField spec
+  operated_good : (r : Result OperatorModel TurnRefusal) (go : OperatorModel → Next) (spec : FieldSpec) → ((s : OperatorModel) → r ≡ Ok s → go s ≡ take_next spec → IsField spec)
+      → operated r go ≡ take_next spec → IsField spec
   operated_good (Err why) go spec g e = absurd cc
   operated_good (Ok s) go spec g e = g s refl e
 
@@ -379,7 +379,7 @@ module _ (table : List Row) (rows : AreRead table) where
       by true q = absurd cc
       by false q = let is : with_operator (x_of fxy) (y_of fxy) s ≡ s' = cc in subst IsSettings is (operator_good s (x_of fxy) (y_of fxy) set (operand_most fxy) legal)
 
-  ahead_good : (turns : Turns) (s : OperatorModel) (answers : List Taken) (spec : FieldSpec) → AreLegal turns → IsSettings s → AreWithin answers → (ahead table turns s answers).next ≡ take_next spec
+  ahead_good : (turns : Turns) (s : OperatorModel) (answers : List Taken) (spec : FieldSpec) → AreLegal turns → IsSettings s → AreWithin answers → ahead table turns s answers ≡ take_next spec
       → IsField spec
   ahead_good finish s answers spec legal set w e = absurd cc
   ahead_good open_end s answers spec legal set w e = absurd cc
@@ -396,9 +396,9 @@ module _ (table : List Row) (rows : AreRead table) where
       (λ s' p q. ahead_good next s' answers spec legal.2 (after_good s fxy s' set legal.1 p) w q)
     where
       by : (b : Bool) → is_inserted_text fxy ≡ b → (if b then asked (inserted_spec s fxy) (λ t more. ahead table next (after_field s fxy t) more) answers else operated (after_operator s fxy)
-          (λ s'. ahead table next s' answers)).next ≡ take_next spec
-          → ((t : Taken) (more : List Taken) → IsWithin t → AreWithin more → (ahead table next (after_field s fxy t) more).next ≡ take_next spec → IsField spec)
-          → ((s' : OperatorModel) → after_operator s fxy ≡ Ok s' → (ahead table next s' answers).next ≡ take_next spec → IsField spec) → IsField spec
+          (λ s'. ahead table next s' answers)) ≡ take_next spec
+          → ((t : Taken) (more : List Taken) → IsWithin t → AreWithin more → ahead table next (after_field s fxy t) more ≡ take_next spec → IsField spec)
+          → ((s' : OperatorModel) → after_operator s fxy ≡ Ok s' → ahead table next s' answers ≡ take_next spec → IsField spec) → IsField spec
       by true p q f g = asked_good (inserted_spec s fxy) (λ t more. ahead table next (after_field s fxy t) more) answers spec w (λ x r. inserted_good s fxy x p legal.1 legal.0 r) f q
       by false p q f g = operated_good (after_operator s fxy) (λ s'. ahead table next s' answers) spec g q
 
@@ -418,7 +418,7 @@ module _ (table : List Row) (rows : AreRead table) where
 
 -- what comes next on a course is a field
 abbrev pub IsGoodCourse : Course → Type 0
-IsGoodCourse course = (answers : List Taken) (spec : FieldSpec) → AreWithin answers → (course answers).next ≡ take_next spec → IsField spec
+IsGoodCourse course = (answers : List Taken) (spec : FieldSpec) → AreWithin answers → course answers ≡ take_next spec → IsField spec
 
 pub next_field : (table : List Row) (tree : Tree) → AreRead table → IsLegal tree → IsGoodCourse (next_item table tree)
 unfolding next_item

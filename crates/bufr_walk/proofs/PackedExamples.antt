@@ -165,11 +165,11 @@ full = reading (packed 65535) (would_be_many 65535)
 -- later, or where the bound is another.
 -- rule: compressed-fault-order
 too_many_before_the_data_end :
-    EndsPass full (next_item table (element (fxy 0 12 101) bare) []).next (place_at 2048 []) (Some (stops.Field (wrong.TooManyValues 3173)))
-    × EndsPass (reading (packed 2) (would_be_many 65535)) (next_item table (element (fxy 0 12 101) bare) []).next (place_at 2047 []) (Some (stops.Field (wrong.DataEnd 3173)))
-    × EndsPass full (next_item table (operator (fxy 2 1 121) (element (fxy 0 1 1) bare)) []).next (place_at 2048 []) (Some (stops.Width 257))
-    × EndsPass full (next_item table (operator (fxy 2 3 10) (element (fxy 0 1 15) bare)) []).next (place_at 2048 []) (Some (stops.Defining 271))
-    × EndsPass full (next_item table (element (fxy 0 12 101) bare) (taken.Plain ∷ [])).next (place_at 2048 []) None
+    EndsPass full (next_item table (element (fxy 0 12 101) bare) []) (place_at 2048 []) (Some (stops.Field (wrong.TooManyValues 3173)))
+    × EndsPass (reading (packed 2) (would_be_many 65535)) (next_item table (element (fxy 0 12 101) bare) []) (place_at 2047 []) (Some (stops.Field (wrong.DataEnd 3173)))
+    × EndsPass full (next_item table (operator (fxy 2 1 121) (element (fxy 0 1 1) bare)) []) (place_at 2048 []) (Some (stops.Width 257))
+    × EndsPass full (next_item table (operator (fxy 2 3 10) (element (fxy 0 1 15) bare)) []) (place_at 2048 []) (Some (stops.Defining 271))
+    × EndsPass full (next_item table (element (fxy 0 12 101) bare) (taken.Plain ∷ [])) (place_at 2048 []) None
 unfolding table next_item fxy
 too_many_before_the_data_end = (refl, refl, refl, refl, refl)
 

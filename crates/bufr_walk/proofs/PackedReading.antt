@@ -8,7 +8,7 @@ use Rattle.bufr_bits.specs.Prelude.{number_of, ◌>>=◌}
 use Rattle.bufr_tables.specs.Prelude.{is_character, Row, Tree}
 use Rattle.bufr_walk.specs.declared.compressed.ItemBits.{ItemBits}
 use Rattle.bufr_walk.specs.declared.fault.DataFault.{DataFault}
-use Rattle.bufr_walk.specs.Prelude.{FieldSpec, data_end, FieldFault, increment, unequal_factor, Content, FieldRead, found, step_of, coding_of, contents_across, if_equal, answer_first, packed_field, IsSeen, IsUnseen, HasSpecAt, IsPut, no_field, item_at_location, indexed_items, IsStoredReading, PackedCursor, item_at, items_at, contents_found, fits_at, packed_view, IsPackedTaken, wrong_of, PackedTakes, remaining_bits, refuses_packed, new_packed_in, fault_at, IndexedItem, max_values, items_at_once, Item, packed, ReadsItems, ReadsPass, next_after, turns_after, after, Data, together, IsPackedReading, spot, fault_at, bits_before, IsReading, KeepsValues, Stop, would_be_many, data_in, data_of, read_by, WalkStop, Course, Next, take_next, refused, next_item, TakenField, Takes, ticked, oks, answers_of, Walked, TurnRefusal, stop_by}
+use Rattle.bufr_walk.specs.Prelude.{FieldSpec, data_end, FieldFault, increment, unequal_factor, Content, FieldRead, found, step_of, coding_of, contents_across, if_equal, answer_first, packed_field, IsSeen, IsUnseen, HasSpecAt, IsPut, no_field, item_at_location, indexed_items, IsStoredReading, PackedCursor, item_at, items_at, contents_found, fits_at, packed_view, IsPackedTaken, wrong_of, PackedTakes, remaining_bits, refuses_packed, new_packed_in, fault_at, IndexedItem, max_values, items_at_once, Item, packed, ReadsItems, ReadsPass, next_after, turns_after, Data, together, IsPackedReading, spot, fault_at, bits_before, IsReading, KeepsValues, Stop, would_be_many, data_in, data_of, read_by, WalkStop, Next, take_next, refused, TakenField, Takes, ticked, oks, answers_of, Walked, TurnRefusal, stop_by, CountedCourse, uncounted, counted_item, after_counted}
 use Rattle.std.specs.Ordering.{int_eq}
 use Rattle.std.proofs.Math.Bool.{beq}
 use Rattle.std.specs.List.{All, list_all}
@@ -23,18 +23,18 @@ use Rattle.bufr_walk.specs.declared.walker.WalkStop.TheVariants as stops
 use Rattle.bufr_walk.specs.declared.fault.WalkFault.TheVariants as fault
 use Rattle.bufr_walk.specs.declared.reading.StoredItems.TheVariants as kept
 use Rattle.bufr_walk.proofs.WalkLemmas.{stop_cases}
-use Rattle.bufr_walk.specs.Pass.{DataPass, passes_together, stop_of, left_after, turns_in_all, reading_of, fault_of, RunsShort, ReadsData, AnswersReading, EndsPass, reading, read_field}
-use Rattle.bufr_walk.specs.Readers.{place_at}
+use Rattle.bufr_walk.specs.Pass.{DataPass, passes_together, stop_of, left_after, turns_in_all, turns_read, reading_of, fault_of, RunsShort, ReadsData, AnswersReading, EndsPass, reading, read_field}
+use Rattle.bufr_walk.specs.Readers.{place_at, items_by_pass, first_items}
 use Rattle.bufr_walk.proofs.PassLemmas.{together_read, together_stops, together_begins}
 
 -- compressed data were read, and each item is kept
-abbrev pub IsReadAndKept : Course → Data → List IndexedItem → (used steps : ℕ) → Type 0
+abbrev pub IsReadAndKept : CountedCourse → Data → List IndexedItem → (used steps : ℕ) → Type 0
 IsReadAndKept course d entries used steps =
-    let values = (reading_of course d).values in
-    IsReading course d values used × ReadsData course d (Ok used) steps × KeepsValues (kept.Together entries) d values
+    let values = (reading_of (uncounted course) d).values in
+    IsReading (uncounted course) d values used × ReadsData course d (Ok used) steps × KeepsValues (kept.Together entries) d values
 
 -- with no subset nothing is read
-pub none_read : (course : Course) (bits : List Bool) → IsReadAndKept course (record { compressed = true; subsets = 0; bits = bits }) [] 0 0
+pub none_read : (course : CountedCourse) (bits : List Bool) → IsReadAndKept course (record { compressed = true; subsets = 0; bits = bits }) [] 0 0
 none_read course bits = ((refl, omega arith, (refl, refl)), (refl, omega arith, refl), (refl, refl))
 
 module _ (bits : List Bool) (at n : ℕ) (a : FieldSpec) where
@@ -223,17 +223,18 @@ no_room s a bits at n kept kept' e view same is full =
 -- ---- A walk over compressed data reads them as the definition does.
 
 -- the items that some turns read
-pub record Passed (n : ℕ) (course : Course) (s : PackedCursor) (turns : List TakenField) (s' : PackedCursor) : Type 0 where
+pub record Passed (n : ℕ) (course : CountedCourse) (s : PackedCursor) (turns : List TakenField) (s' : PackedCursor) : Type 0 where
   pub read : List (Item (List Content))
-  pub reads : ReadsItems (packed n) course read (remaining_bits s) (remaining_bits s')
-  pub next_is : next_after (packed n) course read ≡ (course (answers_of turns)).next
+  pub reads : ReadsItems (packed n) (uncounted course) read (remaining_bits s) (remaining_bits s')
+  pub next_is : next_after (packed n) (uncounted course) read ≡ (course (answers_of turns)).next
   pub turns_are : turns_after (packed n) course read ≡ (course (answers_of turns)).turns
   pub items : s'.items ≡ s.items ++ read
   pub bits : s'.bits ≡ s.bits
   pub subsets : s'.subsets ≡ n
 
 -- items that were taken are read, and what comes after them is the same, in as many turns
-pub passes : (n : ℕ) (course : Course) (s : PackedCursor) (turns : List TakenField) (s' : PackedCursor) → s.subsets ≡ n → Takes (oks PackedTakes) course s turns s' → Passed n course s turns s'
+pub passes : (n : ℕ) (course : CountedCourse) (s : PackedCursor) (turns : List TakenField) (s' : PackedCursor) → s.subsets ≡ n → Takes (oks PackedTakes) (uncounted course) s turns s'
+    → Passed n course s turns s'
 passes n course s [] s' e h = record {
   read = [];
   reads = ap remaining_bits (sym h);
@@ -246,7 +247,7 @@ passes n course s [] s' e h = record {
 passes n course s (i ∷ turns) s' e h =
     let step : IsPackedTaken s i.spec i.taken h.0 = h.2 in
     let item : Item (List Content) = record { spec = i.spec; content = step.contents } in
-    let same : (λ answers. course (i.taken ∷ answers)) ≡ after (packed n) course item = ap (λ t answers. course (t ∷ answers)) step.gives in
+    let same : (λ answers. course (i.taken ∷ answers)) ≡ after_counted (packed n) course item = ap (λ t answers. course (t ∷ answers)) step.gives in
     let more = passes n (λ answers. course (i.taken ∷ answers)) h.0 turns s' (step.subsets ∙ e) h.3 in
     record {
       read = item ∷ more.read;
@@ -254,9 +255,9 @@ passes n course s (i ∷ turns) s' e h =
         remaining_bits h.0,
         h.1,
         ap (λ m. packed_field m i.spec (remaining_bits s)) (sym e) ∙ step.field,
-        subst (λ c. ReadsItems (packed n) c more.read (remaining_bits h.0) (remaining_bits s')) same more.reads,
+        subst (λ c. ReadsItems (packed n) (uncounted c) more.read (remaining_bits h.0) (remaining_bits s')) same more.reads,
       );
-      next_is = ap (λ c. next_after (packed n) c more.read) (sym same) ∙ more.next_is;
+      next_is = ap (λ c. next_after (packed n) (uncounted c) more.read) (sym same) ∙ more.next_is;
       turns_are = ap (λ c. turns_after (packed n) c more.read) (sym same) ∙ more.turns_are;
       items = more.items ∙ ap (λ xs. xs ++ more.read) step.items ∙ append_assoc s.items (item ∷ []) more.read;
       bits = more.bits ∙ step.bits;
@@ -264,16 +265,26 @@ passes n course s (i ∷ turns) s' e h =
     }
 
 -- with a subset at least
-reads_some : (n : ℕ) (course : Course) (items : List (Item (List Content))) (bits suffix : List Bool) → 1 ≤ n → ReadsPass (packed n) course items bits suffix → length items * n ≤ max_values
-    → IsPackedReading n course items bits suffix
+reads_some : (n : ℕ) (course : CountedCourse) (items : List (Item (List Content))) (bits suffix : List Bool) → 1 ≤ n → ReadsPass (packed n) (uncounted course) items bits suffix
+    → length items * n ≤ max_values
+    → IsPackedReading n (uncounted course) items bits suffix
 reads_some zero course items bits suffix some h few = absurd (omega arith)
 reads_some (suc n) course items bits suffix some h few = (h, few)
 
 abbrev packed_data : ℕ → List Bool → Data
 packed_data n bits = record { compressed = true; subsets = n; bits = bits }
 
+-- the turns of the one pass
+together_turns : (n : ℕ) (course : CountedCourse) (bits : List Bool) → 1 ≤ n
+    → turns_in_all (packed n) course (passes_together (uncounted course) n bits) ≡ turns_after (packed n) course (first_items (items_by_pass (passes_together (uncounted course) n bits)))
+together_turns zero course bits some = absurd (omega (arith, some))
+together_turns (suc n) course bits some = none_more (turns_after (packed (suc n)) course (first_items (items_by_pass (passes_together (uncounted course) (suc n) bits))))
+  where
+    none_more : (t : ℕ) → t + 0 ≡ t
+    none_more t = omega arith
+
 -- from the first bit on
-module _ (n : ℕ) (course : Course) (bits : List Bool) (s : PackedCursor) (first : s ≡ new_packed_in bits n) (some : 1 ≤ n) where
+module _ (n : ℕ) (course : CountedCourse) (bits : List Bool) (s : PackedCursor) (first : s ≡ new_packed_in bits n) (some : 1 ≤ n) where
   begins : s.subsets ≡ n
   begins = ap (λ x. x.subsets) first
 
@@ -286,21 +297,22 @@ module _ (n : ℕ) (course : Course) (bits : List Bool) (s : PackedCursor) (firs
   rest_is : (turns : List TakenField) (s' : PackedCursor) → Passed n course s turns s' → remaining_bits s' ≡ drop s'.at bits
   rest_is turns s' p = ap (drop s'.at) (all_bits turns s' p)
 
-  from_first : (turns : List TakenField) (s' : PackedCursor) (p : Passed n course s turns s') → ReadsItems (packed n) course p.read bits (remaining_bits s')
-  from_first turns s' p = subst (λ here. ReadsItems (packed n) course p.read here (remaining_bits s')) (ap remaining_bits first) p.reads
+  from_first : (turns : List TakenField) (s' : PackedCursor) (p : Passed n course s turns s') → ReadsItems (packed n) (uncounted course) p.read bits (remaining_bits s')
+  from_first turns s' p = subst (λ here. ReadsItems (packed n) (uncounted course) p.read here (remaining_bits s')) (ap remaining_bits first) p.reads
 
   -- an accepted walk
   pub walk_reads : (s' : PackedCursor) (c c' : ℕ) → c ≡ 0 → Walked PackedTakes course s c (Ok tt) s' c' → s'.at ≤ length s'.bits → length s'.items * s'.subsets ≤ max_values
-      → IsReading course (packed_data n bits) (together s'.items) s'.at × (c' ≡ ticked 0 (turns_after (packed n) course s'.items))
+      → IsReading (uncounted course) (packed_data n bits) (together s'.items) s'.at × (c' ≡ ticked 0 (turns_after (packed n) course s'.items))
   walk_reads s' c c' zero_first w within few =
       let p = passes n course s w.0 s' begins w.1 in
       let are = all_items w.0 s' p in
-      let whole : ReadsPass (packed n) course p.read bits (drop s'.at bits) = (subst (λ b. ReadsItems (packed n) course p.read bits b) (rest_is w.0 s' p) (from_first w.0 s' p), p.next_is ∙ w.2) in
+      let whole : ReadsPass (packed n) (uncounted course) p.read bits (drop s'.at bits) =
+      (subst (λ b. ReadsItems (packed n) (uncounted course) p.read bits b) (rest_is w.0 s' p) (from_first w.0 s' p), p.next_is ∙ w.2) in
       let bound : length s'.items * n ≤ max_values = subst (λ m. length s'.items * m ≤ max_values) p.subsets few in (
         (
           refl,
           subst (λ b. s'.at ≤ length b) (all_bits w.0 s' p) within,
-          reads_some n course s'.items bits (drop s'.at bits) some (subst (λ xs. ReadsPass (packed n) course xs bits (drop s'.at bits)) (sym are) whole) bound,
+          reads_some n course s'.items bits (drop s'.at bits) some (subst (λ xs. ReadsPass (packed n) (uncounted course) xs bits (drop s'.at bits)) (sym are) whole) bound,
         ),
         w.3 ∙ ap (λ t. ticked c t) (sym p.turns_are) ∙ ap (λ xs. ticked c (turns_after (packed n) course xs)) (sym are)
             ∙ ap (λ b. ticked b (turns_after (packed n) course s'.items)) zero_first,
@@ -314,11 +326,15 @@ module _ (n : ℕ) (course : Course) (bits : List Bool) (s : PackedCursor) (firs
       let p = passes n course s w.0 s' begins w.1 in
       let d = packed_data n bits in
       let r = walk_reads s' c c' zero_first w (subst (λ x. x.at ≤ length x.bits) view within) (few_values s' held at m entries view few) in
-      let f = together_read n course s'.items bits (drop s'.at bits) r.0.2 in
-      let items : together s'.items ≡ (reading_of course (packed_data n bits)).values = ap together (sym f.1) in
+      let f = together_read n (uncounted course) s'.items bits (drop s'.at bits) r.0.2 in
+      let items : together s'.items ≡ (reading_of (uncounted course) (packed_data n bits)).values = ap together (sym f.1) in
       let used : s'.at ≡ at = sym (ap (λ x. x.at) view) in (
-        subst (λ u. IsReading course d (reading_of course d).values u) used (subst (λ v. IsReading course d v s'.at) items r.0),
-        subst (λ u. ReadsData course d (Ok u) c') used (f.0, omega (arith, r.0.1, ap length f.2, length-drop s'.at bits), r.1 ∙ ap (ticked 0) (sym (f.3 some))),
+        subst (λ u. IsReading (uncounted course) d (reading_of (uncounted course) d).values u) used (subst (λ v. IsReading (uncounted course) d v s'.at) items r.0),
+        subst (λ u. ReadsData course d (Ok u) c') used (
+          f.0,
+          omega (arith, r.0.1, ap length f.2, length-drop s'.at bits),
+          r.1 ∙ ap (λ xs. ticked 0 (turns_after (packed n) course xs)) (sym f.1) ∙ ap (ticked 0) (sym (together_turns n course bits some)),
+        ),
         subst (λ v. KeepsValues (kept.Together entries) d v) items (
           ap (λ b. items_at b n entries) (sym (all_bits w.0 s' p)) ∙ ap (λ k. items_at s'.bits k entries) (sym p.subsets) ∙ subst (λ x. items_at x.bits x.subsets entries ≡ x.items) view refl,
           ap (λ b. list_all (fits_at b n) entries) (sym (all_bits w.0 s' p)) ∙ ap (λ k. list_all (fits_at s'.bits k) entries) (sym p.subsets)
@@ -333,12 +349,12 @@ module _ (n : ℕ) (course : Course) (bits : List Bool) (s : PackedCursor) (firs
   refused_so : (turns : List TakenField) (mid : PackedCursor) (p : Passed n course s turns mid) (next : Next) (stop : Stop) (at c' : ℕ) → (course (answers_of turns)).next ≡ next
       → mid.at ≤ length bits → length mid.items * n ≤ max_values → at ≡ mid.at → c' ≡ ticked 0 (course (answers_of turns)).turns
       → EndsPass (reading (packed n) (would_be_many n)) next (place_at (length p.read) (remaining_bits mid)) (Some stop)
-      → (fault_of (packed_data n bits) (reading_of course (packed_data n bits)) ≡ Some (fault_at stop 0 at)) × (c' ≡ ticked 0 (reading_of course (packed_data n bits)).turns)
+      → (fault_of (packed_data n bits) (reading_of (uncounted course) (packed_data n bits)) ≡ Some (fault_at stop 0 at)) × (c' ≡ ticked 0 (turns_read course (packed_data n bits)))
   refused_so turns mid p next stop at c' e within few here ticks h =
-      let is = together_stops n course p.read bits (remaining_bits mid) next stop some (from_first turns mid p) (few_read turns mid p few) (sym (p.next_is ∙ e)) h in (
+      let is = together_stops n (uncounted course) p.read bits (remaining_bits mid) next stop some (from_first turns mid p) (few_read turns mid p few) (sym (p.next_is ∙ e)) h in (
         ap (λ (ps : List (DataPass (List Content))). option_map (λ w. fault_at w 0 (length bits - length (left_after bits ps))) (stop_of ps)) is
             ∙ ap (λ b. Some (fault_at stop 0 b)) (place_is at (length (remaining_bits mid)) (length bits) (omega (arith, here, within, ap length (rest_is turns mid p), length-drop mid.at bits))),
-        ticks ∙ ap (ticked 0) (sym (ap turns_in_all is ∙ none_more (turns_after (packed n) course p.read) ∙ p.turns_are)),
+        ticks ∙ ap (ticked 0) (sym (ap (turns_in_all (packed n) course) is ∙ none_more (turns_after (packed n) course p.read) ∙ p.turns_are)),
       )
     where
       place_is : (a b c : ℕ) → a + b ≡ c → c - b ≡ a
@@ -349,9 +365,9 @@ module _ (n : ℕ) (course : Course) (bits : List Bool) (s : PackedCursor) (firs
 
   short_so : (turns : List TakenField) (mid : PackedCursor) (p : Passed n course s turns mid) (spec : FieldSpec) → (course (answers_of turns)).next ≡ take_next spec
       → length mid.items * n ≤ max_values → ((length mid.items % items_at_once == 0) ≡ true) ⊎ (spec.role ≡ role.Reference)
-      → RunsShort (packed n) (λ items. items % items_at_once == 0) course (passes_together course n bits) (course (answers_of turns)).turns
+      → RunsShort (packed n) (λ items. items % items_at_once == 0) course (passes_together (uncounted course) n bits) (course (answers_of turns)).turns
   short_so turns mid p spec e few why =
-      let begins = together_begins n course p.read bits (remaining_bits mid) some (from_first turns mid p) (few_read turns mid p few) in
+      let begins = together_begins n (uncounted course) p.read bits (remaining_bits mid) some (from_first turns mid p) (few_read turns mid p few) in
       record {
         done = [];
         here = begins.0;
@@ -429,7 +445,7 @@ module _ (n : ℕ) (course : Course) (bits : List Bool) (s : PackedCursor) (firs
       refuses : (x : TurnRefusal) → s' ≡ w.1 → (course (answers_of w.0)).next ≡ refused x → ReadsData course (packed_data n bits) (Err (fault_at (stop_by x) 0 at)) c'
       refuses x e q = inl (refused_so w.0 w.1 p (refused x) (stop_by x) at c' q (inside e) (room e) (place e) ticks refl)
 
-pub stopped_within : (course : Course) (bits : List Bool) (n : ℕ) (s s' : PackedCursor) (c c' : ℕ) (why : WalkStop DataFault) → s ≡ new_packed_in bits n
+pub stopped_within : (course : CountedCourse) (bits : List Bool) (n : ℕ) (s s' : PackedCursor) (c c' : ℕ) (why : WalkStop DataFault) → s ≡ new_packed_in bits n
     → Walked PackedTakes course s c (Err why) s' c' → s'.at ≤ length s'.bits → s'.at ≤ length bits
 stopped_within course bits n s s' c c' why first w h =
     let p = passes n course s w.0 w.1 (ap (λ x. x.subsets) first) w.2 in
@@ -444,7 +460,7 @@ few_stopped k steps steps' at here all s bits n why first e h u within = grind (
 -- ---- The parts of a reading of compressed data.
 
 pub packed_held : (table : List Row) (template : Tree) (subsets : ℕ) (octets : List ℕ) (used steps : ℕ) (entries : List IndexedItem)
-    → IsReadAndKept (next_item table template) (data_in true subsets octets) entries used steps → 7 * length entries ≤ used → length octets < 2 ^ 24
+    → IsReadAndKept (counted_item table template) (data_in true subsets octets) entries used steps → 7 * length entries ≤ used → length octets < 2 ^ 24
     → IsStoredReading (read_by table template (data_in true subsets octets) used (length entries)) (kept.Together entries)
 packed_held table template subsets octets used steps entries h few short = record { reading = h.0; keeps = h.2; few = few; pays = tt; short = used_most octets used short h.0.1 }
 
@@ -453,6 +469,6 @@ pub packed_data_same : (m : Sections) (subsets : ℕ) (octets : List ℕ) → m.
 packed_data_same m subsets octets packed e f = grind (arith, common_steps)
 
 pub packed_is : (table : List Row) (template : Tree) (m : Sections) (subsets : ℕ) (octets : List ℕ) (used held steps : ℕ) (entries : List IndexedItem) → data_in true subsets octets ≡ data_of m
-    → IsReadAndKept (next_item table template) (data_in true subsets octets) entries used steps
+    → IsReadAndKept (counted_item table template) (data_in true subsets octets) entries used steps
     → AnswersReading table template (data_of m) (Ok (read_by table template (data_in true subsets octets) used held)) steps
-packed_is table template m subsets octets used held steps entries e h = (refl, refl, e, subst (λ d. ReadsData (next_item table template) d (Ok used) steps) e h.1)
+packed_is table template m subsets octets used held steps entries e h = (refl, refl, e, subst (λ d. ReadsData (counted_item table template) d (Ok used) steps) e h.1)

@@ -4,10 +4,10 @@ use Rattle.bufr_bits.specs.Prelude.{number_of}
 use Rattle.bufr_walk.proofs.PackedLemmas.{item_parts, neither}
 use Rattle.std.proofs.Common.{◌≡◌, ℕ, zero, suc, ◌+◌, ◌-◌, ◌<◌, ◌≤◌, Bool, true, false, List, [], ◌∷◌, ◌++◌, length, Option, Some, None, Result, Ok, Err, ◌||◌, ◌*◌, nat_lt, take, refl, sym, ◌∙◌, ap, subst, arith, drop, length-drop, if◌then◌else◌}
 use Rattle.bufr_tables.specs.Prelude.{Row, Tree, IsLegal, Record, AreRows}
-use Rattle.bufr_walk.specs.Prelude.{packed_field, step_of, coding_of, contents_across, FieldSpec, Content, FieldFault, FieldRead, found, Course, Next, take_next, at_end, astray, refused, next_item, Item, DataCoding, plain, packed, item_answer, after, ReadsItems, ReadsPass, next_after, turns_after, ReadsSubsets, IsPackedReading, Data, Values, apart, together, IsReading, Stop, would_be_many, max_values, wrong_of, stop_by}
+use Rattle.bufr_walk.specs.Prelude.{packed_field, step_of, coding_of, contents_across, FieldSpec, Content, FieldFault, FieldRead, found, Course, Next, take_next, at_end, astray, refused, next_item, Item, DataCoding, plain, packed, item_answer, after, ReadsItems, ReadsPass, next_after, ReadsSubsets, IsPackedReading, Data, Values, apart, together, IsReading, Stop, would_be_many, max_values, wrong_of, stop_by}
 use Rattle.bufr_walk.specs.declared.walker.WalkStop.TheVariants as stops
 use Rattle.bufr_walk.specs.declared.fault.DataFault.TheVariants as wrong
-use Rattle.bufr_walk.specs.Pass.{Step, Pass, last_turn, item_then, pass_field, pass_next, pass, Place, read_field, reading, read_pass, DataPass, passes_apart, passes_together, stop_of, left_after, turns_in_all, DataReading, reading_in, reading_of, EndsPass, ReadsTo}
+use Rattle.bufr_walk.specs.Pass.{Step, Pass, empty_pass, item_then, pass_field, pass_next, pass, Place, read_field, reading, read_pass, DataPass, passes_apart, passes_together, stop_of, left_after, DataReading, reading_in, reading_of, EndsPass, ReadsTo}
 use Rattle.bufr_walk.specs.Readers.{place_at, items_by_pass, first_items}
 use Rattle.std.proofs.lemmas.Grind.{common_steps}
 use Rattle.std.proofs.lemmas.List.{drop-drop}
@@ -24,39 +24,39 @@ one_more : (a b : ℕ) → a + 1 + b ≡ a + suc b
 one_more a b = omega arith
 
 -- the pass that has these items
-abbrev pub passed : {C : Type 0} → DataCoding C → Course → ℕ → List (Item C) → List Bool → Option Stop → Pass Place C Stop
-passed form course place items left o = record { items = items; turns = turns_after form course items; state = place_at place left; stop = o }
+abbrev pub passed : {C : Type 0} → ℕ → List (Item C) → List Bool → Option Stop → Pass Place C Stop
+passed place items left o = record { items = items; state = place_at place left; stop = o }
 
 module _ {C : Type 0} (form : DataCoding C) (many : ℕ → Bool) where
   -- at what ends a pass, nothing more is passed
-  at_last : (turn : ℕ) (next : Next) (s : Place) (o : Option Stop) (go : Step Place C → Pass Place C Stop) → EndsPass (reading form many) next s o
-      → pass_next (reading form many) turn next s go ≡ last_turn turn s o
-  at_last turn (take_next spec) s None go h = absurd h
-  at_last turn (take_next spec) s (Some why) go h = ap (λ r. pass_field (reading form many) turn spec s r go) h
-  at_last turn at_end s o go h = ap (last_turn turn s) (sym h)
-  at_last turn (refused why) s o go h = ap (last_turn turn s) (sym h)
-  at_last turn astray s o go h = absurd h
+  at_last : (next : Next) (s : Place) (o : Option Stop) (go : Step Place C → Pass Place C Stop) → EndsPass (reading form many) next s o
+      → pass_next (reading form many) next s go ≡ empty_pass s o
+  at_last (take_next spec) s None go h = absurd h
+  at_last (take_next spec) s (Some why) go h = ap (λ r. pass_field (reading form many) spec s r go) h
+  at_last at_end s o go h = ap (empty_pass s) (sym h)
+  at_last (refused why) s o go h = ap (empty_pass s) (sym h)
+  at_last astray s o go h = absurd h
 
   -- an item that is read is followed by the rest of the pass
   item_first : (most : ℕ) (course : Course) (from : ℕ) (bits : List Bool) (x : Item C) (xs : List (Item C)) (left : List Bool) → (h : ReadsItems form course (x ∷ xs) bits left) → many from ≡ false
       → pass (reading form many) (suc most) course (place_at from bits) ≡ item_then x.spec x.content (pass (reading form many) most (after form course x) (place_at (from + 1) h.0))
   item_first most course from bits x xs left h few =
       let go : Step Place C → Pass Place C Stop = λ f. pass (reading form many) most (λ answers. course (f.returned ∷ answers)) f.state in
-      ap (λ n. pass_next (reading form many) (course []).turns n (place_at from bits) go) h.1
-      ∙ ap (λ b. pass_field (reading form many) (course []).turns x.spec (place_at from bits)
+      ap (λ n. pass_next (reading form many) n (place_at from bits) go) h.1
+      ∙ ap (λ b. pass_field (reading form many) x.spec (place_at from bits)
       (if b then Err (stops.Field (wrong.TooManyValues x.spec.fxy)) else read_field form x.spec from (form.field x.spec bits)) go) few
-      ∙ ap (λ r. pass_field (reading form many) (course []).turns x.spec (place_at from bits) (read_field form x.spec from r) go) h.2
+      ∙ ap (λ r. pass_field (reading form many) x.spec (place_at from bits) (read_field form x.spec from r) go) h.2
 
   -- a pass with these items and this end is what the function gives
   pub pass_is : (most : ℕ) (course : Course) (from : ℕ) (bits : List Bool) (items : List (Item C)) (left : List Bool) (o : Option Stop)
-      → ReadsTo form many course (place_at from bits) (passed form course (from + length items) items left o) → length items < most
-      → pass (reading form many) most course (place_at from bits) ≡ passed form course (from + length items) items left o
+      → ReadsTo form many course (place_at from bits) (passed (from + length items) items left o) → length items < most
+      → pass (reading form many) most course (place_at from bits) ≡ passed (from + length items) items left o
   pass_is zero course from bits items left o h lt = absurd (omega (arith, lt))
   pass_is (suc more) course from bits [] left o h lt =
       let here : place_at (from + 0) left ≡ place_at from bits = ap (λ k. place_at k left) (none_more from) ∙ ap (place_at from) (sym h.reads) in
-      at_last (course []).turns (course []).next (place_at from bits) o (λ f. pass (reading form many) more (λ answers. course (f.returned ∷ answers)) f.state)
-      (subst (λ s. EndsPass (reading form many) (course []).next s o) here h.ends)
-      ∙ ap (λ s. last_turn (course []).turns s o) (sym here)
+      at_last (course []) (place_at from bits) o (λ f. pass (reading form many) more (λ answers. course (f.returned ∷ answers)) f.state)
+      (subst (λ s. EndsPass (reading form many) (course []) s o) here h.ends)
+      ∙ ap (λ s. empty_pass s o) (sym here)
   pass_is (suc more) course from bits (x ∷ xs) left o h lt =
       let few : many from ≡ false = subst (λ k. many k ≡ false) (none_more from) (h.few 0 (omega arith)) in
       let rest = pass_is more (after form course x) (from + 1) h.reads.0 xs left o
@@ -65,12 +65,11 @@ module _ {C : Type 0} (form : DataCoding C) (many : ℕ → Bool) where
         few = λ j l. ap many (one_more from j) ∙ h.few (suc j) (omega (arith, l));
         count = refl;
         ends = subst (λ k. EndsPass (reading form many) (next_after form (after form course x) xs) (place_at k left) o) (sym (one_more from (length xs))) h.ends;
-        turns = refl;
       })
       (omega (arith, lt)) in
       item_first more course from bits x xs left h.reads few
       ∙ ap (item_then x.spec x.content) rest
-      ∙ ap (λ k. passed form course k (x ∷ xs) left o) (one_more from (length xs))
+      ∙ ap (λ k. passed k (x ∷ xs) left o) (one_more from (length xs))
 
   -- a pass begins with the items that are read
   pub pass_prefix : (most : ℕ) (course : Course) (from : ℕ) (bits : List Bool) (items : List (Item C)) (left : List Bool) → ReadsItems form course items bits left
@@ -99,22 +98,21 @@ module _ {C : Type 0} (form : DataCoding C) (many : ℕ → Bool) where
   pub pass_so : ((spec : FieldSpec) (bits : List Bool) (c : C) (mid : List Bool) → 1 ≤ spec.width → form.field spec bits ≡ Ok (found c mid) → Forth form spec bits c mid)
       → (n : ℕ) (course : Course) (from : ℕ) (bits : List Bool) → IsSane n course → length bits < n → ReadsSo course from bits (pass (reading form many) n course (place_at from bits))
   pass_so forth zero course from bits sane lt = absurd (omega (arith, lt))
-  pass_so forth (suc n) course from bits sane lt = by (course []).next refl (λ c bs h l. pass_so forth n c (from + 1) bs h l)
+  pass_so forth (suc n) course from bits sane lt = by (course []) refl (λ c bs h l. pass_so forth n c (from + 1) bs h l)
     where
-      at_once : (next : Next) → (course []).next ≡ next → (o : Option Stop) → EndsPass (reading form many) next (place_at from bits) o
-          → ReadsSo course from bits (last_turn (course []).turns (place_at from bits) o)
+      at_once : (next : Next) → course [] ≡ next → (o : Option Stop) → EndsPass (reading form many) next (place_at from bits) o
+          → ReadsSo course from bits (empty_pass (place_at from bits) o)
       at_once next e o h = (
         record {
           reads = refl;
           few = λ j l. absurd (omega (arith, l));
           count = omega arith;
           ends = subst (λ n. EndsPass (reading form many) n (place_at from bits) o) (sym e) h;
-          turns = refl;
         },
         (0, omega arith, refl),
       )
 
-      one_item : (x : Item C) (mid : List Bool) (p : Pass Place C Stop) → many from ≡ false → (course []).next ≡ take_next x.spec → form.field x.spec bits ≡ Ok (found x.content mid)
+      one_item : (x : Item C) (mid : List Bool) (p : Pass Place C Stop) → many from ≡ false → course [] ≡ take_next x.spec → form.field x.spec bits ≡ Ok (found x.content mid)
           → Forth form x.spec bits x.content mid → ReadsSo (after form course x) (from + 1) mid p
           → ReadsSo course from bits (item_then x.spec x.content p)
       one_item x mid p m e q w r = (
@@ -123,7 +121,6 @@ module _ {C : Type 0} (form : DataCoding C) (many : ℕ → Bool) where
           few = few;
           count = r.0.count ∙ one_more from (length p.items);
           ends = r.0.ends;
-          turns = r.0.turns;
         },
         suffix_then w.size bits mid p.state.left w.within w.left_is r.1,
       )
@@ -136,9 +133,9 @@ module _ {C : Type 0} (form : DataCoding C) (many : ℕ → Bool) where
           ≡ (if b then Err (stops.Field (wrong.TooManyValues spec.fxy)) else read_field form spec from (form.field spec bits))
       stepped spec b m = ap (λ b. if b then Err (stops.Field (wrong.TooManyValues spec.fxy)) else read_field form spec from (form.field spec bits)) m
 
-      at_field : (spec : FieldSpec) → (course []).next ≡ take_next spec → (b : Bool) → many from ≡ b → (r : Result (FieldRead C) FieldFault) → form.field spec bits ≡ r
+      at_field : (spec : FieldSpec) → course [] ≡ take_next spec → (b : Bool) → many from ≡ b → (r : Result (FieldRead C) FieldFault) → form.field spec bits ≡ r
           → ((c : Course) (bs : List Bool) → IsSane n c → length bs < n → ReadsSo c (from + 1) bs (pass (reading form many) n c (place_at (from + 1) bs)))
-          → ReadsSo course from bits (pass_field (reading form many) (course []).turns spec (place_at from bits)
+          → ReadsSo course from bits (pass_field (reading form many) spec (place_at from bits)
           (if b then Err (stops.Field (wrong.TooManyValues spec.fxy)) else read_field form spec from r)
           (λ f. pass (reading form many) n (λ answers. course (f.returned ∷ answers)) f.state))
       at_field spec e true m r q go = at_once (take_next spec) e (Some (stops.Field (wrong.TooManyValues spec.fxy))) (stepped spec true m)
@@ -151,9 +148,9 @@ module _ {C : Type 0} (form : DataCoding C) (many : ℕ → Bool) where
           (go (after form course (record { spec = spec; content = f.content })) f.suffix (k.1 (form.gives spec f.content) w.gives)
           (omega (arith, lt, w.some, w.within, length-drop w.size bits, ap length w.left_is)))
 
-      by : (next : Next) → (course []).next ≡ next
+      by : (next : Next) → course [] ≡ next
           → ((c : Course) (bs : List Bool) → IsSane n c → length bs < n → ReadsSo c (from + 1) bs (pass (reading form many) n c (place_at (from + 1) bs)))
-          → ReadsSo course from bits (pass_next (reading form many) (course []).turns next (place_at from bits) (λ f. pass (reading form many) n (λ answers. course (f.returned ∷ answers)) f.state))
+          → ReadsSo course from bits (pass_next (reading form many) next (place_at from bits) (λ f. pass (reading form many) n (λ answers. course (f.returned ∷ answers)) f.state))
       by at_end e go = at_once at_end e None refl
       by astray e go = absurd (sane.0 e)
       by (refused why) e go = at_once (refused why) e (Some (stop_by why)) refl
@@ -209,21 +206,21 @@ packed_fits n course (x ∷ xs) bits left h = omega (arith, packed_less n x.spec
 -- one pass, or none where there is no subset
 abbrev together_passes : (n : ℕ) → Course → List (Item (List Content)) → List Bool → List (DataPass (List Content))
 together_passes zero course xs left = []
-together_passes (suc n) course xs left = passed (packed (suc n)) course (0 + length xs) xs left None ∷ []
+together_passes (suc n) course xs left = passed (0 + length xs) xs left None ∷ []
 
 together_is : (n : ℕ) (course : Course) (xs : List (Item (List Content))) (bits left : List Bool) → IsPackedReading n course xs bits left
     → passes_together course n bits ≡ together_passes n course xs left
 together_is zero course xs bits left h = refl
 together_is (suc n) course xs bits left h =
     ap (λ (p : DataPass (List Content)). p ∷ []) (pass_is (packed (suc n)) (would_be_many (suc n)) (suc (length bits)) course 0 bits xs left None
-    (record { reads = h.0.0; few = λ j lt. few_values (suc n) (length xs) j h.1 lt; count = refl; ends = ended (packed (suc n)) (would_be_many (suc n)) _ _ h.0.1; turns = refl })
+    (record { reads = h.0.0; few = λ j lt. few_values (suc n) (length xs) j h.1 lt; count = refl; ends = ended (packed (suc n)) (would_be_many (suc n)) _ _ h.0.1 })
     (omega (arith, packed_fits (suc n) course xs bits left h.0.0)))
 
 -- the one pass, where it is stopped
 pub together_stops : (n : ℕ) (course : Course) (items : List (Item (List Content))) (bits left : List Bool) (next : Next) (stop : Stop) → 1 ≤ n → ReadsItems (packed n) course items bits left
     → length items * n ≤ max_values → next ≡ next_after (packed n) course items
     → EndsPass (reading (packed n) (would_be_many n)) next (place_at (length items) left) (Some stop)
-    → passes_together course n bits ≡ passed (packed n) course (0 + length items) items left (Some stop) ∷ []
+    → passes_together course n bits ≡ passed (0 + length items) items left (Some stop) ∷ []
 together_stops zero course items bits left next stop some h few is e = absurd (omega (arith, some))
 together_stops (suc n) course items bits left next stop some h few is e =
     ap (λ (p : DataPass (List Content)). p ∷ []) (pass_is (packed (suc n)) (would_be_many (suc n)) (suc (length bits)) course 0 bits items left (Some stop)
@@ -233,7 +230,6 @@ together_stops (suc n) course items bits left next stop some h few is e =
       count = refl;
       ends = subst (λ x. EndsPass (reading (packed (suc n)) (would_be_many (suc n))) x (place_at (0 + length items) left) (Some stop)) is
           (subst (λ k. EndsPass (reading (packed (suc n)) (would_be_many (suc n))) next (place_at k left) (Some stop)) (zero_plus (length items)) e);
-      turns = refl;
     }) (omega (arith, packed_fits (suc n) course items bits left h)))
   where
     zero_plus : (k : ℕ) → k ≡ 0 + k
@@ -250,11 +246,10 @@ together_begins (suc n) course items bits left some h few =
 
 pub together_read : (n : ℕ) (course : Course) (xs : List (Item (List Content))) (bits left : List Bool) → IsPackedReading n course xs bits left
     → (stop_of (passes_together course n bits) ≡ None) × (first_items (items_by_pass (passes_together course n bits)) ≡ xs) × (left_after bits (passes_together course n bits) ≡ left)
-    × (1 ≤ n → turns_in_all (passes_together course n bits) ≡ turns_after (packed n) course xs)
-together_read zero course xs bits left h = (refl, sym h.0, h.1, λ some. absurd (omega (arith, some)))
+together_read zero course xs bits left h = (refl, sym h.0, h.1)
 together_read (suc n) course xs bits left h =
     let e = together_is (suc n) course xs bits left h in
-    (ap stop_of e, ap (λ ps. first_items (items_by_pass ps)) e, ap (left_after bits) e, λ some. ap turns_in_all e ∙ none_more (turns_after (packed (suc n)) course xs))
+    (ap stop_of e, ap (λ ps. first_items (items_by_pass ps)) e, ap (left_after bits) e)
 
 -- ---- The reading of a legal template's data, both ways.
 
@@ -269,9 +264,9 @@ module _ (course : Course) (sane : (m : ℕ) → IsSane m course) where
       let f = forth x.spec bits x.content h.0 w.0 h.2 in
       omega (arith, fits form forth n (after form course x) xs h.0 left (w.1 (item_answer form x) f.gives) (omega (arith, few)) h.3, f.some, f.within, length-drop f.size bits, ap length f.left_is)
 
-  subset_ends : (x : List (Item Content)) (bits left : List Bool) → ReadsPass plain course x bits left → read_pass plain (λ items. false) course bits ≡ passed plain course (0 + length x) x left None
+  subset_ends : (x : List (Item Content)) (bits left : List Bool) → ReadsPass plain course x bits left → read_pass plain (λ items. false) course bits ≡ passed (0 + length x) x left None
   subset_ends x bits left h =
-      pass_is plain (λ items. false) (suc (length bits)) course 0 bits x left None (record { reads = h.0; few = λ j lt. refl; count = refl; ends = ended plain (λ items. false) _ _ h.1; turns = refl })
+      pass_is plain (λ items. false) (suc (length bits)) course 0 bits x left None (record { reads = h.0; few = λ j lt. refl; count = refl; ends = ended plain (λ items. false) _ _ h.1 })
       (omega (arith, fits plain plain_forth (length x) course x bits left (sane (length x)) (omega arith) h.0))
 
   -- the items that a reading has

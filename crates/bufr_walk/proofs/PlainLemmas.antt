@@ -8,8 +8,8 @@ use Rattle.bufr_bits.specs.Prelude.{bits_of, bits_at, number_of, are_all_ones}
 use Rattle.bufr_bits.proofs.BitLemmas.{length-bits_of, length-bits_at, are_all_ones-number, drop-bits_of, take-bits_of, number_of_middle, number-bits_of_octet}
 use Rattle.bufr_tables.specs.Prelude.{is_character}
 use Rattle.std.proofs.Common.{◌&&◌}
-use Rattle.bufr_walk.specs.Prelude.{number}
-use Rattle.bufr_walk.specs.Prelude.{turns_in, items_in, Stop, plain, WalkFault, Kind, Taken, Role, is_reference, FieldSpec, IsSpec, HasRole, HasWidth, answer_of, answer_by_role, content_in, signed_by, plain_field, found, data_end, octets_in, Content, Cursor, rest_of, past, IsTaken, fault_at, PlainTakes, WalkStop, Course, Next, take_next, at_end, refused, next_item, TakenField, Takes, ticked, oks, answers_of, Walked, data_in, data_of, read_by, Read, course_of, Item, ReadsItems, next_after, turns_after, after, apart, together, Values, IsReading, KeepsValues, ReadsSubsets, max_values, IsStoredReading, IsReadAndPaid, TurnRefusal, stop_by, said, coding_by, coding_of, numbers, texts, missing, text, reference, count_in, reference_in}
+use Rattle.bufr_walk.specs.Prelude.{number, CountedCourse, uncounted, counted_item, after_counted}
+use Rattle.bufr_walk.specs.Prelude.{turns_in, items_in, Stop, plain, WalkFault, Kind, Taken, Role, is_reference, FieldSpec, IsSpec, HasRole, HasWidth, answer_of, answer_by_role, content_in, signed_by, plain_field, found, data_end, octets_in, Content, Cursor, rest_of, past, IsTaken, fault_at, PlainTakes, WalkStop, Next, take_next, at_end, refused, TakenField, Takes, ticked, oks, answers_of, Walked, data_in, data_of, read_by, Read, course_of, Item, ReadsItems, next_after, turns_after, apart, together, Values, IsReading, KeepsValues, ReadsSubsets, max_values, IsStoredReading, IsReadAndPaid, TurnRefusal, stop_by, said, coding_by, coding_of, numbers, texts, missing, text, reference, count_in, reference_in}
 use Rattle.bufr_walk.specs.Pass.{DataPass, passes_apart, stop_of, left_after, turns_in_all, values_read, ReadsData, AnswersReading, EndsPass, read_field, reading}
 use Rattle.bufr_walk.specs.Readers.{items_by_pass, place_at}
 use Rattle.bufr_walk.specs.declared.fault.DataFault.{DataFault}
@@ -25,18 +25,18 @@ use Rattle.bufr_walk.specs.declared.reading.StoredItems.TheVariants as kept
 use Rattle.bufr_walk.proofs.WalkLemmas.{stop_cases}
 
 -- items were read up to what comes next, and their turns were counted
-pub record PassComes (course : Course) (s : Cursor) (steps : ℕ) (next : Next) (s' : Cursor) (steps' : ℕ) : Type 0 where
+pub record PassComes (course : CountedCourse) (s : Cursor) (steps : ℕ) (next : Next) (s' : Cursor) (steps' : ℕ) : Type 0 where
   pub items : List (Item Content)
-  pub reads : ReadsItems plain course items (rest_of s) (rest_of s')
-  pub next_is : next ≡ next_after plain course items
+  pub reads : ReadsItems plain (uncounted course) items (rest_of s) (rest_of s')
+  pub next_is : next ≡ next_after plain (uncounted course) items
   pub ticks : steps' ≡ ticked steps (turns_after plain course items)
   pub same : s'.bits ≡ s.bits
   pub pays : s.at + length items ≤ s'.at
 
 -- `count` subsets were read, in at most n turns a bit
-pub record SubsetsRead (n : ℕ) (course : Course) (bits : List Bool) (count : ℕ) (s : Cursor) (steps : ℕ) : Type 0 where
+pub record SubsetsRead (n : ℕ) (course : CountedCourse) (bits : List Bool) (count : ℕ) (s : Cursor) (steps : ℕ) : Type 0 where
   pub subsets : List (List (Item Content))
-  pub whole : ReadsSubsets course subsets bits (rest_of s)
+  pub whole : ReadsSubsets (uncounted course) subsets bits (rest_of s)
   pub count_is : length subsets ≡ count
   pub ticks : steps ≡ ticked 0 (turns_in course subsets)
   pub same : s.bits ≡ bits
@@ -45,14 +45,14 @@ pub record SubsetsRead (n : ℕ) (course : Course) (bits : List Bool) (count : �
   pub within : s.at ≤ length bits
   -- the passes that read them, and those that follow
   pub passes : List (DataPass Content)
-  pub goes : (more : ℕ) → passes_apart course (count + more) bits ≡ passes ++ passes_apart course more (rest_of s)
+  pub goes : (more : ℕ) → passes_apart (uncounted course) (count + more) bits ≡ passes ++ passes_apart (uncounted course) more (rest_of s)
   pub none : stop_of passes ≡ None
   pub left : left_after bits passes ≡ rest_of s
-  pub turns : turns_in_all passes ≡ turns_in course subsets
+  pub turns : turns_in_all plain course passes ≡ turns_in course subsets
   pub items : items_by_pass passes ≡ subsets
 
 -- what comes next cannot be read, or, where it is a reference, cannot be kept
-abbrev pub PassStops : Course → Cursor → (steps subset : ℕ) → WalkFault → Cursor → (steps' : ℕ) → Type 0
+abbrev pub PassStops : CountedCourse → Cursor → (steps subset : ℕ) → WalkFault → Cursor → (steps' : ℕ) → Type 0
 PassStops course s steps subset why s' steps' =
     ((spec : FieldSpec) × PassComes course s steps (take_next spec) s' steps' × (spec.role ≡ role.Reference) × (why ≡ fault.Memory))
     ⊎ ((next : Next) × (stop : Stop) × PassComes course s steps next s' steps'
@@ -287,39 +287,40 @@ borrowed_some now (Some s) octets want at count h small e = borrowed octets at c
 -- ---- A walk over bits reads them as the definition does.
 
 -- items that were taken are read, and what comes after them is the same, in as many turns
-pub reads : (course : Course) (s : Cursor) (items : List TakenField) (s' : Cursor) → Takes (oks PlainTakes) course s items s'
-    → (read : List (Item Content)) × ReadsItems plain course read (rest_of s) (rest_of s') × (next_after plain course read ≡ (course (answers_of items)).next)
+pub reads : (course : CountedCourse) (s : Cursor) (items : List TakenField) (s' : Cursor) → Takes (oks PlainTakes) (uncounted course) s items s'
+    → (read : List (Item Content)) × ReadsItems plain (uncounted course) read (rest_of s) (rest_of s') × (next_after plain (uncounted course) read ≡ (course (answers_of items)).next)
     × (turns_after plain course read ≡ (course (answers_of items)).turns)
 reads course s [] s' h = ([], ap rest_of (sym h), refl, refl)
 reads course s (i ∷ items) s' h =
     let step = h.2 in
     let item : Item Content = record { spec = i.spec; content = step.content } in
-    let same : (λ answers. course (i.taken ∷ answers)) ≡ after plain course item = ap (λ t answers. course (t ∷ answers)) step.gives in
+    let same : (λ answers. course (i.taken ∷ answers)) ≡ after_counted plain course item = ap (λ t answers. course (t ∷ answers)) step.gives in
     let more = reads (λ answers. course (i.taken ∷ answers)) h.0 items s' h.3 in (
       item ∷ more.0,
-      (rest_of h.0, h.1, step.field, subst (λ c. ReadsItems plain c more.0 (rest_of h.0) (rest_of s')) same more.1),
-      ap (λ c. next_after plain c more.0) (sym same) ∙ more.2,
+      (rest_of h.0, h.1, step.field, subst (λ c. ReadsItems plain (uncounted c) more.0 (rest_of h.0) (rest_of s')) same more.1),
+      ap (λ c. next_after plain (uncounted c) more.0) (sym same) ∙ more.2,
       ap (λ c. turns_after plain c more.0) (sym same) ∙ more.3,
     )
 
-pub same_bits : (course : Course) (s : Cursor) (items : List TakenField) (s' : Cursor) → Takes (oks PlainTakes) course s items s' → s'.bits ≡ s.bits
+pub same_bits : (course : CountedCourse) (s : Cursor) (items : List TakenField) (s' : Cursor) → Takes (oks PlainTakes) (uncounted course) s items s' → s'.bits ≡ s.bits
 same_bits course s [] s' h = ap (λ x. x.bits) h
 same_bits course s (i ∷ items) s' h = same_bits (λ answers. course (i.taken ∷ answers)) h.0 items s' h.3 ∙ ap (λ x. x.bits) h.2.next
 
 -- each item takes a bit
-reads_paid : (course : Course) (s : Cursor) (items : List TakenField) (s' : Cursor) (h : Takes (oks PlainTakes) course s items s') → s.at + length (reads course s items s' h).0 ≤ s'.at
+reads_paid : (course : CountedCourse) (s : Cursor) (items : List TakenField) (s' : Cursor) (h : Takes (oks PlainTakes) (uncounted course) s items s')
+    → s.at + length (reads course s items s' h).0 ≤ s'.at
 unfolding reads
 reads_paid course s [] s' h = omega (arith, ap (λ x. x.at) h)
 reads_paid course s (i ∷ items) s' h = omega (arith, h.2.some, ap (λ x. x.at) h.2.next, reads_paid (λ answers. course (i.taken ∷ answers)) h.0 items s' h.3)
 
 -- an accepted walk reads a subset
-pub pass_reads : (course : Course) (s s' : Cursor) (c c' : ℕ) → Walked PlainTakes course s c (Ok tt) s' c' → PassComes course s c at_end s' c'
+pub pass_reads : (course : CountedCourse) (s s' : Cursor) (c c' : ℕ) → Walked PlainTakes course s c (Ok tt) s' c' → PassComes course s c at_end s' c'
 pass_reads course s s' c c' w =
     let r = reads course s w.0 s' w.1 in
     record { items = r.0; reads = r.1; next_is = sym (r.2 ∙ w.2); ticks = w.3 ∙ ap (ticked c) (sym r.3); same = same_bits course s w.0 s' w.1; pays = reads_paid course s w.0 s' w.1 }
 
 -- a refused walk stops a reading
-pub pass_stops : (course : Course) (s s' : Cursor) (c c' subset at : ℕ) (why : WalkStop DataFault) → at ≡ s'.at → Walked PlainTakes course s c (Err why) s' c'
+pub pass_stops : (course : CountedCourse) (s s' : Cursor) (c c' subset at : ℕ) (why : WalkStop DataFault) → at ≡ s'.at → Walked PlainTakes course s c (Err why) s' c'
     → PassStops course s c subset (fault_at why subset at) s' c'
 pass_stops course s s' c c' subset at why here w =
     let r = reads course s w.0 w.1 w.2 in
@@ -344,11 +345,11 @@ pass_stops course s s' c c' subset at why here w =
     refuses x e p = inr (refused x, stop_by x, moved (refused x) w.1 e p, λ items. refl, ap (fault_at (stop_by x) subset) here)
 
 -- a walk does not move back
-takes_forth : (course : Course) (s : Cursor) (items : List TakenField) (s' : Cursor) → Takes (oks PlainTakes) course s items s' → s.at ≤ s'.at
+takes_forth : (course : CountedCourse) (s : Cursor) (items : List TakenField) (s' : Cursor) → Takes (oks PlainTakes) (uncounted course) s items s' → s.at ≤ s'.at
 takes_forth course s [] s' h = omega (arith, ap (λ x. x.at) h)
 takes_forth course s (i ∷ items) s' h = omega (arith, takes_forth (λ answers. course (i.taken ∷ answers)) h.0 items s' h.3, ap (λ x. x.at) h.2.next)
 
-pub walk_forth : (course : Course) (s s' : Cursor) (c c' : ℕ) (r : Result (Unit {0}) (WalkStop DataFault)) → Walked PlainTakes course s c r s' c' → s.at ≤ s'.at
+pub walk_forth : (course : CountedCourse) (s s' : Cursor) (c c' : ℕ) (r : Result (Unit {0}) (WalkStop DataFault)) → Walked PlainTakes course s c r s' c' → s.at ≤ s'.at
 walk_forth course s s' c c' (Ok u) w = takes_forth course s w.0 s' w.1
 walk_forth course s s' c c' (Err why) w = omega (
   arith,
@@ -364,7 +365,7 @@ pub used_most : (octets : List ℕ) (used : ℕ) → length octets < 2 ^ 24 → 
 used_most octets used h w = omega (arith, h, w, bits_length octets)
 
 pub plain_held : (table : List Row) (template : Tree) (subsets : ℕ) (octets : List ℕ) (used : ℕ) → length octets < 2 ^ 24
-    → IsReadAndPaid (next_item table template) (data_in false subsets octets) used → IsStoredReading (read_by table template (data_in false subsets octets) used 0) kept.Apart
+    → IsReadAndPaid (uncounted (counted_item table template)) (data_in false subsets octets) used → IsStoredReading (read_by table template (data_in false subsets octets) used 0) kept.Apart
 plain_held table template subsets octets used short h = record { reading = h.0; keeps = tt; few = omega arith; pays = h.1; short = used_most octets used short h.0.1 }
 
 -- the data of a message that are not compressed
@@ -372,9 +373,9 @@ pub same_data : (m : Sections) (subsets : ℕ) (octets : List ℕ) → m.compres
 same_data m subsets octets plain e f = grind (arith, common_steps)
 
 pub plain_is : (table : List Row) (template : Tree) (m : Sections) (subsets : ℕ) (octets : List ℕ) (used steps : ℕ) → data_in false subsets octets ≡ data_of m
-    → ReadsData (next_item table template) (data_in false subsets octets) (Ok used) steps
+    → ReadsData (counted_item table template) (data_in false subsets octets) (Ok used) steps
     → AnswersReading table template (data_of m) (Ok (read_by table template (data_in false subsets octets) used 0)) steps
-plain_is table template m subsets octets used steps e h = (refl, refl, e, subst (λ d. ReadsData (next_item table template) d (Ok used) steps) e h)
+plain_is table template m subsets octets used steps e h = (refl, refl, e, subst (λ d. ReadsData (counted_item table template) d (Ok used) steps) e h)
 
 -- data that are not compressed were read before, and can be shown
 pub readable_of : (r : Read) → IsStoredReading r kept.Apart → (all : List (List (Item Content))) × (left : List Bool) × ReadsSubsets (course_of r) all r.source.bits left

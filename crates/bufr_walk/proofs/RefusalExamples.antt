@@ -27,7 +27,7 @@ width_in (refused why) = Err why
 -- refusal
 next_width : Tree → List Taken → Result ℕ TurnRefusal
 unfolding table next_item width_in
-next_width tree answers = width_in (next_item table tree answers).next
+next_width tree answers = width_in (next_item table tree answers)
 
 -- the width of the first field
 width : List ℕ → Result ℕ TurnRefusal
@@ -193,7 +193,7 @@ width_before_the_data = (refl, refl)
 -- what stops a pass over these octets of two subsets, where so many items of 65,535 were read
 stops_at : (items : ℕ) → Tree → List ℕ → Stop → Type 0
 unfolding table next_item bits_of
-stops_at items tree octets why = EndsPass (reading (packed 2) (would_be_many 65535)) (next_item table tree []).next (place_at items (bits_of octets)) (Some why)
+stops_at items tree octets why = EndsPass (reading (packed 2) (would_be_many 65535)) (next_item table tree []) (place_at items (bits_of octets)) (Some why)
 
 -- 35 before 30, 34 and 33: 65,535 subsets have 2,048 items, and one more is too many.
 -- rule: compressed-fault-order, too-many-values

@@ -3,7 +3,7 @@ use Rattle.std.proofs.lemmas.Grind.{common_steps}
 use Rattle.std.proofs.Common.{suc, None, Option, option_map, append_assoc, ◌≡◌, ℕ, ◌+◌, ◌-◌, ◌*◌, ◌^◌, ◌<◌, ◌≤◌, false, Bool, List, [], ◌∷◌, ◌++◌, length, drop, Some, refl, sym, ◌∙◌, ap, subst, arith, length-append, length-drop, ◌/◌, ◌&&◌, true, ◌⊎◌, inl, inr, take, Result, Ok, Err, ℤ, pos, ◌+ℤ◌, nat_lt, if◌then◌else◌, nat_le, not, unsigned_abs}
 use Rattle.std.proofs.lemmas.Bool.{ltb-true}
 use Rattle.bufr_bits.specs.Prelude.{bits_of, number_of, are_all_ones}
-use Rattle.bufr_walk.specs.Prelude.{Kind, WalkFault, Content, data_end, answer_of, number, text, missing, content_in, octets_in, signed_by, shown_number, shown_text, shown_missing, shown_reference, shown, FieldFault, FieldRead, found, plain_field, FieldSpec, IsSpec, HasRole, is_reference, IsFor, IsForRole, is_plain_number, is_plain, IsPlainNumber, Course, Next, take_next, at_end, refused, ticked, TakenField, Takes, oks, answers_of, Walked, fault_at, bits_before, data_in, Stop, Item, plain, ReadsPass, ReadsSubsets, turns_after, turns_in, after, items_in, IsReading, apart, together, Values, Read, course_of, IsReadAndPaid, PaysBits, IsStoredReading, KeepsValues, calls_for, turns_for, Cursor, rest_of, past, IsTaken, Stage, stage, IsShown, IsUnshown, ShowingTakes, Sofar, ItemsShown, ItemsEnded, ItemsGo, ShowFault, TurnRefusal, Role, Taken, WalkStop, Call, item_call, view_of, Timed, timed, item_calls, Shows, EndsAt, IsReferenceValue, subset_call, subset_calls, stop_by}
+use Rattle.bufr_walk.specs.Prelude.{Kind, WalkFault, Content, data_end, answer_of, number, text, missing, content_in, octets_in, signed_by, shown_number, shown_text, shown_missing, shown_reference, shown, FieldFault, FieldRead, found, plain_field, FieldSpec, IsSpec, HasRole, is_reference, IsFor, IsForRole, is_plain_number, is_plain, IsPlainNumber, Next, take_next, at_end, refused, ticked, TakenField, Takes, oks, answers_of, Walked, fault_at, bits_before, data_in, Stop, Item, plain, ReadsPass, ReadsSubsets, turns_after, turns_in, items_in, IsReading, apart, together, Values, Read, course_of, IsReadAndPaid, PaysBits, IsStoredReading, KeepsValues, calls_for, turns_for, Cursor, rest_of, past, IsTaken, Stage, stage, IsShown, IsUnshown, ShowingTakes, Sofar, ItemsShown, ItemsEnded, ItemsGo, ShowFault, TurnRefusal, Role, Taken, WalkStop, Call, item_call, view_of, Timed, timed, item_calls, Shows, EndsAt, IsReferenceValue, subset_call, subset_calls, stop_by, CountedCourse, uncounted, after_counted, counted_course_of}
 use Rattle.bufr_tables.specs.Prelude.{Row, is_character}
 use Rattle.bufr_walk.specs.declared.plain.ShowStop.{ShowStop}
 use Rattle.std.proofs.lemmas.Bool.Decides.{nat_tests}
@@ -30,12 +30,13 @@ use Rattle.std.specs.Prelude.{is_none, is_some}
 pub ticked_more : (a b : ℕ) → ticked (ticked 0 a) b ≡ ticked 0 (a + b)
 ticked_more a b = grind (arith, common_steps)
 
-pub reads_more : (course : Course) (xs : List (List (Item Content))) (x : List (Item Content)) (bits mid suffix : List Bool) → ReadsSubsets course xs bits mid → ReadsPass plain course x mid suffix
-    → ReadsSubsets course (xs ++ x ∷ []) bits suffix
-reads_more course [] x bits mid suffix h r = (suffix, subst (λ z. ReadsPass plain course x z suffix) (sym h) r, refl)
+pub reads_more : (course : CountedCourse) (xs : List (List (Item Content))) (x : List (Item Content)) (bits mid suffix : List Bool) → ReadsSubsets (uncounted course) xs bits mid
+    → ReadsPass plain (uncounted course) x mid suffix
+    → ReadsSubsets (uncounted course) (xs ++ x ∷ []) bits suffix
+reads_more course [] x bits mid suffix h r = (suffix, subst (λ z. ReadsPass plain (uncounted course) x z suffix) (sym h) r, refl)
 reads_more course (y ∷ xs) x bits mid suffix h r = (h.0, h.1, reads_more course xs x h.0 mid suffix h.2 r)
 
-pub turns_more : (course : Course) (xs : List (List (Item Content))) (x : List (Item Content)) → turns_in course (xs ++ x ∷ []) ≡ turns_in course xs + turns_after plain course x
+pub turns_more : (course : CountedCourse) (xs : List (List (Item Content))) (x : List (Item Content)) → turns_in course (xs ++ x ∷ []) ≡ turns_in course xs + turns_after plain course x
 turns_more course [] x = omega arith
 turns_more course (y ∷ xs) x = omega (arith, turns_more course xs x)
 
@@ -56,21 +57,21 @@ left_append : (bits : List Bool) (a b : List (DataPass Content)) → left_after 
 left_append bits [] b = refl
 left_append bits (p ∷ a) b = left_append p.state.left a b
 
-turns_append : (a b : List (DataPass Content)) → turns_in_all (a ++ b) ≡ turns_in_all a + turns_in_all b
-turns_append [] b = omega arith
-turns_append (p ∷ a) b = omega (arith, turns_append a b)
+turns_append : (course : CountedCourse) (a b : List (DataPass Content)) → turns_in_all plain course (a ++ b) ≡ turns_in_all plain course a + turns_in_all plain course b
+turns_append course [] b = omega arith
+turns_append course (p ∷ a) b = omega (arith, turns_append course a b)
 
 -- what a pass over the bits that are left gives
-fuel : (course : Course) (s s' : Cursor) (c c' : ℕ) (next : Next) (p : PassComes course s c next s' c') → s'.at ≤ length s'.bits → length p.items < suc (length (rest_of s))
+fuel : (course : CountedCourse) (s s' : Cursor) (c c' : ℕ) (next : Next) (p : PassComes course s c next s' c') → s'.at ≤ length s'.bits → length p.items < suc (length (rest_of s))
 fuel course s s' c c' next p within = omega (arith, p.pays, within, ap length p.same, length-drop s.at s.bits)
 
-came : (course : Course) (s s' : Cursor) (c c' : ℕ) (next : Next) (o : Option Stop) (p : PassComes course s c next s' c') → s'.at ≤ length s'.bits
-    → ReadsTo plain (λ n. false) course (place_at 0 (rest_of s)) (passed plain course (0 + length p.items) p.items (rest_of s') o)
-    → read_pass plain (λ items. false) course (rest_of s) ≡ passed plain course (0 + length p.items) p.items (rest_of s') o
-came course s s' c c' next o p within h = pass_is plain (λ n. false) (suc (length (rest_of s))) course 0 (rest_of s) p.items (rest_of s') o h (fuel course s s' c c' next p within)
+came : (course : CountedCourse) (s s' : Cursor) (c c' : ℕ) (next : Next) (o : Option Stop) (p : PassComes course s c next s' c') → s'.at ≤ length s'.bits
+    → ReadsTo plain (λ n. false) (uncounted course) (place_at 0 (rest_of s)) (passed (0 + length p.items) p.items (rest_of s') o)
+    → read_pass plain (λ items. false) (uncounted course) (rest_of s) ≡ passed (0 + length p.items) p.items (rest_of s') o
+came course s s' c c' next o p within h = pass_is plain (λ n. false) (suc (length (rest_of s))) (uncounted course) 0 (rest_of s) p.items (rest_of s') o h (fuel course s s' c c' next p within)
 
 -- nothing was read yet
-pub none_yet : (n : ℕ) (course : Course) (bits : List Bool) (s : Cursor) (steps : ℕ) → s ≡ record { bits = bits; at = 0 } → steps ≡ 0 → SubsetsRead n course bits 0 s steps
+pub none_yet : (n : ℕ) (course : CountedCourse) (bits : List Bool) (s : Cursor) (steps : ℕ) → s ≡ record { bits = bits; at = 0 } → steps ≡ 0 → SubsetsRead n course bits 0 s steps
 none_yet n course bits s steps e z = record {
   subsets = [];
   whole = sym rest;
@@ -81,7 +82,7 @@ none_yet n course bits s steps e z = record {
   pays = omega arith;
   within = omega (arith, ap (λ x. x.at) e);
   passes = [];
-  goes = λ more. ap (λ k. passes_apart course k bits) (zero_plus more) ∙ ap (passes_apart course more) (sym rest);
+  goes = λ more. ap (λ k. passes_apart (uncounted course) k bits) (zero_plus more) ∙ ap (passes_apart (uncounted course) more) (sym rest);
   none = refl;
   left = sym rest;
   turns = refl;
@@ -97,7 +98,8 @@ none_yet n course bits s steps e z = record {
     ticked_none : 0 ≡ ticked 0 0
     ticked_none = grind (arith, common_steps)
 
-pub one_more : (n : ℕ) (course : Course) (bits : List Bool) (i : ℕ) (s s' : Cursor) (c c' : ℕ) → SubsetsRead n course bits i s c → PassComes course s c at_end s' c' → c' ≤ c + n * (s'.at - s.at)
+pub one_more : (n : ℕ) (course : CountedCourse) (bits : List Bool) (i : ℕ) (s s' : Cursor) (c c' : ℕ) → SubsetsRead n course bits i s c → PassComes course s c at_end s' c'
+    → c' ≤ c + n * (s'.at - s.at)
     → s'.at ≤ length s'.bits → s.at ≤ s'.at → SubsetsRead n course bits (i + 1) s' c'
 one_more n course bits i s s' c c' h p few within forth =
     let same : s'.bits ≡ bits = p.same ∙ h.same in
@@ -112,20 +114,21 @@ one_more n course bits i s s' c c' h p few within forth =
       pays = omega (arith, items_more h.subsets p.items, h.pays, p.pays);
       within = omega (arith, within, ap length same);
       passes = h.passes ++ pass ∷ [];
-      goes = λ more. ap (λ k. passes_apart course k bits) (counted i more) ∙ h.goes (suc more)
-          ∙ ap (λ (q : DataPass Content). h.passes ++ (q ∷ (if is_none q.stop then passes_apart course more q.state.left else []))) is
-          ∙ sym (append_assoc h.passes (pass ∷ []) (passes_apart course more (rest_of s')));
+      goes = λ more. ap (λ k. passes_apart (uncounted course) k bits) (counted i more) ∙ h.goes (suc more)
+          ∙ ap (λ (q : DataPass Content). h.passes ++ (q ∷ (if is_none q.stop then passes_apart (uncounted course) more q.state.left else []))) is
+          ∙ sym (append_assoc h.passes (pass ∷ []) (passes_apart (uncounted course) more (rest_of s')));
       none = stop_append h.passes (pass ∷ []) h.none;
       left = left_append bits h.passes (pass ∷ []);
-      turns = turns_append h.passes (pass ∷ []) ∙ sums_to (turns_in_all h.passes) (turns_in course h.subsets) (turns_after plain course p.items) h.turns ∙ sym (turns_more course h.subsets p.items);
+      turns = turns_append course h.passes (pass ∷ []) ∙ sums_to (turns_in_all plain course h.passes) (turns_in course h.subsets) (turns_after plain course p.items) h.turns
+          ∙ sym (turns_more course h.subsets p.items);
       items = map-append (λ (q : DataPass Content). q.items) h.passes (pass ∷ []) ∙ ap (λ xs. xs ++ p.items ∷ []) h.items;
     }
   where
     pass : DataPass Content
-    pass = passed plain course (0 + length p.items) p.items (rest_of s') None
+    pass = passed (0 + length p.items) p.items (rest_of s') None
 
-    is : read_pass plain (λ items. false) course (rest_of s) ≡ passed plain course (0 + length p.items) p.items (rest_of s') None
-    is = came course s s' c c' at_end None p within (record { reads = p.reads; few = λ j lt. refl; count = refl; ends = ended plain (λ n. false) _ _ (sym p.next_is); turns = refl })
+    is : read_pass plain (λ items. false) (uncounted course) (rest_of s) ≡ passed (0 + length p.items) p.items (rest_of s') None
+    is = came course s s' c c' at_end None p within (record { reads = p.reads; few = λ j lt. refl; count = refl; ends = ended plain (λ n. false) _ _ (sym p.next_is) })
 
     counted : (i more : ℕ) → i + 1 + more ≡ i + suc more
     counted i more = omega arith
@@ -139,8 +142,8 @@ one_more n course bits i s s' c c' h p few within forth =
         split : (n a d b : ℕ) → b ≡ a + d → n * b ≡ n * a + n * d
         split n a d b e = ap (λ x. n * x) e ∙ grind arith
 
-ticks_of : (n : ℕ) (course : Course) (bits : List Bool) (i : ℕ) (s s' : Cursor) (c c' : ℕ) (next : Next) (h : SubsetsRead n course bits i s c) (p : PassComes course s c next s' c')
-    → c' ≡ ticked 0 (turns_in_all h.passes + turns_after plain course p.items)
+ticks_of : (n : ℕ) (course : CountedCourse) (bits : List Bool) (i : ℕ) (s s' : Cursor) (c c' : ℕ) (next : Next) (h : SubsetsRead n course bits i s c) (p : PassComes course s c next s' c')
+    → c' ≡ ticked 0 (turns_in_all plain course h.passes + turns_after plain course p.items)
 ticks_of n course bits i s s' c c' next h p =
     p.ticks ∙ ap (λ x. ticked x (turns_after plain course p.items)) h.ticks ∙ ticked_more (turns_in course h.subsets) (turns_after plain course p.items)
     ∙ ap (λ t. ticked 0 (t + turns_after plain course p.items)) (sym h.turns)
@@ -149,37 +152,38 @@ here : (s : Cursor) (bits : List Bool) → s.bits ≡ bits → s.at ≤ length b
 here s bits e h = omega (arith, length-drop s.at s.bits, ap length e, h)
 
 -- all subsets were read
-all_passes : (n : ℕ) (course : Course) (bits : List Bool) (total i : ℕ) (s : Cursor) (c : ℕ) (h : SubsetsRead n course bits i s c) → i ≡ total → passes_apart course total bits ≡ h.passes
-all_passes n course bits total i s c h e = ap (λ k. passes_apart course k bits) (sym e ∙ plus_none i) ∙ h.goes 0 ∙ append-nil h.passes
+all_passes : (n : ℕ) (course : CountedCourse) (bits : List Bool) (total i : ℕ) (s : Cursor) (c : ℕ) (h : SubsetsRead n course bits i s c) → i ≡ total
+    → passes_apart (uncounted course) total bits ≡ h.passes
+all_passes n course bits total i s c h e = ap (λ k. passes_apart (uncounted course) k bits) (sym e ∙ plus_none i) ∙ h.goes 0 ∙ append-nil h.passes
   where
     plus_none : (a : ℕ) → a ≡ a + 0
     plus_none a = omega arith
 
-pub all_read : (n : ℕ) (course : Course) (octets : List ℕ) (total i : ℕ) (s : Cursor) (c : ℕ) → SubsetsRead n course (bits_of octets) i s c → i ≡ total
+pub all_read : (n : ℕ) (course : CountedCourse) (octets : List ℕ) (total i : ℕ) (s : Cursor) (c : ℕ) → SubsetsRead n course (bits_of octets) i s c → i ≡ total
     → ReadsData course (data_in false total octets) (Ok s.at) c
 all_read n course octets total i s c h e =
     let is = all_passes n course (bits_of octets) total i s c h e in (
       ap stop_of is ∙ h.none,
       ap (λ (ps : List (DataPass Content)). s.at + length (left_after (bits_of octets) ps)) is ∙ ap (λ l. s.at + length l) h.left ∙ here s (bits_of octets) h.same h.within,
-      h.ticks ∙ ap (ticked 0) (sym h.turns ∙ ap turns_in_all (sym is)),
+      h.ticks ∙ ap (ticked 0) (sym h.turns ∙ ap (turns_in_all plain course) (sym is)),
     )
 
-pub all_paid : (n : ℕ) (course : Course) (octets : List ℕ) (total i : ℕ) (s : Cursor) (c : ℕ) → SubsetsRead n course (bits_of octets) i s c → i ≡ total
-    → IsReadAndPaid course (data_in false total octets) s.at
+pub all_paid : (n : ℕ) (course : CountedCourse) (octets : List ℕ) (total i : ℕ) (s : Cursor) (c : ℕ) → SubsetsRead n course (bits_of octets) i s c → i ≡ total
+    → IsReadAndPaid (uncounted course) (data_in false total octets) s.at
 all_paid n course octets total i s c h e =
-    let items : h.subsets ≡ items_by_pass (passes_apart course total (bits_of octets)) = sym h.items ∙ ap items_by_pass (sym (all_passes n course (bits_of octets) total i s c h e)) in
-    subst (λ xs. IsReading course (data_in false total octets) (apart xs) s.at × PaysBits (apart xs) s.at) items
-    ((refl, h.within, (subst (λ b. ReadsSubsets course h.subsets (bits_of octets) (drop s.at b)) h.same h.whole, h.count_is ∙ e)), h.pays)
+    let items : h.subsets ≡ items_by_pass (passes_apart (uncounted course) total (bits_of octets)) = sym h.items ∙ ap items_by_pass (sym (all_passes n course (bits_of octets) total i s c h e)) in
+    subst (λ xs. IsReading (uncounted course) (data_in false total octets) (apart xs) s.at × PaysBits (apart xs) s.at) items
+    ((refl, h.within, (subst (λ b. ReadsSubsets (uncounted course) h.subsets (bits_of octets) (drop s.at b)) h.same h.whole, h.count_is ∙ e)), h.pays)
 
 -- a walk that stopped in one subset
-pub stopped_there : (n : ℕ) (course : Course) (octets : List ℕ) (total i : ℕ) (s s' : Cursor) (c c' : ℕ) (why : WalkFault) → SubsetsRead n course (bits_of octets) i s c → i < total
+pub stopped_there : (n : ℕ) (course : CountedCourse) (octets : List ℕ) (total i : ℕ) (s s' : Cursor) (c c' : ℕ) (why : WalkFault) → SubsetsRead n course (bits_of octets) i s c → i < total
     → PassStops course s c (i + 1) why s' c' → s'.at ≤ length s'.bits → ReadsData course (data_in false total octets) (Err why) c'
 stopped_there n course octets total i s s' c c' why h more p within = by p
   where
-    goes : passes_apart course total (bits_of octets) ≡ h.passes ++
-        (read_pass plain (λ items. false) course (rest_of s) ∷ (if is_none (read_pass plain (λ items. false) course (rest_of s)).stop
-        then passes_apart course (total - (i + 1)) (read_pass plain (λ items. false) course (rest_of s)).state.left else []))
-    goes = ap (λ k. passes_apart course k (bits_of octets)) (others total i more) ∙ h.goes (suc (total - (i + 1)))
+    goes : passes_apart (uncounted course) total (bits_of octets) ≡ h.passes ++
+        (read_pass plain (λ items. false) (uncounted course) (rest_of s) ∷ (if is_none (read_pass plain (λ items. false) (uncounted course) (rest_of s)).stop
+        then passes_apart (uncounted course) (total - (i + 1)) (read_pass plain (λ items. false) (uncounted course) (rest_of s)).state.left else []))
+    goes = ap (λ k. passes_apart (uncounted course) k (bits_of octets)) (others total i more) ∙ h.goes (suc (total - (i + 1)))
       where
         others : (total i : ℕ) → i < total → total ≡ i + suc (total - (i + 1))
         others total i h = omega (arith, h)
@@ -193,15 +197,16 @@ stopped_there n course octets total i s s' c c' why h more p within = by p
     by : PassStops course s c (i + 1) why s' c' → ReadsData course (data_in false total octets) (Err why) c'
     by (inl q) =
         let m = q.1 in
-        let begins = pass_prefix plain (λ n. false) (suc (length (rest_of s))) course 0 (rest_of s) m.items (rest_of s') m.reads (λ j lt. refl) (fuel course s s' c c' (take_next q.0) m within) in
+        let begins = pass_prefix plain (λ n. false) (suc (length (rest_of s))) (uncounted course) 0 (rest_of s) m.items (rest_of s') m.reads (λ j lt. refl)
+        (fuel course s s' c c' (take_next q.0) m within) in
         inr (
           q.3,
-          turns_in_all h.passes + turns_after plain course m.items,
+          turns_in_all plain course h.passes + turns_after plain course m.items,
           record {
             done = h.passes;
-            here = read_pass plain (λ items. false) course (rest_of s);
-            later = if is_none (read_pass plain (λ items. false) course (rest_of s)).stop
-                then passes_apart course (total - (i + 1)) (read_pass plain (λ items. false) course (rest_of s)).state.left else [];
+            here = read_pass plain (λ items. false) (uncounted course) (rest_of s);
+            later = if is_none (read_pass plain (λ items. false) (uncounted course) (rest_of s)).stop
+                then passes_apart (uncounted course) (total - (i + 1)) (read_pass plain (λ items. false) (uncounted course) (rest_of s)).state.left else [];
             among = goes;
             items = m.items;
             more = begins.0;
@@ -215,17 +220,16 @@ stopped_there n course octets total i s s' c c' why h more p within = by p
         )
     by (inr q) =
         let m = q.2 in
-        let pass : DataPass Content = passed plain course (0 + length m.items) m.items (rest_of s') (Some q.1) in
+        let pass : DataPass Content = passed (0 + length m.items) m.items (rest_of s') (Some q.1) in
         let is = came course s s' c c' q.0 (Some q.1) m within
         (record {
           reads = m.reads;
           few = λ j lt. refl;
           count = refl;
           ends = subst (λ x. EndsPass (reading plain (λ n. false)) x (place_at (0 + length m.items) (rest_of s')) (Some q.1)) m.next_is (q.3 (0 + length m.items));
-          turns = refl;
         }) in
-        let all : passes_apart course total (bits_of octets) ≡ h.passes ++ pass ∷ [] =
-        goes ∙ ap (λ (z : DataPass Content). h.passes ++ (z ∷ (if is_none z.stop then passes_apart course (total - (i + 1)) z.state.left else []))) is in
+        let all : passes_apart (uncounted course) total (bits_of octets) ≡ h.passes ++ pass ∷ [] =
+        goes ∙ ap (λ (z : DataPass Content). h.passes ++ (z ∷ (if is_none z.stop then passes_apart (uncounted course) (total - (i + 1)) z.state.left else []))) is in
         let at : s'.at + length (rest_of s') ≡ length (bits_of octets) = here s' (bits_of octets) (m.same ∙ h.same) (omega (arith, within, ap length (m.same ∙ h.same))) in
         let count : length (h.passes ++ pass ∷ []) ≡ i + 1 = omega
         (arith, length-append h.passes (pass ∷ []), h.count_is, ap length h.items, length-map h.passes (λ (z : DataPass Content). z.items)) in
@@ -237,11 +241,12 @@ stopped_there n course octets total i s s' c c' why h more p within = by p
               ∙ ap (λ l. Some (fault_at q.1 (i + 1) (length (bits_of octets) - length l))) (left_append (bits_of octets) h.passes (pass ∷ []))
               ∙ ap (λ b. Some (fault_at q.1 (i + 1) b)) (place_is s'.at (length (rest_of s')) (length (bits_of octets)) at),
           ticks_of n course (bits_of octets) i s s' c c' q.0 h m ∙ ap (ticked 0)
-              (sym (ap turns_in_all all ∙ turns_append h.passes (pass ∷ []) ∙ sums_to (turns_in_all h.passes) (turns_after plain course m.items))),
+              (sym (ap (turns_in_all plain course) all ∙ turns_append course h.passes (pass ∷ []) ∙ sums_to (turns_in_all plain course h.passes) (turns_after plain course m.items))),
         ))
 
 -- the turns up to a fault
-pub few_stopped : (n : ℕ) (course : Course) (bits : List Bool) (i : ℕ) (s s' : Cursor) (c c' subset : ℕ) (why : WalkFault) → SubsetsRead n course bits i s c → PassStops course s c subset why s' c'
+pub few_stopped : (n : ℕ) (course : CountedCourse) (bits : List Bool) (i : ℕ) (s s' : Cursor) (c c' subset : ℕ) (why : WalkFault) → SubsetsRead n course bits i s c
+    → PassStops course s c subset why s' c'
     → c' ≤ c + n * (s'.at - s.at + 1) → s'.at ≤ length s'.bits → s.at ≤ s'.at → c' ≤ n * (bits_before why (length bits) + 1)
 few_stopped n course bits i s s' c c' subset why h p few within forth = most (bits_before why (length bits)) (by p)
   where
@@ -315,16 +320,19 @@ abbrev item_of : FieldSpec → Content → Item Content
 item_of spec content = record { spec = spec; content = content }
 
 -- what comes next is one item
-same_item : (course : Course) (spec : FieldSpec) (a : Item Content) (c : Content) (bits mid mid' : List Bool) → (course []).next ≡ take_next spec → (course []).next ≡ take_next a.spec
+same_item : (course : CountedCourse) (spec : FieldSpec) (a : Item Content) (c : Content) (bits mid mid' : List Bool) → (course []).next ≡ take_next spec → (course []).next ≡ take_next a.spec
     → plain_field spec bits ≡ Ok (found c mid) → plain_field a.spec bits ≡ Ok (found a.content mid') → (item_of spec c ≡ a) × (mid' ≡ mid)
 same_item course spec a c bits mid mid' e e' f f' = grind (arith, common_steps, same_found)
 
-course_is : (course : Course) (i : TakenField) (a : Item Content) (c : Content) → i.taken ≡ answer_of i.spec c → item_of i.spec c ≡ a → (λ more. course (i.taken ∷ more)) ≡ after plain course a
-course_is course i a c e is = ap (λ t more. course (t ∷ more)) e ∙ ap (after plain course) is
+course_is : (course : CountedCourse) (i : TakenField) (a : Item Content) (c : Content) → i.taken ≡ answer_of i.spec c → item_of i.spec c ≡ a
+    → (λ more. course (i.taken ∷ more)) ≡ after_counted plain course a
+course_is course i a c e is = ap (λ t more. course (t ∷ more)) e ∙ ap (after_counted plain course) is
 
-suffix_of : (course : Course) (i : TakenField) (a : Item Content) (others : List (Item Content)) (mid' mid left : List Bool) → (λ more. course (i.taken ∷ more)) ≡ after plain course a → mid' ≡ mid
-    → ReadsPass plain (after plain course a) others mid' left → ReadsPass plain (λ more. course (i.taken ∷ more)) others mid left
-suffix_of course i a others mid' mid left go e r = subst (λ c. ReadsPass plain c others mid left) (sym go) (subst (λ b. ReadsPass plain (after plain course a) others b left) e r)
+suffix_of : (course : CountedCourse) (i : TakenField) (a : Item Content) (others : List (Item Content)) (mid' mid left : List Bool) → (λ more. course (i.taken ∷ more)) ≡ after_counted plain course a
+    → mid' ≡ mid
+    → ReadsPass plain (uncounted (after_counted plain course a)) others mid' left → ReadsPass plain (uncounted (λ more. course (i.taken ∷ more))) others mid left
+suffix_of course i a others mid' mid left go e r = subst (λ c. ReadsPass plain (uncounted c) others mid left) (sym go)
+    (subst (λ b. ReadsPass plain (uncounted (after_counted plain course a)) others b left) e r)
 
 -- the end of a walk over data that were read before: the visitor refuses, or memory runs out
 abbrev pub IsEnd : {E : Type 0} → WalkStop (ShowStop E) → ShowFault E → Type 0
@@ -379,19 +387,21 @@ module _ {V E : Type 0} (sees : V → Call → Result (Unit {0}) E → V → Typ
   sofar_call s s1 t rest h = record { on = λ turns r s' steps w. call_on s s1 t rest turns r s' steps h w }
 
   -- the rest of a showing among the items of a reading
-  pub record Left (table : List Row) (course : Course) (before : ℕ) (all : List (Item Content)) (left : List Bool) (more : List Timed) (answer_of : List Taken) (v : V) (s' : Stage V) : Type 0 where
+  pub record Left (table : List Row) (course : CountedCourse) (before : ℕ) (all : List (Item Content)) (left : List Bool) (more : List Timed) (answer_of : List Taken) (v : V) (s' : Stage V) : Type
+      0 where
     pub rest : List (Item Content)
-    pub further : Course
-    pub reads : ReadsPass plain further rest (rest_of s'.cursor) left
+    pub further : CountedCourse
+    pub reads : ReadsPass plain (uncounted further) rest (rest_of s'.cursor) left
     pub here : further [] ≡ course answer_of
     pub so_far : Sofar sees v (item_calls table before course all ++ more) s'.visitor (item_calls table before further rest ++ more)
     pub turns : turns_after plain course all ≡ turns_after plain further rest
 
-  no_item : (course : Course) (spec : FieldSpec) → (course []).next ≡ take_next spec → (course []).next ≡ at_end → ⊥
+  no_item : (course : CountedCourse) (spec : FieldSpec) → (course []).next ≡ take_next spec → (course []).next ≡ at_end → ⊥
   no_item course spec e f = let g : take_next spec ≡ at_end = sym e ∙ f in cc
 
   -- at the end nothing is left
-  pub all_gone : (course : Course) (rest : List (Item Content)) (bits left : List Bool) → (course []).next ≡ at_end → ReadsPass plain course rest bits left → (rest ≡ []) × (bits ≡ left)
+  pub all_gone : (course : CountedCourse) (rest : List (Item Content)) (bits left : List Bool) → (course []).next ≡ at_end → ReadsPass plain (uncounted course) rest bits left
+      → (rest ≡ []) × (bits ≡ left)
   all_gone course [] bits left e r = (refl, r.0)
   all_gone course (x ∷ xs) bits left e r = absurd (no_item course x.spec r.0.1 e)
 
@@ -399,7 +409,7 @@ module _ {V E : Type 0} (sees : V → Call → Result (Unit {0}) E → V → Typ
     abbrev pub took : S → FieldSpec → Result Taken (ShowStop E) → S → Type 0
     took s spec r t = ShowingTakes sees (on s) spec r (on t)
 
-    names_so : (course : Course) (s : S) (items : List TakenField) (s' : S) → Takes (oks took) course s items s' → ((on s').names ≡ (on s).names)
+    names_so : (course : CountedCourse) (s : S) (items : List TakenField) (s' : S) → Takes (oks took) (uncounted course) s items s' → ((on s').names ≡ (on s).names)
     names_so course s [] s' h = ap (λ x. (on x).names) h
     names_so course s (i ∷ items) s' h = names_so (λ answer_of. course (i.taken ∷ answer_of)) h.0 items s' h.3 ∙ h.2.names
 
@@ -407,18 +417,18 @@ module _ {V E : Type 0} (sees : V → Call → Result (Unit {0}) E → V → Typ
     field_names s spec stop.DataEnd s' h = ap (λ x. x.names) h.1
     field_names s spec (stop.Visitor e) s' h = h.names
 
-    pub same_names : (course : Course) (s : S) (c : ℕ) (r : Result (Unit {0}) (WalkStop (ShowStop E))) (s' : S) (c' : ℕ) → Walked took course s c r s' c' → ((on s').names ≡ (on s).names)
+    pub same_names : (course : CountedCourse) (s : S) (c : ℕ) (r : Result (Unit {0}) (WalkStop (ShowStop E))) (s' : S) (c' : ℕ) → Walked took course s c r s' c' → ((on s').names ≡ (on s).names)
     same_names course s c (Ok u) s' c' w = names_so course s w.0 s' w.1
     same_names course s c (Err why) s' c' w = stop_cases took (λ next y. (on s').names ≡ (on w.1).names) w.1 s' (λ spec e h. field_names w.1 spec e s' h) (λ spec r h. ap (λ x. (on x).names) h)
         (λ x h. ap (λ z. (on z).names) h) (course (answers_of w.0)).next why w.3 ∙ names_so course s w.0 w.1 w.2
 
-    shown_so : (table : List Row) (before : ℕ) (course : Course) (s : S) (items : List TakenField) (s' : S) → Takes (oks took) course s items s' → (on s).table ≡ table
-        → (all : List (Item Content)) (left : List Bool) (more : List Timed) → ReadsPass plain course all (rest_of (on s).cursor) left
+    shown_so : (table : List Row) (before : ℕ) (course : CountedCourse) (s : S) (items : List TakenField) (s' : S) → Takes (oks took) (uncounted course) s items s' → (on s).table ≡ table
+        → (all : List (Item Content)) (left : List Bool) (more : List Timed) → ReadsPass plain (uncounted course) all (rest_of (on s).cursor) left
         → Left table course before all left more (answers_of items) (on s).visitor (on s')
     shown_so table before course s [] s' h t all left more r = record {
       rest = all;
       further = course;
-      reads = subst (λ x. ReadsPass plain course all (rest_of (on x).cursor) left) (sym h) r;
+      reads = subst (λ x. ReadsPass plain (uncounted course) all (rest_of (on x).cursor) left) (sym h) r;
       here = refl;
       so_far = subst (λ x. Sofar sees (on s).visitor (item_calls table before course all ++ more) (on x).visitor (item_calls table before course all ++ more)) (sym h)
           (sofar_self (on s).visitor (item_calls table before course all ++ more));
@@ -435,22 +445,23 @@ module _ {V E : Type 0} (sees : V → Call → Result (Unit {0}) E → V → Typ
           further = l.further;
           reads = l.reads;
           here = l.here;
-          so_far = sofar_then (on s).visitor (on h.0).visitor (on s').visitor (item_calls table before course (a ∷ others) ++ more) (item_calls table before (after plain course a) others ++ more)
+          so_far = sofar_then (on s).visitor (on h.0).visitor (on s').visitor (item_calls table before course (a ∷ others) ++ more)
+              (item_calls table before (after_counted plain course a) others ++ more)
               (item_calls table before l.further l.rest ++ more)
               (sofar_call (on s).visitor (on h.0).visitor (timed (before + (course []).turns) (item_call (view_of table a.spec a.content)))
-              (item_calls table before (after plain course a) others ++ more)
+              (item_calls table before (after_counted plain course a) others ++ more)
               (subst (λ (z : Item Content). sees (on s).visitor (item_call (view_of table z.spec z.content)) (Ok tt) (on h.0).visitor) is.0
               (subst (λ rows. sees (on s).visitor (item_call (view_of rows i.spec h.2.is_taken.content)) (Ok tt) (on h.0).visitor) t h.2.call)))
               (subst (λ c. Sofar sees (on h.0).visitor (item_calls table before c others ++ more) (on s').visitor (item_calls table before l.further l.rest ++ more)) go l.so_far);
           turns = ap (λ c. turns_after plain c others) (sym go) ∙ l.turns;
         }
 
-    table_so : (course : Course) (s : S) (items : List TakenField) (s' : S) → Takes (oks took) course s items s' → (on s').table ≡ (on s).table
+    table_so : (course : CountedCourse) (s : S) (items : List TakenField) (s' : S) → Takes (oks took) (uncounted course) s items s' → (on s').table ≡ (on s).table
     table_so course s [] s' h = ap (λ x. (on x).table) h
     table_so course s (i ∷ items) s' h = table_so (λ answer_of. course (i.taken ∷ answer_of)) h.0 items s' h.3 ∙ h.2.table
 
     -- the whole of a subset
-    pub all_shown : (table : List Row) (course : Course) (s : S) (c : ℕ) (s' : S) (c' : ℕ) → (on s).table ≡ table → Walked took course s c (Ok tt) s' c'
+    pub all_shown : (table : List Row) (course : CountedCourse) (s : S) (c : ℕ) (s' : S) (c' : ℕ) → (on s).table ≡ table → Walked took course s c (Ok tt) s' c'
         → ItemsShown sees table course (on s).cursor (on s).visitor c (on s').cursor (on s').visitor c'
     all_shown table course s c s' c' t w = record {
       shown = λ before all left more r.
@@ -464,9 +475,10 @@ module _ {V E : Type 0} (sees : V → Call → Result (Unit {0}) E → V → Typ
     }
 
     -- the item at which a showing ends
-    ends_here : (table : List Row) (course further : Course) (answer_of : List Taken) (before c c' turns : ℕ) (rest : List (Item Content)) (left : List Bool) (more : List Timed) (spec : FieldSpec)
+    ends_here : (table : List Row) (course further : CountedCourse) (answer_of : List Taken) (before c c' turns : ℕ) (rest : List (Item Content)) (left : List Bool) (more : List Timed)
+        (spec : FieldSpec)
         (content : Content) (suffix : List Bool) (why : ShowFault E) (mid : S) (v' : V) → further [] ≡ course answer_of → (course answer_of).next ≡ take_next spec
-        → ReadsPass plain further rest (rest_of (on mid).cursor) left → plain_field spec (rest_of (on mid).cursor) ≡ Ok (found content suffix)
+        → ReadsPass plain (uncounted further) rest (rest_of (on mid).cursor) left → plain_field spec (rest_of (on mid).cursor) ≡ Ok (found content suffix)
         → EndsAt sees (on mid).visitor (item_call (view_of table spec content)) why v'
         → c ≡ ticked 0 before → c' ≡ ticked c (course answer_of).turns → Shows sees (on mid).visitor (item_calls table before further rest ++ more) turns (Err why) v' c'
     ends_here table course further answer_of before c c' turns [] left more spec content suffix why mid v' e n r f ends now ticks_are = absurd (no_item further spec (ap (λ a. a.next) e ∙ n) r.1)
@@ -481,8 +493,9 @@ module _ {V E : Type 0} (sees : V → Call → Result (Unit {0}) E → V → Typ
         )
 
     -- a reference before which memory ran out
-    memory_here : (table : List Row) (course further : Course) (answer_of : List Taken) (before c c' turns : ℕ) (rest : List (Item Content)) (left : List Bool) (more : List Timed) (spec : FieldSpec)
-        (why : ShowFault E) (mid s' : S) → further [] ≡ course answer_of → (course answer_of).next ≡ take_next spec → ReadsPass plain further rest (rest_of (on mid).cursor) left
+    memory_here : (table : List Row) (course further : CountedCourse) (answer_of : List Taken) (before c c' turns : ℕ) (rest : List (Item Content)) (left : List Bool) (more : List Timed)
+        (spec : FieldSpec)
+        (why : ShowFault E) (mid s' : S) → further [] ≡ course answer_of → (course answer_of).next ≡ take_next spec → ReadsPass plain (uncounted further) rest (rest_of (on mid).cursor) left
         → why ≡ show_fault.Memory → spec.role ≡ role.Reference → s' ≡ mid
         → c ≡ ticked 0 before → c' ≡ ticked c (course answer_of).turns → Shows sees (on mid).visitor (item_calls table before further rest ++ more) turns (Err why) (on s').visitor c'
     memory_here table course further answer_of before c c' turns [] left more spec why mid s' e n r is kept same now ticks_are = absurd (no_item further spec (ap (λ a. a.next) e ∙ n) r.1)
@@ -497,7 +510,7 @@ module _ {V E : Type 0} (sees : V → Call → Result (Unit {0}) E → V → Typ
               (reference_kept spec (take spec.width (rest_of (on mid).cursor)) kept),
         )) now ticks_are
 
-    pub all_ended : (table : List Row) (course : Course) (s : S) (c : ℕ) (why : WalkStop (ShowStop E)) (end : ShowFault E) (s' : S) (c' : ℕ) → (on s).table ≡ table
+    pub all_ended : (table : List Row) (course : CountedCourse) (s : S) (c : ℕ) (why : WalkStop (ShowStop E)) (end : ShowFault E) (s' : S) (c' : ℕ) → (on s).table ≡ table
         → Walked took course s c (Err why) s' c' → IsEnd why end → ItemsEnded sees table course (on s).cursor (on s).visitor c end (on s').visitor c'
     all_ended table course s c why end s' c' t w is = record {
       ended = λ before all left more turns r now.
@@ -512,8 +525,8 @@ module _ {V E : Type 0} (sees : V → Call → Result (Unit {0}) E → V → Typ
         rows : (on w.1).table ≡ table
         rows = table_so course s w.0 w.1 w.2 ∙ t
 
-        field : (before : ℕ) (left : List Bool) (more : List Timed) (turns : ℕ) → c ≡ ticked 0 before → (rest : List (Item Content)) (further : Course) → further [] ≡ course (answers_of w.0)
-            → ReadsPass plain further rest (rest_of (on w.1).cursor) left → (spec : FieldSpec) (e : ShowStop E) → took w.1 spec (Err e) s' → (course (answers_of w.0)).next ≡ take_next spec
+        field : (before : ℕ) (left : List Bool) (more : List Timed) (turns : ℕ) → c ≡ ticked 0 before → (rest : List (Item Content)) (further : CountedCourse) → further [] ≡ course (answers_of w.0)
+            → ReadsPass plain (uncounted further) rest (rest_of (on w.1).cursor) left → (spec : FieldSpec) (e : ShowStop E) → took w.1 spec (Err e) s' → (course (answers_of w.0)).next ≡ take_next spec
             → IsEnd (stops.Field e) end → Shows sees (on w.1).visitor (item_calls table before further rest ++ more) turns (Err end) (on s').visitor c'
         field before left more turns now rest further e r spec (stop.Visitor fault_is) h n is =
             ends_here table course further (answers_of w.0) before c c' turns rest left more spec h.is_taken.content (rest_of (past (on w.1).cursor spec)) end w.1 (on s').visitor e n r
@@ -527,24 +540,25 @@ module _ {V E : Type 0} (sees : V → Call → Result (Unit {0}) E → V → Typ
         refuses (refusal.Defining f) is = is
 
     -- data that were read before can be shown to their end
-    pub may_end : (table : List Row) (course : Course) (s : S) (c : ℕ) (why : WalkStop (ShowStop E)) (s' : S) (c' : ℕ) (all : List (Item Content)) (left : List Bool) → (on s).table ≡ table
-        → ReadsPass plain course all (rest_of (on s).cursor) left → Walked took course s c (Err why) s' c' → MayEnd why
+    pub may_end : (table : List Row) (course : CountedCourse) (s : S) (c : ℕ) (why : WalkStop (ShowStop E)) (s' : S) (c' : ℕ) (all : List (Item Content)) (left : List Bool) → (on s).table ≡ table
+        → ReadsPass plain (uncounted course) all (rest_of (on s).cursor) left → Walked took course s c (Err why) s' c' → MayEnd why
     may_end table course s c why s' c' all left t r w =
         let l = shown_so table 0 course s w.0 w.1 w.2 t all left [] r in
         stop_cases took (λ next y. (l.further []).next ≡ next → MayEnd y) w.1 s' (λ spec e h n. field l.rest l.further spec e n h l.reads) (λ spec r h n. tt)
         (λ x h n. absurd (no_refusal l.rest l.further x n l.reads)) (course (answers_of w.0)).next why w.3 (ap (λ a. a.next) l.here)
       where
         -- a walk is not refused where a reading goes on
-        goes_on : (rest : List (Item Content)) (further : Course) (next : Next) → (further []).next ≡ next → ReadsPass plain further rest (rest_of (on w.1).cursor) left
+        goes_on : (rest : List (Item Content)) (further : CountedCourse) (next : Next) → (further []).next ≡ next → ReadsPass plain (uncounted further) rest (rest_of (on w.1).cursor) left
             → (next ≡ at_end) ⊎ ((x : Item Content) × (mid : List Bool) × (next ≡ take_next x.spec) × (plain_field x.spec (rest_of (on w.1).cursor) ≡ Ok (found x.content mid)))
         goes_on [] further next e r = inl (sym e ∙ r.1)
         goes_on (x ∷ xs) further next e r = inr (x, r.0.0, sym e ∙ r.0.1, r.0.2)
 
-        no_refusal : (rest : List (Item Content)) (further : Course) (why : TurnRefusal) → (further []).next ≡ refused why → ReadsPass plain further rest (rest_of (on w.1).cursor) left → ⊥
+        no_refusal : (rest : List (Item Content)) (further : CountedCourse) (why : TurnRefusal) → (further []).next ≡ refused why
+            → ReadsPass plain (uncounted further) rest (rest_of (on w.1).cursor) left → ⊥
         no_refusal rest further why e r = elim (goes_on rest further (refused why) e r) as (λ _. ⊥) [ inl f ↦ absurd cc | inr g ↦ (let f : refused why ≡ take_next g.0.spec = g.2 in cc) ]
 
-        no_end : (rest : List (Item Content)) (further : Course) (spec : FieldSpec) → (further []).next ≡ take_next spec → plain_field spec (rest_of (on w.1).cursor) ≡ Err data_end
-            → ReadsPass plain further rest (rest_of (on w.1).cursor) left → ⊥
+        no_end : (rest : List (Item Content)) (further : CountedCourse) (spec : FieldSpec) → (further []).next ≡ take_next spec → plain_field spec (rest_of (on w.1).cursor) ≡ Err data_end
+            → ReadsPass plain (uncounted further) rest (rest_of (on w.1).cursor) left → ⊥
         no_end rest further spec e short r = elim (goes_on rest further (take_next spec) e r) as
             (λ _. ⊥) [
               | inl f ↦ absurd cc
@@ -553,43 +567,45 @@ module _ {V E : Type 0} (sees : V → Call → Result (Unit {0}) E → V → Typ
                   sym short ∙ ap (λ z. plain_field z (rest_of (on w.1).cursor)) same ∙ g.3 in cc)
             ]
 
-        field : (rest : List (Item Content)) (further : Course) (spec : FieldSpec) (e : ShowStop E) → (further []).next ≡ take_next spec → took w.1 spec (Err e) s'
-            → ReadsPass plain further rest (rest_of (on w.1).cursor) left → MayEnd (stops.Field e)
+        field : (rest : List (Item Content)) (further : CountedCourse) (spec : FieldSpec) (e : ShowStop E) → (further []).next ≡ take_next spec → took w.1 spec (Err e) s'
+            → ReadsPass plain (uncounted further) rest (rest_of (on w.1).cursor) left → MayEnd (stops.Field e)
         field rest further spec (stop.Visitor x) n h r = tt
         field rest further spec stop.DataEnd n h r = absurd (no_end rest further spec n h.0 r)
 
 -- ---- Subsets that are shown one after another.
 
 -- some subsets of the data were shown
-pub record SubsetsShown {S E : Type 0} (sees : S → Call → Result (Unit {0}) E → S → Type 0) (table : List Row) (course : Course) (all : List (List (Item Content))) (done : ℕ) (left : List Bool)
+pub record SubsetsShown {S E : Type 0} (sees : S → Call → Result (Unit {0}) E → S → Type 0) (table : List Row) (course : CountedCourse) (all : List (List (Item Content))) (done : ℕ) (left : List Bool)
     (s : S) (c : Cursor) (s' : S) (steps : ℕ) : Type 0 where
   pub before : ℕ
   pub more : List (List (Item Content))
-  pub whole : ReadsSubsets course more (rest_of c) left
+  pub whole : ReadsSubsets (uncounted course) more (rest_of c) left
   pub count : done + length more ≡ length all
   pub ticks : steps ≡ ticked 0 before
   pub total : before + turns_in course more ≡ turns_in course all
   pub shown : Sofar sees s (subset_calls table course 0 1 all) s' (subset_calls table course before (done + 1) more)
 
 -- the items of a subset were shown, after its own call
-pub record SubsetShown {S E : Type 0} (sees : S → Call → Result (Unit {0}) E → S → Type 0) (table : List Row) (course : Course) (number : ℕ) (c : Cursor) (s : S) (steps : ℕ) (c' : Cursor) (s' : S)
+pub record SubsetShown {S E : Type 0} (sees : S → Call → Result (Unit {0}) E → S → Type 0) (table : List Row) (course : CountedCourse) (number : ℕ) (c : Cursor) (s : S) (steps : ℕ) (c' : Cursor)
+    (s' : S)
     (steps' : ℕ) : Type 0 where
-  pub shown : (before : ℕ) (items : List (Item Content)) (subsets : List (List (Item Content))) (left : List Bool) → ReadsPass plain course items (rest_of c) left → steps ≡ ticked 0 before
+  pub shown : (before : ℕ) (items : List (Item Content)) (subsets : List (List (Item Content))) (left : List Bool) → ReadsPass plain (uncounted course) items (rest_of c) left → steps ≡ ticked 0 before
       → Sofar sees s (subset_calls table course before number (items ∷ subsets)) s' (subset_calls table course (before + turns_after plain course items) (number + 1) subsets)
-  pub left_is : (items : List (Item Content)) (left : List Bool) → ReadsPass plain course items (rest_of c) left → (rest_of c' ≡ left) × (steps' ≡ ticked steps (turns_after plain course items))
+  pub left_is : (items : List (Item Content)) (left : List Bool) → ReadsPass plain (uncounted course) items (rest_of c) left
+      → (rest_of c' ≡ left) × (steps' ≡ ticked steps (turns_after plain course items))
 
 -- a subset was shown up to a call that ended the showing
-pub record SubsetEnded {S E : Type 0} (sees : S → Call → Result (Unit {0}) E → S → Type 0) (table : List Row) (course : Course) (number : ℕ) (c : Cursor) (s : S) (steps : ℕ) (why : ShowFault E)
+pub record SubsetEnded {S E : Type 0} (sees : S → Call → Result (Unit {0}) E → S → Type 0) (table : List Row) (course : CountedCourse) (number : ℕ) (c : Cursor) (s : S) (steps : ℕ) (why : ShowFault E)
     (s' : S) (steps' : ℕ) : Type 0 where
-  pub ended : (before : ℕ) (items : List (Item Content)) (subsets : List (List (Item Content))) (left : List Bool) (turns : ℕ) → ReadsPass plain course items (rest_of c) left
+  pub ended : (before : ℕ) (items : List (Item Content)) (subsets : List (List (Item Content))) (left : List Bool) (turns : ℕ) → ReadsPass plain (uncounted course) items (rest_of c) left
       → steps ≡ ticked 0 before → Shows sees s (subset_calls table course before number (items ∷ subsets)) turns (Err why) s' steps'
 
 -- a subset was shown, or a call ended the showing
-abbrev pub SubsetGoes : {S E : Type 0} → (S → Call → Result (Unit {0}) E → S → Type 0) → List Row → Course → ℕ → Cursor → S → ℕ → Result (Unit {0}) (ShowFault E) → Cursor → S → ℕ → Type 0
+abbrev pub SubsetGoes : {S E : Type 0} → (S → Call → Result (Unit {0}) E → S → Type 0) → List Row → CountedCourse → ℕ → Cursor → S → ℕ → Result (Unit {0}) (ShowFault E) → Cursor → S → ℕ → Type 0
 SubsetGoes sees table course index c s steps (Ok _) c' s' steps' = SubsetShown sees table course index c s steps c' s' steps'
 SubsetGoes sees table course index c s steps (Err why) c' s' steps' = SubsetEnded sees table course index c s steps why s' steps'
 
-module _ {V E : Type 0} (sees : V → Call → Result (Unit {0}) E → V → Type 0) (table : List Row) (course : Course) where
+module _ {V E : Type 0} (sees : V → Call → Result (Unit {0}) E → V → Type 0) (table : List Row) (course : CountedCourse) where
   -- a subset's call, and its items
   pub subset_goes : (index : ℕ) (c c' : Cursor) (s s1 s' : V) (steps steps' : ℕ) (r : Result (Unit {0}) (ShowFault E)) → sees s (subset_call index) (Ok tt) s1
       → ItemsGo sees table course c s1 steps r c' s' steps' → SubsetGoes sees table course index c s steps r c' s' steps'
@@ -609,8 +625,8 @@ module _ {V E : Type 0} (sees : V → Call → Result (Unit {0}) E → V → Typ
   subset_refused index c c' s s' steps steps' e h same = record { ended = λ before items subsets left turns r now. inl (h, same ∙ now) }
 
   -- the next subset is there
-  pub next_there : (all more : List (List (Item Content))) (done : ℕ) (bits left : List Bool) → ReadsSubsets course more bits left → done + length more ≡ length all → done < length all
-      → (items : List (Item Content)) × (mid : List Bool) × ReadsPass plain course items bits mid
+  pub next_there : (all more : List (List (Item Content))) (done : ℕ) (bits left : List Bool) → ReadsSubsets (uncounted course) more bits left → done + length more ≡ length all → done < length all
+      → (items : List (Item Content)) × (mid : List Bool) × ReadsPass plain (uncounted course) items bits mid
   next_there all [] done bits left h e lt = absurd (omega (arith, e, lt))
   next_there all (items ∷ more) done bits left h e lt = (items, h.0, h.1)
 
@@ -619,7 +635,7 @@ module _ {V E : Type 0} (sees : V → Call → Result (Unit {0}) E → V → Typ
       → SubsetsShown sees table course all done left s c s1 steps → SubsetShown sees table course index c s1 steps c' s2 steps' → SubsetsShown sees table course all (done + 1) left s c' s2 steps'
   one_shown all done index left s s1 s2 c c' steps steps' n lt h r = by h.more h.whole h.count h.total h.shown
     where
-      by : (more : List (List (Item Content))) → ReadsSubsets course more (rest_of c) left → done + length more ≡ length all → h.before + turns_in course more ≡ turns_in course all
+      by : (more : List (List (Item Content))) → ReadsSubsets (uncounted course) more (rest_of c) left → done + length more ≡ length all → h.before + turns_in course more ≡ turns_in course all
           → Sofar sees s (subset_calls table course 0 1 all) s1 (subset_calls table course h.before (done + 1) more) → SubsetsShown sees table course all (done + 1) left s c' s2 steps'
       by [] whole count total so_far = absurd (omega (arith, count, lt))
       by (items ∷ more) whole count total so_far =
@@ -627,7 +643,7 @@ module _ {V E : Type 0} (sees : V → Call → Result (Unit {0}) E → V → Typ
           record {
             before = h.before + turns_after plain course items;
             more = more;
-            whole = subst (λ b. ReadsSubsets course more b left) (sym l.0) whole.2;
+            whole = subst (λ b. ReadsSubsets (uncounted course) more b left) (sym l.0) whole.2;
             count = omega (arith, count);
             ticks = l.1 ∙ ap (λ k. ticked k (turns_after plain course items)) h.ticks ∙ ticked_more h.before (turns_after plain course items);
             total = omega (arith, total);
@@ -652,7 +668,7 @@ module _ {V E : Type 0} (sees : V → Call → Result (Unit {0}) E → V → Typ
       → Shows sees s (subset_calls table course 0 1 all) (turns_in course all) (Err why) s2 steps'
   ended_so all done index left s s1 s2 c c' steps steps' why n lt h r = by h.more h.whole h.count h.shown
     where
-      by : (more : List (List (Item Content))) → ReadsSubsets course more (rest_of c) left → done + length more ≡ length all
+      by : (more : List (List (Item Content))) → ReadsSubsets (uncounted course) more (rest_of c) left → done + length more ≡ length all
           → Sofar sees s (subset_calls table course 0 1 all) s1 (subset_calls table course h.before (done + 1) more)
           → Shows sees s (subset_calls table course 0 1 all) (turns_in course all) (Err why) s2 steps'
       by [] whole count so_far = absurd (omega (arith, count, lt))
@@ -708,7 +724,7 @@ plain_for a p = subst (λ r. IsForRole r taken.Plain) (sym p.role) tt
 -- a reading of data that are not compressed was shown
 pub apart_shown : {V E : Type 0} (sees : V → Call → Result (Unit {0}) E → V → Type 0) (r : Read) (v v' : V) (result : Result (Unit {0}) (ShowFault E)) (steps : ℕ) → IsStoredReading r kept.Apart
     → ((all : List (List (Item Content))) (left : List Bool) → ReadsSubsets (course_of r) all r.source.bits left → length all ≡ r.source.subsets
-    → Shows sees v (subset_calls r.table (course_of r) 0 1 all) (turns_in (course_of r) all) result v' steps)
+    → Shows sees v (subset_calls r.table (counted_course_of r) 0 1 all) (turns_in (counted_course_of r) all) result v' steps)
     → Shows sees v (calls_of r) (turns_shown r) result v' steps
 apart_shown sees r v v' result steps h shows = by (values_read r) h.reading h.keeps
   where

@@ -276,7 +276,7 @@ given_63 = (refl, refl, refl, refl)
 
 -- the field that comes next, after items that returned this
 abbrev asks : Tree → List Taken → FieldSpec → Type 0
-asks tree answers spec = (next_item table tree answers).next ≡ take_next spec
+asks tree answers spec = next_item table tree answers ≡ take_next spec
 
 -- A quantity and a figure of Table B may be commented and may be missing; the changes in force show
 -- in a quantity alone: fails where a figure loses its kind, scale or reference.

@@ -2,8 +2,8 @@
 use Rattle.std.proofs.lemmas.Grind.{common_steps}
 use Rattle.std.proofs.Common.{◌≡◌, ℕ, ◌+◌, List, [], ◌∷◌, ◌++◌, Result, refl, sym, ◌∙◌, ap, subst, zero-add, add_assoc, arith, ◌*◌, append-nil, Bool, true, false, Option, Some, None, Ok, Err, zero, suc, ◌-◌, ◌^◌, ◌<◌, length, drop, get_or, add-zero, ◌≤◌, length-append, ◌==◌, nat_lt, nat_le, if◌then◌else◌}
 use Rattle.bufr_tables.specs.Prelude.{Row, entry_of, x_of, Tree, delayed, is_inserted_text, bare, element, operator, fixed, size, depth, is_legal_operator, cells_of, AreCellsOf, IsLegal}
-use Rattle.bufr_walk.specs.Prelude.{Kind, Taken, FieldSpec, IsFor, IsForRole, is_reference, OperatorModel, after_field, after_operator, is_defining, element_spec, factor_spec, inserted_spec, if_valid_width, spec_by_kind, new_reference_spec, defined_field, numeric_spec, coded_spec, text_spec, text_width, local_width_spec, listed_by, unsigned_field, begin, Rest, Course, NextTurn, later, ahead, counts_of, finish, open_end, operator_turn, unroll, passes, turns_of, asked, operated, counts_in, in_one_turn, at_end, refused, next_item, TakenField, Takes, oks, answers_of, StopsWalk, ticked, Walked, TakesField, stop_by, WalkStop, Role, TurnRefusal, Next, take_next, astray}
-use Rattle.bufr_walk.proofs.WalkProgress.{WalkGoes, Stops, HasWalked, StopsIn, course, tail_of, costs, owed, OpenGroup, frames_of, turns_after_pass, AllGroupsFit, IsAtNodes, IsAtCell, weight, Turned}
+use Rattle.bufr_walk.specs.Prelude.{Kind, Taken, Course, next_item, FieldSpec, IsFor, IsForRole, is_reference, OperatorModel, after_field, after_operator, is_defining, element_spec, factor_spec, inserted_spec, if_valid_width, spec_by_kind, new_reference_spec, defined_field, numeric_spec, coded_spec, text_spec, text_width, local_width_spec, listed_by, unsigned_field, begin, Rest, counts_of, finish, open_end, operator_turn, unroll, passes, turns_of, counts_in, at_end, refused, TakenField, Takes, oks, answers_of, StopsWalk, ticked, Walked, TakesField, stop_by, WalkStop, Role, TurnRefusal, Next, take_next, astray, NextTurn, CountedCourse, uncounted, counted_item}
+use Rattle.bufr_walk.proofs.WalkProgress.{later, in_one_turn, counted_ahead, counted_asked, counted_operated, counted_either, WalkGoes, Stops, HasWalked, StopsIn, course, tail_of, costs, owed, OpenGroup, frames_of, turns_after_pass, AllGroupsFit, IsAtNodes, IsAtCell, weight, Turned}
 use Rattle.std.proofs.lemmas.Bool.Decides.{nat_tests}
 use Rattle.std.proofs.lemmas.List.{drop-drop}
 use Rattle.bufr_tables.specs.declared.template.Cell.{Cell}
@@ -37,46 +37,46 @@ answer_both (i ∷ a) b = ap (λ ts. i.taken ∷ ts) (answer_both a b)
 
 module _ {S : Type 0} (takes : S → FieldSpec → Taken → S → Type 0) where
   -- a course with the same things next
-  pub takes_same : (n m : Course) (s : S) (items : List TakenField) (s' : S) → ((more : List Taken) → (n more).next ≡ (m more).next) → Takes takes n s items s' → Takes takes m s items s'
+  pub takes_same : (n m : Course) (s : S) (items : List TakenField) (s' : S) → ((more : List Taken) → n more ≡ m more) → Takes takes n s items s' → Takes takes m s items s'
   takes_same n m s [] s' h w = w
   takes_same n m s (i ∷ items) s' h w =
       (w.0, sym (h []) ∙ w.1, w.2, takes_same (λ more. n (i.taken ∷ more)) (λ more. m (i.taken ∷ more)) w.0 items s' (λ more. h (i.taken ∷ more)) w.3)
 
   -- items, and items after them
   pub takes_then : (n m : Course) (s : S) (a : List TakenField) (mid : S) (b : List TakenField) (s' : S) → Takes takes n s a mid
-      → ((more : List Taken) → (n (answers_of a ++ more)).next ≡ (m more).next) → Takes takes m mid b s' → Takes takes n s (a ++ b) s'
+      → ((more : List Taken) → n (answers_of a ++ more) ≡ m more) → Takes takes m mid b s' → Takes takes n s (a ++ b) s'
   takes_then n m s [] mid b s' w h v = takes_same m n s b s' (λ more. sym (h more)) (subst (λ x. Takes takes m x b s') w v)
   takes_then n m s (i ∷ a) mid b s' w h v = (w.0, w.1, w.2, takes_then (λ more. n (i.taken ∷ more)) m w.0 a mid b s' w.3 h v)
 
 module _ {S E : Type 0} (takes : S → FieldSpec → Result Taken E → S → Type 0) where
-  pub goes_none : (n m : Course) (s : S) → ((more : List Taken) → n more ≡ m more) → WalkGoes takes n s 0 m s
+  pub goes_none : (n m : CountedCourse) (s : S) → ((more : List Taken) → n more ≡ m more) → WalkGoes takes n s 0 m s
   goes_none n m s h = record { items = []; taken = refl; leads = λ more. h more ∙ sym (later_none (m more)) }
 
-  pub goes_then : {n m o : Course} {s mid s' : S} {t u : ℕ} → WalkGoes takes n s t m mid → WalkGoes takes m mid u o s' → WalkGoes takes n s (t + u) o s'
+  pub goes_then : {n m o : CountedCourse} {s mid s' : S} {t u : ℕ} → WalkGoes takes n s t m mid → WalkGoes takes m mid u o s' → WalkGoes takes n s (t + u) o s'
   goes_then {n} {m} {o} {s} {mid} {s'} {t} {u} a b = record {
     items = a.items ++ b.items;
-    taken = takes_then (oks takes) n m s a.items mid b.items s' a.taken (λ more. ap (λ x. x.next) (a.leads more)) b.taken;
+    taken = takes_then (oks takes) (uncounted n) (uncounted m) s a.items mid b.items s' a.taken (λ more. ap (λ x. x.next) (a.leads more)) b.taken;
     leads = λ more. ap n (answer_then a.items b.items more) ∙ a.leads (answers_of b.items ++ more) ∙ ap (later t) (b.leads more) ∙ later_twice t u (o more);
   }
 
-  pub goes_stops : {n m : Course} {s mid s' : S} {t u : ℕ} {why : WalkStop E} → WalkGoes takes n s t m mid → Stops takes m mid u why s' → Stops takes n s (t + u) why s'
+  pub goes_stops : {n m : CountedCourse} {s mid s' : S} {t u : ℕ} {why : WalkStop E} → WalkGoes takes n s t m mid → Stops takes m mid u why s' → Stops takes n s (t + u) why s'
   goes_stops {n} {m} {s} {mid} {s'} {t} {u} {why} a b =
       let same : n (answers_of (a.items ++ b.items)) ≡ later t (m (answers_of b.items)) = ap n (answer_both a.items b.items) ∙ a.leads (answers_of b.items) in
       record {
         items = a.items ++ b.items;
         mid = b.mid;
-        taken = takes_then (oks takes) n m s a.items mid b.items b.mid a.taken (λ more. ap (λ x. x.next) (a.leads more)) b.taken;
+        taken = takes_then (oks takes) (uncounted n) (uncounted m) s a.items mid b.items b.mid a.taken (λ more. ap (λ x. x.next) (a.leads more)) b.taken;
         stops = subst (λ x. StopsWalk takes x b.mid why s') (sym (ap (λ x. x.next) same)) b.stops;
         turns = ap (λ x. x.turns) same ∙ ap (λ k. t + k) b.turns;
       }
 
   -- a turn with no field
-  pub goes_turn : (n m : Course) (s : S) → ((more : List Taken) → n more ≡ later 1 (m more)) → WalkGoes takes n s 1 m s
+  pub goes_turn : (n m : CountedCourse) (s : S) → ((more : List Taken) → n more ≡ later 1 (m more)) → WalkGoes takes n s 1 m s
   goes_turn n m s h = record { items = []; taken = refl; leads = h }
 
 module _ {S E : Type 0} (takes : S → FieldSpec → Result Taken E → S → Type 0) (table : List Row) where
   pub came_none : (over left : Rest → Rest) (s : OperatorModel) (f : S) (c : ℕ) → ((rest : Rest) (counts : List ℕ) → over rest counts ≡ left rest counts) → HasWalked takes table over left s f c s f c
-  came_none over left s f c e = record { turns = 0; ticks = sym (ticked_none c); way = λ rest. goes_none takes _ _ f (λ more. ap (λ ts. ahead table ts s more) (e rest (counts_of more))) }
+  came_none over left s f c e = record { turns = 0; ticks = sym (ticked_none c); way = λ rest. goes_none takes _ _ f (λ more. ap (λ ts. counted_ahead table ts s more) (e rest (counts_of more))) }
 
   pub came_then : {a b d : Rest → Rest} {s s1 s2 : OperatorModel} {f f1 f2 : S} {c c1 c2 : ℕ} → HasWalked takes table a b s f c s1 f1 c1 → HasWalked takes table b d s1 f1 c1 s2 f2 c2
       → HasWalked takes table a d s f c s2 f2 c2
@@ -96,7 +96,7 @@ module _ {S E : Type 0} (takes : S → FieldSpec → Result Taken E → S → Ty
 
   -- one turn with no field
   pub came_turn : (over left : Rest → Rest) (s : OperatorModel) (f : S) (c c' : ℕ) → c' ≡ ticked c 1
-      → ((rest : Rest) (counts : List ℕ) (answers : List Taken) → ahead table (over rest counts) s answers ≡ later 1 (ahead table (left rest counts) s answers))
+      → ((rest : Rest) (counts : List ℕ) (answers : List Taken) → counted_ahead table (over rest counts) s answers ≡ later 1 (counted_ahead table (left rest counts) s answers))
       → HasWalked takes table over left s f c s f c'
   came_turn over left s f c c' tick e = record { turns = 1; ticks = tick; way = λ rest. goes_turn takes _ _ f (λ more. e rest (counts_of more) more) }
 
@@ -187,7 +187,8 @@ module _ {S E : Type 0} (takes : S → FieldSpec → Result Taken E → S → Ty
 
   -- turns of a field that is no factor
   pub came_field : (over left : Rest → Rest) (fxy : ℕ) (s : OperatorModel) (f : S) (c : ℕ) (r : Result FieldSpec TurnRefusal) (t : Taken) (f' : S) (c' : ℕ)
-      → ((rest : Rest) (counts : List ℕ) (answers : List Taken) → ahead table (over rest counts) s answers ≡ asked r (λ u more. ahead table (left rest counts) (after_field s fxy u) more) answers)
+      → ((rest : Rest) (counts : List ℕ) (answers : List Taken) → counted_ahead table (over rest counts) s answers
+      ≡ counted_asked r (λ u more. counted_ahead table (left rest counts) (after_field s fxy u) more) answers)
       → ((spec : FieldSpec) → r ≡ Ok spec → spec.role ≡ role.Factor → ⊥) → TakesField takes r f (Ok t) f' → c' ≡ ticked c 1 → HasWalked takes table over left s f c (after_field s fxy t) f' c'
   came_field over left fxy s f c r t f' c' asks none took tick =
       let k = took_ok r f t f' took in
@@ -198,11 +199,11 @@ module _ {S E : Type 0} (takes : S → FieldSpec → Result Taken E → S → Ty
         ticks = tick;
         way = λ rest. record {
           items = record { spec = spec; taken = t } ∷ [];
-          taken = (f', ap (λ a. a.next) (asks rest [] [] ∙ ap (λ q. asked q (λ u more. ahead table (left rest []) (after_field s fxy u) more) []) k.1), k.2, refl);
+          taken = (f', ap (λ a. a.next) (asks rest [] [] ∙ ap (λ q. counted_asked q (λ u more. counted_ahead table (left rest []) (after_field s fxy u) more) []) k.1), k.2, refl);
           leads = λ more.
               asks rest (counts_in t (counts_of more)) (t ∷ more)
-              ∙ ap (λ q. asked q (λ u later_answer. ahead table (left rest (counts_in t (counts_of more))) (after_field s fxy u) later_answer) (t ∷ more)) k.1
-              ∙ ap (λ counts. later 1 (ahead table (left rest counts) (after_field s fxy t) more)) (plain (counts_of more));
+              ∙ ap (λ q. counted_asked q (λ u later_answer. counted_ahead table (left rest (counts_in t (counts_of more))) (after_field s fxy u) later_answer) (t ∷ more)) k.1
+              ∙ ap (λ counts. later 1 (counted_ahead table (left rest counts) (after_field s fxy t) more)) (plain (counts_of more));
         };
       }
 
@@ -219,14 +220,15 @@ module _ {S E : Type 0} (takes : S → FieldSpec → Result Taken E → S → Ty
         ticks = tick ∙ ticked_twice c 1 1;
         way = λ rest. record {
           items = record { spec = o.0; taken = taken.Count n } ∷ [];
-          taken = (f', ap (λ q. (asked q (λ u answers. ahead table open_end (after_field s fxy u) answers) []).next) e, o.2, refl);
-          leads = λ later_answer. ap (λ q. later 1 (asked q (λ u answers. ahead table (passes n (unroll body) (unroll more (k rest)) (counts_of later_answer)) (after_field s fxy u) answers)
+          taken = (f', ap (λ q. (counted_asked q (λ u answers. counted_ahead table open_end (after_field s fxy u) answers) []).next) e, o.2, refl);
+          leads = λ later_answer. ap (λ q. later 1 (counted_asked q
+              (λ u answers. counted_ahead table (passes n (unroll body) (unroll more (k rest)) (counts_of later_answer)) (after_field s fxy u) answers)
               (taken.Count n ∷ later_answer))) e ∙ later_twice 1 1 _;
         };
       }
 
   -- where a field comes next and is not taken, the walk stops there
-  stops_asked : (k : ℕ) (r : Result FieldSpec TurnRefusal) (go : Taken → List Taken → NextTurn) (f : S) (why : WalkStop E) (f' : S) (n : Course) → n [] ≡ later k (asked r go [])
+  stops_asked : (k : ℕ) (r : Result FieldSpec TurnRefusal) (go : Taken → List Taken → NextTurn) (f : S) (why : WalkStop E) (f' : S) (n : CountedCourse) → n [] ≡ later k (counted_asked r go [])
       → TakesField takes r f (Err why) f' → Stops takes n f (k + 1) why f'
   stops_asked k (Ok spec) go f (stops.Field e) f' n h took = record {
     items = [];
@@ -248,12 +250,13 @@ module _ {S E : Type 0} (takes : S → FieldSpec → Result Taken E → S → Ty
 
   -- a field that was not taken
   pub stops_field : (over left : Rest → Rest) (fxy : ℕ) (s : OperatorModel) (f : S) (c : ℕ) (r : Result FieldSpec TurnRefusal) (why : WalkStop E) (f' : S) (c' : ℕ)
-      → ((rest : Rest) (counts : List ℕ) (answers : List Taken) → ahead table (over rest counts) s answers ≡ asked r (λ u more. ahead table (left rest counts) (after_field s fxy u) more) answers)
+      → ((rest : Rest) (counts : List ℕ) (answers : List Taken) → counted_ahead table (over rest counts) s answers
+      ≡ counted_asked r (λ u more. counted_ahead table (left rest counts) (after_field s fxy u) more) answers)
       → TakesField takes r f (Err why) f' → c' ≡ ticked c 1 → StopsIn takes table over s f c why f' c'
   stops_field over left fxy s f c r why f' c' asks took tick = record {
     turns = 1;
     ticks = tick;
-    way = λ rest. stops_asked 0 r (λ u more. ahead table (left rest []) (after_field s fxy u) more) f why f' _ (asks rest [] [] ∙ sym (later_none _)) took;
+    way = λ rest. stops_asked 0 r (λ u more. counted_ahead table (left rest []) (after_field s fxy u) more) f why f' _ (asks rest [] [] ∙ sym (later_none _)) took;
   }
 
   -- a factor that was not taken
@@ -263,32 +266,34 @@ module _ {S E : Type 0} (takes : S → FieldSpec → Result Taken E → S → Ty
   stops_factor fxy body more s f c r why f' c' is took tick k = record {
     turns = 2;
     ticks = tick ∙ ticked_twice c 1 1;
-    way = λ rest. stops_asked 1 (factor_spec table s fxy) (λ u answers. ahead table open_end (after_field s fxy u) answers) f why f' _ refl (subst (λ q. TakesField takes q f (Err why) f') is took);
+    way = λ rest. stops_asked 1 (factor_spec table s fxy) (λ u answers. counted_ahead table open_end (after_field s fxy u) answers) f why f' _ refl
+        (subst (λ q. TakesField takes q f (Err why) f') is took);
   }
 
   -- an operator that changes the operators in force
   operator_is : (over left : Rest → Rest) (fxy : ℕ) (s : OperatorModel) → is_inserted_text fxy ≡ false → ((rest : Rest) (counts : List ℕ) → over rest counts ≡ operator_turn fxy (left rest counts))
       → (rest : Rest) (counts : List ℕ) (answers : List Taken)
-      → ahead table (over rest counts) s answers ≡ operated (after_operator s fxy) (λ s'. ahead table (left rest counts) s' answers)
+      → counted_ahead table (over rest counts) s answers ≡ counted_operated (after_operator s fxy) (λ s'. counted_ahead table (left rest counts) s' answers)
   operator_is over left fxy s x is rest counts answers =
-      ap (λ ts. ahead table ts s answers) (is rest counts)
-      ∙ ap (λ b. if b then asked (inserted_spec s fxy) (λ t more. ahead table (left rest counts) (after_field s fxy t) more) answers else operated (after_operator s fxy)
-      (λ s'. ahead table (left rest counts) s' answers)) x
+      ap (λ ts. counted_ahead table ts s answers) (is rest counts)
+      ∙ ap (λ b. counted_either b (counted_asked (inserted_spec s fxy) (λ t more. counted_ahead table (left rest counts) (after_field s fxy t) more) answers) (counted_operated (after_operator s fxy)
+      (λ s'. counted_ahead table (left rest counts) s' answers))) x
 
   pub inserted_is : (over left : Rest → Rest) (fxy : ℕ) (s : OperatorModel) → is_inserted_text fxy ≡ true → ((rest : Rest) (counts : List ℕ) → over rest counts ≡ operator_turn fxy (left rest counts))
       → (rest : Rest) (counts : List ℕ) (answers : List Taken)
-      → ahead table (over rest counts) s answers ≡ asked (inserted_spec s fxy) (λ t more. ahead table (left rest counts) (after_field s fxy t) more) answers
+      → counted_ahead table (over rest counts) s answers ≡ counted_asked (inserted_spec s fxy) (λ t more. counted_ahead table (left rest counts) (after_field s fxy t) more) answers
   inserted_is over left fxy s x is rest counts answers =
-      ap (λ ts. ahead table ts s answers) (is rest counts)
-      ∙ ap (λ b. if b then asked (inserted_spec s fxy) (λ t more. ahead table (left rest counts) (after_field s fxy t) more) answers else operated (after_operator s fxy)
-      (λ s'. ahead table (left rest counts) s' answers)) x
+      ap (λ ts. counted_ahead table ts s answers) (is rest counts)
+      ∙ ap (λ b. counted_either b (counted_asked (inserted_spec s fxy) (λ t more. counted_ahead table (left rest counts) (after_field s fxy t) more) answers) (counted_operated (after_operator s fxy)
+      (λ s'. counted_ahead table (left rest counts) s' answers))) x
 
   pub came_operator : (over left : Rest → Rest) (fxy : ℕ) (s s' : OperatorModel) (f : S) (c c' : ℕ) → is_inserted_text fxy ≡ false
       → ((rest : Rest) (counts : List ℕ) → over rest counts ≡ operator_turn fxy (left rest counts)) → after_operator s fxy ≡ Ok s' → c' ≡ ticked c 1 → HasWalked takes table over left s f c s' f c'
   came_operator over left fxy s s' f c c' x is e tick = record {
     turns = 1;
     ticks = tick;
-    way = λ rest. goes_turn takes _ _ f (λ more. operator_is over left fxy s x is rest (counts_of more) more ∙ ap (λ r. operated r (λ s2. ahead table (left rest (counts_of more)) s2 more)) e);
+    way = λ rest. goes_turn takes _ _ f (λ more. operator_is over left fxy s x is rest (counts_of more) more
+        ∙ ap (λ r. counted_operated r (λ s2. counted_ahead table (left rest (counts_of more)) s2 more)) e);
   }
 
   pub stops_operator : (over left : Rest → Rest) (fxy : ℕ) (s : OperatorModel) (f : S) (c c' : ℕ) (why : TurnRefusal) → is_inserted_text fxy ≡ false
@@ -298,7 +303,8 @@ module _ {S E : Type 0} (takes : S → FieldSpec → Result Taken E → S → Ty
     turns = 1;
     ticks = tick;
     way = λ rest.
-        let h : course table (over rest) s [] ≡ in_one_turn (refused why) = operator_is over left fxy s x is rest [] [] ∙ ap (λ r. operated r (λ s2. ahead table (left rest []) s2 [])) e in
+        let h : course table (over rest) s [] ≡ in_one_turn (refused why) =
+        operator_is over left fxy s x is rest [] [] ∙ ap (λ r. counted_operated r (λ s2. counted_ahead table (left rest []) s2 [])) e in
         record { items = []; mid = f; taken = refl; stops = subst (λ x. StopsWalk takes x f (stop_by why) f) (sym (ap (λ x. x.next) h)) (refl, refl); turns = ap (λ x. x.turns) h };
   }
 
@@ -748,7 +754,7 @@ module _ {S E : Type 0} (takes : S → FieldSpec → Result Taken E → S → Ty
   -- a turn that ended the walk
   pub led_out : (template : Tree) (left : Rest → Rest) (place : ℕ) (stack : List Frame) (s : OperatorModel) (f0 f : S) (c0 c : ℕ) (o : Option ℕ) (stack' : List Frame) (s' : OperatorModel) (f' : S)
       (c' : ℕ) → ((next : ℕ) → o ≡ Some next → ⊥) → HasWalked takes table (unroll template) left begin f0 c0 s f c → Turned takes table cells left place stack s f c (Ok o) stack' s' f' c'
-      → Walked takes (next_item table template) f0 c0 (Ok tt) f' c'
+      → Walked takes (counted_item table template) f0 c0 (Ok tt) f' c'
   unfolding next_item
   led_out template left place stack s f0 f c0 c (Some next) stack' s' f' c' never came t = absurd (never next refl)
   led_out template left place stack s f0 f c0 c None stack' s' f' c' never came t =
@@ -757,7 +763,7 @@ module _ {S E : Type 0} (takes : S → FieldSpec → Result Taken E → S → Ty
 
   -- a turn that stopped the walk
   pub led_off : (template : Tree) (left : Rest → Rest) (s : OperatorModel) (f0 f f' : S) (c0 c c' : ℕ) (why : WalkStop E) → HasWalked takes table (unroll template) left begin f0 c0 s f c
-      → StopsIn takes table left s f c why f' c' → Walked takes (next_item table template) f0 c0 (Err why) f' c'
+      → StopsIn takes table left s f c why f' c' → Walked takes (counted_item table template) f0 c0 (Err why) f' c'
   unfolding next_item
   led_off template left s f0 f f' c0 c c' why came w = whole_stops takes table template begin f0 f' c0 c' why (came_stops takes table why came w)
 

@@ -1,29 +1,58 @@
 -- How far a walk over the cells of a template came, and how many turns are left.
-use Rattle.std.specs.Prelude.{ℕ, List, [], ◌∷◌, ◌++◌, ◌+◌, ◌-◌, ◌*◌, ◌^◌, ◌<◌, ◌≤◌, ◌≡◌, Result, Ok, Err, Option, Some, None, length, drop, slice_index}
+use Rattle.std.specs.Prelude.{Bool, if◌then◌else◌, ℕ, List, [], ◌∷◌, ◌++◌, ◌+◌, ◌-◌, ◌*◌, ◌^◌, ◌<◌, ◌≤◌, ◌≡◌, Result, Ok, Err, Option, Some, None, length, drop, slice_index}
 use Rattle.bufr_tables.specs.Prelude.{Tree, depth, Row, IsLegal, cells_of}
-use Rattle.bufr_walk.specs.Prelude.{Taken, FieldSpec, OperatorModel, Rest, Course, later, ahead, counts_of, unroll, passes, pass_end, TakenField, Takes, oks, answers_of, StopsWalk, ticked, WalkStop}
+use Rattle.bufr_walk.specs.Prelude.{Taken, FieldSpec, OperatorModel, Rest, counts_of, unroll, passes, pass_end, TakenField, Takes, oks, answers_of, StopsWalk, ticked, WalkStop, Turns, asked, operated, turns_ahead, turns_asked, turns_operated, Next, NextTurn, TurnRefusal, ahead, CountedCourse, uncounted}
 use Rattle.bufr_tables.specs.declared.template.Cell.{Cell}
 use Rattle.bufr_walk.specs.declared.walker.Frame.{Frame}
 use Rattle.bufr_tables.specs.declared.template.Cell.TheVariants as cell
 
+-- ---- What comes next, and the turns up to it.
+
+-- what comes next, counted from n turns earlier
+abbrev pub later : ℕ → NextTurn → NextTurn
+later n a = record { turns = n + a.turns; next = a.next }
+
+-- what comes next, in the first turn
+abbrev pub in_one_turn : Next → NextTurn
+in_one_turn next = record { turns = 1; next = next }
+
+abbrev pub counted_asked : Result FieldSpec TurnRefusal → (Taken → List Taken → NextTurn) → List Taken → NextTurn
+counted_asked r go answers = record {
+  turns = turns_asked r (λ t more. (go t more).turns) answers;
+  next = asked r (λ t more. (go t more).next) answers;
+}
+
+abbrev pub counted_operated : Result OperatorModel TurnRefusal → (OperatorModel → NextTurn) → NextTurn
+counted_operated r go = record { turns = turns_operated r (λ s. (go s).turns); next = operated r (λ s. (go s).next) }
+
+abbrev pub counted_ahead : List Row → Turns → OperatorModel → List Taken → NextTurn
+counted_ahead table turns s answers = record { turns = turns_ahead table turns s answers; next = ahead table turns s answers }
+
+-- one of two
+abbrev pub counted_either : Bool → NextTurn → NextTurn → NextTurn
+counted_either b x y = record {
+  turns = if b then x.turns else y.turns;
+  next = if b then x.next else y.next;
+}
+
 -- the course of turns whose counts are among those returned
-abbrev pub course : List Row → Rest → OperatorModel → Course
-course table rest s answers = ahead table (rest (counts_of answers)) s answers
+abbrev pub course : List Row → Rest → OperatorModel → CountedCourse
+course table rest s answers = counted_ahead table (rest (counts_of answers)) s answers
 
 -- a walk from one course and state to another, in t turns
 pub record WalkGoes {S E : Type 0} (takes : S → FieldSpec → Result Taken E → S → Type 0)
-    (n : Course)
-    (s : S) (t : ℕ) (n' : Course) (s' : S) : Type 0 where
+    (n : CountedCourse)
+    (s : S) (t : ℕ) (n' : CountedCourse) (s' : S) : Type 0 where
   pub items : List TakenField
-  pub taken : Takes (oks takes) n s items s'
+  pub taken : Takes (oks takes) (uncounted n) s items s'
   pub leads : (more : List Taken) → n (answers_of items ++ more) ≡ later t (n' more)
 
 -- a walk from a course and state to a stop, in t turns
-pub record Stops {S E : Type 0} (takes : S → FieldSpec → Result Taken E → S → Type 0) (n : Course)
+pub record Stops {S E : Type 0} (takes : S → FieldSpec → Result Taken E → S → Type 0) (n : CountedCourse)
     (s : S) (t : ℕ) (stop : WalkStop E) (s' : S) : Type 0 where
   pub items : List TakenField
   pub mid : S
-  pub taken : Takes (oks takes) n s items mid
+  pub taken : Takes (oks takes) (uncounted n) s items mid
   pub stops : StopsWalk takes (n (answers_of items)).next mid stop s'
   pub turns : (n (answers_of items)).turns ≡ t
 

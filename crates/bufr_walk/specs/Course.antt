@@ -1,7 +1,7 @@
 -- A walk over a template, turn by turn: which field comes next after the fields so far. (WMO-No.
 -- 306, Volume I.2, FM 94: sections 3 and 4; the turns are our choice)
 -- Cited by public contracts.
-use Rattle.std.specs.Prelude.{ℕ, zero, suc, List, [], ◌∷◌, ◌+◌, Result, Ok, Err, if◌then◌else◌, ◌-◌, ◌^◌, min, max, ◌≡◌}
+use Rattle.std.specs.Prelude.{ℕ, zero, suc, List, [], ◌∷◌, Result, Ok, Err, if◌then◌else◌, ◌≡◌}
 use Rattle.bufr_tables.specs.Prelude.{Tree, bare, element, operator, fixed, delayed, is_inserted_text, Row}
 use Rattle.bufr_walk.specs.Content.{Taken, FieldSpec, IsFor}
 use Rattle.bufr_walk.specs.Rules.{TurnRefusal, OperatorModel, begin, after_operator, after_field, element_spec, factor_spec, inserted_spec}
@@ -14,10 +14,10 @@ use Rattle.bufr_walk.specs.declared.spec.Role.TheVariants as role
 -- ---- The turns of a walk over a template. (WMO-No. 306, Volume I.2, FM 94: section 3)
 
 -- The turns (steps) of a walk, in order. Nothing happens at `group` (a group begins) and `pass_end`
--- (one of its passes ends), but they count as turns, since the number of turns bounds the work.
--- `finish` is the end of the template; `open_end` comes after a factor whose count is not known
--- yet. For example, 1 02 000, 0 31 001, A, B with the count 2 has the turns: group, factor, A, B,
--- pass_end, A, B, pass_end, finish; and before its count is known: group, factor, open_end.
+-- (one of its passes ends); they only count as steps. `finish` is the end of the template;
+-- `open_end` comes after a factor whose count is not known yet. For example, 1 02 000, 0 31 001, A,
+-- B with the count 2 has the turns: group, factor, A, B, pass_end, A, B, pass_end, finish; and
+-- before its count is known: group, factor, open_end.
 pub data Turns : Type 0 where
   finish : Turns
   open_end : Turns
@@ -74,41 +74,26 @@ pub data Next : Type 0 where
   astray : Next
   refused : (why : TurnRefusal) → Next
 
--- what comes next, and the number of turns up to it, itself included (only bounds on the number of
--- steps use it)
-pub record NextTurn : Type 0 where
-  pub turns : ℕ
-  pub next : Next
-
--- what comes next, counted from n turns earlier
-abbrev pub later : ℕ → NextTurn → NextTurn
-later n a = record { turns = n + a.turns; next = a.next }
-
--- what comes next, in the first turn
-abbrev pub in_one_turn : Next → NextTurn
-in_one_turn next = record { turns = 1; next = next }
-
 -- A field. If no answers are left, it comes next; otherwise it is one of the fields so far, and
 -- `go` continues after it with its answer and the answers after that.
-abbrev pub asked : Result FieldSpec TurnRefusal → (Taken → List Taken → NextTurn) → List Taken
-    → NextTurn
-asked (Err why) go answers = in_one_turn (refused why)
-asked (Ok spec) go [] = in_one_turn (take_next spec)
-asked (Ok spec) go (t ∷ answers) = later 1 (go t answers)
+abbrev pub asked : Result FieldSpec TurnRefusal → (Taken → List Taken → Next) → List Taken → Next
+asked (Err why) go answers = refused why
+asked (Ok spec) go [] = take_next spec
+asked (Ok spec) go (t ∷ answers) = go t answers
 
 -- an operator: `go` continues with the operators in effect after it, or it is refused
-abbrev pub operated : Result OperatorModel TurnRefusal → (OperatorModel → NextTurn) → NextTurn
-operated (Err why) go = in_one_turn (refused why)
-operated (Ok settings) go = later 1 (go settings)
+abbrev pub operated : Result OperatorModel TurnRefusal → (OperatorModel → Next) → Next
+operated (Err why) go = refused why
+operated (Ok settings) go = go settings
 
 -- What comes next in these turns, if `answers` are those of the fields so far and the operators `s`
 -- are in effect at the first turn. Each field changes the operators by `after_field`.
 -- rule: defining-fixed-groups, 2-03-255-alone
-abbrev pub ahead : List Row → Turns → OperatorModel → List Taken → NextTurn
-ahead table finish s answers = in_one_turn at_end
-ahead table open_end s answers = in_one_turn astray
-ahead table (group next) s answers = later 1 (ahead table next s answers)
-ahead table (pass_end next) s answers = later 1 (ahead table next s answers)
+abbrev pub ahead : List Row → Turns → OperatorModel → List Taken → Next
+ahead table finish s answers = at_end
+ahead table open_end s answers = astray
+ahead table (group next) s answers = ahead table next s answers
+ahead table (pass_end next) s answers = ahead table next s answers
 ahead table (factor_turn fxy next) s answers =
     asked (factor_spec table s fxy) (λ t more. ahead table next (after_field s fxy t) more) answers
 ahead table (element_turn fxy next) s answers =
@@ -120,15 +105,11 @@ ahead table (operator_turn fxy next) s answers =
 
 -- what comes next, as a function of the answers of the fields so far
 abbrev pub Course : Type 0
-Course = List Taken → NextTurn
+Course = List Taken → Next
 
 -- what comes next in a whole template
 unfoldable pub next_item : List Row → Tree → Course
 next_item table template answers = ahead table (turns_of template (counts_of answers)) begin answers
-
--- a counter after n ticks: it stays at the greatest u64
-abbrev pub ticked : ℕ → ℕ → ℕ
-ticked count n = max count (min (count + n) (2 ^ 64 - 1))
 
 -- ---- The stop of a walk where a turn is refused.
 
@@ -149,11 +130,11 @@ abbrev pub Takes : {S : Type 0} → (S → FieldSpec → Taken → S → Type 0)
     → List TakenField → S → Type 0
 Takes takes course s [] s' = s' ≡ s
 Takes {S} takes course s (i ∷ items) s' =
-    (mid : S) × ((course []).next ≡ take_next i.spec) × takes s i.spec i.taken mid
+    (mid : S) × (course [] ≡ take_next i.spec) × takes s i.spec i.taken mid
     × Takes takes (λ answers. course (i.taken ∷ answers)) mid items s'
 
--- a course after some fields
-abbrev pub course_after : Course → List TakenField → Course
+-- a course after some fields, with turns or without
+abbrev pub course_after : {N : Type 0} → (List Taken → N) → List TakenField → List Taken → N
 course_after course [] answers = course answers
 course_after course (i ∷ items) answers =
     course_after (λ more. course (i.taken ∷ more)) items answers
@@ -177,18 +158,6 @@ StopsWalk takes (take_next spec) s (stops.Field e) s' = takes s spec (Err e) s'
 StopsWalk takes (take_next spec) s stops.Memory s' = (spec.role ≡ role.Reference) × (s' ≡ s)
 StopsWalk takes (refused why) s w s' = (w ≡ stop_by why) × (s' ≡ s)
 StopsWalk takes _ s _ s' = ⊥
-
--- A whole walk: each item is what comes next after those before it. At Ok the end comes next; else
--- what comes next stopped it. The steps are the turns up to there.
-abbrev pub Walked : {S E : Type 0} → (S → FieldSpec → Result Taken E → S → Type 0) → Course → S → ℕ
-    → Result (Unit {0}) (WalkStop E) → S → ℕ → Type 0
-Walked takes n s steps (Ok _) s' steps' =
-    (items : List TakenField) × Takes (oks takes) n s items s'
-    × ((n (answers_of items)).next ≡ at_end)
-    × (steps' ≡ ticked steps (n (answers_of items)).turns)
-Walked {S} takes n s steps (Err why) s' steps' =
-    (items : List TakenField) × (mid : S) × Takes (oks takes) n s items mid × StopsWalk takes
-    (n (answers_of items)).next mid why s' × (steps' ≡ ticked steps (n (answers_of items)).turns)
 
 -- one field: it was taken and kept, or refused, or memory for its reference ran out
 abbrev pub TakesField : {S E : Type 0} → (S → FieldSpec → Result Taken E → S → Type 0)

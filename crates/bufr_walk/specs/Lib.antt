@@ -2,6 +2,8 @@
 pub mod Rules
 -- the turns of a template, what comes next after some items, and a walk over its cells
 pub mod Course
+-- the steps of a walk: the turns up to what comes next
+pub mod Steps
 -- that a walk meets no element that Table B lacks
 pub mod KnownRows
 -- a field: its specification, its content, what it shows, and how it is read

@@ -5,7 +5,8 @@
 use Rattle.std.specs.Prelude.{ℕ, zero, suc, ◌+◌, ◌-◌, Bool, true, false, List, [], ◌∷◌, length, Result, Ok, Err, Option, Some, None, option_map, map, get_or, if◌then◌else◌, ◌≡◌, ◌<◌, ◌++◌, ◌%◌, ◌⊎◌, ◌==◌, is_none, is_some}
 use Rattle.bufr_walk.specs.Content.{Taken, FieldSpec, Content, FieldFault, FieldRead}
 use Rattle.bufr_walk.specs.Rules.{TurnRefusal}
-use Rattle.bufr_walk.specs.Course.{stop_by, Course, Next, take_next, at_end, astray, refused, ticked, next_item}
+use Rattle.bufr_walk.specs.Course.{stop_by, Course, Next, take_next, at_end, astray, refused}
+use Rattle.bufr_walk.specs.Steps.{CountedCourse, uncounted, counted_item, ticked}
 use Rattle.bufr_walk.specs.declared.fault.WalkFault.TheVariants as walk_fault
 use Rattle.bufr_walk.specs.declared.fault.DataFault.TheVariants as data_fault
 use Rattle.bufr_walk.specs.declared.walker.WalkStop.TheVariants as stops
@@ -33,17 +34,15 @@ pub record Passing (S C E : Type 0) : Type 0 where
   -- never used: the reason to stop if the walk is `astray`, or if the bound of `pass` is reached
   pub lost : E
 
--- a pass: its items, the number of its turns, the state after it, and the reason why it stopped, if
--- any
+-- a pass: its items, the state after it, and the reason why it stopped, if any
 pub record Pass (S C E : Type 0) : Type 0 where
   pub items : List (Item C)
-  pub turns : ℕ
   pub state : S
   pub stop : Option E
 
--- a pass without items, which ends after this number of turns
-abbrev pub last_turn : {S C E : Type 0} → ℕ → S → Option E → Pass S C E
-last_turn turn state stop = record { items = []; turns = turn; state = state; stop = stop }
+-- a pass without items
+abbrev pub empty_pass : {S C E : Type 0} → S → Option E → Pass S C E
+empty_pass state stop = record { items = []; state = state; stop = stop }
 
 -- an item, and then a pass
 abbrev pub item_then : {S C E : Type 0} → FieldSpec → C → Pass S C E → Pass S C E
@@ -52,18 +51,18 @@ item_then spec content p =
 
 module _ {S C E : Type 0} (how : Passing S C E) where
   -- a field: either its step stops the pass, or `rest` is the pass after it
-  abbrev pub pass_field : (turn : ℕ) → FieldSpec → S → Result (Step S C) E
-      → (Step S C → Pass S C E) → Pass S C E
-  pass_field turn spec s (Err why) rest = last_turn turn s (Some why)
-  pass_field turn spec s (Ok f) rest = item_then spec f.content (rest f)
+  abbrev pub pass_field : FieldSpec → S → Result (Step S C) E → (Step S C → Pass S C E)
+      → Pass S C E
+  pass_field spec s (Err why) rest = empty_pass s (Some why)
+  pass_field spec s (Ok f) rest = item_then spec f.content (rest f)
 
   -- what comes next: a field, the end, or a refusal; `rest` is the pass after a field
-  abbrev pub pass_next : (turn : ℕ) → Next → S → (Step S C → Pass S C E) → Pass S C E
-  pass_next turn (take_next spec) s rest = pass_field turn spec s (how.step spec s) rest
-  pass_next turn at_end s rest = last_turn turn s (how.ends s)
-  pass_next turn (refused why) s rest = last_turn turn s (Some (how.refuses why s))
+  abbrev pub pass_next : Next → S → (Step S C → Pass S C E) → Pass S C E
+  pass_next (take_next spec) s rest = pass_field spec s (how.step spec s) rest
+  pass_next at_end s rest = empty_pass s (how.ends s)
+  pass_next (refused why) s rest = empty_pass s (Some (how.refuses why s))
   -- this never happens, since each factor returns its count
-  pass_next turn astray s rest = last_turn turn s (Some how.lost)
+  pass_next astray s rest = empty_pass s (Some how.lost)
 
   -- What comes next ends the pass, or stops it for this reason.
   abbrev pub EndsPass : Next → S → Option E → Type 0
@@ -78,9 +77,9 @@ module _ {S C E : Type 0} (how : Passing S C E) where
   -- one more answer `course (t ∷ u ∷ [])`. `most` bounds the recursion: it is greater than the number
   -- of bits (or of items to write), and each field uses at least one of them.
   abbrev pub pass : (most : ℕ) → Course → S → Pass S C E
-  pass zero course s = last_turn (course []).turns s (Some how.lost)
-  pass (suc more) course s = pass_next (course []).turns (course []).next s
-      (λ f. pass more (λ answers. course (f.returned ∷ answers)) f.state)
+  pass zero course s = empty_pass s (Some how.lost)
+  pass (suc more) course s =
+      pass_next (course []) s (λ f. pass more (λ answers. course (f.returned ∷ answers)) f.state)
 
 -- ---- A pass that reads data.
 
@@ -148,19 +147,13 @@ abbrev pub left_after : {C : Type 0} → List Bool → List (DataPass C) → Lis
 left_after bits [] = bits
 left_after bits (p ∷ passes) = left_after p.state.left passes
 
--- the total number of turns of several passes
-abbrev pub turns_in_all : {C : Type 0} → List (DataPass C) → ℕ
-turns_in_all [] = 0
-turns_in_all (p ∷ passes) = p.turns + turns_in_all passes
-
 -- A reading of data: its items; why it stopped (if it did) and in which subset, from 1 (0 in
--- compressed data); the bits after its items; and its number of turns.
+-- compressed data); and the bits after its items.
 pub record DataReading : Type 0 where
   pub values : Values
   pub stop : Option Stop
   pub subset : ℕ
   pub left : List Bool
-  pub turns : ℕ
 
 -- the reading that has these values and consists of these passes over bits
 abbrev pub reading_by : {C : Type 0} → Values → (subset : ℕ) → List Bool → List (DataPass C)
@@ -170,7 +163,6 @@ reading_by values subset bits passes = record {
   stop = stop_of passes;
   subset = subset;
   left = left_after bits passes;
-  turns = turns_in_all passes;
 }
 
 -- The reading of data by a course. In plain data, the last pass is the one that stopped, if any, so
@@ -220,13 +212,30 @@ pub record ReadsTo {C : Type 0} (form : DataCoding C) (many : ℕ → Bool) (cou
   pub few : (j : ℕ) → j < length p.items → many (from.items + j) ≡ false
   pub count : p.state.items ≡ from.items + length p.items
   pub ends : EndsPass (reading form many) (next_after form course p.items) p.state p.stop
-  pub turns : p.turns ≡ turns_after form course p.items
+
+-- ---- The turns of passes.
+
+-- the total number of turns of several passes, each up to what comes next after its items
+abbrev pub turns_in_all : {C : Type 0} → DataCoding C → CountedCourse → List (DataPass C) → ℕ
+turns_in_all form course [] = 0
+turns_in_all form course (p ∷ passes) =
+    turns_after form course p.items + turns_in_all form course passes
+
+-- the turns of the reading of data by a course
+abbrev pub turns_read_in : CountedCourse → (compressed : Bool) → (subsets : ℕ) → List Bool → ℕ
+turns_read_in course false n bits =
+    turns_in_all plain course (passes_apart (uncounted course) n bits)
+turns_read_in course true n bits =
+    turns_in_all (packed n) course (passes_together (uncounted course) n bits)
+
+abbrev pub turns_read : CountedCourse → Data → ℕ
+turns_read course d = turns_read_in course d.compressed d.subsets d.bits
 
 -- ---- Where memory may run out.
 
 -- It may run out in one of some passes, before the field that comes next after some of its items:
 -- a reference, which must be kept, or where that many items want memory.
-pub record RunsShort {C : Type 0} (form : DataCoding C) (wants : ℕ → Bool) (course : Course)
+pub record RunsShort {C : Type 0} (form : DataCoding C) (wants : ℕ → Bool) (course : CountedCourse)
     (passes : List (DataPass C)) (turns : ℕ) : Type 0 where
   pub done : List (DataPass C)
   pub here : DataPass C
@@ -236,31 +245,32 @@ pub record RunsShort {C : Type 0} (form : DataCoding C) (wants : ℕ → Bool) (
   pub more : List (Item C)
   pub are : here.items ≡ items ++ more
   pub spec : FieldSpec
-  pub next : next_after form course items ≡ take_next spec
+  pub next : next_after form (uncounted course) items ≡ take_next spec
   pub why : (wants (length items) ≡ true) ⊎ (spec.role ≡ role.Reference)
-  pub turns_are : turns ≡ turns_in_all done + turns_after form course items
+  pub turns_are : turns ≡ turns_in_all form course done + turns_after form course items
 
 -- in one of the passes of a reading; compressed data want memory for each 64th item
-abbrev pub MayRunShort : Course → (compressed : Bool) → (subsets : ℕ) → List Bool → (turns : ℕ)
-    → Type 0
+abbrev pub MayRunShort : CountedCourse → (compressed : Bool) → (subsets : ℕ) → List Bool
+    → (turns : ℕ) → Type 0
 MayRunShort course false n bits turns =
-    RunsShort plain (λ items. false) course (passes_apart course n bits) turns
+    RunsShort plain (λ items. false) course (passes_apart (uncounted course) n bits) turns
 MayRunShort course true n bits turns =
     RunsShort (packed n) (λ items. items % items_at_once == 0) course
-    (passes_together course n bits) turns
+    (passes_together (uncounted course) n bits) turns
 
 -- ---- What a call that reads answers.
 
 -- How many bits the items take, or the fault of what stopped the reading; each with the steps of
 -- its turns. Or memory ran out where it is wanted.
 -- rule: bits-left-over
-abbrev pub ReadsData : Course → Data → Result ℕ WalkFault → (steps : ℕ) → Type 0
+abbrev pub ReadsData : CountedCourse → Data → Result ℕ WalkFault → (steps : ℕ) → Type 0
 ReadsData course d (Ok used) steps =
-    let r = reading_of course d in
-    (r.stop ≡ None) × (used + length r.left ≡ length d.bits) × (steps ≡ ticked 0 r.turns)
+    let r = reading_of (uncounted course) d in
+    (r.stop ≡ None) × (used + length r.left ≡ length d.bits)
+    × (steps ≡ ticked 0 (turns_read course d))
 ReadsData course d (Err why) steps =
-    let r = reading_of course d in
-    ((fault_of d r ≡ Some why) × (steps ≡ ticked 0 r.turns))
+    let r = reading_of (uncounted course) d in
+    ((fault_of d r ≡ Some why) × (steps ≡ ticked 0 (turns_read course d)))
     ⊎ ((why ≡ walk_fault.Memory) × (turns : ℕ)
     × MayRunShort course d.compressed d.subsets d.bits turns × (steps ≡ ticked 0 turns))
 
@@ -268,6 +278,6 @@ ReadsData course d (Err why) steps =
 abbrev pub AnswersReading : List Row → Tree → Data → Result Read WalkFault → (steps : ℕ) → Type 0
 AnswersReading table template d (Ok r) steps =
     (r.table ≡ table) × (r.template ≡ template) × (r.source ≡ d)
-    × ReadsData (next_item table template) d (Ok r.bits) steps
+    × ReadsData (counted_item table template) d (Ok r.bits) steps
 AnswersReading table template d (Err why) steps =
-    ReadsData (next_item table template) d (Err why) steps
+    ReadsData (counted_item table template) d (Err why) steps

@@ -4,7 +4,8 @@ use Rattle.std.specs.Prelude.{ℕ, ◌≡◌, ◌≤◌, ◌+◌, Bool, List, dr
 use Rattle.bufr_walk.specs.Content.{Taken, missing, ShownValue, Coding, step_of, increments, increased, FieldSpec, Content, answer_of, plain_field, found, data_end, FieldFault, FieldRead, packed_field, answer_first}
 use Rattle.bufr_walk.specs.Reading.{wrong_of, Item, plain, turns_after, ReadsPass, Read, course_of, max_values, items_at_once, Data, Values, apart, together, IsReading, ShowFault, Call, item_call, view_of, Timed, item_calls, Shows, View, PackedValues}
 use Rattle.bufr_walk.specs.Pass.{DataPass, Place, reading_of, values_read}
-use Rattle.bufr_walk.specs.Course.{Course, ticked}
+use Rattle.bufr_walk.specs.Course.{Course}
+use Rattle.bufr_walk.specs.Steps.{CountedCourse, uncounted, ticked}
 use Rattle.std.proofs.Common.{ap}
 use Rattle.bufr_tables.specs.Prelude.{Row, Tree, is_character}
 use Rattle.bufr_walk.specs.declared.plain.ShowStop.{ShowStop}
@@ -126,26 +127,27 @@ pub record Sofar {S E : Type 0} (sees : S → Call → Result (Unit {0}) E → S
 
 -- the items of a subset were shown, whatever follows them
 pub record ItemsShown {S E : Type 0} (sees : S → Call → Result (Unit {0}) E → S → Type 0)
-    (table : List Row) (course : Course) (c : Cursor) (s : S) (steps : ℕ) (c' : Cursor) (s' : S)
-    (steps' : ℕ) : Type 0 where
+    (table : List Row) (course : CountedCourse) (c : Cursor) (s : S) (steps : ℕ) (c' : Cursor)
+    (s' : S) (steps' : ℕ) : Type 0 where
   pub shown : (before : ℕ) (items : List (Item Content)) (left : List Bool) (more : List Timed)
-      → ReadsPass plain course items (rest_of c) left
+      → ReadsPass plain (uncounted course) items (rest_of c) left
       → Sofar sees s (item_calls table before course items ++ more) s' more
   pub left_is : (items : List (Item Content)) (left : List Bool)
-      → ReadsPass plain course items (rest_of c) left
+      → ReadsPass plain (uncounted course) items (rest_of c) left
       → (rest_of c' ≡ left) × (steps' ≡ ticked steps (turns_after plain course items))
 
 -- the items of a subset were shown up to one that ended the showing
 pub record ItemsEnded {S E : Type 0} (sees : S → Call → Result (Unit {0}) E → S → Type 0)
-    (table : List Row) (course : Course) (c : Cursor) (s : S) (steps : ℕ) (why : ShowFault E)
+    (table : List Row) (course : CountedCourse) (c : Cursor) (s : S) (steps : ℕ) (why : ShowFault E)
     (s' : S) (steps' : ℕ) : Type 0 where
   pub ended : (before : ℕ) (items : List (Item Content)) (left : List Bool) (more : List Timed)
-      (turns : ℕ) → ReadsPass plain course items (rest_of c) left → steps ≡ ticked 0 before
+      (turns : ℕ) → ReadsPass plain (uncounted course) items (rest_of c) left
+      → steps ≡ ticked 0 before
       → Shows sees s (item_calls table before course items ++ more) turns (Err why) s' steps'
 
 -- the items of a subset were shown, or one of them ended the showing
 abbrev pub ItemsGo : {S E : Type 0} → (S → Call → Result (Unit {0}) E → S → Type 0) → List Row
-    → Course → Cursor → S → ℕ → Result (Unit {0}) (ShowFault E) → Cursor → S → ℕ → Type 0
+    → CountedCourse → Cursor → S → ℕ → Result (Unit {0}) (ShowFault E) → Cursor → S → ℕ → Type 0
 ItemsGo sees table course c s steps (Ok _) c' s' steps' =
     ItemsShown sees table course c s steps c' s' steps'
 ItemsGo sees table course c s steps (Err why) c' s' steps' =

@@ -3,7 +3,8 @@
 -- Cited by public contracts.
 use Rattle.std.specs.Prelude.{ℕ, zero, suc, ◌≡◌, ◌+◌, ◌*◌, ◌≤◌, Bool, true, false, List, [], ◌∷◌, length, drop, take, ◌<◌, Result, Ok, ◌⊎◌, nat_lt, Option, None, Err, codes, decimal, if◌then◌else◌, ◌++◌, option_map, map, get_or}
 use Rattle.bufr_walk.specs.Content.{Taken, FieldSpec, Content, answer_of, FieldFault, FieldRead, found, plain_field, data_end, increment, unequal_factor, packed_field, answer_first, ShownValue, shown, missing, shown_number, shown_text, shown_missing, shown_reference}
-use Rattle.bufr_walk.specs.Course.{Course, Next, take_next, at_end, next_item, ticked}
+use Rattle.bufr_walk.specs.Course.{Course, Next, take_next, at_end, next_item}
+use Rattle.bufr_walk.specs.Steps.{CountedCourse, counted_item, ticked}
 use Rattle.bufr_walk.specs.declared.fault.DataFault.{DataFault}
 use Rattle.bufr_walk.specs.declared.fault.DataFault.TheVariants as data_fault
 use Rattle.bufr_walk.specs.declared.walker.WalkStop.{WalkStop}
@@ -53,13 +54,13 @@ abbrev pub ReadsItems : {C : Type 0} → DataCoding C → Course → List (Item 
     → (bits suffix : List Bool) → Type 0
 ReadsItems form course [] bits suffix = bits ≡ suffix
 ReadsItems form course (i ∷ items) bits suffix =
-    (mid : List Bool) × ((course []).next ≡ take_next i.spec)
+    (mid : List Bool) × (course [] ≡ take_next i.spec)
     × (form.field i.spec bits ≡ Ok (found i.content mid))
     × ReadsItems form (after form course i) items mid suffix
 
 -- what comes next after items
 abbrev pub next_after : {C : Type 0} → DataCoding C → Course → List (Item C) → Next
-next_after form course [] = (course []).next
+next_after form course [] = course []
 next_after form course (i ∷ items) = next_after form (after form course i) items
 
 -- The items are those of one pass to the end of the template.
@@ -67,16 +68,6 @@ abbrev pub ReadsPass : {C : Type 0} → DataCoding C → Course → List (Item C
     → (bits suffix : List Bool) → Type 0
 ReadsPass form course items bits suffix =
     ReadsItems form course items bits suffix × (next_after form course items ≡ at_end)
-
--- the number of turns of a pass with these items, up to what comes next after them
-abbrev pub turns_after : {C : Type 0} → DataCoding C → Course → List (Item C) → ℕ
-turns_after form course [] = (course []).turns
-turns_after form course (i ∷ items) = turns_after form (after form course i) items
-
--- the turns of some whole subsets
-abbrev pub turns_in : Course → List (List (Item Content)) → ℕ
-turns_in course [] = 0
-turns_in course (items ∷ subsets) = turns_after plain course items + turns_in course subsets
 
 -- The subsets follow one another, each from the beginning of the template.
 -- rule: operators-end-with-subset, subsets-without-padding
@@ -241,6 +232,26 @@ pub record Read : Type 0 where
 abbrev pub course_of : Read → Course
 course_of r = next_item r.table r.template
 
+-- ---- The turns of a reading. (Only contracts need them.)
+
+-- the same course with its turns
+abbrev pub counted_course_of : Read → CountedCourse
+counted_course_of r = counted_item r.table r.template
+
+-- the course after one more item
+abbrev pub after_counted : {C : Type 0} → DataCoding C → CountedCourse → Item C → CountedCourse
+after_counted form course i answers = course (item_answer form i ∷ answers)
+
+-- the number of turns of a pass with these items, up to what comes next after them
+abbrev pub turns_after : {C : Type 0} → DataCoding C → CountedCourse → List (Item C) → ℕ
+turns_after form course [] = (course []).turns
+turns_after form course (i ∷ items) = turns_after form (after_counted form course i) items
+
+-- the turns of some whole subsets
+abbrev pub turns_in : CountedCourse → List (List (Item Content)) → ℕ
+turns_in course [] = 0
+turns_in course (items ∷ subsets) = turns_after plain course items + turns_in course subsets
+
 -- ---- The calls of a visitor that show a reading, in order, up to its first fault.
 
 -- an item as it is shown: its descriptor, the row of Table B by which it was read (if it was), and
@@ -273,14 +284,15 @@ abbrev pub timed : ℕ → Call → Timed
 timed turns call = record { turns = turns; call = call }
 
 -- the calls for the items of one subset, where the walk made `before` turns before the subset
-abbrev pub item_calls : List Row → (before : ℕ) → Course → List (Item Content) → List Timed
+abbrev pub item_calls : List Row → (before : ℕ) → CountedCourse → List (Item Content)
+    → List Timed
 item_calls table before course [] = []
 item_calls table before course (i ∷ items) =
     timed (before + (course []).turns) (item_call (view_of table i.spec i.content))
-    ∷ item_calls table before (after plain course i) items
+    ∷ item_calls table before (after_counted plain course i) items
 
 -- the calls for subsets, the first of which has this number, from 1
-abbrev pub subset_calls : List Row → Course → (before number : ℕ)
+abbrev pub subset_calls : List Row → CountedCourse → (before number : ℕ)
     → List (List (Item Content)) → List Timed
 subset_calls table course before number [] = []
 subset_calls table course before number (items ∷ subsets) =
@@ -288,7 +300,7 @@ subset_calls table course before number (items ∷ subsets) =
     ++ subset_calls table course (before + turns_after plain course items) (number + 1) subsets
 
 -- compressed data are shown without a walk, so in no turns
-abbrev pub without_turns : Course
+abbrev pub without_turns : CountedCourse
 without_turns answers = record { turns = 0; next = at_end }
 
 -- compressed data as they are shown: the table, how many subsets, and the items of all
@@ -315,8 +327,8 @@ abbrev pub packed_calls : PackedValues → List Timed
 packed_calls p = subset_calls p.table without_turns 0 1 (subsets_from p.subsets 0 p.items)
 
 -- the walk of a showing
-abbrev pub walk_shown : Read → Values → Course
-walk_shown r (apart subsets) = course_of r
+abbrev pub walk_shown : Read → Values → CountedCourse
+walk_shown r (apart subsets) = counted_course_of r
 walk_shown r (together items) = without_turns
 
 -- the calls that show a reading

@@ -42,7 +42,7 @@ pub fn data_are_read_item_by_item()
 pub fn next_fields_are_fields()
     ensures { (records : List Record) (table : List Row) (template : Tree) (answers : List Taken)
         (spec : FieldSpec) → AreRows records table → IsLegal template → AreWithin answers
-        → (next_item table template answers).next ≡ take_next spec → IsField spec }
+        → next_item table template answers ≡ take_next spec → IsField spec }
 {}
 
 /// Law: a walk over a template that [`Template::build`](bufr_tables::Template::build) returned

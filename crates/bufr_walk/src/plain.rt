@@ -1,7 +1,7 @@
 //! Data that are not compressed: fields, reading, and showing.
 ghost use Rattle.std.specs.Prelude.{◌≡◌, ◌≤◌, ◌<◌, ◌+◌, ◌-◌, ◌*◌, ◌^◌, length, take, drop, if◌then◌else◌, ◌==◌, pos, neg_ℤ, false, List, IfOk, IfErr, ◌/◌, Bool, Result, Some, Ok, Err, MatchResult};
 ghost use Rattle.bufr_bits.specs.Prelude.{number_of, bits_at, bits_of, are_all_ones, octets_of};
-ghost use Rattle.bufr_walk.specs.Prelude.{IsFor, answer_of, content_in, signed_by, octets_in, Content, shown, next_item, bits_before, data_in, ReadsData, Item, plain, ReadsPass, ReadsSubsets, turns_in, IsReadAndPaid, rest_of, ItemsGo, item_call, view_of, subset_calls, seen_value, Shows, PlainTakes, past, shown_missing};
+ghost use Rattle.bufr_walk.specs.Prelude.{IsFor, answer_of, content_in, signed_by, octets_in, Content, shown, next_item, counted_item, bits_before, data_in, ReadsData, Item, plain, ReadsPass, ReadsSubsets, turns_in, IsReadAndPaid, rest_of, ItemsGo, item_call, view_of, subset_calls, seen_value, Shows, PlainTakes, past, shown_missing};
 ghost use Rattle.bufr_tables.specs.Prelude.{places, row_of_entry};
 ghost use Rattle.std.proofs.Common.{arith, ap};
 ghost use Rattle.bufr_walk.specs.Readers.{ShowingTakes, refusal_keeps, stage, view};
@@ -249,7 +249,7 @@ pub(crate) fn read_plain(
 ) -> Result<u64, WalkFault>
     requires { steps.old ≡ 0 }
     ensures same { cache.new ≡ cache.old }
-    ensures reads { ReadsData (next_item cache.old template.now)
+    ensures reads { ReadsData (counted_item cache.old template.now)
         (data_in false subsets (octets_of bits.entry)) result steps.new }
     ensures paid { IfOk result (λ used. IsReadAndPaid (next_item cache.old template.now)
         (data_in false subsets (octets_of bits.entry)) used) }
@@ -419,8 +419,8 @@ fn walk_showing<V: Visitor>(
     ensures same { cache.new ≡ cache.old }
     ensures input { fields.new.input.ghost_name ≡ fields.old.input.ghost_name }
     ensures visitor { fields.new.visitor.ghost_name ≡ fields.old.visitor.ghost_name }
-    ensures shown { ItemsGo V.sees cache.old (next_item cache.old template.now) fields.old.input.now
-        fields.old.visitor.now steps.old result fields.new.input.now
+    ensures shown { ItemsGo V.sees cache.old (counted_item cache.old template.now)
+        fields.old.input.now fields.old.visitor.now steps.old result fields.new.input.now
         fields.new.visitor.now steps.new }
 {
     match walk_by(template, cache, fields, steps) {
@@ -444,7 +444,7 @@ fn show_items<V: Visitor>(
     requires { (items : List (Item Content)) × (left : List Bool)
         × ReadsPass plain (next_item cache.old template.now) items (rest_of input.old) left }
     ensures same { cache.new ≡ cache.old }
-    ensures shown { ItemsGo V.sees cache.old (next_item cache.old template.now) input.old
+    ensures shown { ItemsGo V.sees cache.old (counted_item cache.old template.now) input.old
         visitor.old steps.old result input.new visitor.new steps.new }
 {
     let table = cache.table;
@@ -482,8 +482,9 @@ pub(crate) fn show_plain<V: Visitor>(
         (bits_of (octets_of given.now.bits)) left
         → length all ≡ given.now.subsets
         → Shows V.sees visitor.old
-        (subset_calls cache.old (next_item cache.old given.now.template.now) 0 1 all)
-        (turns_in (next_item cache.old given.now.template.now) all) result visitor.new steps.new }
+        (subset_calls cache.old (counted_item cache.old given.now.template.now) 0 1 all)
+        (turns_in (counted_item cache.old given.now.template.now) all) result visitor.new
+        steps.new }
 {
     let mut input = PlainIn::new(given.bits);
     'subsets: for done in 0..given.subsets {

@@ -1,6 +1,6 @@
 //! The walk over the cells of a template, with the fields that it takes, its stops and its steps.
 ghost use Rattle.std.specs.Prelude.{◌≡◌, ℕ, ◌+◌, ◌-◌, ◌^◌, ◌<◌, Result, Ok, Err, IfOk, ◌≤◌, ◌*◌, ◌++◌, ◌∷◌, [], List, OnOk, OnErr};
-ghost use Rattle.bufr_walk.specs.Prelude.{ticked, Walked, TakesField, next_item, FieldSpec, IsFor, Taken, after_field, descriptor_of, spec_of, stop_by};
+ghost use Rattle.bufr_walk.specs.Prelude.{ticked, Walked, TakesField, counted_item, FieldSpec, IsFor, Taken, after_field, descriptor_of, spec_of, stop_by};
 ghost use Rattle.arrayvec.specs.ArrayVec.{array_vec_len};
 ghost use Rattle.bufr_tables.specs.Prelude.{places};
 ghost use Rattle.bufr_walk.specs.declared.walker.Frame.{Frame};
@@ -233,8 +233,8 @@ pub fn walk<S: Fields>(
     fields: &mut S,
     steps: &mut Steps,
 ) -> Result<(), WalkStop<S::Fault>>
-    ensures walked { Walked S.takes (next_item table.now template.now) fields.old steps.old result
-        fields.new steps.new }
+    ensures walked { Walked S.takes (counted_item table.now template.now) fields.old steps.old
+        result fields.new steps.new }
     ensures accepted { OnOk result
         (steps.new ≤ steps.old + places template.now * (S.used fields.new - S.used fields.old)) }
     ensures refused { OnErr result (steps.new
@@ -259,8 +259,8 @@ pub fn walk_by<S: Fields>(
     steps: &mut Steps,
 ) -> Result<(), WalkStop<S::Fault>>
     ensures same { cache.new ≡ cache.old }
-    ensures walked { Walked S.takes (next_item cache.old template.now) fields.old steps.old result
-        fields.new steps.new }
+    ensures walked { Walked S.takes (counted_item cache.old template.now) fields.old steps.old
+        result fields.new steps.new }
     ensures accepted { OnOk result
         (steps.new ≤ steps.old + places template.now * (S.used fields.new - S.used fields.old)) }
     ensures refused { OnErr result (steps.new

@@ -2,7 +2,7 @@ use Rattle.std.proofs.Common.{◌∙◌, length, arith, ap, refl, sym, subst, Ok
 use Rattle.std.proofs.lemmas.Result.{err_from_is_err_and}
 use Rattle.bufr_text.specs.Prelude.{document_fault}
 use Rattle.bufr_tables.specs.Prelude.{places}
-use Rattle.bufr_walk.specs.Prelude.{next_item}
+use Rattle.bufr_walk.specs.Prelude.{counted_item}
 use Rattle.bufr_fill.specs.Prelude.{subsets_of, PackedOutModel, StartsPackedOut}
 use Rattle.bufr_text.proofs.EncodeLemmas.{none_packed, packed_written, packed_over, packed_stopped, some_before, some_ends, template_adds}
 use Rattle.bufr_text.proofs.encode.write_packed.Goals as goal
@@ -14,7 +14,7 @@ returns-in-None-clause-written c = grind (arith, common_steps, none_packed)
 pub returns-in_ok-end-in-Ok-clause-written : goal.returns-in_ok-end-in-Ok-clause-written
 returns-in_ok-end-in-Ok-clause-written c =
     let ss = subsets_of c.args.entries.now in
-    let course = next_item c.args.cache.now c.args.template.now in
+    let course = counted_item c.args.cache.now c.args.template.now in
     let at = subst (StartsPackedOut ss) c.in-Some.is c.in_ok-out.ensures in
     let after = some_ends c.out.inside.entries.now c.out.inside.ends.items (length c.walk_by.new.fields.subsets) c.out.invariant.ends_are c.out.invariant.some
     (ap (λ (p : PackedOutModel). length p.subsets) (sym c.out.view_is)) in
@@ -26,7 +26,7 @@ returns-in_ok-end-in-Ok-clause-written c =
 pub returns-in_err-end-in-Ok-clause-written : goal.returns-in_err-end-in-Ok-clause-written
 returns-in_err-end-in-Ok-clause-written c =
     let ss = subsets_of c.args.entries.now in
-    let course = next_item c.args.cache.now c.args.template.now in
+    let course = counted_item c.args.cache.now c.args.template.now in
     let at = subst (StartsPackedOut ss) c.in-Some.is c.in_ok-out.ensures in
     let after = some_ends c.out.inside.entries.now c.out.inside.ends.items (length c.walk_by.new.fields.subsets) c.out.invariant.ends_are c.out.invariant.some
     (ap (λ (p : PackedOutModel). length p.subsets) (sym c.out.view_is)) in
@@ -40,7 +40,7 @@ returns-in_err-end-in-Ok-clause-written c =
 pub returns-in-Err-clause-written : goal.returns-in-Err-clause-written
 returns-in-Err-clause-written c =
     let ss = subsets_of c.args.entries.now in
-    let course = next_item c.args.cache.now c.args.template.now in
+    let course = counted_item c.args.cache.now c.args.template.now in
     let at = subst (StartsPackedOut ss) c.in-Some.is c.in_ok-out.ensures in
     let after = some_ends c.out-in-Err.inside.entries.now c.out-in-Err.inside.ends.items (length c.walk_by.new.fields.subsets) c.out-in-Err.invariant.ends_are c.out-in-Err.invariant.some
     (ap (λ (p : PackedOutModel). length p.subsets) (sym c.out-in-Err.view_is)) in

@@ -1,24 +1,24 @@
 use Rattle.std.proofs.Common.{◌≡◌, rules, ◌<◌, ◌≤◌, ◌^◌, ◌∙◌, ◌*◌, ◌+◌, true, arith, ap, length, subst, sym, Err}
 use Rattle.bufr_bits.specs.Prelude.{bits_of, octets_of}
 use Rattle.bufr_tables.specs.Prelude.{places}
-use Rattle.bufr_walk.specs.Prelude.{next_item, PackedCursor, data_in, ReadsData, bits_before, Data}
+use Rattle.bufr_walk.specs.Prelude.{PackedCursor, data_in, ReadsData, bits_before, Data, counted_item}
 use Rattle.bufr_walk.proofs.PackedReading.{IsReadAndKept, none_read, whole_read, walk_stops, stopped_within, few_stopped, few_values, packed_held, packed_is, packed_data_same}
 use Rattle.bufr_walk.proofs.PlainLemmas.{plain_held, plain_is, same_data}
 use Rattle.bufr_walk.proofs.reading.read_by.Goals as goal
 
 pub invariant_of-result : goal.invariant_of-result
 invariant_of-result c =
-    let zero : IsReadAndKept (next_item c.cache.inside.table.now c.args.template.now) (data_in true c.subsets-subsets.result (octets_of c.payload-bits.result)) c.new-then-subsets-eq0.result 0 0 =
-    rw (c.if-subsets-eq0.true, c.new-then-subsets-eq0.ensures) (none_read (next_item c.cache.inside.table.now c.args.template.now) (bits_of (octets_of c.payload-bits.result))) in
+    let zero : IsReadAndKept (counted_item c.cache.inside.table.now c.args.template.now) (data_in true c.subsets-subsets.result (octets_of c.payload-bits.result)) c.new-then-subsets-eq0.result 0 0 =
+    rw (c.if-subsets-eq0.true, c.new-then-subsets-eq0.ensures) (none_read (counted_item c.cache.inside.table.now c.args.template.now) (bits_of (octets_of c.payload-bits.result))) in
     packed_held c.cache.inside.table.now c.args.template.now c.subsets-subsets.result (octets_of c.payload-bits.result) 0 0 c.new-then-subsets-eq0.result zero
     (rw c.new-then-subsets-eq0.ensures (omega arith))
     (subst (λ octets. length octets < 2 ^ 24) (sym c.payload-bits.ensures.value) c.payload-bits.ensures.short)
 
 pub returns-then-subsets-eq0-clause-reads : goal.returns-then-subsets-eq0-clause-reads
 returns-then-subsets-eq0-clause-reads c =
-    let zero : IsReadAndKept (next_item c.cache.inside.table.now c.args.template.now) (data_in true c.subsets-subsets.result (octets_of c.payload-bits.result)) c.new-then-subsets-eq0.result 0
+    let zero : IsReadAndKept (counted_item c.cache.inside.table.now c.args.template.now) (data_in true c.subsets-subsets.result (octets_of c.payload-bits.result)) c.new-then-subsets-eq0.result 0
     c.new.result = rw (c.if-subsets-eq0.true, c.new-then-subsets-eq0.ensures, c.new.ensures)
-    (none_read (next_item c.cache.inside.table.now c.args.template.now) (bits_of (octets_of c.payload-bits.result))) in
+    (none_read (counted_item c.cache.inside.table.now c.args.template.now) (bits_of (octets_of c.payload-bits.result))) in
     rw (← c.cache.view_is) (packed_is c.cache.inside.table.now c.args.template.now c.args.message.now c.subsets-subsets.result (octets_of c.payload-bits.result) 0
     (length c.new-then-subsets-eq0.result) c.new.result c.new-then-subsets-eq0.result
     (packed_data_same c.args.message.now c.subsets-subsets.result (octets_of c.payload-bits.result) (sym c.compressed.ensures ∙ c.if-compressed.true) c.subsets-subsets.ensures
@@ -28,7 +28,7 @@ pub invariant_of-result-then-compressed : goal.invariant_of-result-then-compress
 invariant_of-result-then-compressed c =
     let f = c.fields.inside in
     packed_held c.cache.inside.table.now c.args.template.now c.subsets-subsets.result (octets_of c.payload-bits.result) f.at c.walk_by.new.steps f.kept
-    (whole_read c.subsets-subsets.result (next_item c.cache.inside.table.now c.args.template.now) (bits_of (octets_of c.payload-bits.result)) c.new-fields.result c.new-fields.ensures
+    (whole_read c.subsets-subsets.result (counted_item c.cache.inside.table.now c.args.template.now) (bits_of (octets_of c.payload-bits.result)) c.new-fields.result c.new-fields.ensures
     (omega (arith, c.if-subsets-eq0.false)) c.walk_by.new.fields c.new.result c.walk_by.new.steps (bits_of (octets_of f.bits)) f.at f.subsets f.kept c.fields.view_is c.new.ensures
     (rw (← c.cache.view_is) at c.in-Ok.ensures.walked) c.fields.invariant.within c.fields.invariant.few c.fields.invariant.fit) c.fields.invariant.held
     (subst (λ octets. length octets < 2 ^ 24) (sym c.payload-bits.ensures.value) c.payload-bits.ensures.short)
@@ -39,7 +39,7 @@ returns-then-compressed-clause-reads c =
     rw (← c.cache.view_is) (packed_is c.cache.inside.table.now c.args.template.now c.args.message.now c.subsets-subsets.result (octets_of c.payload-bits.result) f.at (length f.kept)
     c.walk_by.new.steps f.kept (packed_data_same c.args.message.now c.subsets-subsets.result (octets_of c.payload-bits.result) (sym c.compressed.ensures ∙ c.if-compressed.true)
     c.subsets-subsets.ensures c.payload-bits.ensures.value)
-    (whole_read c.subsets-subsets.result (next_item c.cache.inside.table.now c.args.template.now) (bits_of (octets_of c.payload-bits.result)) c.new-fields.result c.new-fields.ensures
+    (whole_read c.subsets-subsets.result (counted_item c.cache.inside.table.now c.args.template.now) (bits_of (octets_of c.payload-bits.result)) c.new-fields.result c.new-fields.ensures
     (omega (arith, c.if-subsets-eq0.false)) c.walk_by.new.fields c.new.result c.walk_by.new.steps (bits_of (octets_of f.bits)) f.at f.subsets f.kept c.fields.view_is c.new.ensures
     (rw (← c.cache.view_is) at c.in-Ok.ensures.walked) c.fields.invariant.within c.fields.invariant.few c.fields.invariant.fit))
 
@@ -47,10 +47,11 @@ pub returns-in-Err-clause-reads : goal.returns-in-Err-clause-reads
 returns-in-Err-clause-reads c =
     let f = c.fields.inside in
     let v = c.fields.view_is in
-    subst (λ (d : Data). ReadsData (next_item c.args.cache.now c.args.template.now) d (Err c.fault_at.result) c.walk_by.new.steps)
+    subst (λ (d : Data). ReadsData (counted_item c.args.cache.now c.args.template.now) d (Err c.fault_at.result) c.walk_by.new.steps)
     (packed_data_same c.args.message.now c.subsets-subsets.result (octets_of c.payload-bits.result) (sym c.compressed.ensures ∙ c.if-compressed.true) c.subsets-subsets.ensures
     c.payload-bits.ensures.value)
-    (rw (c.fault_at.ensures) (walk_stops c.subsets-subsets.result (next_item c.args.cache.now c.args.template.now) (bits_of (octets_of c.payload-bits.result)) c.new-fields.result c.new-fields.ensures
+    (rw (c.fault_at.ensures) (walk_stops c.subsets-subsets.result (counted_item c.args.cache.now c.args.template.now) (bits_of (octets_of c.payload-bits.result)) c.new-fields.result
+    c.new-fields.ensures
     (omega (arith, c.if-subsets-eq0.false)) c.walk_by.new.fields c.new.result c.walk_by.new.steps f.at c.in-Err.why c.new.ensures c.in-Err.ensures.walked
     (subst (λ (s : PackedCursor). s.at ≤ length s.bits) v c.fields.invariant.within) (few_values c.walk_by.new.fields (bits_of (octets_of f.bits)) f.at f.subsets f.kept v c.fields.invariant.few)
     (ap (λ (s : PackedCursor). s.at) v)))
@@ -65,7 +66,7 @@ returns-in-Err-clause-refused c =
     c.payload-bits.ensures.value)
     (rw (c.fault_at.ensures) (few_stopped (places c.args.template.now) c.new.result c.walk_by.new.steps c.walk_by.new.fields.at f.at (length bits) c.new-fields.result bits c.subsets-subsets.result
     c.in-Err.why c.new-fields.ensures c.new.ensures c.in-Err.ensures.refused (ap (λ (s : PackedCursor). s.at) v)
-    (stopped_within (next_item c.args.cache.now c.args.template.now) bits c.subsets-subsets.result c.new-fields.result c.walk_by.new.fields c.new.result c.walk_by.new.steps c.in-Err.why
+    (stopped_within (counted_item c.args.cache.now c.args.template.now) bits c.subsets-subsets.result c.new-fields.result c.walk_by.new.fields c.new.result c.walk_by.new.steps c.in-Err.why
     c.new-fields.ensures c.in-Err.ensures.walked (subst (λ (s : PackedCursor). s.at ≤ length s.bits) v c.fields.invariant.within))))
 
 pub invariant_of-result-2 : goal.invariant_of-result-2
@@ -82,6 +83,6 @@ returns-clause-reads c = rw (← c.cache.view_is) (
 pub returns-in_err-used-clause-reads : goal.returns-in_err-used-clause-reads
 returns-in_err-used-clause-reads c =
     let e : c.from_residual.result ≡ Err c.in_err-used.field-0.0 = search rules in
-    rw e (subst (λ (d : Data). ReadsData (next_item c.args.cache.now c.args.template.now) d (Err c.in_err-used.field-0.0) c.read_plain.new.steps)
+    rw e (subst (λ (d : Data). ReadsData (counted_item c.args.cache.now c.args.template.now) d (Err c.in_err-used.field-0.0) c.read_plain.new.steps)
     (same_data c.args.message.now c.subsets-subsets.result (octets_of c.payload-bits.result) (sym c.compressed.ensures ∙ c.if-compressed.false) c.subsets-subsets.ensures
     c.payload-bits.ensures.value) c.in_err-used.ensures.reads)
