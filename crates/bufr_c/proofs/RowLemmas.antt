@@ -212,8 +212,12 @@ pub buffers_here : (buffers : RowBuffers) → SameBuffers buffers buffers
 buffers_here buffers = record { items = refl; texts = refl; messages = refl; reserved = refl }
 
 pub buffers-still : (old mid new : RowBuffers) → SameBuffers old mid → SameBuffers mid new → SameBuffers old new
-buffers-still old mid new first then' = record { items = then'.items ∙ first.items; texts = then'.texts ∙ first.texts; messages = then'.messages ∙ first.messages;
-    reserved = then'.reserved ∙ first.reserved }
+buffers-still old mid new first then' = record {
+  items = then'.items ∙ first.items;
+  texts = then'.texts ∙ first.texts;
+  messages = then'.messages ∙ first.messages;
+  reserved = then'.reserved ∙ first.reserved;
+}
 
 -- the rows of one more event were put
 pub rows-rest-put : (old before : Rows) (counts : Counts) (made : Rows) (mid counts' : Counts) (after rows : Rows) → LeavesRows before counts rows → LeavesRowsRest old counts before

@@ -7,7 +7,7 @@ use Rattle.bufr_cli.proofs.program.run.Goals as goal
 pub returns-in-Ok : goal.returns-in-Ok
 returns-in-Ok g c =
     Does c.in-Ok.job c.in-Ok.ensures.accepted c.in-Ok.ensures.job c.run_job-outcome.result (writers_of g.W.Sink c.run_job-outcome.new.w g.E.Sink c.run_job-outcome.new.e)
-        c.run_job-outcome.ensures.comes
+    c.run_job-outcome.ensures.comes
     refl
     (c.finish.ensures.prefix, c.finish.ensures.whole, c.finish.ensures.flushes) c.finish.ensures.status
 
