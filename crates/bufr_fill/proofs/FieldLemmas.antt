@@ -9,7 +9,7 @@ use Rattle.std.proofs.lemmas.Bool.Decides.{nat_tests}
 use Rattle.std.proofs.lemmas.Nat.{shr_high}
 use Rattle.bufr_bits.specs.Prelude.{bits_of, bits_of_octet, bits_in, number_after_bits, number_of, are_all_ones}
 use Rattle.bufr_bits.proofs.BitLemmas.{are_all_ones-bits_of, bit, number_after_bits-is, number_of-below, number-bits_of_octet, length-bits_of, bits_in-above, bits_in-octet, length-bits_in, number_of-bits_in, are_all_ones-number, and_false}
-use Rattle.bufr_walk.specs.Prelude.{HasWidth, FieldSpec, is_reference, Content, number, text, missing, octets_in, signed_by, said, Coding, coding_by, numbers, texts, sign_bit, bits_for, answer_of, answer_by_role, count_in, reference_in}
+use Rattle.bufr_walk.specs.Prelude.{HasWidth, FieldSpec, is_reference, Content, number, text, missing, octets_in, signed_by, content_by, Coding, coding_by, numbers, texts, sign_bit, bits_for, answer_of, answer_by_role, count_in, reference_in}
 use Rattle.bufr_fill.specs.Prelude.{Role, Kind, AreOctets, FitsKind, FitsNumber, FitsText, raw_limit, is_of, is_marked, wrong_for, content_by_form, Draft, draft, ValueKind, value_by, entry_by, entry_with, entry_here, map_err, at_line}
 use Rattle.std.proofs.lemmas.Int.{ints}
 use Rattle.std.proofs.lemmas.Bool.{false≢true, eq-eqb, eqb-true}
@@ -148,7 +148,7 @@ module _ (w : ℕ) where
   chosen_yes b c e = ap (λ x. if x then missing else c) e
 
   -- what is written by kind reads the same
-  pub kind_back : (k : Kind) (m : Bool) (c : Content) → HasWidth k w → FitsKind k m w c → said (coded k w m) (bits_for w c) ≡ c
+  pub kind_back : (k : Kind) (m : Bool) (c : Content) → HasWidth k w → FitsKind k m w c → content_by (coded k w m) (bits_for w c) ≡ c
   kind_back kind.Character m missing hw h = chosen_yes (are_all_ones (replicate w true)) _ (ones_set w)
   kind_back kind.Character m (text octets) hw h =
       chosen_no (are_all_ones (bits_of octets)) (text (octets_in (w / 8) (bits_of octets))) (text octets) (full_test octets h.1 ∙ h.2)
@@ -182,7 +182,7 @@ module _ (w : ℕ) where
   number_fits false m bits l e = below_top m bits w l e
 
   -- the content of bits is one that the field can have
-  pub kind_fits : (k : Kind) (m : Bool) (bits : List Bool) → length bits ≡ w → HasWidth k w → FitsKind k m w (said (coded k w m) bits)
+  pub kind_fits : (k : Kind) (m : Bool) (bits : List Bool) → length bits ≡ w → HasWidth k w → FitsKind k m w (content_by (coded k w m) bits)
   kind_fits kind.Character m bits l hw = text_fits (are_all_ones bits) bits l hw.2 refl
   kind_fits kind.Coded m bits l hw = number_fits (are_all_ones bits && m) m bits l refl
   kind_fits kind.Numeric m bits l hw = number_fits (are_all_ones bits && m) m bits l refl

@@ -11,7 +11,7 @@ use Rattle.bufr_bits.proofs.BitLemmas.{number_of-below, length-bits_in}
 use Rattle.bufr_bits.proofs.DecimalLemmas.{and_first, and_second}
 use Rattle.bufr_tables.specs.declared.table_b.Kind.{Kind}
 use Rattle.bufr_walk.specs.declared.spec.Role.{Role}
-use Rattle.bufr_walk.specs.Prelude.{Coding, numbers, texts, references, coding_by, coding_of, step_of, increased, all_there, contents_across, if_equal, said, is_reference, FieldSpec, IsSpec, HasWidth, Content, number, text, missing, content_in, bits_for, FieldFault, increment, FieldRead, found, increments, packed_field}
+use Rattle.bufr_walk.specs.Prelude.{Coding, numbers, texts, references, coding_by, coding_of, step_of, increased, all_there, contents_across, if_equal, content_by, is_reference, FieldSpec, IsSpec, HasWidth, Content, number, text, missing, content_in, bits_for, FieldFault, increment, FieldRead, found, increments, packed_field}
 use Rattle.bufr_walk.proofs.PackedLemmas.{item_by, item_parts, neither, varied, copied, copies_equal, next_there, some_same, equal_or}
 use Rattle.bufr_fill.specs.Prelude.{raw_limit, same, lowest, has_increment, increment_for, least_k, packed_bits, packed_over, packed_unlike, packing, k_of, HasLeastK, first_from, FitsNumber, FitsText, FitsKind, FitsRole, Fits, AllFit, Role, Kind}
 use Rattle.bufr_fill.proofs.FieldLemmas.{coded, coding_is, number_again, same_ok}
@@ -256,8 +256,8 @@ count_there f (i ∷ is) cs e = let t = next_there (f i) (map f is) cs e in ap l
 count_across : (d : Coding) (k n : ℕ) (base suffix : List Bool) (cs : List Content) → contents_across d k n base suffix ≡ Some cs → length cs ≡ n
 count_across d k n base suffix cs e = by (k == 0) e
   where
-    by : (b : Bool) → (if b then Some (replicate n (said d base)) else all_there (map (increased d k base) (increments n (step_of d k) suffix))) ≡ Some cs → length cs ≡ n
-    by true e = ap length (sym (some_same (replicate n (said d base)) cs e)) ∙ length-replicate n (said d base)
+    by : (b : Bool) → (if b then Some (replicate n (content_by d base)) else all_there (map (increased d k base) (increments n (step_of d k) suffix))) ≡ Some cs → length cs ≡ n
+    by true e = ap length (sym (some_same (replicate n (content_by d base)) cs e)) ∙ length-replicate n (content_by d base)
     by false e = count_there (increased d k base) (increments n (step_of d k) suffix) cs e ∙ increments_count n (step_of d k) suffix
 
 -- a reference has no k but 0

@@ -1,7 +1,7 @@
 -- A plain field that was read is written from the item that a dump writes, and read again.
 use Rattle.std.proofs.lemmas.Grind.{common_steps}
 use Rattle.std.proofs.lemmas.Bool.{eqb-true, le-ltb, lt-ltb, eq-eqb}
-use Rattle.bufr_walk.specs.Prelude.{FieldSpec, IsSpec, HasWidth, HasRole, HasMissing, is_reference, Content, found, number, text, missing, reference, octets_in, said, coding_by, content_in, bits_for, data_end, FieldRead, plain_field, signed_by, sign_bit, max_values, Item, DataCoding, ReadsItems, ReadsPass, after, Course, take_next}
+use Rattle.bufr_walk.specs.Prelude.{FieldSpec, IsSpec, HasWidth, HasRole, HasMissing, is_reference, Content, found, number, text, missing, reference, octets_in, content_by, coding_by, content_in, bits_for, data_end, FieldRead, plain_field, signed_by, sign_bit, max_values, Item, DataCoding, ReadsItems, ReadsPass, after, Course, take_next}
 use Rattle.bufr_fill.specs.Prelude.{ItemFault, Role, Kind, Draft, DraftValue, number_token, text_form, missing_form, reference_token, draft_value_of, content_of, content_by_form, raw_within, raw_of, reference_of, text_within, is_marked, wrong_for, IsMinusZero, is_of, decimal_again, normal_form, raw_limit, ItemRow, written_item, Filler, fill, with_bits_before, AreDrafts, contents_here, FitsText, FitsKind, FitsRole, Fits}
 use Rattle.bufr_fill.specs.declared.fault.ItemFault.TheVariants as wrong
 use Rattle.bufr_fill.proofs.FillSteps.{fill_more, fill_end}
@@ -182,10 +182,10 @@ width_least kind.Character w h = omega (arith, h.0)
 width_least k w h = h.0
 
 module _ (spec : FieldSpec) (good : IsSpec spec) where
-  role_back : (r : Role) (c : Content) → FitsRole r spec c → said (coding_by r spec.kind spec) (bits_for spec.width c) ≡ c
+  role_back : (r : Role) (c : Content) → FitsRole r spec c → content_by (coding_by r spec.kind spec) (bits_for spec.width c) ≡ c
   role_back role.Reference (reference v) h = ap reference (signed_back v spec.width h)
   role_back role.Reference c h = absurd h
-  role_back r c h = ap (λ d. said d (bits_for spec.width c)) (coding_is r spec.kind spec refl) ∙ kind_back spec.width spec.kind spec.may_be_missing c good.width h
+  role_back r c h = ap (λ d. content_by d (bits_for spec.width c)) (coding_is r spec.kind spec refl) ∙ kind_back spec.width spec.kind spec.may_be_missing c good.width h
 
   -- the bits of a content that fits have that content
   pub content_back : (c : Content) → Fits spec c → content_in spec (bits_for spec.width c) ≡ c
@@ -199,9 +199,9 @@ module _ (spec : FieldSpec) (good : IsSpec spec) where
   pub content_length : (c : Content) → Fits spec c → length (bits_for spec.width c) ≡ spec.width
   content_length c h = role_length spec.role c h
 
-  role_fits : (r : Role) (bits : List Bool) → length bits ≡ spec.width → FitsRole r spec (said (coding_by r spec.kind spec) bits)
+  role_fits : (r : Role) (bits : List Bool) → length bits ≡ spec.width → FitsRole r spec (content_by (coding_by r spec.kind spec) bits)
   role_fits role.Reference bits l = signed_below bits spec.width l (width_least spec.kind spec.width good.width)
-  role_fits r bits l = subst (λ d. FitsKind spec.kind spec.may_be_missing spec.width (said d bits)) (sym (coding_is r spec.kind spec refl))
+  role_fits r bits l = subst (λ d. FitsKind spec.kind spec.may_be_missing spec.width (content_by d bits)) (sym (coding_is r spec.kind spec refl))
       (kind_fits spec.width spec.kind spec.may_be_missing bits l good.width)
 
   -- the content of bits fits
@@ -253,7 +253,7 @@ chosen_same false w c bits h g = g
 ones_same : (w : ℕ) (bits : List Bool) → length bits ≡ w → are_all_ones bits ≡ true → replicate w true ≡ bits
 ones_same w bits l e = ap (λ n. replicate n true) (sym l) ∙ ones_are bits e
 
-kind_same : (m : Bool) (k : Kind) (w : ℕ) (bits : List Bool) → length bits ≡ w → HasWidth k w → bits_for w (said (coded k w m) bits) ≡ bits
+kind_same : (m : Bool) (k : Kind) (w : ℕ) (bits : List Bool) → length bits ≡ w → HasWidth k w → bits_for w (content_by (coded k w m) bits) ≡ bits
 kind_same m kind.Character w bits l h =
     chosen_same (are_all_ones bits) w (text (octets_in (w / 8) bits)) bits (ones_same w bits l) (octet_bits_again (w / 8) bits (omega (arith, l, h.2)))
 kind_same m k w bits l h =
@@ -273,9 +273,10 @@ signed_same [] w l h g = absurd (omega (arith, l))
 signed_same (false ∷ bits) w l h g = ap (λ xs. false ∷ xs) (number_same (w - 1) bits (omega (arith, l)))
 signed_same (true ∷ bits) w l h g = grind (arith, common_steps, negative_same)
 
-role_same : (r : Role) (spec : FieldSpec) → IsSpec spec → (bits : List Bool) → length bits ≡ spec.width → (IsMinusZero r bits → ⊥) → bits_for spec.width (said (coding_by r spec.kind spec) bits) ≡ bits
+role_same : (r : Role) (spec : FieldSpec) → IsSpec spec → (bits : List Bool) → length bits ≡ spec.width → (IsMinusZero r bits → ⊥)
+    → bits_for spec.width (content_by (coding_by r spec.kind spec) bits) ≡ bits
 role_same role.Reference spec good bits l h = signed_same bits spec.width l (width_least spec.kind spec.width good.width) h
-role_same r spec good bits l h = ap (λ d. bits_for spec.width (said d bits)) (coding_is r spec.kind spec refl) ∙ kind_same spec.may_be_missing spec.kind spec.width bits l good.width
+role_same r spec good bits l h = ap (λ d. bits_for spec.width (content_by d bits)) (coding_is r spec.kind spec refl) ∙ kind_same spec.may_be_missing spec.kind spec.width bits l good.width
 
 pub same_bits : (spec : FieldSpec) → IsSpec spec → (bits : List Bool) → length bits ≡ spec.width → (IsMinusZero spec.role bits → ⊥) → bits_for spec.width (content_in spec bits) ≡ bits
 same_bits spec good bits l h = role_same spec.role spec good bits l h

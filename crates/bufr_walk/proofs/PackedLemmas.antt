@@ -11,7 +11,7 @@ use Rattle.std.proofs.lemmas.Bool.Decides.{nat_tests, Decides-int_eq}
 use Rattle.std.proofs.lemmas.Slice.Eq.{bytes_eq-Decides}
 use Rattle.bufr_bits.specs.Prelude.{number_of, are_all_ones, bits_of, bits_at, ◌>>=◌}
 use Rattle.bufr_bits.proofs.BitLemmas.{number_of-below, length-bits_at, are_all_ones-number}
-use Rattle.bufr_walk.specs.Prelude.{numbers, texts, Coding, coding_of, coding_by, said, step_of, sum_within, increased, all_there, contents_across, same, if_equal, are_valid, increments, ones, octets_in, packed_field, FieldSpec, IsSpec, HasRole, Content, number, text, missing, reference, content_in, answer_by_role, answer_first, FieldFault, increment, unequal_factor, FieldRead, found, data_end, is_reference, content_kept, contents_found, was_found, has_base, fits_at, Role, IndexedItem, content_at}
+use Rattle.bufr_walk.specs.Prelude.{numbers, texts, Coding, coding_of, coding_by, content_by, step_of, sum_within, increased, all_there, contents_across, same, if_equal, are_valid, increments, ones, octets_in, packed_field, FieldSpec, IsSpec, HasRole, Content, number, text, missing, reference, content_in, answer_by_role, answer_first, FieldFault, increment, unequal_factor, FieldRead, found, data_end, is_reference, content_kept, contents_found, was_found, has_base, fits_at, Role, IndexedItem, content_at}
 use Rattle.bufr_bits.proofs.DecimalLemmas.{and_first, and_second}
 use Rattle.bufr_tables.specs.Prelude.{is_character}
 use Rattle.bufr_walk.proofs.PlainLemmas.{bits_length, ones_by_number, number_coding, text_coding}
@@ -148,9 +148,9 @@ not_zero k h = grind (arith, nat_tests)
 
 -- an item has increments if k is above 0
 pub varied : (c : Coding) (k n : ℕ) (base suffix : List Bool) → (k == 0) ≡ false → contents_across c k n base suffix ≡ all_there (map (increased c k base) (increments n (step_of c k) suffix))
-varied c k n base suffix some = ap (λ b. if b then Some (replicate n (said c base)) else all_there (map (increased c k base) (increments n (step_of c k) suffix))) some
+varied c k n base suffix some = ap (λ b. if b then Some (replicate n (content_by c base)) else all_there (map (increased c k base) (increments n (step_of c k) suffix))) some
 
-pub copied : (c : Coding) (k n : ℕ) (base suffix : List Bool) → k ≡ 0 → contents_across c k n base suffix ≡ Some (replicate n (said c base))
+pub copied : (c : Coding) (k n : ℕ) (base suffix : List Bool) → k ≡ 0 → contents_across c k n base suffix ≡ Some (replicate n (content_by c base))
 copied c k n base suffix none = ap (λ j. contents_across c j n base suffix) none
 
 -- whether an item with increments has contents
@@ -185,7 +185,7 @@ is_none (Some a) e = absurd cc
 pub some_across : (c : Coding) (k n : ℕ) (base suffix : List Bool) → contents_across c k (suc n) base suffix ≡ Some [] → ⊥
 some_across c k n base suffix e = by (k == 0) e
   where
-    by : (b : Bool) → (if b then Some (replicate (suc n) (said c base)) else all_there (map (increased c k base) (increments (suc n) (step_of c k) suffix))) ≡ Some [] → ⊥
+    by : (b : Bool) → (if b then Some (replicate (suc n) (content_by c base)) else all_there (map (increased c k base) (increments (suc n) (step_of c k) suffix))) ≡ Some [] → ⊥
     by true e = cc
     by false e =
         let t = next_there (increased c k base (take (step_of c k) suffix)) (map (increased c k base) (increments n (step_of c k) (drop (step_of c k) suffix))) [] e in

@@ -9,7 +9,7 @@ use Rattle.bufr_bits.proofs.BitLemmas.{length-bits_of, length-bits_at, are_all_o
 use Rattle.bufr_tables.specs.Prelude.{is_character}
 use Rattle.std.proofs.Common.{◌&&◌}
 use Rattle.bufr_walk.specs.Prelude.{number, CountedCourse, uncounted, counted_item, after_counted}
-use Rattle.bufr_walk.specs.Prelude.{turns_in, items_in, Stop, plain, WalkFault, Kind, Taken, Role, is_reference, FieldSpec, IsSpec, HasRole, HasWidth, answer_of, answer_by_role, content_in, signed_by, plain_field, found, data_end, octets_in, Content, Cursor, rest_of, past, IsTaken, fault_at, PlainTakes, WalkStop, Next, take_next, at_end, refused, TakenField, Takes, ticked, oks, answers_of, Walked, data_in, data_of, read_by, Read, course_of, Item, ReadsItems, next_after, turns_after, apart, together, Values, IsReading, KeepsValues, ReadsSubsets, max_values, IsStoredReading, IsReadAndPaid, TurnRefusal, stop_by, said, coding_by, coding_of, numbers, texts, missing, text, reference, count_in, reference_in}
+use Rattle.bufr_walk.specs.Prelude.{turns_in, items_in, Stop, plain, WalkFault, Kind, Taken, Role, is_reference, FieldSpec, IsSpec, HasRole, HasWidth, answer_of, answer_by_role, content_in, signed_by, plain_field, found, data_end, octets_in, Content, Cursor, rest_of, past, IsTaken, fault_at, PlainTakes, WalkStop, Next, take_next, at_end, refused, TakenField, Takes, ticked, oks, answers_of, Walked, data_in, data_of, read_by, Read, course_of, Item, ReadsItems, next_after, turns_after, apart, together, Values, IsReading, KeepsValues, ReadsSubsets, max_values, IsStoredReading, IsReadAndPaid, TurnRefusal, stop_by, content_by, coding_by, coding_of, numbers, texts, missing, text, reference, count_in, reference_in}
 use Rattle.bufr_walk.specs.Pass.{DataPass, passes_apart, stop_of, left_after, turns_in_all, values_read, ReadsData, AnswersReading, EndsPass, read_field, reading}
 use Rattle.bufr_walk.specs.Readers.{items_by_pass, place_at}
 use Rattle.bufr_walk.specs.declared.fault.DataFault.{DataFault}
@@ -100,14 +100,14 @@ text_coding a e h = by a.role a.kind e h
 -- a number, a text and a reference
 pub number_said : (a : FieldSpec) (bits : List Bool) → is_character a.kind ≡ false → is_reference a.role ≡ false
     → content_in a bits ≡ (if are_all_ones bits && a.may_be_missing then missing else number (number_of bits))
-number_said a bits e h = ap (λ c. said c bits) (number_coding a e h)
+number_said a bits e h = ap (λ c. content_by c bits) (number_coding a e h)
 
 pub text_said : (a : FieldSpec) (bits : List Bool) → is_character a.kind ≡ true → is_reference a.role ≡ false
     → content_in a bits ≡ (if are_all_ones bits then missing else text (octets_in (a.width / 8) bits))
-text_said a bits e h = ap (λ c. said c bits) (text_coding a e h)
+text_said a bits e h = ap (λ c. content_by c bits) (text_coding a e h)
 
 pub reference_said : (a : FieldSpec) (bits : List Bool) → a.role ≡ role.Reference → content_in a bits ≡ reference (signed_by bits)
-reference_said a bits e = ap (λ r. said (coding_by r a.kind a) bits) e
+reference_said a bits e = ap (λ r. content_by (coding_by r a.kind a) bits) e
 
 pub answer_element : (a : FieldSpec) (bits : List Bool) → a.role ≡ role.Element → taken.Plain ≡ answer_of a (content_in a bits)
 answer_element a bits e = ap (λ r. answer_by_role r (content_in a bits)) (sym e)

@@ -166,13 +166,14 @@ coding_of spec = coding_by spec.role spec.kind spec
 -- The content of the bits of a field. All ones mean missing in a text, and in a number that may be
 -- missing. (own for a text that 2 05 Y inserts)
 -- rule: missing, missing-inserted-text
-abbrev pub said : Coding → List Bool → Content
-said (numbers width m) bits = if are_all_ones bits && m then missing else number (number_of bits)
-said (texts octets) bits = if are_all_ones bits then missing else text (octets_in octets bits)
-said references bits = reference (signed_by bits)
+abbrev pub content_by : Coding → List Bool → Content
+content_by (numbers width m) bits =
+    if are_all_ones bits && m then missing else number (number_of bits)
+content_by (texts octets) bits = if are_all_ones bits then missing else text (octets_in octets bits)
+content_by references bits = reference (signed_by bits)
 
 abbrev pub content_in : FieldSpec → List Bool → Content
-content_in spec bits = said (coding_of spec) bits
+content_in spec bits = content_by (coding_of spec) bits
 
 -- the sign bit of a number: true if the number is negative
 abbrev pub sign_bit : ℤ → Bool
@@ -299,7 +300,7 @@ all_there (Some a ∷ more) = option_map (λ others. a ∷ others) (all_there mo
 abbrev pub contents_across : Coding → (k subsets : ℕ) → (base suffix : List Bool)
     → Option (List Content)
 contents_across c k n base suffix =
-    if k == 0 then Some (replicate n (said c base))
+    if k == 0 then Some (replicate n (content_by c base))
     else all_there (map (increased c k base) (increments n (step_of c k) suffix))
 
 abbrev pub same : Content → Content → Bool
