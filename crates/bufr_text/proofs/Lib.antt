@@ -4,6 +4,7 @@ pub mod AlikeLemmas
 pub mod CallLemmas
 pub mod FormLemmas
 pub mod LineLemmas
+pub mod SameLemmas
 pub mod ItemLemmas
 mod DumpExamples
 pub mod DumpableLemmas
