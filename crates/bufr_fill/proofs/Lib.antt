@@ -4,7 +4,6 @@ mod PackedExamples
 mod ReadBackExamples
 mod RefusalExamples
 pub mod FillSteps
-pub mod SameLemmas
 pub mod WalkLemmas
 pub mod PlainLaws
 pub mod FieldLemmas
