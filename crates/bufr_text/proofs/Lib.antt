@@ -4,7 +4,6 @@ pub mod AlikeLemmas
 pub mod CallLemmas
 pub mod FormLemmas
 pub mod LineLemmas
-pub mod SameLemmas
 pub mod ItemLemmas
 mod DumpExamples
 pub mod DumpableLemmas
