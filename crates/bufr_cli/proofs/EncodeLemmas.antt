@@ -1,4 +1,5 @@
 -- What a run of `encode` has written, and what comes next.
+use Rattle.bufr_text.proofs.LineLemmas.{lines-cons, lines-none}
 use Rattle.std.proofs.Common.{◌≡◌, ◌≢◌, ◌∙◌, ℕ, ◌+◌, ◌-◌, ◌*◌, ◌==◌, ◌≤◌, ◌<◌, ◌^◌, Bool, false, if◌then◌else◌, length-append, List, [], ◌∷◌, ◌++◌, length, None, arith, append_assoc, append-nil, Option, Result, Ok, Err, refl, sym, ap, subst, inl, inr, true, Some, map, count_by}
 use Rattle.std.specs.Io.KnownBytes.{Consumes}
 use Rattle.std.proofs.lemmas.Bool.{false≢true}
@@ -74,9 +75,8 @@ line-more c more true lines few = omega (arith, few)
 line-more c more false lines few = omega (arith, few, onto-few c lines)
 
 lines-few : (text : List ℕ) → length (lines_of text) ≤ length text
-unfolding lines_of
-lines-few [] = omega arith
-lines-few (c ∷ more) = line-more c more (c == 10) (lines_of more) (lines-few more)
+lines-few [] = omega (arith, ap length lines-none)
+lines-few (c ∷ more) = subst (λ (ls : List (List ℕ)). length ls ≤ length (c ∷ more)) (sym (lines-cons c more)) (line-more c more (c == 10) (lines_of more) (lines-few more))
 
 documents-few : (text : List ℕ) → length (documents_of text) ≤ length text + 1
 documents-few text = omega (arith, spelled-few (lines_of text) 1 between, lines-few text)

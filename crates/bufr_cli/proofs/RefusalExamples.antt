@@ -7,7 +7,7 @@ use Rattle.bufr_frame.specs.declared.fault.RunFault.TheVariants.{Read, Write, In
 use Rattle.bufr_tables.specs.Prelude.{tree_of, inner_of, level, part_of}
 use Rattle.bufr_tables.specs.declared.fault.TableFault.TheVariants as table
 use Rattle.bufr_walk.specs.Prelude.{next_item}
-use Rattle.bufr_text.specs.Prelude.{leasts, mosts, lines_of, parse_lines, line_step, documents_of, encoding_in, prefix_while, suffix_while, without_prefix, descriptors_read, fxy_read, hex_read, is_hashed, quoted_read, keys, line_of, value_read, worded}
+use Rattle.bufr_text.specs.Prelude.{leasts, mosts, lines_of, parse_lines, line_step, documents_of, encoding_in, without_prefix, descriptors_read, fxy_read, hex_read, is_hashed, quoted_read, keys, line_of, value_read, worded, split_of}
 use Rattle.bufr_text.specs.declared.encode.Form.TheVariants.{AsWritten}
 use Rattle.bufr_cli.specs.Prelude.{dump_piece, ls_piece, encode_pieces, up_to_refused, Piece, OnErrors, status_of, Tally}
 use Rattle.bufr_cli.specs.declared.outcome.Outcome.TheVariants.{Ran, TableB, TableD, Run}
@@ -61,7 +61,7 @@ document_with rest =
 
 -- what `encode` writes for a text
 written : List ℕ → List Piece
-unfolding up_to_refused parse_lines lines_of line_step line_of worded prefix_while suffix_while keys leasts mosts without_prefix descriptors_read fxy_read value_read quoted_read hex_read
+unfolding up_to_refused parse_lines lines_of split_of line_step line_of worded keys leasts mosts without_prefix descriptors_read fxy_read value_read quoted_read hex_read
     is_hashed
     encoding_in tree_of level part_of inner_of next_item decimal_value_of digits
 written text = encode_pieces AsWritten blocks [] (documents_of text)

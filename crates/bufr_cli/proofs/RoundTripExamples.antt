@@ -6,7 +6,7 @@ use Rattle.bufr_frame.specs.Prelude.{min_section_1, scan_from, sections_of, sect
 use Rattle.bufr_tables.specs.Prelude.{tree_of, inner_of, level, part_of, Row}
 use Rattle.bufr_tables.specs.declared.table_b.Kind.TheVariants.{Numeric}
 use Rattle.bufr_walk.specs.Prelude.{next_item}
-use Rattle.bufr_text.specs.Prelude.{leasts, mosts, lines_of, parse_lines, line_step, documents_of, encoding_in, prefix_while, suffix_while, without_prefix, descriptors_read, fxy_read, hex_read, is_hashed, quoted_read, descriptors_text, hex_text, runs_after, keys, line_of, value_read, worded, header_lines, subset_lines}
+use Rattle.bufr_text.specs.Prelude.{leasts, mosts, lines_of, parse_lines, line_step, documents_of, encoding_in, without_prefix, descriptors_read, fxy_read, hex_read, is_hashed, quoted_read, descriptors_text, hex_text, runs_after, keys, line_of, value_read, worded, header_lines, subset_lines, split_of}
 use Rattle.bufr_cli.specs.Prelude.{up_to_refused, accepted_messages, dumped, longer_by, rebuilt, normal_texts}
 use Rattle.bufr_cli.proofs.Examples.{edition_3, one_block_number}
 use Rattle.bufr_text.specs.declared.encode.Form.TheVariants.{AsWritten}
@@ -44,7 +44,7 @@ output-alone = refl
 -- a message is built again of its text
 built-of-its-text : rebuilt blocks [] one_block_number ≡ one_block_number
 unfolding scan_from sections_of section_end min_section_1 tree_of inner_of level part_of next_item bits_of header_lines subset_lines runs_after hex_text descriptors_text keys leasts mosts
-    decimal_text_of unsigned_text digits up_to_refused parse_lines lines_of line_step line_of worded prefix_while suffix_while without_prefix descriptors_read fxy_read value_read
+    decimal_text_of unsigned_text digits up_to_refused parse_lines lines_of split_of line_step line_of worded without_prefix descriptors_read fxy_read value_read
     quoted_read
     hex_read is_hashed encoding_in decimal_value_of bits_in
 built-of-its-text = refl
@@ -62,12 +62,12 @@ by_hand edition rest =
 -- `end` is refused
 one-before-a-refused-line : normal_texts AsWritten blocks [] (documents_of (codes "# by hand\n" ++ by_hand (codes "04") (codes "\nsubset 01\n001001 010.0  # changed\nend\nend\n")))
     ≡ by_hand (codes "4") (codes "subset 1\n001001 10  # WMO BLOCK NUMBER [Numeric]\nend\n") ∷ []
-unfolding normal_texts parse_lines lines_of line_step line_of worded prefix_while suffix_while keys leasts mosts without_prefix descriptors_read fxy_read value_read quoted_read hex_read
+unfolding normal_texts parse_lines lines_of split_of line_step line_of worded keys leasts mosts without_prefix descriptors_read fxy_read value_read quoted_read hex_read
     is_hashed encoding_in min_section_1 tree_of level part_of inner_of next_item decimal_value_of bits_of bits_in header_lines runs_after hex_text descriptors_text digits decimal_text_of unsigned_text
 one-before-a-refused-line = refl
 
 -- seven bits hold no 200: the document is refused, and it has no text
 none-of-a-refused-document : normal_texts AsWritten blocks [] (documents_of (by_hand (codes "4") (codes "subset 1\n001001 200\nend\n"))) ≡ []
-unfolding normal_texts parse_lines lines_of line_step line_of worded prefix_while suffix_while keys leasts mosts without_prefix descriptors_read fxy_read value_read quoted_read hex_read
+unfolding normal_texts parse_lines lines_of split_of line_step line_of worded keys leasts mosts without_prefix descriptors_read fxy_read value_read quoted_read hex_read
     is_hashed encoding_in min_section_1 tree_of level part_of inner_of next_item decimal_value_of
 none-of-a-refused-document = refl

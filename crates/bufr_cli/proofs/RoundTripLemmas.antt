@@ -11,7 +11,7 @@ use Rattle.bufr_frame.proofs.ScanLemmas.{IsSmall, framed_octets, frames-within, 
 use Rattle.bufr_walk.specs.Prelude.{Values, View, next_item, data_of, reading_of, fault_at, Stop}
 use Rattle.bufr_walk.proofs.PassLemmas.{legal_sane, reading_is, reads_so}
 use Rattle.bufr_walk.proofs.CourseLemmas.{IsSane}
-use Rattle.bufr_text.specs.Prelude.{between, lines_of, parse_lines, Document, ParseResult, Complete, Refused, documents_of, dump_lines, dump_text_of, IsOctet, IsAccepted, HasSameReading, dump_items, IsReadAs, encoding_in, IsProper, AreProper}
+use Rattle.bufr_text.specs.Prelude.{between, lines_of, parse_lines, Document, ParseResult, Complete, Refused, documents_of, dump_lines, dump_text_of, IsOctet, IsAccepted, HasSameReading, dump_items, IsReadAs, encoding_in, IsProper, AreProper, split_of}
 use Rattle.bufr_text.specs.declared.fault.DocumentFault.{DocumentFault}
 use Rattle.bufr_text.proofs.FormLemmas.{canonical_encoded}
 use Rattle.bufr_text.proofs.DumpableLemmas.{dumpable}
@@ -76,7 +76,7 @@ accepted-count ps = sym (length-filter is_refused (filter is_accepted ps)) ∙ a
 
 -- an empty text spells nothing
 pub nothing-spelled : (line : ℕ) → parse_lines line between (lines_of []) ≡ []
-unfolding parse_lines lines_of
+unfolding parse_lines lines_of split_of
 nothing-spelled line = refl
 
 -- ---- an event

@@ -76,10 +76,10 @@ module _ {C D E : Type 0} (form : DataCoding C) (filler : Filler D C E) (of_item
 -- ---- data that are not compressed
 
 plain_one : (end_line : ℕ) (spec : FieldSpec) (d : Draft) (w : WrittenItem Content) → IsSpec spec → HasOctets d.form
-    → result_map_both (λ c. written_item c (bits_for spec.width c)) (at_line d.line) (content_of spec d) ≡ Ok w → IsOneBack plain IsSaid spec d w
+    → (map_err (at_line d.line) (content_of spec d) >>= λ c. Ok (written_item c (bits_for spec.width c))) ≡ Ok w → IsOneBack plain IsSaid spec d w
 plain_one end_line spec d w good text e = by_content (content_of spec d) refl e
   where
-    by_content : (r : Result Content ItemFault) → content_of spec d ≡ r → result_map_both (λ c. written_item c (bits_for spec.width c)) (at_line d.line) r ≡ Ok w → IsOneBack plain IsSaid spec d w
+    by_content : (r : Result Content ItemFault) → content_of spec d ≡ r → (map_err (at_line d.line) r >>= λ c. Ok (written_item c (bits_for spec.width c))) ≡ Ok w → IsOneBack plain IsSaid spec d w
     by_content (Err why) p q = cc
     by_content (Ok c) p q =
         let fits : Fits spec c = draft_fits spec d c text p in

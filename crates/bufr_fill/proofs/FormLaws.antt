@@ -73,7 +73,7 @@ plain_subset end_line course (i ∷ items) (d ∷ ds) h said =
     let rest = plain_subset end_line (after plain course i) items ds h.3 said.1 in
     record {
       fills = join plain (plain_filler end_line) (λ spec c. refl) course i d ds first others h.0
-          (ap (result_map_both (λ c. written_item c (bits_for i.spec.width c)) (at_line d.line)) said.0) rest.fills;
+          (ap (λ r. map_err (at_line d.line) r >>= λ c. Ok (written_item c (bits_for i.spec.width c))) said.0) rest.fills;
       again = λ more. let r = rest.again more in (
         (
           others ++ more,

@@ -1,10 +1,9 @@
 -- A walk over the items of one subset writes as the definition does.
 use Rattle.bufr_walk.specs.Prelude.{FieldSpec, bits_for, Course, take_next, Next, at_end, astray, refused, TakenField, Takes, course_after, answers_of, oks}
-use Rattle.bufr_fill.specs.Prelude.{Taken, WrittenItem, Filler, fill, with_bits_before, written_item, plain_filler, DraftEntry, Holds, Ends, DraftFault, at_line, item_too_many, walk_refused, PlainOutModel, PlainFills, IsFaultOf, IsFaultNext, after_end, line_at, items_left, end_left}
+use Rattle.bufr_fill.specs.Prelude.{Taken, WrittenItem, Filler, fill, with_bits_before, written_item, plain_filler, DraftEntry, Holds, Ends, DraftFault, at_line, item_too_many, walk_refused, PlainOutModel, PlainFills, IsFaultOf, IsFaultNext, after_end, line_at, items_left, end_left, map_err, ◌>>=◌}
 use Rattle.bufr_fill.proofs.FillSteps.{fill_more, fill_at}
 use Rattle.std.proofs.Common.{Result, refl, sym, ◌∙◌, ap, append_assoc, ℕ, ◌≤◌, length, arith, ◌≡◌, Bool, List, [], ◌∷◌, ◌++◌, Ok, Err}
 use Rattle.std.proofs.lemmas.List.{append-nil}
-use Rattle.std.specs.Result.{result_map_both}
 use Rattle.bufr_walk.specs.declared.spec.TurnRefusal.TheVariants as refusal
 
 -- the first of the drafts that are left was taken as the field, and its bits were written
@@ -72,7 +71,7 @@ fills end s spec t s' h = record {
   draft = h.draft;
   item = written_item h.content (bits_for spec.width h.content);
   here = ap items_left h.here;
-  fills = ap (result_map_both (λ c. written_item c (bits_for spec.width c)) (at_line h.draft.line)) h.is;
+  fills = ap (λ r. map_err (at_line h.draft.line) r >>= λ c. Ok (written_item c (bits_for spec.width c))) h.is;
   gives = h.gives;
   bits = h.bits;
 }
@@ -91,7 +90,7 @@ fault_of_items course left spec f next h = unfilled (plain_filler (end_left left
     by : (left : List DraftEntry) → IsFaultOf spec left f → IsUnfilled (plain_filler (end_left left)) (items_left left) spec f
     by [] h = h
     by (Ends line ∷ more) h = h
-    by (Holds d ∷ more) h = ap (result_map_both (λ c. written_item c (bits_for spec.width c)) (at_line d.line)) h.1 ∙ ap Err (sym h.2)
+    by (Holds d ∷ more) h = ap (λ r. map_err (at_line d.line) r >>= λ c. Ok (written_item c (bits_for spec.width c))) h.1 ∙ ap Err (sym h.2)
 
 -- and so is each other fault where a walk stops
 pub at_refused : (course : Course) (left : List DraftEntry) (why : refusal.the_data) → course [] ≡ refused why

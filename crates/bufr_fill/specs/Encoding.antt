@@ -168,13 +168,20 @@ pub record HasLeastK (n : ℕ) (spec : FieldSpec) (contents : List Content) : Ty
   pub short : (bits suffix : List Bool) → packed_field n spec bits ≡ Ok (found contents suffix)
       → length out + length suffix ≤ length bits
 
+-- the content of an item of a subset that ends at line `end_line`; a fault if the subset has no more
+-- items
+-- rule: fault-51
+abbrev pub content_here : FieldSpec → Option Draft → (end_line : ℕ) → Result Content DraftFault
+content_here spec None end_line = Err (at_line end_line (wrong_for spec))
+content_here spec (Some d) end_line = map_err (at_line d.line) (content_of spec d)
+
 -- How the items of one subset of plain data are written; `end_line` is the line that ends the
--- subset. (`result_map_both` applies its first function to `Ok`, and its second one to `Err`.)
+-- subset.
 -- rule: fault-51, fault-62
 abbrev pub plain_filler : (end_line : ℕ) → Filler Draft Content DraftFault
 plain_filler end_line = record {
-  fills = λ spec d. result_map_both (λ c. written_item c (bits_for spec.width c))
-      (at_line d.line) (content_of spec d);
+  fills = λ spec d.
+      content_here spec (Some d) end_line >>= λ c. Ok (written_item c (bits_for spec.width c));
   gives = answer_of;
   none_left = λ spec. at_line end_line (wrong_for spec);
   left_over = λ d. at_line d.line item_too_many;
@@ -237,11 +244,7 @@ abbrev pub first_there : List RowCell → ℕ
 first_there [] = 0
 first_there (c ∷ cs) = option_map_or (λ (d : Draft). d.line) c.draft (first_there cs)
 
--- the content of the item in a cell; a fault if its subset has no more items
-abbrev pub content_here : FieldSpec → Option Draft → (end_line : ℕ) → Result Content DraftFault
-content_here spec None end_line = Err (at_line end_line (wrong_for spec))
-content_here spec (Some d) end_line = map_err (at_line d.line) (content_of spec d)
-
+-- the contents of a row, or the first fault
 abbrev pub contents_here : FieldSpec → List RowCell → Result (List Content) DraftFault
 contents_here spec [] = Ok []
 contents_here spec (c ∷ cs) = do
@@ -269,7 +272,8 @@ packing_fault cs cells unequal_factor = at_line (unlike_line cs cells) item_faul
 packing_fault cs cells _ = at_line (first_line cells) item_fault.Increment
 
 -- An item of all subsets: first there must not be too many values, then each subset must have its
--- item, and then the contents must be packed.
+-- item, and then the contents must be packed. (`result_map_both` applies its first function to `Ok`,
+-- and its second one to `Err`.)
 -- rule: fault-order-of-subsets
 abbrev pub pack_across : FieldSpec → ItemRow → Result (WrittenItem (List Content)) DraftFault
 pack_across spec a =

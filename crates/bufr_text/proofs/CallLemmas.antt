@@ -147,7 +147,7 @@ module _ (left left' : Option (List ℕ)) (s s' : ReaderModel) (bs : List ℕ) (
   -- the line feed that the last line lacks makes no difference
   held-lines : (t : List ℕ) → (s'.ended ≡ true → t ≡ []) → ((read.feed ≡ []) ⊎ ((s'.ended ≡ true) × (read.feed ≡ 10 ∷ []) × (0 < length s.held)))
       → lines_of ((s.held ++ bs) ++ t) ≡ lines_of (((s.held ++ bs) ++ read.feed) ++ t)
-  unfolding lines_of
+  unfolding lines_of split_of
   held-lines t none (inl e) = ap (λ (z : List ℕ). lines_of (z ++ t)) (sym (append-nil (s.held ++ bs)) ∙ ap (λ (z : List ℕ). (s.held ++ bs) ++ z) (sym e))
   held-lines t none (inr (ended, e, some)) =
       let nothing = read.fills.ends.1 ended in

@@ -4,7 +4,7 @@ use Rattle.std.specs.List.{concat, AllByRecursion}
 use Rattle.std.proofs.lemmas.Bool.Decides.{nat_tests}
 use Rattle.std.proofs.lemmas.List.{length-map}
 use Rattle.bufr_fill.specs.Prelude.{draft, DraftEntry, Holds, Ends}
-use Rattle.bufr_text.specs.Prelude.{header_in, leasts, mosts, Document, Heading, BeforeSubsets, Filling, Continues, Completes, Parsing, between, may_be_section2, in_range, with_entry, line_step, read_line, parse_lines, lines_of, documents_of, blank, Complete, Line, Opens, Header, Local1, Section2, Descriptors, Begins, ItemLine, Closes, header_lines, local1_line, section2_line, descriptors_line, subset_line, subset_lines, item_text, dump_value_of, item_entries, subset_entries, IsOctet, IsDescriptorWord, IsItem, header_of, head_lines, dump_lines, dump_text_of, document_of, lines_before, IsDumpable, runs_of, runs_after}
+use Rattle.bufr_text.specs.Prelude.{header_in, leasts, mosts, Document, Heading, BeforeSubsets, Filling, Continues, Completes, Parsing, between, may_be_section2, in_range, with_entry, line_step, read_line, parse_lines, lines_of, documents_of, blank, Complete, Line, Opens, Header, Local1, Section2, Descriptors, Begins, ItemLine, Closes, header_lines, local1_line, section2_line, descriptors_line, subset_line, subset_lines, item_text, dump_value_of, item_entries, subset_entries, IsOctet, IsDescriptorWord, IsItem, header_of, head_lines, dump_lines, dump_text_of, document_of, lines_before, IsDumpable, runs_of, runs_after, split_of}
 use Rattle.bufr_text.specs.declared.document.LineGroup.{LineGroup}
 use Rattle.bufr_text.specs.declared.document.LineGroup.TheVariants as group
 use Rattle.bufr_text.proofs.HeaderLemmas.{any-edition, with_value, with_local1, with_section2, with_descriptors}
@@ -452,6 +452,6 @@ pub text-spells : (s : Sections) (subsets : List (List View)) (at : ℕ) (t : Li
 text-spells s subsets at t given = ap (parse_lines at between) (lines-back (dump_lines s subsets) t (above-dump s subsets given)) ∙ dump-spells s subsets at (lines_of t) given
 
 pub one-document : (s : Sections) (subsets : List (List View)) → IsDumpable s subsets → documents_of (dump_text_of s subsets) ≡ Complete (document_of 1 s subsets) ∷ []
-unfolding parse_lines lines_of
+unfolding parse_lines lines_of split_of
 one-document s subsets given =
     ap documents_of (sym (append-nil (dump_text_of s subsets))) ∙ text-spells s subsets 1 [] given

@@ -6,7 +6,7 @@ use Rattle.bufr_fill.specs.Prelude.{written_item, IfDraftFault, at_line, DraftEn
 use Rattle.bufr_fill.specs.declared.fault.DraftFault.{DraftFault}
 use Rattle.bufr_fill.proofs.FillSteps.{plain_written, pass_at, pass_with, pass_more, fill_end}
 use Rattle.bufr_fill.proofs.WalkLemmas.{HasFilled, after_answers, fills, walk_of_items, fault_as_defined}
-use Rattle.bufr_text.specs.Prelude.{map_err, document_fault, octets_of_bits, message_of, IsDocumentRefusal, stop_fault, AreOctetsOf, CountsSteps, IsData, IsNoData, DocumentFault}
+use Rattle.bufr_text.specs.Prelude.{map_err, document_fault, octets_of_bits, message_of, IsDocumentRefusal, stop_fault, AreOctetsOf, CountsSteps, IsData, IsNoData, DocumentFault, ◌>>=◌}
 use Rattle.bufr_bits.specs.Prelude.{padding, bits_of}
 use Rattle.bufr_fill.proofs.FieldLemmas.{octets_again}
 use Rattle.bufr_frame.specs.declared.section1.Head.{Head}
@@ -24,7 +24,6 @@ use Rattle.bufr_text.specs.declared.fault.DocumentFault.TheVariants as document
 use Rattle.bufr_walk.specs.declared.spec.Taken.TheVariants as taken
 use Rattle.std.proofs.lemmas.Grind.{common_steps}
 use Rattle.std.specs.Option.{option_map_or}
-use Rattle.std.specs.Result.{result_map_both}
 
 -- ---- A walk that writes counts as the definition does.
 
@@ -350,7 +349,7 @@ turns_left course s items mid h = walk_turns (plain_filler (end_left s.left)) (�
 
 -- nothing is taken at a fault
 fault_is_last : (end : ℕ) (next : Next) (left : List DraftEntry) (f : DraftFault) → IsFaultNext next left f → IsLast (plain_filler end) next (items_left left)
-fault_is_last end (take_next spec) (Holds d ∷ more) f h = (at_line d.line h.0, ap (result_map_both (λ c. written_item c (bits_for spec.width c)) (at_line d.line)) h.1)
+fault_is_last end (take_next spec) (Holds d ∷ more) f h = (at_line d.line h.0, ap (λ r. map_err (at_line d.line) r >>= λ c. Ok (written_item c (bits_for spec.width c))) h.1)
 fault_is_last end (take_next spec) left f h = tt
 fault_is_last end at_end left f h = tt
 fault_is_last end (refused r) left f h = tt

@@ -1,7 +1,7 @@
 -- Lines computed on examples, each rule beside its nearest wrong neighbour.
 use Rattle.std.proofs.Common.{◌≡◌, ℕ, List, [], ◌∷◌, ◌++◌, refl, codes, replicate, map, true, false, arith, drop, take, Some, None, pos, ◌+◌, inl}
 use Rattle.bufr_fill.specs.Prelude.{number_token, text_form, missing_form, reference_token, draft, Holds, Ends}
-use Rattle.bufr_text.specs.Prelude.{leasts, mosts, prefix_while, suffix_while, without_prefix, hex_read, fxy_read, descriptors_read, quoted_read, is_hashed, quoted, hex_text, descriptors_text, runs_after, Line, Passed, Header, Local1, Section2, Descriptors, Begins, ItemLine, Wrong, keys, value_read, worded, line_of, Opens, Closes, read_line, ParseResult, Complete, Refused, NotAllowed, SubsetCount, HeaderRange, line_step, parse_lines, lines_of, documents_of, Document, open_documents_of, split_of, parse_open_lines, item_text, local1_line, descriptors_line, text_of_lines, IsDumpable, dump_text_of, header_lines, subset_lines, item_entries, subset_entries, document_of, ls_line, AreEnded, IsProper, NumberedLine, numbered_line, numbered_lines, SubsetHeard, subsets_heard, entries_heard, IsDocument}
+use Rattle.bufr_text.specs.Prelude.{leasts, mosts, without_prefix, hex_read, fxy_read, descriptors_read, quoted_read, is_hashed, quoted, hex_text, descriptors_text, runs_after, Line, Passed, Header, Local1, Section2, Descriptors, Begins, ItemLine, Wrong, keys, value_read, worded, line_of, Opens, Closes, read_line, ParseResult, Complete, Refused, NotAllowed, SubsetCount, HeaderRange, line_step, parse_lines, lines_of, documents_of, Document, open_documents_of, split_of, parse_open_lines, item_text, local1_line, descriptors_line, text_of_lines, IsDumpable, dump_text_of, header_lines, subset_lines, item_entries, subset_entries, document_of, ls_line, AreEnded, IsProper, NumberedLine, numbered_line, numbered_lines, SubsetHeard, subsets_heard, entries_heard, IsDocument}
 use Rattle.bufr_frame.specs.declared.section1.Head.{Head}
 use Rattle.bufr_frame.specs.Prelude.{IsFitting, greatest_values, values_of, Sections}
 use Rattle.bufr_frame.proofs.AgainLemmas.{at-most}
@@ -100,8 +100,8 @@ lines_read :
     × (documents_of (document_with (codes "centre 98") (codes "optional 1") (codes "subsets 0") (codes "end" ∷ codes "# x" ∷ []) ++ document_with (codes "centre 98") (codes "optional 1") (codes "subsets 0") (codes "end" ∷ []))
     ≡ Complete (record { line = 1; header = header_written; local1 = []; section2 = []; descriptors = []; entries = [] })
     ∷ Complete (record { line = 24; header = header_written; local1 = []; section2 = []; descriptors = []; entries = [] }) ∷ [])
-unfolding quoted line_of worded prefix_while suffix_while without_prefix fxy_read value_read quoted_read is_hashed keys leasts mosts hex_read descriptors_read hex_text descriptors_text ten
-    parse_lines lines_of line_step
+unfolding quoted line_of worded without_prefix fxy_read value_read quoted_read is_hashed keys leasts mosts hex_read descriptors_read hex_text descriptors_text ten
+    parse_lines lines_of split_of line_step
 lines_read = (refl, refl, refl, refl, refl, refl, refl, refl, refl, refl, refl, refl, refl, refl, refl, refl, refl, refl, refl, refl, refl, refl, refl)
 
 -- ---- The definitions computed on worked examples.
@@ -246,7 +246,7 @@ documents_read :
     × (documents_of (text_of_lines (codes "message" ∷ codes "edition 3" ∷ drop 2 head_lines ++ item_lines)) ≡ Refused 12 HeaderRange ∷ [])
 unfolding header_lines subset_lines item_entries subset_entries keys leasts mosts digits runs_after hex_text descriptors_text quoted decimal_text_of unsigned_text parse_lines lines_of line_step
     line_of
-    worded prefix_while suffix_while without_prefix descriptors_read fxy_read value_read quoted_read hex_read is_hashed parse_open_lines split_of
+    worded without_prefix descriptors_read fxy_read value_read quoted_read hex_read is_hashed parse_open_lines split_of
 documents_read = (refl, refl, refl, refl, refl, refl, refl, refl, refl, refl, refl, refl, refl, refl, refl, refl, refl, refl, refl)
 
 -- ---- The listing line computed on a message.
@@ -331,7 +331,7 @@ no_section2 h = some-none 1 [] (h.no_section2 refl)
 -- comments and empty lines are counted, and passed over
 passed_over : numbered_lines 21 (codes "# x" ∷ [] ∷ codes "subset 1" ∷ codes "001001 10  # x" ∷ codes "end" ∷ codes "x" ∷ [])
     ≡ numbered_line 23 (Begins 1) ∷ numbered_line 24 (ItemLine 257 (number_token (codes "10"))) ∷ numbered_line 25 Closes ∷ numbered_line 26 Wrong ∷ []
-unfolding numbered_lines line_of worded prefix_while suffix_while without_prefix fxy_read value_read is_hashed keys leasts mosts
+unfolding numbered_lines line_of worded without_prefix fxy_read value_read is_hashed keys leasts mosts
 passed_over = refl
 
 abbrev subset_at : (at : ℕ) → SubsetHeard

@@ -11,7 +11,7 @@ use Rattle.bufr_fill.specs.declared.fault.ItemFault.{ItemFault}
 use Rattle.bufr_fill.proofs.PlainLaws.{AllSpecs, EachSpecs, same_bits, item_bits}
 use Rattle.bufr_frame.specs.Prelude.{with_even_length, message_octets, message_size, max_octets, MessageParts, parts_of, sections_from, Sections, sections_of}
 use Rattle.bufr_frame.proofs.AgainLemmas.{not-too-long, written-again}
-use Rattle.bufr_frame.proofs.LayoutLemmas.{even-least, written-even, length-evened}
+use Rattle.bufr_frame.proofs.LayoutLemmas.{even-least, message_size_is, written-even, length-evened}
 use Rattle.bufr_walk.proofs.NextField.{AreRead, table_read, next_field}
 use Rattle.bufr_fill.proofs.WholeLaws.{packed_rows, reads_specs, template_apart, template_together}
 use Rattle.bufr_fill.proofs.GoodReads.{plain_specs}
@@ -226,7 +226,14 @@ parts_back_as form at s items payload = λ j. parts_of s.local1 (section2_back s
 bits_few : (m : List ℕ) (s : Sections) → sections_of m ≡ Ok s → length m ≤ max_octets → length (bits_of s.payload) ≤ max_values
 bits_few m s e few =
     let edition = s.head.edition in
-    omega (arith, not-too-long m s e few, length-bits_of s.payload, even-least edition (4 + length s.payload), even-least edition (7 + 2 * length s.descriptors))
+    omega (
+      arith,
+      not-too-long m s e few,
+      message_size_is edition (layout.parts_in s),
+      length-bits_of s.payload,
+      even-least edition (4 + length s.payload),
+      even-least edition (7 + 2 * length s.descriptors),
+    )
 
 module _ (form : Form) (table : List Row) (sequences : List Sequence) (m : List ℕ) (s : Sections) (template : Tree) (values : Values) (used at : ℕ)
     (a : IsAccepted table sequences m s template values used) where

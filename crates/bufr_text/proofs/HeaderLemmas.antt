@@ -2,9 +2,9 @@
 use Rattle.bufr_text.proofs.LineLemmas.{both}
 use Rattle.bufr_fill.proofs.EntryLemmas.{length-prepended}
 use Rattle.std.proofs.Common.{◌≡◌, ℕ, ◌+◌, List, [], ◌∷◌, ◌++◌, length, refl, ap, ◌∙◌, subst, sym, arith, zero, suc, ◌-◌, ◌*◌, ◌<◌, ◌≤◌, ◌==◌, nat_le, nat_lt, Bool, true, false, Option, Some, None, codes, if◌then◌else◌, length-append, cond, map, take, drop, get_or, ◌&&◌, not, IfSome, slice_index, option_map, position}
-use Rattle.std.specs.List.{AllByRecursion, position_from}
+use Rattle.std.specs.List.{AllByRecursion, position_from, prefix_len}
 use Rattle.bufr_fill.specs.Prelude.{Draft, DraftEntry, Holds, Ends, Subset, prepend_to_subset, subsets_of, DraftValue, number_token, text_form, missing_form, reference_token, draft, HasOctets, AllHaveOctets, AreOctets}
-use Rattle.bufr_text.specs.Prelude.{header_in, Document, read_line, Between, Heading, BeforeSubsets, Filling, Stopped, LineEffect, Parsing, LineStep, IsLineStep, in_range, heading, before_subsets, in_subset, beginning, closing, with_entry, line_step, are_in_range, IsHeaded, IsOctet, IsDescriptorWord, AreEnded, IsBare, HasLineGroups, EntryHasOctets, HasSubsets, IsParsing, without_space, upper_value, either_value, pair_value, onto_read, hex_read, fxy_read, descriptors_read, number_read, QuotedToken, Octet, quoting_of, quoted_on, quoted_read, is_number_octet, is_passed_after, prefix_while, suffix_while, Line, Passed, Opens, Header, Local1, Section2, Descriptors, Begins, ItemLine, Closes, Wrong, keys, made, with_one_to, item_if_comment, number_value, value_read, valued, item_line, worded, line_of, leasts, mosts, is_named, lead_of}
+use Rattle.bufr_text.specs.Prelude.{header_in, Document, read_line, Between, Heading, BeforeSubsets, Filling, Stopped, LineEffect, Parsing, LineStep, IsLineStep, in_range, heading, before_subsets, in_subset, beginning, closing, with_entry, line_step, are_in_range, IsHeaded, IsOctet, IsDescriptorWord, AreEnded, IsBare, HasLineGroups, EntryHasOctets, HasSubsets, IsParsing, without_space, upper_value, either_value, pair_value, onto_read, hex_read, fxy_read, descriptors_read, number_read, QuotedToken, Octet, quoting_of, quoted_on, quoted_read, is_number_octet, is_passed_after, Line, Passed, Opens, Header, Local1, Section2, Descriptors, Begins, ItemLine, Closes, Wrong, keys, made, with_one_to, item_if_comment, number_value, value_read, valued, item_line, worded, line_of, leasts, mosts, is_named, lead_of}
 use Rattle.bufr_text.specs.declared.document.LineGroup.{LineGroup}
 use Rattle.bufr_text.specs.declared.document.LineGroup.TheVariants as group
 use Rattle.std.specs.Str.{bytes_eq}
@@ -137,13 +137,15 @@ missing-sound None = tt
 
 number-sound : (text : List ℕ) → IfSome (number_value number_token text) (λ r. HasOctets (r.0))
 number-sound [] = tt
-number-sound (c ∷ more) = if-some (λ r. HasOctets (r.0)) (is_number_octet c) (Some (number_token (prefix_while is_number_octet (c ∷ more)), suffix_while is_number_octet (c ∷ more))) None (λ _. tt)
-    (λ _. tt)
+number-sound (c ∷ more) =
+    let n = prefix_len is_number_octet (c ∷ more) in
+    if-some (λ r. HasOctets (r.0)) (is_number_octet c) (Some (number_token (take n (c ∷ more)), drop n (c ∷ more))) None (λ _. tt) (λ _. tt)
 
 reference-sound : (text : List ℕ) → IfSome (number_value reference_token text) (λ r. HasOctets (r.0))
 reference-sound [] = tt
-reference-sound (c ∷ more) = if-some (λ r. HasOctets (r.0)) (is_number_octet c) (Some (reference_token (prefix_while is_number_octet (c ∷ more)), suffix_while is_number_octet (c ∷ more))) None
-    (λ _. tt) (λ _. tt)
+reference-sound (c ∷ more) =
+    let n = prefix_len is_number_octet (c ∷ more) in
+    if-some (λ r. HasOctets (r.0)) (is_number_octet c) (Some (reference_token (take n (c ∷ more)), drop n (c ∷ more))) None (λ _. tt) (λ _. tt)
 
 value-sound : (text : List ℕ) → IfSome (value_read text) (λ r. HasOctets (r.0))
 unfolding value_read

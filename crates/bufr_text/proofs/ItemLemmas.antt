@@ -1,14 +1,15 @@
 -- How a line is taken apart: its word, descriptors, digits and quoted texts.
+use Rattle.std.proofs.lemmas.List.Sums.{prefix_len-drop_yes, prefix_len-drop_no, prefix_len-drop_all}
 use Rattle.std.proofs.Common.{◌≡◌, IfSome, ℕ, zero, suc, ◌+◌, ◌-◌, ◌<◌, ◌≤◌, ◌==◌, Bool, true, false, List, [], ◌∷◌, ◌++◌, length, take, drop, refl, sym, ap, ◌∙◌, arith, Option, Some, None, append-nil, append_assoc, if◌then◌else◌, ◌&&◌, not, codes, ◌*◌, nat_le, nat_lt, length-drop, length-set, length-take, subst, slice_index, option_map, MatchOption, slice_set, unwrap_or, ◌||◌}
 use Rattle.std.specs.Borrow.{Bor}
-use Rattle.std.specs.List.{list_all}
+use Rattle.std.specs.List.{list_all, prefix_len, position_or_len}
 use Rattle.std.specs.Str.{bytes_eq}
 use Rattle.std.proofs.lemmas.Bool.Decides.{nat_tests}
 use Rattle.std.proofs.lemmas.Grind.{common_steps}
 use Rattle.std.proofs.lemmas.List.{drop_all, drop-drop}
 use Rattle.bufr_bits.proofs.DecimalLemmas.{and_first, and_second}
 use Rattle.bufr_tables.specs.Prelude.{fxy_of, is_fxy, f_in, x_in, y_in}
-use Rattle.bufr_text.specs.Prelude.{prefix_while, suffix_while, without_space, without_prefix, fxy_read, is_number_octet, is_hashed, is_passed_after, hex_read, onto_read, descriptors_read, either_value, pair_value, QuotedToken, Closed, Octet, Nothing, is_unescaped, upper_value, says_pair, escape_of, quoting_of, quoted_on, quoted_read, Describes, Unhexes, Unquotes, value_read, number_value, Passed, ItemLine, Local1, Section2, made, with_one_to, item_line, worded, line_of, is_no_space, Descriptors, Wrong}
+use Rattle.bufr_text.specs.Prelude.{without_space, without_prefix, fxy_read, is_number_octet, is_hashed, is_passed_after, hex_read, onto_read, descriptors_read, either_value, pair_value, QuotedToken, Closed, Octet, Nothing, is_unescaped, upper_value, says_pair, escape_of, quoting_of, quoted_on, quoted_read, Describes, Unhexes, Unquotes, value_read, number_value, Passed, ItemLine, Local1, Section2, made, with_one_to, item_line, worded, line_of, Descriptors, Wrong}
 use Rattle.bufr_fill.specs.Prelude.{number_token, reference_token, DraftValue, text_form, missing_form}
 use Rattle.memchr.specs.Find.{IsFirstByte, is_byte}
 use Rattle.std.specs.Char.{is_ascii_digit}
@@ -44,8 +45,7 @@ pub record IsUnquoting (text out : List ℕ) (count at : ℕ) : Type 0 where
 -- the octets of a token that were passed come first
 pub record IsTokenTo (text : List ℕ) (at : ℕ) : Type 0 where
   pub within : at ≤ length text
-  pub ahead : prefix_while is_number_octet text ≡ take at text ++ prefix_while is_number_octet (drop at text)
-  pub suffix_while : suffix_while is_number_octet text ≡ suffix_while is_number_octet (drop at text)
+  pub ahead : prefix_len is_number_octet text ≡ at + prefix_len is_number_octet (drop at text)
 
 pub fxy-six : (text : List ℕ) → 6 ≤ length text → fxy_read text ≡ option_map (λ fxy. (fxy, drop 6 text)) (fxy_of (take 6 text))
 unfolding fxy_read
@@ -86,20 +86,13 @@ one-on : (text : List ℕ) (at : ℕ) → at < length text → drop at text ≡ 
 one-on text at h = grind (arith, common_steps)
 
 pub token-on : (text : List ℕ) (at : ℕ) → IsTokenTo text at → at < length text → is_number_octet (slice_index text at) ≡ true → IsTokenTo text (at + 1)
-unfolding prefix_while suffix_while
-token-on text at h1 h2 h3 = grind (arith, nat_tests, common_steps)
+token-on text at h some is = record { within = omega (arith, some); ahead = omega (arith, h.ahead, prefix_len-drop_yes is_number_octet text at 0 some is) }
 
-stop-first : (c : ℕ) (more : List ℕ) → is_number_octet c ≡ false → (prefix_while is_number_octet (c ∷ more) ≡ []) × (suffix_while is_number_octet (c ∷ more) ≡ c ∷ more)
-unfolding prefix_while suffix_while
-stop-first c more e = (rw e refl, rw e refl)
+pub token-stop : (text : List ℕ) (at : ℕ) → IsTokenTo text at → at < length text → is_number_octet (slice_index text at) ≡ false → at ≡ prefix_len is_number_octet text
+token-stop text at h some is = omega (arith, h.ahead, prefix_len-drop_no is_number_octet text at 0 some is)
 
-pub token-stop : (text : List ℕ) (at : ℕ) → IsTokenTo text at → at < length text → is_number_octet (slice_index text at) ≡ false
-    → (take at text ≡ prefix_while is_number_octet text) × (drop at text ≡ suffix_while is_number_octet text)
-token-stop text at h1 h2 h3 = grind (arith, nat_tests, common_steps, stop-first, one-on, append-nil)
-
-pub token-end : (text : List ℕ) (at : ℕ) → IsTokenTo text at → length text ≤ at → (take at text ≡ prefix_while is_number_octet text) × (drop at text ≡ suffix_while is_number_octet text)
-unfolding prefix_while suffix_while
-token-end text at h1 h2 = grind (arith, nat_tests, common_steps)
+pub token-end : (text : List ℕ) (at : ℕ) → IsTokenTo text at → length text ≤ at → at ≡ prefix_len is_number_octet text
+token-end text at h past = omega (arith, h.ahead, prefix_len-drop_all is_number_octet text at past)
 
 -- values
 abbrev text_value : List ℕ → Option (DraftValue × List ℕ)
@@ -113,7 +106,8 @@ unfolding value_read
 value-quote [] e = absurd (omega arith)
 value-quote (c ∷ more) e = let q : (c == 34) ≡ true = grind (arith, nat_tests, e) in rw q refl
 
-pub value-token : (text : List ℕ) → is_number_octet (slice_index text 0) ≡ true → value_read text ≡ Some (number_token (prefix_while is_number_octet text), suffix_while is_number_octet text)
+pub value-token : (text : List ℕ) → is_number_octet (slice_index text 0) ≡ true
+    → value_read text ≡ Some (number_token (take (prefix_len is_number_octet text) text), drop (prefix_len is_number_octet text) text)
 unfolding value_read
 value-token text h1 = grind (arith, nat_tests, common_steps)
 
@@ -133,15 +127,14 @@ word-is word text (Some x) h = ap Some h.1 ∙ sym (word-there word text h.0)
 
 -- a token of number octets that no further one follows
 octets-while : (text : List ℕ) (count : ℕ) → count ≤ length text → list_all is_number_octet (take count text) ≡ true → is_number_octet (slice_index (drop count text) 0) ≡ false
-    → (prefix_while is_number_octet text ≡ take count text) × (suffix_while is_number_octet text ≡ drop count text)
-unfolding prefix_while suffix_while
-octets-while [] zero le all stop = (refl, refl)
+    → prefix_len is_number_octet text ≡ count
+octets-while [] zero le all stop = refl
 octets-while [] (suc count) le all stop = absurd (omega arith)
-octets-while (c ∷ text) zero le all stop = (rw stop refl, rw stop refl)
+octets-while (c ∷ text) zero le all stop = ap (λ b. if b then 1 + prefix_len is_number_octet text else 0) stop
 octets-while (c ∷ text) (suc count) le all stop =
     let one = and_first (is_number_octet c) (list_all is_number_octet (take count text)) all in
     let rest = octets-while text count (omega arith) (and_second (is_number_octet c) (list_all is_number_octet (take count text)) all) stop in
-    (rw one (ap (λ (t : List ℕ). c ∷ t) rest.0), rw one rest.1)
+    ap (λ b. if b then 1 + prefix_len is_number_octet text else 0) one ∙ omega (arith, rest)
 
 octet-first : (text : List ℕ) (count : ℕ) → 0 < count → count ≤ length text → list_all is_number_octet (take count text) ≡ true → is_number_octet (slice_index text 0) ≡ true
 octet-first text count h1 h2 h3 = grind (arith, nat_tests, common_steps)
@@ -149,8 +142,8 @@ octet-first text count h1 h2 h3 = grind (arith, nat_tests, common_steps)
 pub value-decimal : (text token : List ℕ) (count : ℕ) → 0 < count → count ≤ length text → take count text ≡ token → list_all is_number_octet (take count text) ≡ true
     → is_number_octet (slice_index (drop count text) 0) ≡ false → value_read text ≡ Some (number_token token, drop count text)
 value-decimal text token count some le is all stop =
-    let parts = octets-while text count le all stop in
-    value-token text (octet-first text count some le all) ∙ rw (parts.0, parts.1, is) refl
+    value-token text (octet-first text count some le all) ∙ ap (λ n. Some (number_token (take n text), drop n text)) (octets-while text count le all stop)
+    ∙ ap (λ t. Some (number_token t, drop count text)) is
 
 -- one space
 pub space-none : (text : List ℕ) → length text ≡ 0 → without_space text ≡ None
@@ -211,9 +204,11 @@ pub ruleset hash_steps = (hashed-space, hashed-other, hashed-end, passed-space, 
 
 -- references
 pub reference-some : (text : List ℕ) → is_number_octet (slice_index text 0) ≡ true
-    → number_value reference_token text ≡ Some (reference_token (prefix_while is_number_octet text), suffix_while is_number_octet text)
+    → number_value reference_token text ≡ Some (reference_token (take (prefix_len is_number_octet text) text), drop (prefix_len is_number_octet text) text)
 reference-some [] e = absurd cc
-reference-some (c ∷ more) e = rw e refl
+reference-some (c ∷ more) e =
+    let n = prefix_len is_number_octet (c ∷ more) in
+    ap (λ b. if b then Some (reference_token (take n (c ∷ more)), drop n (c ∷ more)) else None) e
 
 pub reference-none : (text : List ℕ) → is_number_octet (slice_index text 0) ≡ false → number_value reference_token text ≡ None
 reference-none [] e = refl
@@ -223,35 +218,28 @@ pub ruleset reference_steps = (reference-some, reference-none)
 
 -- ---- The first word of a line.
 
-no-space : (c : ℕ) → ((c == 32) ≡ true → ⊥) → is_no_space c ≡ true
+abbrev pub word_len : List ℕ → ℕ
+word_len line = position_or_len (λ octet. octet == 32) line
+
+no-space : (c : ℕ) → ((c == 32) ≡ true → ⊥) → not (c == 32) ≡ true
 no-space c h1 = grind (arith, nat_tests, common_steps)
 
-a-space : (c : ℕ) → (c == 32) ≡ true → is_no_space c ≡ false
-a-space c h = ap not h
-
-pub word-whole : (line : List ℕ) → ((k : ℕ) → 0 ≤ k → k < length line → (slice_index line k == 32) ≡ true → ⊥)
-    → (take (length line) line ≡ prefix_while is_no_space line) × (drop (length line) line ≡ suffix_while is_no_space line)
-unfolding prefix_while suffix_while
-word-whole [] none = (refl, refl)
+pub word-whole : (line : List ℕ) → ((k : ℕ) → 0 ≤ k → k < length line → (slice_index line k == 32) ≡ true → ⊥) → length line ≡ word_len line
+word-whole [] none = refl
 word-whole (c ∷ line) none =
-    let here = no-space c (none 0 (omega arith) (omega arith)) in
     let rest = word-whole line (λ k low below. none (suc k) (omega arith) (omega arith)) in
-    (rw here (ap (λ (t : List ℕ). c ∷ t) rest.0), rw here rest.1)
+    omega (arith, rest) ∙ sym (ap (λ b. if b then 1 + word_len line else 0) (no-space c (none 0 (omega arith) (omega arith))))
 
-pub word-to : (line : List ℕ) (n : ℕ) → n < length line → ((k : ℕ) → 0 ≤ k → k < n → (slice_index line k == 32) ≡ true → ⊥) → (slice_index line n == 32) ≡ true
-    → (take n line ≡ prefix_while is_no_space line) × (drop n line ≡ suffix_while is_no_space line)
-unfolding prefix_while suffix_while
+pub word-to : (line : List ℕ) (n : ℕ) → n < length line → ((k : ℕ) → 0 ≤ k → k < n → (slice_index line k == 32) ≡ true → ⊥) → (slice_index line n == 32) ≡ true → n ≡ word_len line
 word-to [] n h none e = absurd (omega arith)
-word-to (c ∷ line) zero h none e = (rw (a-space c e) refl, rw (a-space c e) refl)
+word-to (c ∷ line) zero h none e = sym (ap (λ b. if not b then 1 + word_len line else 0) e)
 word-to (c ∷ line) (suc n) h none e =
-    let here = no-space c (none 0 (omega arith) (omega arith)) in
     let rest = word-to line n (omega arith) (λ k low below. none (suc k) (omega arith) (omega arith)) e in
-    (rw here (ap (λ (t : List ℕ). c ∷ t) rest.0), rw here rest.1)
+    omega (arith, rest) ∙ sym (ap (λ b. if b then 1 + word_len line else 0) (no-space c (none 0 (omega arith) (omega arith))))
 
-pub word-at : (line : List ℕ) (r : Option ℕ) (n : ℕ) → IsFirstByte (is_byte 32) line r → n ≡ unwrap_or r (length line)
-    → (take n line ≡ prefix_while is_no_space line) × (drop n line ≡ suffix_while is_no_space line)
-word-at line None n h is = rw is (word-whole line h)
-word-at line (Some m) n h is = rw is (word-to line m h.0.high h.0.before h.1)
+pub word-at : (line : List ℕ) (r : Option ℕ) (n : ℕ) → IsFirstByte (is_byte 32) line r → n ≡ unwrap_or r (length line) → n ≡ word_len line
+word-at line None n h is = is ∙ word-whole line h
+word-at line (Some m) n h is = is ∙ word-to line m h.0.high h.0.before h.1
 
 -- a line by its first octet
 pub line-none : (line : List ℕ) → length line ≡ 0 → line_of line ≡ Passed
@@ -270,7 +258,7 @@ line-item [] e d = absurd cc
 line-item (c ∷ line) e d = let q : (c == 35) ≡ false = grind (arith, nat_tests, e) in rw (q, d) refl
 
 pub line-word : (line : List ℕ) → 0 < length line → (slice_index line 0 ≡ 35 → ⊥) → is_ascii_digit (slice_index line 0) ≡ false
-    → line_of line ≡ worded (prefix_while is_no_space line) (suffix_while is_no_space line)
+    → line_of line ≡ worded (take (word_len line) line) (drop (word_len line) line)
 unfolding line_of
 line-word [] some e d = absurd (omega (arith, some))
 line-word (c ∷ line) some e d = let q : (c == 35) ≡ false = grind (arith, nat_tests, e) in rw (q, d) refl

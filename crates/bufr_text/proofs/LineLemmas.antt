@@ -1,18 +1,18 @@
 -- Each line of a dump text has what it was written for, and is short.
 use Rattle.std.proofs.Common.{get_or, ◌≡◌, ℕ, ◌+◌, ◌-◌, ◌*◌, ◌/◌, ◌%◌, ◌<◌, nat_le, true, refl, ap, arith, Some, ◌==◌, nat_lt, Bool, false, not, List, [], ◌∷◌, ◌++◌, length, ◌∙◌, if◌then◌else◌, append_assoc, zero, suc, ◌^◌, ◌≤◌, ◌&&◌, take, drop, replicate, ℤ, pos, negsuc, length-append, length-take, length-drop, sym, Option, None, codes, ◌||◌, option_map, unsigned_abs, IfSome}
 use Rattle.std.specs.Char.{is_ascii_digit}
-use Rattle.std.specs.List.{list_all, AllByRecursion, concat}
+use Rattle.std.specs.List.{list_all, AllByRecursion, concat, prefix_len, onto_first}
 use Rattle.std.proofs.lemmas.Bool.Decides.{nat_tests}
 use Rattle.bufr_tables.specs.Prelude.{fxy_of, fxy_text, f_of, x_of, y_of, f_in, x_in, y_in, is_printed, Row, places, is_name}
 use Rattle.std.specs.Fmt.{decimal}
 use Rattle.std.proofs.lemmas.Fmt.{decimal_is_IsNumeral_wide, length-decimal-le_wide}
 use Rattle.bufr_bits.proofs.DecimalLemmas.{own, and_first, and_second, all_digits-take, all_digits-drop, zeros_digits}
-use Rattle.bufr_text.specs.Prelude.{prefix_while, suffix_while, hex_digit, upper_value, either_value, pair_value, hex_pair, hex_text, hex_read, fxy_read, descriptors_text, descriptors_read, number_read, is_unescaped, escaped, quoted, quoted_read, is_number_octet, without_prefix, is_hashed, is_passed_after, runs_after, IsOctet, IsDescriptorWord, local1_line, section2_line, descriptors_line, subset_line, comment_text, dump_value_of, form_text, item_text, IsValue, IsComment, IsItem, text_of_lines, Opens, Header, Local1, Section2, Descriptors, Begins, ItemLine, Closes, keys, made, number_value, value_read, worded, line_of, Line, lines_of}
+use Rattle.bufr_text.specs.Prelude.{hex_digit, upper_value, either_value, pair_value, hex_pair, hex_text, hex_read, fxy_read, descriptors_text, descriptors_read, number_read, is_unescaped, escaped, quoted, quoted_read, is_number_octet, without_prefix, is_hashed, is_passed_after, runs_after, IsOctet, IsDescriptorWord, local1_line, section2_line, descriptors_line, subset_line, comment_text, dump_value_of, form_text, item_text, IsValue, IsComment, IsItem, text_of_lines, Opens, Header, Local1, Section2, Descriptors, Begins, ItemLine, Closes, keys, made, number_value, value_read, worded, line_of, Line, lines_of, split_of, Split, onto_split}
 use Rattle.std.proofs.lemmas.List.{length-replicate, take-append-drop}
 use Rattle.std.proofs.lemmas.List.Folds.{list_all-append}
 use Rattle.bufr_bits.specs.Prelude.{decimal_text_of, unsigned_text, pointed}
 use Rattle.bufr_fill.specs.Prelude.{DraftValue, number_token, text_form, missing_form, reference_token}
-use Rattle.std.proofs.Math.Seq.{drop-nil}
+use Rattle.std.proofs.Math.Seq.{drop-nil, take-append_seam, drop-append_seam}
 use Rattle.std.proofs.lemmas.Grind.{common_steps}
 use Rattle.bufr_walk.specs.Prelude.{View, ShownValue, shown_number, shown_text, shown_missing, shown_reference}
 
@@ -56,25 +56,23 @@ abbrev pub stops : (ℕ → Bool) → List ℕ → Bool
 stops test [] = true
 stops test (c ∷ more) = not (test c)
 
-prefix-stop : (test : ℕ → Bool) (text : List ℕ) → stops test text ≡ true → prefix_while test text ≡ []
-unfolding prefix_while
-prefix-stop test [] h = refl
-prefix-stop test (c ∷ more) h = let e : test c ≡ false = grind (arith, h) in rw e refl
+pub prefix-of : (test : ℕ → Bool) (a b : List ℕ) → list_all test a ≡ true → stops test b ≡ true → prefix_len test (a ++ b) ≡ length a
+prefix-of test [] [] h s = refl
+prefix-of test [] (c ∷ b) h s = let e : test c ≡ false = grind (arith, s) in ap (λ x. if x then 1 + prefix_len test b else 0) e
+prefix-of test (c ∷ a) b h s =
+    let rest = prefix-of test a b (and_second (test c) (list_all test a) h) s in
+    ap (λ x. if x then 1 + prefix_len test (a ++ b) else 0) (and_first (test c) (list_all test a) h) ∙ omega (arith, rest)
 
-after-stop : (test : ℕ → Bool) (text : List ℕ) → stops test text ≡ true → suffix_while test text ≡ text
-unfolding suffix_while
-after-stop test [] h = refl
-after-stop test (c ∷ more) h = let e : test c ≡ false = grind (arith, h) in rw e refl
-
-pub prefix-of : (test : ℕ → Bool) (a b : List ℕ) → list_all test a ≡ true → stops test b ≡ true → prefix_while test (a ++ b) ≡ a
-unfolding prefix_while
-prefix-of test [] b h s = prefix-stop test b s
-prefix-of test (c ∷ a) b h s = rw (and_first (test c) (list_all test a) h) (ap (λ (t : List ℕ). c ∷ t) (prefix-of test a b (and_second (test c) (list_all test a) h) s))
-
-pub after-of : (test : ℕ → Bool) (a b : List ℕ) → list_all test a ≡ true → stops test b ≡ true → suffix_while test (a ++ b) ≡ b
-unfolding suffix_while
-after-of test [] b h s = after-stop test b s
-after-of test (c ∷ a) b h s = rw (and_first (test c) (list_all test a) h) (after-of test a b (and_second (test c) (list_all test a) h) s)
+-- a number that is read back, and the text after it
+number-there : (form : List ℕ → DraftValue) (c : ℕ) (more rest : List ℕ) → list_all is_number_octet (c ∷ more) ≡ true → stops is_number_octet rest ≡ true
+    → number_value form ((c ∷ more) ++ rest) ≡ Some (form (c ∷ more), rest)
+number-there form c more rest octets s =
+    let text : List ℕ = (c ∷ more) ++ rest in
+    let n = prefix_len is_number_octet text in
+    ap (λ b. if b then Some (form (take n text), drop n text) else None) (and_first (is_number_octet c) (list_all is_number_octet more) octets)
+    ∙ ap (λ k. Some (form (take k text), drop k text)) (prefix-of is_number_octet (c ∷ more) rest octets s)
+    ∙ ap (λ t. Some (form t, drop (length (c ∷ more)) text)) (take-append_seam (c ∷ more) rest)
+    ∙ ap (λ t. Some (form (c ∷ more), t)) (drop-append_seam (c ∷ more) rest)
 
 -- hexadecimal digits
 upper-back : (n : ℕ) → n < 16 → upper_value (hex_digit n) ≡ Some n
@@ -213,34 +211,34 @@ in_bounds : (xs : List ℕ) (most : ℕ) → 0 < length xs → length xs ≤ mos
 in_bounds xs most some few = grind (arith, nat_tests)
 
 pub local1-says : (xs : List ℕ) → AllByRecursion IsOctet xs → 0 < length xs → length xs ≤ 32 → line_of (local1_line xs) ≡ Local1 xs
-unfolding line_of worded prefix_while suffix_while without_prefix
+unfolding line_of worded without_prefix
 local1-says xs all some few = rw (hex_back xs all, in_bounds xs 32 some few) refl
 
 pub section2-says : (xs : List ℕ) → AllByRecursion IsOctet xs → 0 < length xs → length xs ≤ 32 → line_of (section2_line xs) ≡ Section2 xs
-unfolding line_of worded prefix_while suffix_while without_prefix
+unfolding line_of worded without_prefix
 section2-says xs all some few = rw (hex_back xs all, in_bounds xs 32 some few) refl
 
 -- the text after the word of a line of descriptors is empty or begins with a space
 pub descriptors-says : (ws : List ℕ) → AllByRecursion IsDescriptorWord ws → 0 < length ws → length ws ≤ 8 → line_of (descriptors_line ws) ≡ Descriptors ws
-unfolding line_of worded prefix_while suffix_while without_prefix descriptors_text
+unfolding line_of worded without_prefix descriptors_text
 descriptors-says [] all some few = absurd (omega arith)
 descriptors-says (w ∷ ws) all some few = rw (descriptors_back (w ∷ ws) all, in_bounds (w ∷ ws) 8 some few) refl
 
 pub subset-says : (n : ℕ) → n < 65536 → line_of (subset_line n) ≡ Begins n
-unfolding line_of worded prefix_while suffix_while without_prefix
+unfolding line_of worded without_prefix
 subset-says n h = rw (number_back n h) refl
 
 pub message-says : line_of (codes "message") ≡ Opens
-unfolding line_of worded prefix_while suffix_while
+unfolding line_of worded
 message-says = refl
 
 pub end-says : line_of (codes "end") ≡ Closes
-unfolding line_of worded prefix_while suffix_while
+unfolding line_of worded
 end-says = refl
 
 -- header lines
 pub key-says : (k : ℕ) (rest : List ℕ) → k < 20 → line_of (get_or keys k [] ++ 32 ∷ rest) ≡ made (Header k) (number_read rest)
-unfolding line_of worded prefix_while suffix_while without_prefix keys
+unfolding line_of worded without_prefix keys
 key-says k rest h1 = grind (arith, nat_tests, common_steps)
 
 suffix_is : (word text rest : List ℕ) → without_prefix word text ≡ Some rest → text ≡ word ++ rest
@@ -269,7 +267,9 @@ value-number [] rest most token s = absurd (omega (arith, token.some))
 value-number (c ∷ more) rest most token s =
     let one : is_number_octet c ≡ true = and_first (is_number_octet c) (list_all is_number_octet more) token.octets in
     let no_quote : (c == 34) ≡ false = grind (arith, nat_tests, one) in
-    rw (no_quote, one, prefix-of is_number_octet (c ∷ more) rest token.octets s, after-of is_number_octet (c ∷ more) rest token.octets s) refl
+    let text : List ℕ = (c ∷ more) ++ rest in
+    rw no_quote (ap (λ b. if b then number_value number_token text else option_map (λ rest. (missing_form, rest)) (without_prefix (codes "MISSING") text)) one
+    ∙ number-there number_token c more rest token.octets s)
 
 pub value-text : (octets rest : List ℕ) → AllByRecursion IsOctet octets → value_read (34 ∷ quoted octets ++ rest) ≡ Some (text_form octets, rest)
 unfolding value_read
@@ -301,12 +301,10 @@ comment-stops (Some comment) = refl
 
 pub reference-value : (token rest : List ℕ) (most : ℕ) → IsToken token most → stops is_number_octet rest ≡ true → number_value reference_token (token ++ rest) ≡ Some (reference_token token, rest)
 reference-value [] rest most token s = absurd (omega (arith, token.some))
-reference-value (c ∷ more) rest most token s =
-    let one : is_number_octet c ≡ true = and_first (is_number_octet c) (list_all is_number_octet more) token.octets in
-    rw (one, prefix-of is_number_octet (c ∷ more) rest token.octets s, after-of is_number_octet (c ∷ more) rest token.octets s) refl
+reference-value (c ∷ more) rest most token s = number-there reference_token c more rest token.octets s
 
 pub reference-of : (fxy : ℕ) (text rest : List ℕ) (form : DraftValue) → fxy < 65536 → number_value reference_token text ≡ Some (form, rest) → is_passed_after rest ≡ true → line_of (codes "R " ++ fxy_text fxy ++ 32 ∷ text) ≡ ItemLine fxy form
-unfolding line_of worded prefix_while suffix_while without_prefix
+unfolding line_of worded without_prefix
 reference-of fxy text rest form h read passed = rw (fxy_read_back fxy (32 ∷ text) h, read, passed) refl
 
 -- ---- Lines of a dump text have no line feed and at most 4,096 octets.
@@ -498,11 +496,33 @@ IsAbove line = list_all is_above line ≡ true
 no-feed : (c : ℕ) → is_above c ≡ true → (c == 10) ≡ false
 no-feed c h = grind (arith, nat_tests, h)
 
+-- the lines of a text, octet by octet
+joined : Split → List (List ℕ)
+joined s = if length s.rest == 0 then s.whole else s.whole ++ s.rest ∷ []
+
+joined-by : (c : ℕ) (feed : Bool) (whole : List (List ℕ)) (rest : List ℕ)
+    → joined (if feed then record { whole = [] ∷ whole; rest = rest } else onto_split c whole rest)
+    ≡ (if feed then [] ∷ joined (record { whole = whole; rest = rest }) else onto_first c (joined (record { whole = whole; rest = rest })))
+unfolding joined
+joined-by c true whole [] = refl
+joined-by c true whole (d ∷ rest) = grind (arith, nat_tests, common_steps)
+joined-by c false [] [] = grind (arith, nat_tests, common_steps)
+joined-by c false [] (d ∷ rest) = grind (arith, nat_tests, common_steps)
+joined-by c false (line ∷ whole) [] = refl
+joined-by c false (line ∷ whole) (d ∷ rest) = grind (arith, nat_tests, common_steps)
+
+pub lines-cons : (c : ℕ) (more : List ℕ) → lines_of (c ∷ more) ≡ (if c == 10 then [] ∷ lines_of more else onto_first c (lines_of more))
+unfolding lines_of split_of joined
+lines-cons c more = joined-by c (c == 10) (split_of more).whole (split_of more).rest
+
+pub lines-none : lines_of [] ≡ []
+unfolding lines_of split_of
+lines-none = refl
+
 pub first-line : (line t : List ℕ) → IsAbove line → lines_of (line ++ 10 ∷ t) ≡ line ∷ lines_of t
-unfolding lines_of
-first-line [] t h = refl
+first-line [] t h = lines-cons 10 t
 first-line (c ∷ line) t h =
-    rw (no-feed c (and_first (is_above c) (list_all is_above line) h), first-line line t (and_second (is_above c) (list_all is_above line) h)) refl
+    rw (lines-cons c (line ++ 10 ∷ t), no-feed c (and_first (is_above c) (list_all is_above line) h), first-line line t (and_second (is_above c) (list_all is_above line) h)) refl
 
 pub lines-back : (ls : List (List ℕ)) (t : List ℕ) → AllByRecursion IsAbove ls → lines_of (text_of_lines ls ++ t) ≡ ls ++ lines_of t
 lines-back [] t all = refl

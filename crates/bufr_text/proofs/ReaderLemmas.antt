@@ -1,5 +1,5 @@
 -- How a reading goes on, line feed by line feed, and what the calls of a reader do.
-use Rattle.bufr_text.proofs.LineLemmas.{both}
+use Rattle.bufr_text.proofs.LineLemmas.{both, lines-cons, lines-none}
 use Rattle.std.proofs.Common.{◌≡◌, ℕ, ◌+◌, ◌<◌, ◌≤◌, ◌==◌, nat_lt, not, Bool, true, false, List, [], ◌∷◌, ◌++◌, length, refl, sym, ap, ◌∙◌, arith, append_assoc, append-nil, length-append, subst, if◌then◌else◌, ◌⊎◌, inl, inr, zero, suc, ◌&&◌, take, drop, Option, Some, None, ◌-◌, length-drop, Result, Ok, Err, OnErr, slice_index}
 use Rattle.std.proofs.lemmas.Bool.Decides.{nat_tests}
 use Rattle.bufr_bits.proofs.DecimalLemmas.{and_first, and_second}
@@ -54,10 +54,9 @@ no-feed-first : (c : ℕ) → not (c == 10) ≡ true → (c == 10) ≡ false
 no-feed-first c h = grind (arith, nat_tests, h)
 
 pub line-held : (line t : List ℕ) → has_no_feed line ≡ true → lines_of (line ++ 10 ∷ t) ≡ line ∷ lines_of t
-unfolding lines_of
-line-held [] t h = refl
+line-held [] t h = lines-cons 10 t
 line-held (c ∷ line) t h =
-    rw (no-feed-first c (and_first (not (c == 10)) (has_no_feed line) h), line-held line t (and_second (not (c == 10)) (has_no_feed line) h)) refl
+    rw (lines-cons c (line ++ 10 ∷ t), no-feed-first c (and_first (not (c == 10)) (has_no_feed line) h), line-held line t (and_second (not (c == 10)) (has_no_feed line) h)) refl
 
 split-octet : (c : ℕ) (t : List ℕ) (s : Split) → (c == 10) ≡ false → split_of t ≡ s → split_of (c ∷ t) ≡ onto_split c s.whole s.rest
 unfolding split_of
@@ -97,8 +96,7 @@ onto-some c [] = ([], [], refl)
 onto-some c (line ∷ ls) = (line, ls, refl)
 
 onto-line : (c : ℕ) (t : List ℕ) → (c == 10) ≡ false → lines_of (c ∷ t) ≡ onto_first c (lines_of t)
-unfolding lines_of
-onto-line c t h = rw h refl
+onto-line c t h = rw (lines-cons c t, h) refl
 
 long-first : (held t : List ℕ) → has_no_feed held ≡ true → 0 < length held → (more : List ℕ) × (rest : List (List ℕ)) × (lines_of (held ++ t) ≡ (held ++ more) ∷ rest)
 long-first [] t h some = absurd (omega arith)
@@ -164,15 +162,15 @@ refuses-long at parsing held ended r h long = record {
 
 -- at the end the last line may lack its line feed
 pub one-line : (held : List ℕ) → has_no_feed held ≡ true → 0 < length held → lines_of held ≡ held ∷ []
-unfolding lines_of
 one-line [] h some = absurd (omega arith)
-one-line (c ∷ []) h some = rw (no-feed-first c (and_first (not (c == 10)) true h)) refl
+one-line (c ∷ []) h some = onto-line c [] (no-feed-first c (and_first (not (c == 10)) true h)) ∙ ap (onto_first c) lines-none
 one-line (c ∷ d ∷ held) h some =
-    rw (no-feed-first c (and_first (not (c == 10)) (has_no_feed (d ∷ held)) h)) (ap (onto_first c) (one-line (d ∷ held) (and_second (not (c == 10)) (has_no_feed (d ∷ held)) h) (omega arith)))
+    onto-line c (d ∷ held) (no-feed-first c (and_first (not (c == 10)) (has_no_feed (d ∷ held)) h))
+    ∙ ap (onto_first c) (one-line (d ∷ held) (and_second (not (c == 10)) (has_no_feed (d ∷ held)) h) (omega arith))
 
 pub ends-inside : (at : ℕ) (parsing : Parsing)
     → ContinuesParse (record { at = at; parsing = parsing; held = []; ended = true }) (record { at = at; parsing = (Stopped, parsing.1); held = []; ended = true }) (reported_at_end at parsing.0)
-unfolding parse_lines lines_of
+unfolding parse_lines lines_of split_of
 ends-inside at parsing = grind (arith, nat_tests, common_steps)
 
 -- where no whole line is held and the rest is short, nothing is reported before the end is known
@@ -254,8 +252,8 @@ ends-none (c ∷ d ∷ more) e f =
 -- the whole lines, and what the rest becomes
 split-octet-before : (c : ℕ) (s t : List ℕ) (b : Bool) → (c == 10) ≡ b → lines_of (s ++ t) ≡ (split_of s).whole ++ lines_of ((split_of s).rest ++ t)
     → lines_of (c ∷ (s ++ t)) ≡ (split_of (c ∷ s)).whole ++ lines_of ((split_of (c ∷ s)).rest ++ t)
-unfolding lines_of split_of
-split-octet-before c s t b h1 h2 = grind (arith, nat_tests, common_steps)
+unfolding split_of
+split-octet-before c s t b h1 h2 = grind (arith, nat_tests, common_steps, lines-cons)
 
 lines-split : (s t : List ℕ) → lines_of (s ++ t) ≡ (split_of s).whole ++ lines_of ((split_of s).rest ++ t)
 unfolding split_of
@@ -572,7 +570,7 @@ reported-inside Stopped at reads inside = absurd reads
 reported-inside state at reads inside = refl
 
 pub done-between : (s : ReaderModel) → s.parsing.0 ≡ Between → s.held ≡ [] → parse (position_of s) [] ≡ []
-unfolding parse_lines lines_of
+unfolding parse_lines lines_of split_of
 done-between s parsing held =
     ap (λ (z : List ℕ). parse_lines s.at s.parsing (lines_of (z ++ []))) held ∙ ap (λ (p : ParserState). reported_at_end s.at p) parsing
 

@@ -11,13 +11,13 @@ use Rattle.bufr_fill.specs.Prelude.{number_token, text_form, missing_form, refer
 use Rattle.bufr_fill.specs.declared.fault.ItemFault.TheVariants as wrong
 use Rattle.bufr_text.specs.declared.document.LineGroup.TheVariants as group
 use Rattle.bufr_text.specs.declared.fault.DocumentFault.TheVariants as fault
-use Rattle.bufr_text.specs.Prelude.{leasts, mosts, in_range, prefix_while, suffix_while, without_prefix, hex_read, hex_text, fxy_read, descriptors_read, descriptors_text, quoted_read, is_hashed, Line, Header, Local1, Section2, Descriptors, Begins, ItemLine, Wrong, keys, value_read, worded, line_of, read_line, ParseResult, Refused, NotAllowed, SubsetCount, HeaderRange, line_step, parse_lines, lines_of, documents_of, Document, blank, Heading, BeforeSubsets, open_documents_of, split_of, parse_open_lines, text_of_lines, DocumentFault, encoding_of, encoding_in, message_of}
+use Rattle.bufr_text.specs.Prelude.{leasts, mosts, in_range, without_prefix, hex_read, hex_text, fxy_read, descriptors_read, descriptors_text, quoted_read, is_hashed, Line, Header, Local1, Section2, Descriptors, Begins, ItemLine, Wrong, keys, value_read, worded, line_of, read_line, ParseResult, Refused, NotAllowed, SubsetCount, HeaderRange, line_step, parse_lines, lines_of, documents_of, Document, blank, Heading, BeforeSubsets, open_documents_of, split_of, parse_open_lines, text_of_lines, DocumentFault, encoding_of, encoding_in, message_of}
 use Rattle.bufr_text.proofs.EncodingExamples.{listed, table, document, number}
 
 -- ---- What one line says, where an octet is on either side of a range.
 
 said : List (List ℕ) → List Line
-unfolding line_of worded prefix_while suffix_while without_prefix fxy_read value_read quoted_read is_hashed keys hex_read descriptors_read
+unfolding line_of worded without_prefix fxy_read value_read quoted_read is_hashed keys hex_read descriptors_read
 said lines = map read_line lines
 
 -- A digit of local use is 0 to 9, A to F or a to f: each with its neighbours, last and first.
@@ -120,12 +120,12 @@ greatest_of_the_header = (refl, refl, refl, refl)
 
 -- the documents of lines
 documents_in : List (List ℕ) → List ParseResult
-unfolding line_of worded prefix_while suffix_while without_prefix fxy_read value_read quoted_read is_hashed keys leasts mosts hex_read descriptors_read parse_lines lines_of line_step
+unfolding line_of worded without_prefix fxy_read value_read quoted_read is_hashed keys leasts mosts hex_read descriptors_read parse_lines lines_of split_of line_step
 documents_in lines = documents_of (text_of_lines lines)
 
 -- what lines after a header do, from line 22 on; in the end `x` is on a line
 after_header : (optional subsets : ℕ) → List (List ℕ) → List ParseResult
-unfolding line_of worded prefix_while suffix_while without_prefix fxy_read value_read quoted_read is_hashed keys leasts mosts hex_read descriptors_read parse_lines line_step
+unfolding line_of worded without_prefix fxy_read value_read quoted_read is_hashed keys leasts mosts hex_read descriptors_read parse_lines line_step
 after_header optional subsets lines = parse_lines 22 (BeforeSubsets group.Local1, record (blank 1) { header = 4 ∷ 0 ∷ 98 ∷ 0 ∷ 0 ∷ 0 ∷ 0 ∷ 0 ∷ 14 ∷ 0 ∷ 2024 ∷ 1 ∷ 2 ∷ 3 ∷ 4 ∷ 5 ∷ 1 ∷ 0 ∷ optional ∷ subsets ∷ [] }) (lines ++ codes "x" ∷ [])
 
 abbrev line_at : ℕ → List ParseResult
@@ -139,7 +139,7 @@ range_at n = Refused n HeaderRange ∷ []
 
 -- what lines do that come after `compressed`, from line 20 on; in the end `x` is on a line
 late_header : List (List ℕ) → List ParseResult
-unfolding line_of worded prefix_while suffix_while without_prefix fxy_read value_read quoted_read is_hashed keys leasts mosts hex_read descriptors_read parse_lines line_step
+unfolding line_of worded without_prefix fxy_read value_read quoted_read is_hashed keys leasts mosts hex_read descriptors_read parse_lines line_step
 late_header lines = parse_lines 20 (Heading, record (blank 1) { header = 4 ∷ 0 ∷ 98 ∷ 0 ∷ 0 ∷ 0 ∷ 0 ∷ 0 ∷ 14 ∷ 0 ∷ 2024 ∷ 1 ∷ 2 ∷ 3 ∷ 4 ∷ 5 ∷ 1 ∷ 0 ∷ [] }) (lines ++ codes "x" ∷ [])
 
 -- The header ends with `subsets`, and no sooner.
@@ -232,7 +232,7 @@ where_a_text_ends :
     (map documents_of ([] ∷ codes "\n" ∷ codes "# x" ∷ codes "message" ∷ codes "message\n" ∷ codes "message\nedition 4\n" ∷ codes "message\nedition 4\n# x" ∷ codes "message\nx\ny\n" ∷ codes "message \n" ∷ codes "messages\n" ∷ [])
     ≡ [] ∷ [] ∷ [] ∷ line_at 2 ∷ line_at 2 ∷ line_at 3 ∷ line_at 4 ∷ line_at 2 ∷ line_at 1 ∷ line_at 1 ∷ [])
     × (map open_documents_of (codes "message" ∷ codes "message\nedition 4\n" ∷ codes "message\nedition 4\nx" ∷ codes "message\nx\n" ∷ []) ≡ [] ∷ [] ∷ [] ∷ line_at 2 ∷ [])
-unfolding line_of worded prefix_while suffix_while without_prefix fxy_read value_read quoted_read is_hashed keys leasts mosts hex_read descriptors_read parse_lines lines_of line_step
+unfolding line_of worded without_prefix fxy_read value_read quoted_read is_hashed keys leasts mosts hex_read descriptors_read parse_lines lines_of line_step
     parse_open_lines split_of
 where_a_text_ends = (refl, refl)
 

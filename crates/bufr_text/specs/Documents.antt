@@ -13,7 +13,6 @@ use Rattle.bufr_text.specs.declared.document.ParserState.TheVariants.{Between, H
 use Rattle.bufr_text.specs.declared.document.LineEffect.{LineEffect}
 use Rattle.bufr_text.specs.declared.document.LineEffect.TheVariants.{Continues, Completes, Refuses}
 use Rattle.bufr_text.specs.declared.document.LineGroup.{LineGroup}
-use Rattle.std.specs.List.{onto_first}
 use Rattle.bufr_text.specs.declared.document.LineGroup.TheVariants as group
 
 -- ---- A message as its text gives it; no value is looked at yet. (own)
@@ -204,27 +203,6 @@ parse_lines at p (line ∷ more) =
     let here = line_step at p (read_line line) in reported_at at here
     ++ parse_lines (at + 1) (parsing_after here) more
 
--- the lines of a text without their line feeds, which the last line may lack; `onto_first` puts an
--- octet in front of the first line
--- rule: reading-last-line
-unfoldable pub lines_of : List ℕ → List (List ℕ)
-lines_of [] = []
-lines_of (c ∷ more) = if c == 10 then [] ∷ lines_of more else onto_first c (lines_of more)
-
--- the documents of a text, and the first fault of its lines, if any
-abbrev pub documents_of : List ℕ → List ParseResult
-documents_of text = parse_lines 1 between (lines_of text)
-
--- The documents in the lines of a text that may still grow. `rest` is the last line, which is not
--- complete; if it is too long already, its fault is certain.
-unfoldable pub parse_open_lines : (at : ℕ) → Parsing → List (List ℕ) → (rest : List ℕ)
-    → List ParseResult
-parse_open_lines at p [] rest =
-    if nat_lt max_line (length rest) then reported_at at (line_step at p Wrong) else []
-parse_open_lines at p (line ∷ more) rest =
-    let here = line_step at p (read_line line) in reported_at at here
-    ++ parse_open_lines (at + 1) (parsing_after here) more rest
-
 -- the lines of a text that have a line feed, and what comes after the last line feed
 pub record Split : Type 0 where
   pub whole : List (List ℕ)
@@ -240,6 +218,27 @@ split_of [] = record { whole = []; rest = [] }
 split_of (c ∷ more) =
     let s = split_of more in
     if c == 10 then record { whole = [] ∷ s.whole; rest = s.rest } else onto_split c s.whole s.rest
+
+-- the lines of a text without their line feeds, which the last line may lack
+-- rule: reading-last-line
+unfoldable pub lines_of : List ℕ → List (List ℕ)
+lines_of text =
+    let s = split_of text in
+    if length s.rest == 0 then s.whole else s.whole ++ s.rest ∷ []
+
+-- the documents of a text, and the first fault of its lines, if any
+abbrev pub documents_of : List ℕ → List ParseResult
+documents_of text = parse_lines 1 between (lines_of text)
+
+-- The documents in the lines of a text that may still grow. `rest` is the last line, which is not
+-- complete; if it is too long already, its fault is certain.
+unfoldable pub parse_open_lines : (at : ℕ) → Parsing → List (List ℕ) → (rest : List ℕ)
+    → List ParseResult
+parse_open_lines at p [] rest =
+    if nat_lt max_line (length rest) then reported_at at (line_step at p Wrong) else []
+parse_open_lines at p (line ∷ more) rest =
+    let here = line_step at p (read_line line) in reported_at at here
+    ++ parse_open_lines (at + 1) (parsing_after here) more rest
 
 -- the documents of a text that may still grow
 abbrev pub open_documents_of : List ℕ → List ParseResult

@@ -1,26 +1,17 @@
 -- The lines of a dump text: the words and values in them, and what each line says. (own)
 -- Cited by public contracts.
 use Rattle.std.specs.Prelude.{ℕ, zero, suc, ◌+◌, ◌==◌, nat_le, nat_lt, Bool, not, ◌&&◌, if◌then◌else◌, List, [], ◌∷◌, Option, Some, None, option_map, codes, length, replicate, ◌-◌, ◌++◌, take, drop, ◌≡◌, ◌*◌, ◌≤◌, ◌/◌, ◌%◌, min, true, false, ◌||◌, slice_index}
-use Rattle.std.specs.List.{list_all, position_from}
+use Rattle.std.specs.List.{position_from, position_or_len, prefix_len}
 use Rattle.std.specs.Char.{is_ascii_digit}
 use Rattle.std.specs.Str.Parse.{digits_value}
-use Rattle.bufr_tables.specs.Prelude.{fxy_of, fxy_text}
+use Rattle.bufr_bits.specs.Prelude.{is_digits}
+use Rattle.bufr_tables.specs.Prelude.{fxy_of, fxy_text, only_if}
 pub use Rattle.bufr_text.specs.declared.line.QuotedToken.{QuotedToken}
 pub use Rattle.bufr_text.specs.declared.line.QuotedToken.TheVariants.{Closed, Octet, Nothing}
 use Rattle.std.specs.Str.{bytes_eq}
 use Rattle.bufr_frame.specs.Prelude.{greatest_values}
 use Rattle.bufr_fill.specs.Prelude.{DraftValue, number_token, text_form, missing_form, reference_token}
 use Rattle.std.specs.Option.{option_zip}
-
--- the longest prefix of octets that pass a test, as in `take_while`
-unfoldable pub prefix_while : (ℕ → Bool) → List ℕ → List ℕ
-prefix_while test [] = []
-prefix_while test (c ∷ more) = if test c then c ∷ prefix_while test more else []
-
--- the octets after that prefix
-unfoldable pub suffix_while : (ℕ → Bool) → List ℕ → List ℕ
-suffix_while test [] = []
-suffix_while test (c ∷ more) = if test c then suffix_while test more else c ∷ more
 
 -- the text after a word, if it begins with the word
 unfoldable pub without_prefix : (word text : List ℕ) → Option (List ℕ)
@@ -102,8 +93,7 @@ descriptors_read text = None
 -- too large for every header line and every subset.
 -- rule: reading-header-number
 abbrev pub number_read : List ℕ → Option ℕ
-number_read text = if nat_lt 0 (length text) && list_all is_ascii_digit text
-    then Some (min (digits_value 10 text) 65536) else None
+number_read text = only_if (is_digits text) (min (digits_value 10 text) 65536)
 
 -- whether an octet is written as itself in a text: a printed one of ASCII, except `"` and `\`
 abbrev pub is_unescaped : ℕ → Bool
@@ -227,10 +217,9 @@ item_if_comment fxy (form, rest) = if is_passed_after rest then ItemLine fxy for
 -- the number at the beginning of a text, as a value of this form, and the text after it
 abbrev pub number_value : (List ℕ → DraftValue) → List ℕ → Option (DraftValue × List ℕ)
 number_value form [] = None
-number_value form (c ∷ more) = if is_number_octet c then Some (
-  form (prefix_while is_number_octet (c ∷ more)),
-  suffix_while is_number_octet (c ∷ more),
-) else None
+number_value form (c ∷ more) =
+    let n = prefix_len is_number_octet (c ∷ more) in
+    if is_number_octet c then Some (form (take n (c ∷ more)), drop n (c ∷ more)) else None
 
 -- the value at the beginning of a text (quoted, a number or `MISSING`), and the text after it
 unfoldable pub value_read : List ℕ → Option (DraftValue × List ℕ)
@@ -268,16 +257,16 @@ worded word rest =
     else made (λ index. made (λ text. made (Header index) (number_read text)) (without_space rest))
     (position_from (bytes_eq word) 0 keys)
 
-abbrev pub is_no_space : ℕ → Bool
-is_no_space c = not (c == 32)
-
--- what a line says: `#` begins a comment, a digit an item, and any other line has a first word
+-- what a line says: `#` begins a comment, a digit an item, and any other line has a first word, of
+-- the n octets before the first space
 -- rule: reading-empty-lines, reading-carriage-return, reading-blanks
 unfoldable pub line_of : List ℕ → Line
 line_of [] = Passed
-line_of (c ∷ more) = if c == 35 then Passed
+line_of (c ∷ more) =
+    let n = position_or_len (λ octet. octet == 32) (c ∷ more) in
+    if c == 35 then Passed
     else if is_ascii_digit c then item_line value_read (c ∷ more)
-    else worded (prefix_while is_no_space (c ∷ more)) (suffix_while is_no_space (c ∷ more))
+    else worded (take n (c ∷ more)) (drop n (c ∷ more))
 
 -- ---- The keys of the header as the code has them.
 

@@ -1,6 +1,7 @@
 //! What a line says: its first word, numbers, items, texts in quotes and octets.
 ghost use Rattle.std.specs.Prelude.{◌≡◌, ℕ, ◌<◌, ◌≤◌, ◌==◌, IfSome, List, length, take, drop, option_map, if◌then◌else◌, min, ◌+◌, ◌-◌, slice_index, Some, ◌*◌};
-ghost use Rattle.bufr_text.specs.Prelude.{max_line, read_line, prefix_while, suffix_while, without_space, hex_read, number_read, without_prefix, is_number_octet, is_hashed, is_passed_after, is_unescaped, upper_value, quoting_of, either_value, Line, made, with_one_to, worded, line_of, value_read, item_line, number_value, ItemLine, Unquotes, Unhexes, meaning, Wrong};
+ghost use Rattle.std.specs.List.{prefix_len};
+ghost use Rattle.bufr_text.specs.Prelude.{max_line, read_line, without_space, hex_read, number_read, without_prefix, is_number_octet, is_hashed, is_passed_after, is_unescaped, upper_value, quoting_of, either_value, Line, made, with_one_to, worded, line_of, value_read, item_line, number_value, ItemLine, Unquotes, Unhexes, meaning, Wrong};
 ghost use Rattle.bufr_bits.specs.Prelude.{short_text};
 ghost use Rattle.bufr_fill.specs.Prelude.{number_token, reference_token, missing_form, form_in};
 
@@ -165,8 +166,7 @@ fn is_number_octet(octet: u8) -> bool
 // rule: reading-number
 fn token(text: &[u8]) -> usize
     ensures within { result ≤ length text.now }
-    ensures prefix { take result text.now ≡ prefix_while is_number_octet text.now }
-    ensures suffix_while { drop result text.now ≡ suffix_while is_number_octet text.now }
+    ensures count { result ≡ prefix_len is_number_octet text.now }
 {
     let mut at = 0;
     while at < text.len() && is_number_octet(text[at]) {

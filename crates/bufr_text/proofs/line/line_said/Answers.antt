@@ -11,5 +11,5 @@ returns c =
 pub returns-2 : goal.returns-2
 returns-2 c =
     let word = word-at c.args.line.now c.memchr.result _ c.memchr.ensures c.unwrap_or-len.ensures in
-    c.worded.ensures ∙ rw (c.prefix.ensures, c.suffix.ensures, word.0, word.1)
+    c.worded.ensures ∙ rw (c.prefix.ensures, c.suffix.ensures, word)
     (sym (line-word c.args.line.now (search rules) (search rules) (search rules)))
