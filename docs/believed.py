@@ -78,7 +78,9 @@ here, the name of the crate comes before it, as in `clap.Row`.
 
 Rust types and traits are printed, too. Their `ghost` items exist only in proofs. A `Model` defines the value to which clauses
 refer instead of the Rust value, and `source.Ghosts R` contains the ghost items that the type R has as a `Source`. A `Bor` is
-a reference. `x.now` is the value behind a reference x, and `x.old` and `x.new` are that value before and after a call. In
+a reference. `x.now` is the value behind a reference x, and `x.old` and `x.new` are that value before and after a call.
+`x.entry` is the argument x as it was passed. `W.Sink` stands for the ghost items of the type W as a `Sink`, and
+`Self.File.left` for one of those of an associated type. In
 examples, `assert_eq!(rt; ..)` is checked when the examples run.
 
 What is known about the octets of a device is a list, or `None` if nothing is known. The following relations describe what is
@@ -97,9 +99,12 @@ Names that are not defined below come from std (rattle/std and rattle/core in th
   `nat_abs z`, `unsigned_abs z`                z without its sign, in ℕ
   `get_or xs i d`, `slice_index xs i`          the element at index i, from 0; past the end, d or 0
   `slice_range xs a b`                         the elements at the indices from a up to, but not including, b
+  `slice_get xs i`                             the element at index i, if there is one
   `take_while p xs`                            the first elements, up to the one before the first that fails the test p
   `before_first p xs`, `after_first p xs`      what comes before or after the first element that passes p; all or nothing if none
   `position p xs`                              the index of that element, from 0, if there is one
+  `position_from p k xs`                       k more than that index
+  `prefix_len p xs`, `position_or_len p xs`    how many of the first elements pass p; how many come before one that does
   `unwrap_or o d`, `option_map_or f o d`       the value in the option o, or f of that value; d if o is `None`
   `option_and_then f o`                        f of the value in o, where f returns an option; `None` if o is `None`
   `option_zip a b`                             the pair of the values in a and b; `None` if one of them is `None`

@@ -21,7 +21,7 @@ fresh_device inner =
 
 -- ---- The counts that a device keeps of its calls. (own)
 
--- a count increased by `by`, but not beyond 2^64 - 1 (by `max`, no count decreases)
+-- a count increased by `by`, but not beyond 2^64 - 1 (`max` matters only for a count above that)
 abbrev pub counted : (count by : ℕ) → ℕ
 counted count by = max count (min (count + by) (2 ^ 64 - 1))
 

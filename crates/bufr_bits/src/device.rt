@@ -25,7 +25,8 @@ pub trait Source {
     /// The number of reads.
     ghost reads: { Self → ℕ };
 
-    /// The number of octets that all reads requested: the sum of the lengths of their buffers.
+    /// The number of octets that all reads requested: the sum of the lengths of their buffers. (The
+    /// contract of a run does not need it.)
     ghost asked: { Self → ℕ };
 
     /// Whether the next read may block or fail.

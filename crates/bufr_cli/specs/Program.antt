@@ -118,15 +118,15 @@ IsUnread state_of octets outcome =
     (fault : RunFault) × (outcome ≡ Run fault) × RunsOver state_of octets (FailsToRead fault)
 
 -- A table is not available: its file is not opened, it is not read to its end, or the table has a
--- fault. `reads` relates records to the result of reading the table from them, and
--- `outcome_of` gives the outcome for a fault of the table.
+-- fault. `is_result` relates records to the result of reading the table from them, and `outcome_of`
+-- gives the outcome for a fault of the table.
 abbrev pub TableOutcome : {X File : Type 0} → (state_of : File → Input)
-    → (reads : List Record → Result X TableFault → Type 0) → (outcome_of : TableFault → Outcome)
+    → (is_result : List Record → Result X TableFault → Type 0) → (outcome_of : TableFault → Outcome)
     → (named : List ℕ → Option (List ℕ)) → (name : Bor (List ℕ)) → Outcome → Type 0
-TableOutcome state_of reads outcome_of named name outcome =
+TableOutcome state_of is_result outcome_of named name outcome =
     (IsClosed named name outcome ⊎ IsUnread state_of (named name.now) outcome)
     ⊎ ((fault : TableFault) × (outcome ≡ outcome_of fault)
-    × IfSome (named name.now) (λ text. reads (records_of text) (Err fault)))
+    × IfSome (named name.now) (λ text. is_result (records_of text) (Err fault)))
 
 -- Tables B and D are those in the files with these names, if the octets of the files are known.
 pub record AreTables (named : List ℕ → Option (List ℕ)) (tables : TableNames) (b : List Row)

@@ -305,7 +305,8 @@ RunEnds {pieces} {from} {to} {before} {after} so (Ok tally) =
     (pieces.stops ≡ false → so.ended ≡ true) × IsAllWritten so.written
     × ((t : List ℕ) → (so.ended ≡ true → t ≡ [])
     → WritesWhole pieces before after tally (so.octets ++ t))
--- A write or a flush failed. If it was a flush, all pieces had been written.
+-- A write or a flush failed. If it was a flush, all pieces of the octets read so far had been
+-- written.
 RunEnds {pieces} {from} {to} {before} {after} so (Err Write) =
     FlushFails before.output after.output ⊎ FlushFails before.errors after.errors
     → IsAllWritten so.written

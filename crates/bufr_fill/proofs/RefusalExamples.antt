@@ -40,6 +40,12 @@ quantities_out_of_range :
 unfolding fault_of temperature latitude
 quantities_out_of_range = (refl, refl)
 
+-- If two subsets of plain data have a fault, that of the first one is reported.
+first_subset_refused :
+    fault_in (plain_bits block (subset (draft 24 257 (number_token (codes "127")) ∷ []) 25 ∷ subset (draft 26 257 (number_token (codes "127")) ∷ []) 27 ∷ [])) ≡ at_24 wrong.OutOfRange
+unfolding fault_in plain_bits decimal_value_of block
+first_subset_refused = refl
+
 -- Of class 31 all ones is a number. Fails where it is out of range, or where one more fits.
 -- rule: fault-53
 class_31_out_of_range :

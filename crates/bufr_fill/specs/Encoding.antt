@@ -283,9 +283,10 @@ pack_across spec a =
       cs ← contents_here spec a.cells
       result_map_both (written_item cs) (packing_fault cs a.cells) (packing spec cs)
 
--- How the rows of compressed data are written. `many` is whether a row after the last one would make
--- too many values, which is then reported instead of a missing item. Faults after the last row are
--- reported on the line that ends the first subset (`end_line`).
+-- How the rows of compressed data are written. If a field comes next but all rows have been written,
+-- `many` says whether one more row would make too many values; this is then reported instead of a
+-- missing item. Faults after the last row are reported on the line that ends the first subset
+-- (`end_line`).
 -- rule: fault-62
 abbrev pub packed_filler : (end_line : ℕ) (many : Bool) → Filler ItemRow (List Content) DraftFault
 packed_filler end_line many = record {

@@ -164,9 +164,9 @@ is_passed_after (c ∷ more) = (c == 32) && is_hashed more
 
 -- ---- What a line says, apart from where it is.
 
--- What a line says. `Passed` is an empty line or a comment; `Opens`, `Begins` and `Closes` are
--- `message`, `subset` and `end`; `Header` has the index of its key in `keys`; and `Wrong` is not a
--- line of a document.
+-- What a line of a dump text says. `Passed` is an empty line or a comment; `Opens`, `Begins` and
+-- `Closes` are `message`, `subset` and `end`; `Header` has the index of its key in `keys`; and
+-- `Wrong` is any other line.
 pub data Line : Type 0 where
   Passed : Line
   Opens : Line

@@ -31,9 +31,10 @@ pub data Turns : Type 0 where
 abbrev pub Rest : Type 0
 Rest = List ℕ → Turns
 
--- n passes of a body, and then the turns of `rest`. A body is a function of the turns after it,
--- which get the counts that it does not use (`left`). For example, `passes 1 body rest counts` is
--- `body (λ left. pass_end (rest left)) counts`.
+-- n passes of a body, and then the turns of `rest`. `body rest` is the turns of one pass and then
+-- those of `rest`: each part takes the counts that it needs from the front of the list, and leaves
+-- the others to the next part. For example, `passes 1 body rest counts` is `body (λ left. pass_end
+-- (rest left)) counts`.
 -- rule: passes-by-count
 abbrev pub passes : ℕ → (Rest → Rest) → Rest → Rest
 passes zero body rest counts = rest counts

@@ -20,10 +20,10 @@ pub record Redefined : Type 0 where
   pub fxy : ℕ
   pub reference : ℤ
 
--- The operators in effect: the operand Y of each, and the redefined references. 0 means that the
--- operator is not in effect: Y = 0 cancels 2 01, 2 02, 2 07 and 2 08, and is no width for 2 03 and
--- 2 06. All but 2 06 stay in effect until they are cancelled, another one of the same X replaces them
--- (own), or the subset ends, so they may outlast the group or sequence that contains them (own).
+-- The operators in effect: the operand Y of each, or 0 if it is not in effect, and the redefined
+-- references. (No operator in effect has the operand 0: Y = 0 cancels 2 01, 2 02, 2 07 and 2 08,
+-- 2 03 000 cancels all redefined references, and 2 06 000 is refused.) All but 2 06 stay in effect
+-- until they are cancelled, another one of the same X replaces them (own), or the subset ends.
 pub record OperatorModel : Type 0 where
   -- 2 01 Y: Y - 128 is added to the width of a quantity
   pub width_change : ℕ
@@ -143,8 +143,8 @@ unsigned_field fxy width =
       listed = false;
     }
 
--- An element of a code or flag table: 2 01, 2 02 and 2 07 do not apply to it, but a redefined
--- reference does. (own)
+-- An element of a code or flag table: a redefined reference applies to it (own), but 2 01, 2 02 and
+-- 2 07 do not
 -- rule: new-reference-of-figures, figures-unchanged
 abbrev pub coded_spec : OperatorModel → Row → FieldSpec
 coded_spec s row = record (unsigned_field row.fxy row.width) {

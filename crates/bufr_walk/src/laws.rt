@@ -46,9 +46,10 @@ pub fn next_fields_are_fields()
 {}
 
 /// Law: a walk over a template that [`Template::build`](bufr_tables::Template::build) returned
-/// meets no element and no factor that the table lacks, except for the descriptor after 2 06 Y,
-/// which gets its width from there. So if a width is refused, the reason is never that its row is
-/// missing. (WMO-No. 306, Volume I.2, FM 94: section 3)
+/// (which ensures `IsLegal` and `IsKnown`) meets no element and no factor that the table lacks,
+/// except for the descriptor after 2 06 Y, which gets its width from there. So if a width is
+/// refused, the reason is never that its row is missing. (WMO-No. 306, Volume I.2, FM 94: section
+/// 3)
 pub fn elements_have_their_rows()
     ensures { (table : List Row) (template : Tree) (answers : List Taken) → IsLegal template
         → IsKnown (λ fxy. is_some (entry_of table fxy)) template
