@@ -18,7 +18,7 @@ read in parts of a few MB, so it can be larger than the available memory. Each m
 bufr-auto would choose, unless you pass the file names of Table B and Table D as `tables=(B, D)`. To select messages, set
 `where` to a list of conditions of the form `KEY=VALUE` or `KEY!=VALUE`, as in bufr-extract.
 
-A fault is a rejected message or a stray (the word `BUFR` outside any complete message, for example at the start of a message
+A fault is a rejected message or a stray (the word `BUFR` outside any complete message, for example, at the start of a message
 that is cut off). `faults` determines how faults are reported:
 
 - `"warn"` (default): after each file, a `DumpWarning` says how many faults it contained.
@@ -213,7 +213,7 @@ class _Table(NamedTuple):
             return _times(messages)[self.message]
         if key == "optional":
             return _optional(self.part)[self.message]
-        # A smaller type would overflow without a warning, for example in 60 * hour.
+        # A smaller type would overflow without a warning, for example, in 60 * hour.
         return messages[key].astype("i8")[self.message]
 
 
@@ -623,7 +623,7 @@ def items(
 
 
 _KEYS = [name for name in bufr_calls.MESSAGE.names or () if name not in ("first", "items", "reserved")]
-# Smaller types would overflow without a warning, for example in 60 * hour.
+# Smaller types would overflow without a warning, for example, in 60 * hour.
 _MESSAGE = numpy.dtype([("file", "O"), *((name, "i8") for name in [*_KEYS, "optional"]), ("time", "M8[s]")])
 
 

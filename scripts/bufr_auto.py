@@ -474,7 +474,7 @@ class Encode(Run):
 
     @staticmethod
     def size_of(octets: Octets) -> int:
-        """Returns the number of lines, including the line at which `bufr` reports a missing `end` line."""
+        """Returns the number of lines. If `end` is missing, the count includes the line at which `bufr` reports this."""
         text = bytes(octets)
         return text.count(b"\n") + 2 * (not text.endswith(END))
 

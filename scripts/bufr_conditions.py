@@ -95,7 +95,7 @@ class Conditions:
         return f" edition=3 .* time=(?:{'|'.join(self.of_century)})[ T:-]" if self.of_century else "(?!)"
 
     def are_met(self, line: bytes) -> bool:
-        """Returns whether a line meets every condition. Counts the edition 3 messages that are left out."""
+        """Returns whether a line meets every condition. Also counts the edition 3 messages that are left out."""
         line = line.rstrip(b"\n")
         self.seen += 1
         if any(bool(pattern.search(line)) == negated for negated, pattern in self.compiled):

@@ -150,7 +150,7 @@ def end_badly(told: str) -> None:
 
 
 def hook(_kind: Type[BaseException], error: BaseException, _place: Optional[TracebackType]) -> None:
-    """Reports an exception that was raised outside `run`, for example during an import, and exits with status 2."""
+    """Reports an exception that was raised outside `run`, for example, during an import, and exits with status 2."""
     try:
         if isinstance(error, KeyboardInterrupt):
             leave(signal.SIGINT, None)
@@ -522,7 +522,7 @@ def copied(source: int, name: str) -> int:
 def read_at(descriptor: int, offset: int, length: int) -> bytes:
     """Reads bytes of a message that was found earlier.
 
-    Raises `Failed` if the bytes cannot be read, for example because the file has since been truncated.
+    Raises `Failed` if the bytes cannot be read, for example, because the file has since been truncated.
     """
     pieces, end = [], offset + length
     while offset < end:

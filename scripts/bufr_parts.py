@@ -35,7 +35,7 @@ Faults = Union[str, List[Fault]]
 
 _BYTES = bytes, bytearray, memoryview
 _SOURCES = "expected a file name, bytes, an open binary file, a Piece or a list of these"
-_NO_FILES = "no files were given: the list is empty, for example because a glob pattern matched no files"
+_NO_FILES = "no files were given: the list is empty, for example, because a glob pattern matched no files"
 _TEXT = "the source was opened in text mode; open it with mode 'rb'"
 _BLOCK = 1 << 20
 # The approximate number of bytes in a part: first if only some items are wanted, and then if all of them are.
@@ -143,7 +143,7 @@ def _opened(source: Source, numbers: Optional[Iterator[int]] = None) -> Iterator
 
 
 def _bytes_objects(source: Source) -> int:
-    """Returns the number of bytes objects in a source. An iterator counts as several, because it can be read only once."""
+    """Returns the number of bytes objects in a source. An iterator counts as 2, since counting its items would consume it."""
     if isinstance(source, _BYTES):
         return 1
     if isinstance(source, (str, os.PathLike, Piece)) or not hasattr(source, "__iter__") or hasattr(source, "read"):
@@ -197,7 +197,7 @@ def pieces(files: Union[Path, Iterable[Path]], size: int = 1 << 26, *, faults: F
     A piece begins and ends between messages. If a file contains strays, a piece can be up to 16 MB longer than `size`. If a
     file contains no messages, or if there are no files, `pieces` itself warns about this or, with `faults="raise"`, raises
     `BufrError`. With `size=1`, each piece contains a single message unless there are strays. Pass each piece to a function of
-    this module, for example in another process:
+    this module, for example, in another process:
 
         >>> from concurrent.futures import ProcessPoolExecutor
         >>> from functools import partial

@@ -187,7 +187,7 @@ class Fault(NamedTuple):
         return f"{self.file}: {self.line()}" if self.file else self.line()
 
 
-STRAY = "the word BUFR outside any complete message, for example at the start of an incomplete one"
+STRAY = "the word BUFR outside any complete message, for example, at the start of an incomplete one"
 
 
 class FaultCounts:
@@ -307,7 +307,7 @@ class _Lines:
         return None
 
     def inside(self, expected: str) -> bytes:
-        """Returns the next line. Raises `TextError` if there is none, because the message is then incomplete."""
+        """Returns the next line. Raises `TextError` if there are no more lines, which means that the message is incomplete."""
         line = self.take()
         if line is None:
             raise self.refused(expected)
@@ -611,7 +611,7 @@ def _meant(word: str, keys: Sequence[str]) -> str:
 
 
 def _refuse_valueless(word: str) -> None:
-    """Raises `ValueError` if no item can have the descriptor in a column, for example because it is a sequence."""
+    """Raises `ValueError` if no item can have the descriptor in a column, for example, because it is a sequence."""
     import bufr_sets
 
     if not bufr_sets.can_have_value(word):

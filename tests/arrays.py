@@ -392,7 +392,7 @@ class Sources(WithFolder):
         self.assertEqual(twice["012101"].shape, (3, 2))
 
     def test_an_empty_list_of_files_is_warned_of(self):
-        told = "no files were given: the list is empty, for example because a glob pattern matched no files"
+        told = "no files were given: the list is empty, for example, because a glob pattern matched no files"
         for call in (bufr.messages, bufr.items, lambda *source, **named: bufr.frame(*source, ["012101"], ["time"], **named)):
             for source in ([], (), [[], ()], pandas.Series([], dtype=object), numpy.array([]), iter([])):
                 self.assertEqual(told_by(lambda: call(source))[1], [told])
@@ -873,7 +873,7 @@ class Faults(WithFolder):
     def test_raise(self):
         with self.assertRaises(bufr.BufrError) as error:
             bufr.frame(self.stream, ["012101"], faults="raise")
-        stray = "found a stray (the word BUFR outside any complete message, for example at the start of an incomplete one)"
+        stray = "found a stray (the word BUFR outside any complete message, for example, at the start of an incomplete one)"
         advice = "to continue after a fault, pass faults='warn'"
         self.assertEqual(str(error.exception), f"{self.stream}: {stray} at offset 0: 2 short length; {advice}")
         with self.assertRaises(bufr.BufrError) as error:

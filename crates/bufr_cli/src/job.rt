@@ -154,7 +154,8 @@ its document specifies. Data cannot be compressed if replication factors differ
 between subsets (fault 58). Strings that differ between subsets cannot be
 compressed if any of them is longer than 63 bytes, not counting trailing spaces
 (fault 59). Reference values that differ between subsets cannot be compressed at
-all (also fault 59). An uncompressed message may be too long (fault 60).
+all (also fault 59). With --form plain, a message can become too long (fault
+60).
 
 Exit status:
   0  no faults were reported
