@@ -187,7 +187,7 @@ class Fault(NamedTuple):
         return f"{self.file}: {self.line()}" if self.file else self.line()
 
 
-STRAY = "the word BUFR outside any complete message, for example, at the start of an incomplete one"
+STRAY = "the word BUFR where no message begins"
 
 
 class FaultCounts:

@@ -322,7 +322,7 @@ BEGIN {
         name = "table.awk"
     by_item = columns == ""
     if (levels && by_item)
-        fail("levels=1 requires columns=, for example, columns=007004,012101")
+        fail("levels=1 requires columns=, such as columns=007004,012101")
     if (keep != "" && !levels && !by_item)
         fail("keep= can be used only with levels=1 or without columns=")
     keys = " offset length edition master centre subcentre update category subcategory localsubcategory masterversion" \

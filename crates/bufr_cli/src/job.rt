@@ -77,7 +77,7 @@ Examples:
 const LS_NOTES: &str = "\
 Each line on standard output describes one message.
 Each line on standard error reports one fault. For a fault in the stream, it
-also gives the byte offset. The fault numbers are as follows:
+also gives the byte offset. Fault numbers:
   1-3    an occurrence of BUFR that does not start a complete message (a stray)
   10     an edition other than 3 or 4
   11-13  invalid section lengths
@@ -97,7 +97,7 @@ Example:
 const DUMP_NOTES: &str = "\
 Every message is printed on standard output unless it has a fault.
 Each line on standard error reports one fault. For a fault in the stream, it
-also gives the byte offset. The fault numbers are as follows:
+also gives the byte offset. Fault numbers:
   1-3    an occurrence of BUFR that does not start a complete message (a stray)
   10     an edition other than 3 or 4
   11-13  invalid section lengths
@@ -131,7 +131,7 @@ const ENCODE_NOTES: &str = "\
 Each document (the dump of one message) is encoded as soon as it is complete.
 bufr stops at the first invalid document and writes nothing for that document.
 Each line on standard error reports one fault. For a fault in the dump, it also
-gives the line number. The fault numbers are as follows:
+gives the line number. Fault numbers:
   50     a line that is invalid, misplaced or too long, or a missing end line
   51     an unexpected item, a missing item, or too many items
   52-55  an invalid value
