@@ -29,7 +29,7 @@ cut off). `faults` determines how faults are reported:
 - a list: for each fault, a `Fault` with the members `offset`, `number`, `text` and `file` is appended to the list.
 
 A `DumpWarning` also reports files without messages, an empty list of files, messages whose tables are missing, columns without
-items or values, conditions that no message meets, subsets without levels, and elements whose unit depends on the table set. If
+items or values, conditions that match no messages, subsets without levels, and elements whose unit depends on the table set. If
 the source contains a `Piece`, conditions are not reported, because other pieces may contain what this one lacks. For the same
 reason, a column without items is then reported only if no table set defines it.
 

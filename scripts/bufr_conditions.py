@@ -107,7 +107,7 @@ class Conditions:
 
     def unmet(self) -> str:
         """Returns a warning if there were lines but none of them met the conditions, and otherwise an empty string."""
-        return "no message meets the conditions in where=" if self.seen and not self.met else ""
+        return "no messages match the conditions in where=" if self.seen and not self.met else ""
 
     def note(self, so_far: str = "") -> str:
         """Returns a note that says how many edition 3 messages were left out, or an empty string if none were."""

@@ -520,7 +520,7 @@ class Sources(WithFolder):
         for call in (bufr.rows, bufr_text.rows):
             for where, wanted in ((["category=99"], 1), (["category=0"], 0), (["category!=99"], 0), ([], 0)):
                 _, told = told_by(lambda: list(call(SYNOP, ["012101"], where=where)))
-                self.assertEqual(told, ["no message meets the conditions in where="] * wanted)
+                self.assertEqual(told, ["no messages match the conditions in where="] * wanted)
         sounding = TOP / "examples/sounding.bufr"
         for source in ([SYNOP, sounding], [sounding, SYNOP], bufr.pieces(sounding)):
             self.assertEqual(told_by(lambda: bufr.messages(source, where=["category=0"]))[1], [])
@@ -936,7 +936,7 @@ class Faults(WithFolder):
             self.assertEqual(told_by(lambda: call([bufr.Piece(str(SYNOP), 0, 0)], ["063255"]))[1], [])
         for call in (bufr.frame, bufr.items):
             _, told = told_by(lambda: call(SYNOP, ["012104"], where=["centre=1"]))
-            self.assertEqual(told, ["no message meets the conditions in where="])
+            self.assertEqual(told, ["no messages match the conditions in where="])
 
     def test_columns_without_values_are_warned_of(self):
         for call in (bufr.rows, bufr.frame, bufr_text.rows):

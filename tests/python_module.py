@@ -573,7 +573,7 @@ class Runs(unittest.TestCase):
                 os.environ["BUFR"] = lib.program()
                 lines = "".join(f"{fault.line()}\n" for fault in faults)
                 # only the module warns, because an empty result of bufr-extract is seen at once
-                told = [one for one in told if str(one.message) != "no message meets the conditions in where="]
+                told = [one for one in told if str(one.message) != "no messages match the conditions in where="]
                 notes = "".join(f"bufr-extract: {note.message}\n".replace(f"{self.stream}: ", "") for note in told)
                 self.assertEqual(lines + notes, done.stderr.decode())
                 texts.add(wanted)
