@@ -76,7 +76,7 @@ class Part(NamedTuple):
 
 
 class _Found(NamedTuple):
-    """A message or a stray. A stray has a fault, but no bytes."""
+    """A message or a stray. `octets` is empty for a stray, and `fault` is empty for a message."""
 
     offset: int
     octets: bytes
@@ -367,7 +367,7 @@ class Reader:
         return self.sets[chosen], reasons
 
     def report(self, found: List[_Found], numbers: Array, groups: Dict[Tables, List[int]]) -> None:
-        """Reports rejected messages and strays. Looks up the text of a fault only if it is needed."""
+        """Reports rejected messages and strays. Looks up the texts of faults only if they are needed."""
         refused = numpy.flatnonzero(numbers).tolist()
         if self.faults == "ignore" or not refused:
             return
