@@ -44,7 +44,7 @@ _PART, _PART_OF_ALL = 1 << 23, 1 << 20
 
 @dataclass(frozen=True)
 class Piece:
-    """A range of bytes in a file. The range begins and ends between messages, so that another process can read it."""
+    """A range of bytes in a file. The range begins and ends between messages, so another process can read it on its own."""
 
     file: str
     begin: int
