@@ -35,7 +35,7 @@ Faults = Union[str, List[Fault]]
 
 _BYTES = bytes, bytearray, memoryview
 _SOURCES = "expected a file name, bytes, an open binary file, a Piece or a list of these"
-_NO_FILES = "no files were given: the list is empty, for example, because a glob pattern matched no files"
+_NO_FILES = "no files were given: the list is empty, perhaps because a glob pattern matched no files"
 _TEXT = "the source was opened in text mode; open it with mode 'rb'"
 _BLOCK = 1 << 20
 # The approximate number of bytes in a part: first if only some items are wanted, and then if all of them are.
@@ -152,7 +152,7 @@ def _bytes_objects(source: Source) -> int:
 
 
 def _size(source: Source) -> int:
-    """Returns the size of a source in bytes. A stream counts as 0, because its size is unknown before it is read."""
+    """Returns the size of a source in bytes. A stream counts as 0, because its size is unknown until it has been read."""
     if isinstance(source, Piece):
         return source.end - source.begin
     if isinstance(source, (str, os.PathLike)):
@@ -357,7 +357,7 @@ class Reader:
         return [one for one, begin in zip(found, begins) if one.fault or begin not in left_out]
 
     def chosen(self, octets: bytes) -> Tuple[Tables, List[bufr_auto.Reason]]:
-        """Returns the tables for a message, and the reasons why the tables may not match the message exactly."""
+        """Returns the tables for a message and any reasons why they may not match it exactly."""
         if self.tables is not None:
             return self.tables, []
         assert self.chooser is not None
