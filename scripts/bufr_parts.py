@@ -35,7 +35,7 @@ Faults = Union[str, List[Fault]]
 
 _BYTES = bytes, bytearray, memoryview
 _SOURCES = "expected a file name, bytes, an open binary file, a Piece or a list of these"
-_NO_FILES = "no files were given: the list is empty, for example, because a glob pattern matched no files"
+_NO_FILES = "no files were given: the list is empty, perhaps because a glob pattern matched no files"
 _TEXT = "the source was opened in text mode; open it with mode 'rb'"
 _BLOCK = 1 << 20
 # The approximate number of bytes in a part: first if only some items are wanted, and then if all of them are.
@@ -44,7 +44,7 @@ _PART, _PART_OF_ALL = 1 << 23, 1 << 20
 
 @dataclass(frozen=True)
 class Piece:
-    """A range of bytes in a file. The range begins and ends between messages, so that another process can read it."""
+    """A range of bytes in a file. The range begins and ends between messages, so another process can read it on its own."""
 
     file: str
     begin: int
@@ -76,7 +76,7 @@ class Part(NamedTuple):
 
 
 class _Found(NamedTuple):
-    """A message or a stray. A stray has a fault, but no bytes."""
+    """A message or a stray. `octets` is empty for a stray, and `fault` is empty for a message."""
 
     offset: int
     octets: bytes
@@ -152,7 +152,7 @@ def _bytes_objects(source: Source) -> int:
 
 
 def _size(source: Source) -> int:
-    """Returns the size of a source in bytes. A stream counts as 0, because its size is unknown before it is read."""
+    """Returns the size of a source in bytes. A stream counts as 0, because its size is unknown until it has been read."""
     if isinstance(source, Piece):
         return source.end - source.begin
     if isinstance(source, (str, os.PathLike)):
@@ -357,7 +357,7 @@ class Reader:
         return [one for one, begin in zip(found, begins) if one.fault or begin not in left_out]
 
     def chosen(self, octets: bytes) -> Tuple[Tables, List[bufr_auto.Reason]]:
-        """Returns the tables for a message, and the reasons why the tables may not match the message exactly."""
+        """Returns the tables for a message and any reasons why they may not match it exactly."""
         if self.tables is not None:
             return self.tables, []
         assert self.chooser is not None
@@ -367,7 +367,7 @@ class Reader:
         return self.sets[chosen], reasons
 
     def report(self, found: List[_Found], numbers: Array, groups: Dict[Tables, List[int]]) -> None:
-        """Reports rejected messages and strays. Looks up the text of a fault only if it is needed."""
+        """Reports rejected messages and strays. Looks up the texts of faults only if they are needed."""
         refused = numpy.flatnonzero(numbers).tolist()
         if self.faults == "ignore" or not refused:
             return

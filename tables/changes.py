@@ -31,7 +31,7 @@ def kind(unit: str) -> str:
 
 
 def rows(folder: str, name: str, *columns: str):
-    """Yields a list with the values in these columns for each row of a table."""
+    """Yields, for each row of a table, a list of the values in these columns."""
     path = pathlib.Path(folder) / name
     with open(path, encoding="utf-8-sig", errors="surrogateescape", newline="") as file:
         table = csv.DictReader(file)

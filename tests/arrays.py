@@ -392,7 +392,7 @@ class Sources(WithFolder):
         self.assertEqual(twice["012101"].shape, (3, 2))
 
     def test_an_empty_list_of_files_is_warned_of(self):
-        told = "no files were given: the list is empty, for example, because a glob pattern matched no files"
+        told = "no files were given: the list is empty, perhaps because a glob pattern matched no files"
         for call in (bufr.messages, bufr.items, lambda *source, **named: bufr.frame(*source, ["012101"], ["time"], **named)):
             for source in ([], (), [[], ()], pandas.Series([], dtype=object), numpy.array([]), iter([])):
                 self.assertEqual(told_by(lambda: call(source))[1], [told])
