@@ -93,7 +93,7 @@ def sequences_of(rows):
 
 
 def lines_of(path: pathlib.Path):
-    """Yields the number and the text of each line that is not empty."""
+    """Yields the number and text of each line that is not blank."""
     for number, line in enumerate(path.read_text(**AS_IT_IS).split("\n"), 1):
         if line.strip():
             yield number, line
