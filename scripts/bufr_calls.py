@@ -106,7 +106,7 @@ def loaded() -> ctypes.CDLL:
             if library.bufr_version() != 1000:
                 raise ImportError(f"{path} and bufr.py have different versions; install both from the same release")
             return library
-    missing = "libbufr.so.0 is not installed" if named is None else f"BUFR_LIBRARY is '{named}', which is not a file"
+    missing = "cannot find libbufr.so.0" if named is None else f"BUFR_LIBRARY is '{named}', which is not a file"
     advice = "install a release that contains the library, or build it with library/build.sh"
     elsewhere = "; if libbufr.so.0 is elsewhere, set BUFR_LIBRARY to its path" if named is None else ""
     raise ImportError(f"{missing}; {advice}{elsewhere}")

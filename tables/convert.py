@@ -93,7 +93,7 @@ def sequences_of(rows):
 
 
 def lines_of(path: pathlib.Path):
-    """Yields the number and the text of each line that is not empty."""
+    """Yields the number and text of each line that is not blank."""
     for number, line in enumerate(path.read_text(**AS_IT_IS).split("\n"), 1):
         if line.strip():
             yield number, line
@@ -121,7 +121,7 @@ def of_sequence_def(path: pathlib.Path):
 
 
 def of_wreport_b(path: pathlib.Path):
-    """Yields a list with the values in the six columns of `OURS_B` for each row of wreport's B*.txt."""
+    """For each row of wreport's B*.txt, yields a list of the values for the six columns in `OURS_B`."""
     for number, line in lines_of(path):
         fxy, name, unit, *numbers = (one_line(line[at:end]) for at, end in zip(WREPORT_B, WREPORT_B[1:]))
         if not all(numbers):
@@ -248,7 +248,7 @@ def shown(words: list) -> str:
 
 
 def taken(folder: pathlib.Path, entries, refused) -> tuple:
-    """Returns the valid entries, by descriptor, and the number of invalid ones. Reports each invalid entry."""
+    """Returns the valid entries, keyed by descriptor, and the number of invalid ones. Reports each invalid entry."""
     found, left_out = {}, 0
     for entry in entries:
         found.setdefault(entry[0], []).append(entry)

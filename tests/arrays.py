@@ -1018,7 +1018,7 @@ class Faults(WithFolder):
                 bufr_calls.loaded()
         with unittest.mock.patch.dict(os.environ), unittest.mock.patch("os.path.isfile", lambda _: False):
             del os.environ["BUFR_LIBRARY"]
-            with self.assertRaisesRegex(ImportError, "^libbufr.so.0 is not installed; .*; if libbufr.so.0 is elsewhere, set BUFR_LIBRARY to its path$"):
+            with self.assertRaisesRegex(ImportError, "^cannot find libbufr.so.0; .*; if libbufr.so.0 is elsewhere, set BUFR_LIBRARY to its path$"):
                 bufr_calls.loaded()
         with unittest.mock.patch("ctypes.CDLL", lambda _: unittest.mock.Mock(spec=["bufr_version", "bufr_list"])):
             with self.assertRaisesRegex(ImportError, " is not the C library: it lacks the function bufr_dump$"):
