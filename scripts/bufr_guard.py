@@ -150,7 +150,7 @@ def end_badly(told: str) -> None:
 
 
 def hook(_kind: Type[BaseException], error: BaseException, _place: Optional[TracebackType]) -> None:
-    """Reports an exception that was raised outside `run`, for example, during an import, and exits with status 2."""
+    """Reports an exception that was raised outside `run` (for example, during an import), and exits with status 2."""
     try:
         if isinstance(error, KeyboardInterrupt):
             leave(signal.SIGINT, None)
