@@ -504,7 +504,7 @@ def no_room() -> Failed:
 
 
 def copied(source: int, name: str) -> int:
-    """Copies the data from a descriptor to a temporary file, moves to the start of that file, and returns its descriptor."""
+    """Copies the data from a descriptor to a temporary file, rewinds that file, and returns its descriptor."""
     descriptor, octets, progress, size = temporary(), b" ", Progress(has_texts=False), 0
     while octets:
         try:
