@@ -150,7 +150,7 @@ def end_badly(told: str) -> None:
 
 
 def hook(_kind: Type[BaseException], error: BaseException, _place: Optional[TracebackType]) -> None:
-    """Reports an exception that was raised outside `run`, for example, during an import, and exits with status 2."""
+    """Reports an exception that was raised outside `run` (for example, during an import), and exits with status 2."""
     try:
         if isinstance(error, KeyboardInterrupt):
             leave(signal.SIGINT, None)
@@ -504,7 +504,7 @@ def no_room() -> Failed:
 
 
 def copied(source: int, name: str) -> int:
-    """Copies the data from a descriptor to a temporary file, moves to the start of that file, and returns its descriptor."""
+    """Copies the data from a descriptor to a temporary file, rewinds that file, and returns its descriptor."""
     descriptor, octets, progress, size = temporary(), b" ", Progress(has_texts=False), 0
     while octets:
         try:
