@@ -106,7 +106,7 @@ class Conditions:
         return not is_left_out
 
     def unmet(self) -> str:
-        """Returns a warning if there were lines but none of them met the conditions, and otherwise an empty string."""
+        """Returns a warning if there were lines but none of them met the conditions, or an empty string otherwise."""
         return "no messages match the conditions in where=" if self.seen and not self.met else ""
 
     def note(self, so_far: str = "") -> str:
