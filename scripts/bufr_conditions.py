@@ -106,7 +106,7 @@ class Conditions:
         return not is_left_out
 
     def unmet(self) -> str:
-        """Returns a warning if there were lines but none of them met the conditions, and otherwise an empty string."""
+        """Returns a warning if there were lines but none of them met the conditions, or an empty string otherwise."""
         return "no messages match the conditions in where=" if self.seen and not self.met else ""
 
     def note(self, so_far: str = "") -> str:
@@ -119,7 +119,7 @@ class Conditions:
         return f"left out {messages}{so_far}, because edition 3 has only two-digit years; {advice}"
 
     def new_note(self, so_far: str) -> List[str]:
-        """Returns the note in a list, which is empty if there is no note or if the note has already been returned."""
+        """Returns a list that contains the note, or an empty list if there is no note or it has already been returned."""
         notes = [self.note(so_far)] * (self.left_out > 0 and not self.is_told)
         self.is_told = self.left_out > 0
         return notes
