@@ -356,10 +356,10 @@ class Sources(WithFolder):
 
     def test_what_is_no_source(self):
         for source in (io.StringIO("BUFR"), open(SYNOP)):
-            with source, self.assertRaisesRegex(TypeError, "was opened in text mode; open it with mode 'rb'"):
+            with source, self.assertRaisesRegex(TypeError, "was opened in text mode; open it in mode 'rb'"):
                 bufr.frame(source, ["012101"])
         # a text file that is not an instance of io.TextIOBase
-        with tempfile.NamedTemporaryFile("w+") as file, self.assertRaisesRegex(TypeError, "was opened in text mode; open it with mode 'rb'"):
+        with tempfile.NamedTemporaryFile("w+") as file, self.assertRaisesRegex(TypeError, "was opened in text mode; open it in mode 'rb'"):
             bufr.frame(file, ["012101"])
         idle, end = os.pipe()
         os.set_blocking(idle, False)
@@ -650,7 +650,7 @@ class Values(WithFolder):
                 call(SYNOP, ["012101:2"])
         for call in (bufr.frame, bufr.items, bufr_text.rows):
             for word in ("012999", "064001", "401001", 912101):
-                with self.assertRaisesRegex(ValueError, f"^no table defines {word}, because F is at most 3, "):
+                with self.assertRaisesRegex(ValueError, f"^no table defines {word}, because descriptors have the form FXXYYY, where F is at most 3, "):
                     call(SYNOP, ["001015", word])
         for call in (bufr.levels, bufr_text.levels, lambda *words: bufr.frame(*words, levels=True)):
             for columns in ([], (), iter([])):
