@@ -611,7 +611,7 @@ def _meant(word: str, keys: Sequence[str]) -> str:
 
 
 def _refuse_valueless(word: str) -> None:
-    """Raises `ValueError` if no item can have the descriptor in a column, for example, because it is a sequence."""
+    """Raises `ValueError` if no item can have this descriptor, for example, because it is that of a sequence."""
     import bufr_sets
 
     if not bufr_sets.can_have_value(word):
@@ -786,7 +786,7 @@ class Gaps:
         self, kind: str, subset: Cell, offset: Cell, file: str, message: Cell = None, fxy: object = None
     ) -> None:
         """Records that a subset is skipped. `message`, the number of its message, is needed only if `offset` is `None`."""
-        place = f"subset {subset} of the message at offset {offset}" + (f" of {file}" if file else "")
+        place = f"subset {subset} of the message at offset {offset}" + (f" in {file}" if file else "")
         place = f"message {message}, subset {subset}" if offset is None else place
         why = "" if fxy is None else f" ({fxy} begins a level and occurs again in it)"
         count, first = self.skipped.get(kind, (0, place + why))
