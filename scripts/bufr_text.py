@@ -661,7 +661,7 @@ def _messages(
     if isinstance(messages, (str, os.PathLike)):
         return dump(messages, faults=faults, where=where)
     if faults is not None or where:
-        raise TypeError("faults= and where= can be used only with a file name; for messages, pass them to dump() instead")
+        raise TypeError("faults= and where= need a file name; with messages, pass these arguments to dump() instead")
     if isinstance(messages, Iterable) and not isinstance(messages, str):
         return messages
     raise TypeError(f"{_MESSAGES}, found {messages!r}")
