@@ -36,7 +36,7 @@ Faults = Union[str, List[Fault]]
 _BYTES = bytes, bytearray, memoryview
 _SOURCES = "expected a file name, bytes, an open binary file, a Piece or a list of these"
 _NO_FILES = "no files were given: the list is empty, perhaps because a glob pattern matched no files"
-_TEXT = "the source was opened in text mode; open it with mode 'rb'"
+_TEXT = "the source was opened in text mode; open it in mode 'rb'"
 _BLOCK = 1 << 20
 # The approximate number of bytes in a part: first if only some items are wanted, and then if all of them are.
 _PART, _PART_OF_ALL = 1 << 23, 1 << 20

@@ -295,7 +295,7 @@ class _Lines:
     def take(self) -> Optional[bytes]:
         for self.line in self.rest:
             if not isinstance(self.line, bytes):
-                raise TypeError("expected lines as bytes; open the dump with mode 'rb'")
+                raise TypeError("expected lines as bytes; open the dump in mode 'rb'")
             self.number += 1
             self.line = self.line[:-1] if self.line.endswith(b"\n") else self.line
             if len(self.line) > 4096:
@@ -581,7 +581,7 @@ def checked(
                 allowed = "counts are allowed only in columns that apply to a whole subset"
                 raise ValueError(f"'{word}' has a count, but {allowed}; pass '{word[:6]}'")
             if re.fullmatch("[0-9]{6}", str(word)):
-                limits = "F is at most 3, XX at most 63, and YYY at most 255 in a descriptor of the form FXXYYY"
+                limits = "descriptors have the form FXXYYY, where F is at most 3, XX at most 63, and YYY at most 255"
                 raise ValueError(f"no table defines {word}, because {limits}")
             raise ValueError(f"expected a descriptor such as 012101, found {word!r}{_meant(str(word), keys)}")
         _refuse_valueless(word)
@@ -611,7 +611,7 @@ def _meant(word: str, keys: Sequence[str]) -> str:
 
 
 def _refuse_valueless(word: str) -> None:
-    """Raises `ValueError` if no item can have the descriptor in a column, for example, because it is a sequence."""
+    """Raises `ValueError` if no item can have this descriptor, for example, because it is that of a sequence."""
     import bufr_sets
 
     if not bufr_sets.can_have_value(word):
@@ -661,7 +661,7 @@ def _messages(
     if isinstance(messages, (str, os.PathLike)):
         return dump(messages, faults=faults, where=where)
     if faults is not None or where:
-        raise TypeError("faults= and where= can be used only with a file name; for messages, pass them to dump() instead")
+        raise TypeError("faults= and where= need a file name; with messages, pass these arguments to dump() instead")
     if isinstance(messages, Iterable) and not isinstance(messages, str):
         return messages
     raise TypeError(f"{_MESSAGES}, found {messages!r}")
@@ -786,7 +786,7 @@ class Gaps:
         self, kind: str, subset: Cell, offset: Cell, file: str, message: Cell = None, fxy: object = None
     ) -> None:
         """Records that a subset is skipped. `message`, the number of its message, is needed only if `offset` is `None`."""
-        place = f"subset {subset} of the message at offset {offset}" + (f" of {file}" if file else "")
+        place = f"subset {subset} of the message at offset {offset}" + (f" in {file}" if file else "")
         place = f"message {message}, subset {subset}" if offset is None else place
         why = "" if fxy is None else f" ({fxy} begins a level and occurs again in it)"
         count, first = self.skipped.get(kind, (0, place + why))
@@ -1050,7 +1050,7 @@ def _octets(stream: IO[bytes], place: Listed) -> bytes:
 
 
 def looks(begin: bytes) -> str:
-    """Returns a guess at what a file without messages contains, such as `: it is empty`, or an empty string."""
+    """Returns the end of the note for a file without messages, such as `: it is empty`, or "" if the format is unknown."""
     import bufr_guard
 
     return bufr_guard.bare(None, begin[:256]).decode(errors="replace").rstrip().partition("contains no messages")[2]

@@ -225,7 +225,7 @@ class Same(WithFolder):
             bits.put(number, width)
         octets = lib.message(bits.octets(), lib.words("103000 031001 008002 020011 008002"))
         self.alike("ambiguous levels", octets, TABLES)
-        said = "^skipped 2 subsets with ambiguous levels; the first is subset 1 of the message at offset 0 of {} .008002 begins a level"
+        said = "^skipped 2 subsets with ambiguous levels; the first is subset 1 of the message at offset 0 in {} .008002 begins a level"
         said += " and occurs again in it.; to get their items, use bufr.items or bufr_text.dump$"
         self.stream.write_bytes(octets)
         # of pieces too, because soundings are lost
@@ -235,7 +235,7 @@ class Same(WithFolder):
             self.assertEqual(one.filename, __file__)
         # the place in the file depends neither on the conditions nor on the piece
         self.stream.write_bytes(SYNOP.read_bytes() + octets)
-        told = f"skipped a subset with ambiguous levels: subset 1 of the message at offset 595 of {self.stream} (008002 begins a level"
+        told = f"skipped a subset with ambiguous levels: subset 1 of the message at offset 595 in {self.stream} (008002 begins a level"
         told += " and occurs again in it); to get its items, use bufr.items or bufr_text.dump"
         calls = [lambda: [*bufr.levels(bufr.pieces(self.stream, 1)[1], ["008002"])]]
         calls += [lambda call=call: [*call(self.stream, ["008002"], where=["centre!=78"])] for call in (bufr.levels, bufr_text.levels)]
@@ -356,10 +356,10 @@ class Sources(WithFolder):
 
     def test_what_is_no_source(self):
         for source in (io.StringIO("BUFR"), open(SYNOP)):
-            with source, self.assertRaisesRegex(TypeError, "was opened in text mode; open it with mode 'rb'"):
+            with source, self.assertRaisesRegex(TypeError, "was opened in text mode; open it in mode 'rb'"):
                 bufr.frame(source, ["012101"])
         # a text file that is not an instance of io.TextIOBase
-        with tempfile.NamedTemporaryFile("w+") as file, self.assertRaisesRegex(TypeError, "was opened in text mode; open it with mode 'rb'"):
+        with tempfile.NamedTemporaryFile("w+") as file, self.assertRaisesRegex(TypeError, "was opened in text mode; open it in mode 'rb'"):
             bufr.frame(file, ["012101"])
         idle, end = os.pipe()
         os.set_blocking(idle, False)
@@ -650,7 +650,7 @@ class Values(WithFolder):
                 call(SYNOP, ["012101:2"])
         for call in (bufr.frame, bufr.items, bufr_text.rows):
             for word in ("012999", "064001", "401001", 912101):
-                with self.assertRaisesRegex(ValueError, f"^no table defines {word}, because F is at most 3, "):
+                with self.assertRaisesRegex(ValueError, f"^no table defines {word}, because descriptors have the form FXXYYY, where F is at most 3, "):
                     call(SYNOP, ["001015", word])
         for call in (bufr.levels, bufr_text.levels, lambda *words: bufr.frame(*words, levels=True)):
             for columns in ([], (), iter([])):
@@ -956,8 +956,8 @@ class Faults(WithFolder):
         self.stream.write_bytes(lib.message(bits.octets(), lib.words("001001 001001 001002 101000 031001 007004")))
         several = f"{outside.partition(';')[0]}; to get its first value, pass keep=['{{0}}']; to get all of its values, pass '{{0}}:1', '{{0}}:2'"
         several += " and so on to rows(), or use bufr.items or bufr_text.dump"
-        one = f"skipped a subset without levels: subset 1 of the message at offset 0 of {sounding}"
-        three = "skipped 3 subsets without levels; the first is subset 1 of the message at offset {} of {}"
+        one = f"skipped a subset without levels: subset 1 of the message at offset 0 in {sounding}"
+        three = "skipped 3 subsets without levels; the first is subset 1 of the message at offset {} in {}"
         for call in (bufr.levels, bufr_text.levels, lambda *words: bufr.frame(*words[:2], keep=words[3], levels=True)):
             for source, columns, keep, wanted in [
                 # without a row, nothing is known of what applies to the whole subset

@@ -860,7 +860,7 @@ class Runs(unittest.TestCase):
             with self.assertRaisesRegex(TypeError, "^faults must be a list or None, not "):
                 list(bufr_text.rows(synop, ["012101"], faults=faults))
         for stream in (dump.open(), dump.read_text()):
-            with self.assertRaisesRegex(TypeError, "^expected lines as bytes; open the dump with mode 'rb'$"):
+            with self.assertRaisesRegex(TypeError, "^expected lines as bytes; open the dump in mode 'rb'$"):
                 list(bufr_text.read(stream))
         with self.assertRaisesRegex(ValueError, "^form must be 'plain' or 'compressed', not 'zip'$"):
             bufr_text.encode([message], form="zip")
