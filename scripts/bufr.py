@@ -112,7 +112,7 @@ def _decoded(octets: bytes) -> str:
 def _cells(
     part: Part, items: Array, is_exact: bool = False, text: Callable[[bytes], str] = bufr_text.text_cell
 ) -> List[Any]:
-    """Returns the cell for each item: a number, a string, or `None`."""
+    """Returns the cell for each item: a number, a string or `None`."""
     kind, scale = items["kind"], items["scale"]
     cells: List[Any] = [None] * len(items)
     is_float = (kind != MISSING) & (kind != TEXT) & (scale > 0) & (not is_exact)
@@ -176,7 +176,7 @@ class _Elements:
         return {"name": found[0][0], "unit": " or ".join(dict.fromkeys(unit for _, unit in found))}
 
     def warn(self) -> None:
-        """Warns about each element whose unit depends on the table."""
+        """Warns about each element whose unit depends on the table set."""
         for fxy, found in self.found.items():
             files = {"CODE TABLE" if "CODE TABLE" in unit.upper() else unit: file for file, (_, unit) in found.items()}
             units = sorted((pathlib.Path(file).parent.name, unit) for unit, file in files.items())
@@ -218,7 +218,7 @@ class _Table(NamedTuple):
 
 
 def _subsets(part: Part) -> Tuple[Array, Array, Array]:
-    """Returns the message index and the number of each subset in a part, and the subset index of each item."""
+    """Returns the message index and subset number of each subset in a part, and the subset index of each item."""
     count = numpy.where(part.messages["fault"] == 0, part.messages["subsets"], 0).astype("i8")
     first = numpy.cumsum(count) - count
     message = numpy.repeat(numpy.arange(len(count)), count)
