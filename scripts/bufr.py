@@ -146,7 +146,7 @@ def _times(messages: Array) -> Array:
 
 
 def _optional(part: Part) -> Array:
-    """Returns 1 for each message that has a section 2, and 0 for each message that does not."""
+    """Returns 1 for each message that has a section 2, and 0 for the others."""
     flags = (octets[17 if octets[7] == 4 else 15] if len(octets) > 17 else 0 for octets in part.octets)
     return numpy.array([flag >> 7 for flag in flags], "i8") * (part.messages["edition"] > 0)
 
@@ -246,7 +246,7 @@ def _table_of_subsets(part: Part, columns: Sequence[str]) -> _Table:
 
 
 def _tables(reader: Reader, columns: Sequence[str], keep: Sequence[str] = (), has_levels: bool = False) -> Iterator[_Table]:
-    """Yields a table for each part, and then issues warnings about empty columns and skipped subsets."""
+    """Yields a table for each part, then warns about empty columns and skipped subsets."""
     gaps = bufr_text.Gaps(columns, keep, reader.table_b)
     for part in reader:
         table = _table_of_levels(part, columns, keep, gaps) if has_levels else _table_of_subsets(part, columns)
