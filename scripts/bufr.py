@@ -112,7 +112,7 @@ def _decoded(octets: bytes) -> str:
 def _cells(
     part: Part, items: Array, is_exact: bool = False, text: Callable[[bytes], str] = bufr_text.text_cell
 ) -> List[Any]:
-    """Returns the cell for each item: a number, a string, or `None`."""
+    """Returns the cell for each item: a number, a string or `None`."""
     kind, scale = items["kind"], items["scale"]
     cells: List[Any] = [None] * len(items)
     is_float = (kind != MISSING) & (kind != TEXT) & (scale > 0) & (not is_exact)
@@ -146,7 +146,7 @@ def _times(messages: Array) -> Array:
 
 
 def _optional(part: Part) -> Array:
-    """Returns 1 for each message that has a section 2, and 0 for each message that does not."""
+    """Returns 1 for each message that has a section 2, and 0 for the others."""
     flags = (octets[17 if octets[7] == 4 else 15] if len(octets) > 17 else 0 for octets in part.octets)
     return numpy.array([flag >> 7 for flag in flags], "i8") * (part.messages["edition"] > 0)
 
@@ -176,7 +176,7 @@ class _Elements:
         return {"name": found[0][0], "unit": " or ".join(dict.fromkeys(unit for _, unit in found))}
 
     def warn(self) -> None:
-        """Warns about each element whose unit depends on the table."""
+        """Warns about each element whose unit depends on the table set."""
         for fxy, found in self.found.items():
             files = {"CODE TABLE" if "CODE TABLE" in unit.upper() else unit: file for file, (_, unit) in found.items()}
             units = sorted((pathlib.Path(file).parent.name, unit) for unit, file in files.items())
@@ -218,7 +218,7 @@ class _Table(NamedTuple):
 
 
 def _subsets(part: Part) -> Tuple[Array, Array, Array]:
-    """Returns the message index and the number of each subset in a part, and the subset index of each item."""
+    """Returns the message index and subset number of each subset in a part, and the subset index of each item."""
     count = numpy.where(part.messages["fault"] == 0, part.messages["subsets"], 0).astype("i8")
     first = numpy.cumsum(count) - count
     message = numpy.repeat(numpy.arange(len(count)), count)
@@ -246,7 +246,7 @@ def _table_of_subsets(part: Part, columns: Sequence[str]) -> _Table:
 
 
 def _tables(reader: Reader, columns: Sequence[str], keep: Sequence[str] = (), has_levels: bool = False) -> Iterator[_Table]:
-    """Yields a table for each part, and then issues warnings about empty columns and skipped subsets."""
+    """Yields a table for each part, then warns about empty columns and skipped subsets."""
     gaps = bufr_text.Gaps(columns, keep, reader.table_b)
     for part in reader:
         table = _table_of_levels(part, columns, keep, gaps) if has_levels else _table_of_subsets(part, columns)
