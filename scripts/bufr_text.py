@@ -841,7 +841,7 @@ class Gaps:
 
 
 class Ambiguous(ValueError):
-    """Raised if the levels of a subset are ambiguous: a descriptor that begins a level occurs again in that level."""
+    """Raised if the levels of a subset are ambiguous, that is, if the descriptor that begins a level occurs again in that level."""
 
 
 #: The descriptors of the factors of delayed replications.
