@@ -101,7 +101,7 @@ def differences(path: pathlib.Path, tables: tuple, rng: random.Random) -> list:
         same(f"{name} {words}", shown(found), shown(wanted))
         same(f"{name}: faults", faults, wanted_faults)
         # messages have no file
-        notes = [note.replace(f" of {path}", "") for note in notes]
+        notes = [note.replace(f" in {path}", "") for note in notes]
         same(f"{name}: notes", sorted(map(short, notes)), sorted(map(short, wanted_notes + skipped)))
     with warnings.catch_warnings():
         warnings.simplefilter("ignore")
