@@ -1,6 +1,6 @@
 """Builds the wheels for `pip install .` and `pip install -e .`, which call `build_wheel` and `build_editable`.
 
-If lib/libbufr.so.0 exists, the wheel contains this library for C, so that `import bufr` works. To use another file, run
+If lib/libbufr.so.0 exists, the wheel contains this C library, so that `import bufr` works. To use another file, run
 `pip install . --config-settings library=FILE`. If FILE is empty, the wheel does not contain the library.
 """
 import base64
@@ -27,7 +27,7 @@ PURE, WITH_LIBRARY = "py3-none-any", "py3-none-manylinux_2_34_x86_64"
 
 
 def files(library: str):
-    """Yields the name and contents of each file in the wheel. `library` is the path of the library for C, or empty."""
+    """Yields the name and contents of each file in the wheel. `library` is the path of the C library, or empty."""
     if library:
         yield "libbufr.so.0", pathlib.Path(library).read_bytes()
     for path in [*TOP.glob("scripts/*.py"), *TOP.glob("scripts/*.awk")]:  # bufr-csv needs table.awk next to the modules

@@ -1,5 +1,5 @@
 #!/usr/bin/env python3
-"""Times `bufr_items` of the library for C beside `bufr dump` and ecCodes on real messages.
+"""Times `bufr_items` of the C library beside `bufr dump` and ecCodes on real messages.
 
     bench/library.py FOLDER FILE [MB [PROGRAM]]    FOLDER: what library/build.sh made; MB: 20 by default
 

@@ -4,7 +4,7 @@
     tests/eccodes/arrays_against_eccodes.py [FILE..]    FILE: a BUFR file (default: all files in examples/)
 
 For each accepted message, the test compares the header and all items in the result of `bufr.items`. If any of them differ,
-the exit status is 1. The variable BUFR_LIBRARY names the library for C. This test needs NumPy and ecCodes, and is not part
+the exit status is 1. The variable BUFR_LIBRARY names the C library. This test needs NumPy and ecCodes, and is not part
 of the gate.
 """
 import collections

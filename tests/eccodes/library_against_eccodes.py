@@ -1,5 +1,5 @@
 #!/usr/bin/env python3
-"""Compares the values that the library for C returns with those that ecCodes returns.
+"""Compares the values that the C library returns with those that ecCodes returns.
 
     tests/eccodes/library_against_eccodes.py FOLDER [FILE..]    FOLDER: the directory that library/build.sh filled
                                                                 FILE: a BUFR file (default: all files in examples/)

@@ -1,5 +1,5 @@
 #!/usr/bin/env python3
-"""Compares the library for C with the program on random hostile streams, dumps and tables.
+"""Compares the C library with the program on random hostile streams, dumps and tables.
 
     tests/hostile/library_trial.py FOLDER [COUNT [FIRST [PROGRAM]]]    FOLDER: the directory that library/build.sh filled
                                                                        COUNT: the number of cases (default: 1,000)
