@@ -18,8 +18,8 @@ read in parts of a few MB, so it can be larger than the available memory. Each m
 bufr-auto would choose, unless you pass the file names of Table B and Table D as `tables=(B, D)`. To select messages, set
 `where` to a list of conditions of the form `KEY=VALUE` or `KEY!=VALUE`, as in bufr-extract.
 
-A fault is a rejected message or a stray (the word `BUFR` where no message begins, such as at the start of a message that is
-cut off). `faults` determines how faults are reported:
+A fault is a rejected message or a stray (the word `BUFR` where no complete message begins, such as at the start of a message
+that is cut off). `faults` determines how faults are reported:
 
 - `"warn"` (default): after each file, a `DumpWarning` says how many faults it contained.
 - `"raise"`: the first fault, a file without messages, or an empty list of files raises `BufrError`. A `Piece` without messages

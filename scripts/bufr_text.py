@@ -187,7 +187,7 @@ class Fault(NamedTuple):
         return f"{self.file}: {self.line()}" if self.file else self.line()
 
 
-STRAY = "the word BUFR where no message begins"
+STRAY = "the word BUFR where no complete message begins"
 
 
 class FaultCounts:

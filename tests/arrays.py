@@ -873,7 +873,7 @@ class Faults(WithFolder):
     def test_raise(self):
         with self.assertRaises(bufr.BufrError) as error:
             bufr.frame(self.stream, ["012101"], faults="raise")
-        stray = "found a stray (the word BUFR where no message begins)"
+        stray = "found a stray (the word BUFR where no complete message begins)"
         advice = "to continue after a fault, pass faults='warn'"
         self.assertEqual(str(error.exception), f"{self.stream}: {stray} at offset 0: 2 short length; {advice}")
         with self.assertRaises(bufr.BufrError) as error:

@@ -644,11 +644,11 @@ class Runs(unittest.TestCase):
             lines = told.getvalue().splitlines()
             refused = [line for line in lines if re.match(r"offset \d+: \d\d", line)]
             text = f"{self.stream}: rejected {len(refused)} message{'s' * (len(refused) > 1)} and skipped {len(lines) - len(refused)} strays "
-            text += f"(the word BUFR where no message begins); the first fault is at {lines[0]}; to get all faults, "
+            text += f"(the word BUFR where no complete message begins); the first fault is at {lines[0]}; to get all faults, "
             self.assertEqual(str(warned.warning)[: len(text)], text)
             self.assertEqual(warned.filename, __file__)
         self.stream.write_bytes((TOP / "examples/synop.bufr").read_bytes() + b"BUFR")
-        told = r"skipped 1 stray \(the word BUFR where no message begins\) at offset 595: 1 cut; to get all faults, "
+        told = r"skipped 1 stray \(the word BUFR where no complete message begins\) at offset 595: 1 cut; to get all faults, "
         with self.assertWarnsRegex(bufr_text.DumpWarning, f"^{self.stream}: {told}"):
             with contextlib.redirect_stderr(io.StringIO()):
                 list(bufr_text.dump(self.stream, *TABLES))
@@ -709,7 +709,7 @@ class Runs(unittest.TestCase):
         with warnings.catch_warnings(record=True) as told, contextlib.redirect_stderr(io.StringIO()):
             warnings.simplefilter("always")
             list(bufr_text.dump(self.stream))
-        wanted = ["the file contains no messages: it looks like HTML", "skipped 20 strays (the word BUFR where no message begins)"]
+        wanted = ["the file contains no messages: it looks like HTML", "skipped 20 strays (the word BUFR where no complete message begins)"]
         self.assertEqual([str(one.message).partition("; ")[0] for one in told], [f"{self.stream}: {text}" for text in wanted])
 
     def test_failures_are_told(self):
