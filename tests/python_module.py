@@ -597,7 +597,7 @@ class Runs(unittest.TestCase):
             self.assertEqual(levels, list(bufr_text.levels(bufr_text.dump(self.stream, faults=[]), ["007004"], ["offset"])))
         for call in (bufr_text.rows, bufr_text.levels):
             for given in ({"faults": []}, {"where": ["category=0"]}):
-                with self.assertRaisesRegex(TypeError, r"pass them to dump\(\) instead"):
+                with self.assertRaisesRegex(TypeError, r"pass these arguments to dump\(\) instead"):
                     call([land], ["012101"], **given)
 
     def test_messages_left_out_by_their_year_are_warned_of(self):
