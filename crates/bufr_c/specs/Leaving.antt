@@ -132,7 +132,8 @@ abbrev pub IsRunStatus : ℤ → Type 0
 IsRunStatus status = (status ≡ pos 0) ⊎ ((status ≡ pos 73) ⊎ (status ≡ pos 74))
 
 -- A call passed over these events from `from` on, and the next one continues at `at`: at the end of
--- the input if the status is 0, and right after the last of these events if it is 73 or 74.
+-- the input (or at `from`, if that is past the end) if the status is 0, and right after the last of
+-- these events if it is 73 or 74.
 pub record PassesOver (octets : List ℕ) (from : ℕ) (passed : List StreamEvent) (at : ℕ)
     (status : ℤ) : Type 0 where
   pub ran : IsRunStatus status

@@ -239,7 +239,7 @@ pub record FlushesIf (written : Bool) (before after : Writer)
   pub counts : CountsCalls before after result
 
 -- Before a read, each writer was flushed if something was written to it, the output first, or a
--- flush failed. If the read cannot block, both may be unchanged.
+-- flush failed. If the read can neither block nor fail, both may be unchanged.
 pub record FlushesWritten (waits : Bool) (unflushed unflushed' : Unflushed)
     (before after : Writers) (result : Result (Unit {0}) RunFault) : Type 0 where
   pub output : Keeps before.output.taken after.output.taken

@@ -306,7 +306,7 @@ fn form_of(found: &ArgMatches<'_>) -> Option<Form>
 }
 
 /// Why a subcommand that clap accepted is not a job. clap itself rejects the first two cases, which
-/// are here because the code must cover every case, but it does not know the forms.
+/// are here because the code must cover every case, but clap does not know the forms.
 #[derive(Clone, Copy, Debug, PartialEq, Eq)]
 enum NoJob {
     /// There is no subcommand with this name.

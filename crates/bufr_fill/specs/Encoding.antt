@@ -146,7 +146,7 @@ packed_unlike role.Factor spec cs = Err unequal_factor
 packed_unlike role.Reference spec cs = Err increment
 packed_unlike _ spec cs = packed_over spec cs
 
--- the contents of one item in all subsets: if they are the same, that is the base, and k is 0
+-- the contents of one item in all subsets: if they are the same, that content is the base and k is 0
 -- rule: packs-equal, packs-all-missing
 abbrev pub packing : FieldSpec → List Content → Result (List Bool) FieldFault
 packing spec [] = Ok []

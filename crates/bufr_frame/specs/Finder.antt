@@ -254,7 +254,8 @@ pub record ReturnsNextEvent (left left' : Option (List ℕ)) (reads reads' : ℕ
   -- after a fault nothing changes
   pub again : IfSome old.fault (λ _. new ≡ old)
 
--- No event is certain in what is held, and nothing was passed that is one.
+-- No event is certain in what is held, and nothing was passed that is one. The greatest stated length
+-- counts that of the message that begins there.
 pub record NeedsRead (old new : FinderModel) : Type 0 where
   pub sound : old.fault ≡ None
   pub passes : (left : Option (List ℕ)) → ReadsAndPasses left left old new [] []

@@ -34,9 +34,10 @@ pub data HeadOctets : Type 0 where
   NoOctets : HeadOctets
 
 -- The head with this edition, for which `value key in_4 in_3` gives each other value: `key` is the
--- index of its line in a dump, and `in_4` and `in_3` are its octets in the two editions. It is used
--- for the values of a message (`head_of`) and of a dump (`header_in`), and for the greatest values
--- (`greatest_values`). In edition 3, the year is that of the century, as in the message (own).
+-- index of its line among the header lines of a dump (that of the edition is 0), and `in_4` and
+-- `in_3` are its octets in the two editions. It is used for the values of a message (`head_of`) and
+-- of a dump (`header_in`), and for the greatest values (`greatest_values`). In edition 3, the year
+-- is that of the century, as in the message (own).
 -- rule: section-1-of-edition-3, section-1-of-edition-4, year-of-the-century, edition-3-lacks
 -- rule: listing-of-edition-3, odd-values-kept
 abbrev pub head_by : (edition : ℕ) → (value : (key : ℕ) → (in_4 in_3 : HeadOctets) → ℕ) → Head

@@ -38,7 +38,7 @@ template_report (template.Operator fxy) = (22, codes "operator " ∷ fxy_text fx
 template_report (template.GroupShape fxy) = (23, codes "group shape " ∷ fxy_text fxy ∷ [])
 -- a delayed replication has no factor
 template_report (template.NoFactor fxy) = (24, codes "no factor " ∷ fxy_text fxy ∷ [])
--- a body takes no bits of the data
+-- a body, or the whole template, takes no bits of the data
 template_report (template.EmptyGroup fxy) = (25, codes "empty group " ∷ fxy_text fxy ∷ [])
 -- more than 32 groups and sequences are nested
 template_report (template.Depth fxy) = (26, codes "depth " ∷ fxy_text fxy ∷ [])

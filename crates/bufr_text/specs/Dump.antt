@@ -43,7 +43,7 @@ section2_line octets = codes "section2 " ++ hex_text octets
 abbrev pub descriptors_line : List ℕ → List ℕ
 descriptors_line words = codes "descriptors" ++ descriptors_text words
 
--- the text of a shown value
+-- a shown value, as it appears in its line
 -- rule: text-number
 abbrev pub dump_value_of : ShownValue → DraftValue
 dump_value_of (shown_number v scale) = number_token (decimal_text_of v scale)
@@ -51,7 +51,7 @@ dump_value_of (shown_text octets) = text_form octets
 dump_value_of shown_missing = missing_form
 dump_value_of (shown_reference v) = reference_token (decimal_text_of v (pos 0))
 
--- the comment of an item that was read by a row of Table B: `  # `, its name, and `[UNIT]`
+-- the comment of an item that was read by a row of Table B: `  # NAME [UNIT]`, from that row
 -- rule: text-comment, text-no-comment
 abbrev pub comment_text : Option Row → List ℕ
 comment_text None = []

@@ -28,7 +28,7 @@ pub(crate) struct Stretch {
     to: usize,
 }
 
-/// Whether an eighth of the items is alike: for fewer it is not worth it.
+/// Whether more than an eighth of the items are alike: for fewer it is not worth it.
 fn are_enough_alike(items: &PackedItems<'_, '_>) -> bool {
     let mut alike: usize = 0;
     'items: for index in 0..items.len() {

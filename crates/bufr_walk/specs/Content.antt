@@ -271,10 +271,11 @@ sum_within width m sum =
     if nat_lt (ones width) sum then None
     else Some (if m && (sum == ones width) then missing else number sum)
 
--- The content of one subset if k is not 0, or `None` (fault 34). A number is missing if its base or
--- its increment is all ones, and otherwise their sum. A text has k octets of its own and then spaces
--- (own). It is missing if these octets are all 255 (own), and refused if k exceeds its length (own).
--- Its base is ignored (own). A redefined reference has no increments (own).
+-- The content of one subset if k is not 0, or `None` (fault 34). A number that may be missing is
+-- missing if its base or its increment is all ones; any other number is their sum. A text has k
+-- octets of its own; spaces follow them (own). It is missing if these octets are all 255 (own), and
+-- refused if k exceeds its length (own). Its base is ignored (own). A redefined reference has no
+-- increments (own).
 -- rule: compressed-all-missing, compressed-missing-increment, compressed-text
 -- rule: compressed-text-missing, compressed-text-past-width, compressed-text-base
 -- rule: compressed-references

@@ -41,8 +41,8 @@ passes zero body rest counts = rest counts
 passes (suc n) body rest counts = body (λ left. pass_end (passes n body rest left)) counts
 
 -- The turns of nodes, and then those of `rest`, given the counts of the factors read so far. The
--- nodes use the first of these counts, and `rest` gets the others. If the counts run out, the last
--- turn is the factor that is read next.
+-- nodes use the first of these counts, and `rest` gets the others. If the counts run out, `open_end`
+-- follows the factor that is read next.
 abbrev pub unroll : Tree → Rest → Rest
 unroll bare rest counts = rest counts
 unroll (element fxy more) rest counts = element_turn fxy (unroll more rest counts)

@@ -58,7 +58,8 @@ begin =
 abbrev pub is_defining : OperatorModel → Bool
 is_defining s = nat_lt 0 s.new_reference_width
 
--- the operators after 2 03 Y: 255 ends a definition of references, and 0 cancels redefined ones
+-- the operators after 2 03 Y: 255 ends a definition of references, 0 cancels redefined ones, and
+-- any other Y begins a definition
 -- rule: 2-03-y, 2-03-000, 2-03-y-again, 2-03-255-alone
 abbrev pub with_references : ℕ → OperatorModel → OperatorModel
 with_references y s =
@@ -143,8 +144,8 @@ unsigned_field fxy width =
       listed = false;
     }
 
--- An element of a code or flag table: a redefined reference applies to it (own), but 2 01, 2 02 and
--- 2 07 do not
+-- An element of a code or flag table: 2 01, 2 02 and 2 07 do not apply to it, but a redefined
+-- reference does. (Both are own.)
 -- rule: new-reference-of-figures, figures-unchanged
 abbrev pub coded_spec : OperatorModel → Row → FieldSpec
 coded_spec s row = record (unsigned_field row.fxy row.width) {
@@ -220,7 +221,7 @@ element_spec table s fxy =
     else listed_by (entry_of table fxy) s fxy
 
 -- The factor of a delayed replication, as its row gives it: no operator applies (own), it is never
--- missing (own), and it is shown as a quantity whatever its unit (own).
+-- missing (own), and its kind is that of a quantity, whatever its unit.
 abbrev pub factor_field : Row → ℕ → FieldSpec
 factor_field row fxy = record (coded_spec begin row)
     { fxy = fxy; role = role.Factor; kind = kind.Numeric; may_be_missing = false }
