@@ -11,7 +11,7 @@ use Rattle.std.proofs.lemmas.Bool.Decides.{nat_tests, Decides-int_eq}
 use Rattle.std.proofs.lemmas.Slice.Eq.{bytes_eq-Decides}
 use Rattle.bufr_bits.specs.Prelude.{number_of, are_all_ones, bits_of, bits_at, ◌>>=◌}
 use Rattle.bufr_bits.proofs.BitLemmas.{number_of-below, length-bits_at, are_all_ones-number}
-use Rattle.bufr_walk.specs.Prelude.{numbers, texts, Coding, coding_of, coding_by, content_by, step_of, sum_within, increased, all_there, contents_across, same, if_equal, are_valid, increments, ones, octets_in, packed_field, FieldSpec, IsSpec, HasRole, Content, number, text, missing, reference, content_in, answer_by_role, answer_first, FieldFault, increment, unequal_factor, FieldRead, found, data_end, is_reference, content_kept, contents_found, was_found, has_base, fits_at, Role, IndexedItem, content_at}
+use Rattle.bufr_walk.specs.Prelude.{start_of, numbers, texts, Coding, coding_of, coding_by, content_by, step_of, sum_within, increased, all_there, contents_across, same, if_equal, are_valid, increments, ones, octets_in, packed_field, FieldSpec, IsSpec, HasRole, Content, number, text, missing, reference, content_in, answer_by_role, answer_first, FieldFault, increment, unequal_factor, FieldRead, found, data_end, is_reference, content_kept, contents_found, was_found, has_base, fits_at, Role, IndexedItem, content_at}
 use Rattle.bufr_bits.proofs.DecimalLemmas.{and_first, and_second}
 use Rattle.bufr_tables.specs.Prelude.{is_character}
 use Rattle.bufr_walk.proofs.PlainLemmas.{bits_length, ones_by_number, number_coding, text_coding}
@@ -333,17 +333,18 @@ parts bits at n a k h is =
       are = ap (λ bs. contents_across c k n (take a.width here) bs) (sym same) ∙ ap (λ x. contents_across c x n (take a.width here) suffix) (sym same_k) ∙ t.1;
     }
 
-kept_step : (bits : List Bool) (n : ℕ) (e : IndexedItem) → fits_at bits n e ≡ true → e.step ≡ number_of (take 6 (drop (e.at + e.spec.width) bits))
+kept_step : (bits : List Bool) (n : ℕ) (e : IndexedItem) → fits_at bits n e ≡ true → e.step ≡ number_of (take 6 (drop (start_of e + e.spec.width) bits))
 kept_step bits n e h = grind (arith, common_steps, eqb-true, and_first, and_second)
 
 -- the base of a kept item that is a number
-pub kept_base : (bits : List Bool) (n : ℕ) (e : IndexedItem) → fits_at bits n e ≡ true → is_character e.spec.kind ≡ false → e.base ≡ number_of (take e.spec.width (drop e.at bits))
+pub kept_base : (bits : List Bool) (n : ℕ) (e : IndexedItem) → fits_at bits n e ≡ true → is_character e.spec.kind ≡ false → e.base ≡ number_of (take e.spec.width (drop (start_of e) bits))
 kept_base bits n e h k = grind (arith, common_steps, and_second, eqb-true)
 
 -- the parts of a kept item
-pub kept_parts : (bits : List Bool) (n : ℕ) (e : IndexedItem) → fits_at bits n e ≡ true → IsAt bits e.at n e.spec e.step (contents_found (packed_field n e.spec (drop e.at bits)))
+pub kept_parts : (bits : List Bool) (n : ℕ) (e : IndexedItem) → fits_at bits n e ≡ true → IsAt bits (start_of e) n e.spec e.step (contents_found (packed_field n e.spec (drop (start_of e) bits)))
 kept_parts bits n e h =
-    parts bits e.at n e.spec e.step (and_first (was_found (packed_field n e.spec (drop e.at bits))) ((e.step == number_of (take 6 (drop (e.at + e.spec.width) bits))) && has_base bits e) h)
+    parts bits (start_of e) n e.spec e.step (and_first (was_found (packed_field n e.spec (drop (start_of e) bits)))
+    ((e.step == number_of (take 6 (drop (start_of e + e.spec.width) bits))) && has_base bits e) h)
     (kept_step bits n e h)
 
 -- the text of one subset: k octets, followed by spaces up to its width
@@ -376,15 +377,15 @@ step_small bits n e h = grind (arith, common_steps, kept_step, number_of-below, 
 
 -- the content of one subset, by the bits of its item
 pub base_content : (bits : List Bool) (n : ℕ) (e : IndexedItem) (j : ℕ) → fits_at bits n e ≡ true → e.step ≡ 0 → j < n
-    → content_kept bits n e j ≡ content_in e.spec (take e.spec.width (drop e.at bits))
+    → content_kept bits n e j ≡ content_in e.spec (take e.spec.width (drop (start_of e) bits))
 base_content bits n e j h none below =
-    let base = take e.spec.width (drop e.at bits) in
-    let suffix = drop (e.at + (e.spec.width + 6)) bits in
-    let is = some_same (replicate n (content_in e.spec base)) (contents_found (packed_field n e.spec (drop e.at bits)))
+    let base = take e.spec.width (drop (start_of e) bits) in
+    let suffix = drop (start_of e + (e.spec.width + 6)) bits in
+    let is = some_same (replicate n (content_in e.spec base)) (contents_found (packed_field n e.spec (drop (start_of e) bits)))
     (sym (copied (coding_of e.spec) e.step n base suffix none) ∙ (kept_parts bits n e h).are) in
     ap (content_at j) (sym is) ∙ all n j below
   where
-    all : (n j : ℕ) → j < n → content_at j (replicate n (content_in e.spec (take e.spec.width (drop e.at bits)))) ≡ content_in e.spec (take e.spec.width (drop e.at bits))
+    all : (n j : ℕ) → j < n → content_at j (replicate n (content_in e.spec (take e.spec.width (drop (start_of e) bits)))) ≡ content_in e.spec (take e.spec.width (drop (start_of e) bits))
     all zero j h = absurd (omega arith)
     all (suc n) zero h = refl
     all (suc n) (suc j) h = all n j (omega arith)
@@ -392,14 +393,15 @@ base_content bits n e j h none below =
 module _ (bits : List Bool) (n : ℕ) (e : IndexedItem) (j : ℕ) (h : fits_at bits n e ≡ true) (some : 1 ≤ e.step) (below : j < n) where
   -- by its coding
   coded : (c : Coding) → coding_of e.spec ≡ c
-      → (increased c e.step (take e.spec.width (drop e.at bits)) (take (step_of c e.step) (drop (j * step_of c e.step) (drop (e.at + (e.spec.width + 6)) bits))) ≡ Some (content_kept bits n e j))
-      × (e.at + (e.spec.width + 6) + (j + 1) * step_of c e.step ≤ length bits)
+      → (increased c e.step (take e.spec.width (drop (start_of e) bits)) (take (step_of c e.step) (drop (j * step_of c e.step) (drop (start_of e + (e.spec.width + 6)) bits)))
+      ≡ Some (content_kept bits n e j))
+      × (start_of e + (e.spec.width + 6) + (j + 1) * step_of c e.step ≤ length bits)
   coded c is =
-      let base = take e.spec.width (drop e.at bits) in
-      let suffix = drop (e.at + (e.spec.width + 6)) bits in
+      let base = take e.spec.width (drop (start_of e) bits) in
+      let suffix = drop (start_of e + (e.spec.width + 6)) bits in
       let p = kept_parts bits n e h in
-      let within : e.at + (e.spec.width + 6 + n * step_of c e.step) ≤ length bits = subst (λ c. e.at + (e.spec.width + 6 + n * step_of c e.step) ≤ length bits) is p.within in (
-        at_there (increased c e.step base) n (step_of c e.step) j suffix (contents_found (packed_field n e.spec (drop e.at bits))) below
+      let within : start_of e + (e.spec.width + 6 + n * step_of c e.step) ≤ length bits = subst (λ c. start_of e + (e.spec.width + 6 + n * step_of c e.step) ≤ length bits) is p.within in (
+        at_there (increased c e.step base) n (step_of c e.step) j suffix (contents_found (packed_field n e.spec (drop (start_of e) bits))) below
             (sym (varied c e.step n base suffix (not_zero e.step some)) ∙ ap (λ c. contents_across c e.step n base suffix) (sym is) ∙ p.are),
         omega (arith, within, reaches n j (step_of c e.step) below),
       )
@@ -419,18 +421,19 @@ module _ (bits : List Bool) (n : ℕ) (e : IndexedItem) (j : ℕ) (h : fits_at b
 
   -- a number
   pub number_content : is_character e.spec.kind ≡ false
-      → increased (numbers e.spec.width e.spec.may_be_missing) e.step (take e.spec.width (drop e.at bits)) (take e.step (drop (j * e.step) (drop (e.at + (e.spec.width + 6)) bits)))
+      → increased (numbers e.spec.width e.spec.may_be_missing) e.step (take e.spec.width (drop (start_of e) bits)) (take e.step (drop (j * e.step) (drop (start_of e + (e.spec.width + 6)) bits)))
       ≡ Some (content_kept bits n e j)
   number_content c = (coded (numbers e.spec.width e.spec.may_be_missing) (number_coding e.spec c no_reference)).0
 
-  pub number_within : is_character e.spec.kind ≡ false → e.at + (e.spec.width + 6) + (j + 1) * e.step ≤ length bits
+  pub number_within : is_character e.spec.kind ≡ false → start_of e + (e.spec.width + 6) + (j + 1) * e.step ≤ length bits
   number_within c = (coded (numbers e.spec.width e.spec.may_be_missing) (number_coding e.spec c no_reference)).1
 
   -- a text
   pub text_content : is_character e.spec.kind ≡ true
-      → padded_text (e.spec.width / 8) e.step (take (8 * e.step) (drop (j * (8 * e.step)) (drop (e.at + (e.spec.width + 6)) bits))) ≡ content_kept bits n e j
+      → padded_text (e.spec.width / 8) e.step (take (8 * e.step) (drop (j * (8 * e.step)) (drop (start_of e + (e.spec.width + 6)) bits))) ≡ content_kept bits n e j
   text_content c =
-      there (nat_lt (e.spec.width / 8) e.step) (padded_text (e.spec.width / 8) e.step (take (8 * e.step) (drop (j * (8 * e.step)) (drop (e.at + (e.spec.width + 6)) bits)))) (content_kept bits n e j)
+      there (nat_lt (e.spec.width / 8) e.step) (padded_text (e.spec.width / 8) e.step (take (8 * e.step) (drop (j * (8 * e.step)) (drop (start_of e + (e.spec.width + 6)) bits))))
+      (content_kept bits n e j)
       (coded (texts (e.spec.width / 8)) (text_coding e.spec c no_reference)).0
     where
       there : (past : Bool) (a b : Content) → (if past then None else Some a) ≡ Some b → a ≡ b
@@ -439,27 +442,28 @@ module _ (bits : List Bool) (n : ℕ) (e : IndexedItem) (j : ℕ) (h : fits_at b
 
   pub text_short : is_character e.spec.kind ≡ true → e.step ≤ e.spec.width / 8
   text_short c = ltb-false (e.spec.width / 8) e.step
-      (there (nat_lt (e.spec.width / 8) e.step) (padded_text (e.spec.width / 8) e.step (take (8 * e.step) (drop (j * (8 * e.step)) (drop (e.at + (e.spec.width + 6)) bits))))
+      (there (nat_lt (e.spec.width / 8) e.step) (padded_text (e.spec.width / 8) e.step (take (8 * e.step) (drop (j * (8 * e.step)) (drop (start_of e + (e.spec.width + 6)) bits))))
       (coded (texts (e.spec.width / 8)) (text_coding e.spec c no_reference)).0)
     where
       there : (past : Bool) (a : Content) → (if past then None else Some a) ≡ Some (content_kept bits n e j) → past ≡ false
       there true a e = absurd cc
       there false a e = refl
 
-  pub text_within : is_character e.spec.kind ≡ true → e.at + (e.spec.width + 6) + (j + 1) * (8 * e.step) ≤ length bits
+  pub text_within : is_character e.spec.kind ≡ true → start_of e + (e.spec.width + 6) + (j + 1) * (8 * e.step) ≤ length bits
   text_within c = (coded (texts (e.spec.width / 8)) (text_coding e.spec c no_reference)).1
 
 -- whether the base of a kept item is all ones, by its number
 pub kept_ones : (octets : List ℕ) (n : ℕ) (e : IndexedItem) → fits_at (bits_of octets) n e ≡ true → is_character e.spec.kind ≡ false
-    → (e.base == 2 ^ e.spec.width - 1) ≡ are_all_ones (bits_at octets e.at e.spec.width)
+    → (e.base == 2 ^ e.spec.width - 1) ≡ are_all_ones (bits_at octets (start_of e) e.spec.width)
 kept_ones octets n e h k = grind (arith, common_steps, kept_parts, ones_by_number, bits_length, kept_base)
 
 -- and that number
 pub kept_number : (octets : List ℕ) (n : ℕ) (e : IndexedItem) → fits_at (bits_of octets) n e ≡ true → is_character e.spec.kind ≡ false
-    → (e.base ≡ number_of (bits_at octets e.at e.spec.width)) × (e.base < 2 ^ e.spec.width)
+    → (e.base ≡ number_of (bits_at octets (start_of e) e.spec.width)) × (e.base < 2 ^ e.spec.width)
 kept_number octets n e h k = grind (arith, common_steps, kept_base, kept_parts, number_of-below, length-bits_at, bits_length)
 
 -- the bits of an increment, at the place that is reached in 64 bits
-pub increment_at : (octets : List ℕ) (at w k size j width subset step raw : ℕ) → width ≡ w → subset ≡ j → step ≡ k → k ≡ size → raw ≡ number_of (bits_at octets (at + (width + 6) + subset * step) k)
-    → raw ≡ number_of (take size (drop (j * size) (drop (at + (w + 6)) (bits_of octets))))
-increment_at octets at w k size j width subset step raw a b c e is = grind (arith, common_steps, drop-drop)
+pub increment_at : (octets : List ℕ) (start at w k size j width subset step raw : ℕ) → at ≡ start → width ≡ w → subset ≡ j → step ≡ k → k ≡ size
+    → raw ≡ number_of (bits_at octets (at + (width + 6) + subset * step) k)
+    → raw ≡ number_of (take size (drop (j * size) (drop (start + (w + 6)) (bits_of octets))))
+increment_at octets start at w k size j width subset step raw h a b c e is = grind (arith, common_steps, drop-drop)

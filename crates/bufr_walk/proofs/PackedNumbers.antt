@@ -2,7 +2,7 @@
 use Rattle.std.proofs.Common.{◌≡◌, ℕ, ◌+◌, ◌-◌, ◌*◌, ◌^◌, ◌<◌, ◌≤◌, false, Bool, List, length, drop, refl, sym, ◌∙◌, ap, arith, ◌&&◌, true, take, ◌==◌, ◌||◌, nat_lt, if◌then◌else◌, Option, Some, None}
 use Rattle.std.proofs.lemmas.Bool.{eqb-true, ne_eqb}
 use Rattle.bufr_bits.specs.Prelude.{bits_of, number_of, are_all_ones, bits_at}
-use Rattle.bufr_walk.specs.Prelude.{numbers, increased, sum_within, Content, number, missing, is_reference, ones, content_kept, fits_at, IndexedItem}
+use Rattle.bufr_walk.specs.Prelude.{start_of, numbers, increased, sum_within, Content, number, missing, is_reference, ones, content_kept, fits_at, IndexedItem}
 use Rattle.bufr_tables.specs.Prelude.{is_character}
 use Rattle.std.proofs.lemmas.Bool.Decides.{nat_tests}
 use Rattle.bufr_walk.proofs.PackedLemmas.{base_content, kept_base, kept_ones, kept_parts, number_content, number_within, ones_same, some_same}
@@ -13,7 +13,7 @@ use Rattle.std.proofs.lemmas.List.{length-take-le, length-drop}
 base_content_is : (octets : List ℕ) (n : ℕ) (e : IndexedItem) (j : ℕ) → fits_at (bits_of octets) n e ≡ true → e.step ≡ 0 → j < n → is_character e.spec.kind ≡ false → is_reference e.spec.role ≡ false
     → (b : Bool) → (e.base == 2 ^ e.spec.width - 1) ≡ b → (if b && e.spec.may_be_missing then missing else number e.base) ≡ content_kept (bits_of octets) n e j
 base_content_is octets n e j h none below k r b is =
-    let base = bits_at octets e.at e.spec.width in
+    let base = bits_at octets (start_of e) e.spec.width in
     ap (λ x. if x && e.spec.may_be_missing then missing else number e.base) (sym is ∙ kept_ones octets n e h k)
     ∙ ap (λ x. if are_all_ones base && e.spec.may_be_missing then missing else x) (ap number (kept_base (bits_of octets) n e h k))
     ∙ sym (number_said e.spec base k r) ∙ sym (base_content (bits_of octets) n e j h none below)
@@ -110,32 +110,32 @@ module _ (w k b i : ℕ) (m : Bool) (base incr : List Bool) (c : Content) (low :
 
 -- the same of a kept item
 module _ (octets : List ℕ) (n : ℕ) (e : IndexedItem) (j i : ℕ) (h : fits_at (bits_of octets) n e ≡ true) (some : 1 ≤ e.step) (below : j < n) (c : is_character e.spec.kind ≡ false)
-    (more : i ≡ number_of (take e.step (drop (j * e.step) (drop (e.at + (e.spec.width + 6)) (bits_of octets))))) where
+    (more : i ≡ number_of (take e.step (drop (j * e.step) (drop (start_of e + (e.spec.width + 6)) (bits_of octets))))) where
   abbrev kept_incr : List Bool
-  kept_incr = take e.step (drop (j * e.step) (drop (e.at + (e.spec.width + 6)) (bits_of octets)))
+  kept_incr = take e.step (drop (j * e.step) (drop (start_of e + (e.spec.width + 6)) (bits_of octets)))
 
-  kept_wide : length (bits_at octets e.at e.spec.width) ≡ e.spec.width
-  kept_wide = length-take-le e.spec.width (drop e.at (bits_of octets)) (omega (arith, (kept_parts (bits_of octets) n e h).within, length-drop e.at (bits_of octets)))
+  kept_wide : length (bits_at octets (start_of e) e.spec.width) ≡ e.spec.width
+  kept_wide = length-take-le e.spec.width (drop (start_of e) (bits_of octets)) (omega (arith, (kept_parts (bits_of octets) n e h).within, length-drop (start_of e) (bits_of octets)))
 
   kept_long : length kept_incr ≡ e.step
   kept_long =
       let room = number_within (bits_of octets) n e j h some below c in
       let one : (j + 1) * e.step ≡ j * e.step + e.step = omega arith in
-      length-take-le e.step (drop (j * e.step) (drop (e.at + (e.spec.width + 6)) (bits_of octets)))
-      (omega (arith, room, one, length-drop (j * e.step) (drop (e.at + (e.spec.width + 6)) (bits_of octets)), length-drop (e.at + (e.spec.width + 6)) (bits_of octets)))
+      length-take-le e.step (drop (j * e.step) (drop (start_of e + (e.spec.width + 6)) (bits_of octets)))
+      (omega (arith, room, one, length-drop (j * e.step) (drop (start_of e + (e.spec.width + 6)) (bits_of octets)), length-drop (start_of e + (e.spec.width + 6)) (bits_of octets)))
 
   pub kept_last : e.spec.may_be_missing ≡ true → i ≡ ones e.step → missing ≡ content_kept (bits_of octets) n e j
-  kept_last = sum_last e.spec.width e.step e.base i e.spec.may_be_missing (bits_at octets e.at e.spec.width) kept_incr (content_kept (bits_of octets) n e j)
+  kept_last = sum_last e.spec.width e.step e.base i e.spec.may_be_missing (bits_at octets (start_of e) e.spec.width) kept_incr (content_kept (bits_of octets) n e j)
       (kept_base (bits_of octets) n e h c) more kept_wide kept_long (number_content (bits_of octets) n e j h some below c)
 
   pub kept_whole : e.spec.may_be_missing ≡ true → ones e.spec.width ≤ e.base + i → missing ≡ content_kept (bits_of octets) n e j
-  kept_whole = sum_whole e.spec.width e.step e.base i e.spec.may_be_missing (bits_at octets e.at e.spec.width) kept_incr (content_kept (bits_of octets) n e j)
+  kept_whole = sum_whole e.spec.width e.step e.base i e.spec.may_be_missing (bits_at octets (start_of e) e.spec.width) kept_incr (content_kept (bits_of octets) n e j)
       (kept_base (bits_of octets) n e h c) more kept_wide kept_long (number_content (bits_of octets) n e j h some below c)
 
   pub kept_never : e.spec.may_be_missing ≡ false → (number (e.base + i) ≡ content_kept (bits_of octets) n e j) × (e.base + i ≤ ones e.spec.width)
-  kept_never = sum_never e.spec.width e.step e.base i e.spec.may_be_missing (bits_at octets e.at e.spec.width) kept_incr (content_kept (bits_of octets) n e j)
+  kept_never = sum_never e.spec.width e.step e.base i e.spec.may_be_missing (bits_at octets (start_of e) e.spec.width) kept_incr (content_kept (bits_of octets) n e j)
       (kept_base (bits_of octets) n e h c) more kept_wide kept_long (number_content (bits_of octets) n e j h some below c)
 
   pub kept_some : (i ≡ ones e.step → ⊥) → e.base + i < ones e.spec.width → number (e.base + i) ≡ content_kept (bits_of octets) n e j
-  kept_some = sum_some e.spec.width e.step e.base i e.spec.may_be_missing (bits_at octets e.at e.spec.width) kept_incr (content_kept (bits_of octets) n e j)
+  kept_some = sum_some e.spec.width e.step e.base i e.spec.may_be_missing (bits_at octets (start_of e) e.spec.width) kept_incr (content_kept (bits_of octets) n e j)
       (kept_base (bits_of octets) n e h c) more kept_wide kept_long (number_content (bits_of octets) n e j h some below c)

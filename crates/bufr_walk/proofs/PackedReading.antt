@@ -1,18 +1,14 @@
 -- A walk over compressed data reads them as the definition does, and keeps its items.
 use Rattle.std.proofs.lemmas.Grind.{common_steps}
-use Rattle.std.proofs.Common.{option_map, ◌≡◌, ℕ, ◌+◌, ◌*◌, ◌<◌, ◌≤◌, Bool, true, false, List, length, take, drop, Ok, Err, sym, ◌∙◌, ap, arith, suc, ◌&&◌, eqb, ◌++◌, ◌∷◌, [], get_or, refl, zero, ◌^◌, Result, subst, ◌⊎◌, inl, inr, ◌-◌, Option, Some, None, append_assoc, ◌%◌, nat_lt, ◌||◌, ◌==◌, if◌then◌else◌}
+use Rattle.std.proofs.Common.{option_map, ◌≡◌, ℕ, ◌+◌, ◌*◌, ◌<◌, ◌≤◌, Bool, true, false, List, length, take, drop, Ok, Err, sym, ◌∙◌, ap, arith, suc, ◌++◌, ◌∷◌, [], refl, zero, ◌^◌, Result, subst, ◌⊎◌, inl, inr, ◌-◌, Option, Some, None, append_assoc, ◌%◌, nat_lt, ◌||◌, ◌==◌, if◌then◌else◌}
 use Rattle.std.proofs.lemmas.Bool.{le-ltb, lt-ltb}
-use Rattle.std.proofs.lemmas.List.{length-drop, drop-drop, get_or_default, get_or_append_left, map-append, append-nil}
-use Rattle.std.proofs.lemmas.Bool.Decides.{Decides-eqb, Decides-int_eq}
+use Rattle.std.proofs.lemmas.List.{length-drop, drop-drop, append-nil}
 use Rattle.bufr_bits.specs.Prelude.{number_of, ◌>>=◌}
 use Rattle.bufr_tables.specs.Prelude.{is_character, Row, Tree}
 use Rattle.bufr_walk.specs.declared.compressed.ItemBits.{ItemBits}
 use Rattle.bufr_walk.specs.declared.fault.DataFault.{DataFault}
-use Rattle.bufr_walk.specs.Prelude.{FieldSpec, data_end, FieldFault, increment, unequal_factor, Content, FieldRead, found, step_of, coding_of, contents_across, if_equal, answer_first, packed_field, IsSeen, IsUnseen, HasSpecAt, IsPut, no_field, item_at_location, indexed_items, IsStoredReading, PackedCursor, item_at, items_at, contents_found, fits_at, packed_view, IsPackedTaken, wrong_of, PackedTakes, remaining_bits, refuses_packed, new_packed_in, fault_at, IndexedItem, max_values, items_at_once, Item, packed, ReadsItems, ReadsPass, next_after, turns_after, Data, together, IsPackedReading, spot, fault_at, bits_before, IsReading, KeepsValues, Stop, would_be_many, data_in, data_of, read_by, WalkStop, Next, take_next, refused, TakenField, Takes, ticked, oks, answers_of, Walked, TurnRefusal, stop_by, CountedCourse, uncounted, counted_item, after_counted}
-use Rattle.std.specs.Ordering.{int_eq}
-use Rattle.std.proofs.Math.Bool.{beq}
-use Rattle.std.specs.List.{All, list_all}
-use Rattle.bufr_walk.specs.declared.item_index.ItemLocation.{ItemLocation}
+use Rattle.bufr_walk.specs.Prelude.{start_of, FieldSpec, data_end, FieldFault, increment, unequal_factor, Content, FieldRead, found, step_of, coding_of, contents_across, if_equal, answer_first, packed_field, IsSeen, IsUnseen, IsStoredReading, PackedCursor, item_at, items_at, contents_found, fits_at, packed_view, IsPackedTaken, wrong_of, PackedTakes, remaining_bits, refuses_packed, new_packed_in, fault_at, IndexedItem, max_values, items_at_once, Item, packed, ReadsItems, ReadsPass, next_after, turns_after, Data, together, IsPackedReading, spot, fault_at, bits_before, IsReading, KeepsValues, Stop, would_be_many, data_in, data_of, read_by, WalkStop, Next, take_next, refused, TakenField, Takes, ticked, oks, answers_of, Walked, TurnRefusal, stop_by, CountedCourse, uncounted, counted_item, after_counted}
+use Rattle.std.specs.List.{list_all}
 use Rattle.std.proofs.Math.Nat.{mul-le-mul_left}
 use Rattle.bufr_frame.specs.Prelude.{Sections}
 use Rattle.bufr_walk.proofs.PlainLemmas.{used_most}
@@ -120,47 +116,6 @@ module _ (bits : List Bool) (at n : ℕ) (a : FieldSpec) where
 pub size_same : (x w y n z s : ℕ) → x ≡ w → y ≡ n → z ≡ s → x + 6 + y * z ≡ w + 6 + n * s
 size_same x w y n z s e f g = ap (λ t. t + 6 + y * z) e ∙ ap (λ t. w + 6 + t * z) f ∙ ap (λ t. w + 6 + n * t) g
 
--- ---- The items that are kept, and the fields among them.
-
-both : (a b : Bool) → (a && b) ≡ true → (a ≡ true) × (b ≡ true)
-both true b h = (refl, h)
-both false b h = let e : true ≡ false = sym h in absurd cc
-
--- two fields with the same parts
-pub same_field : (a b : FieldSpec) (r k p : Bool) → (r ≡ true → a.role ≡ b.role) → (k ≡ true → a.kind ≡ b.kind)
-    → (int_eq a.reference b.reference && (eqb a.width b.width && (eqb a.fxy b.fxy
-    && (int_eq a.scale b.scale && (r && (k && (beq a.may_be_missing b.may_be_missing && (beq a.listed b.listed && p)))))))) ≡ true → a ≡ b
-same_field a b r k p by_role spec_by_kind h = grind (arith, common_steps, both, eqb, beq, Decides-int_eq, Decides-eqb)
-
--- a field that was found at a place
-pub fits_there : (specs : List FieldSpec) (place : ℕ) (there spec : FieldSpec) → place < length specs → there ≡ get_or specs place there → there ≡ spec → HasSpecAt specs place spec
-fits_there specs place there spec below at same = record {
-  below = below;
-  is = get_or_default specs place no_field there below ∙ sym at ∙ same;
-}
-
--- the items are the same where fields follow those that they have
-same_items : (specs more : List FieldSpec) (places : List ItemLocation) → All (λ p. p.spec < length specs) places → indexed_items (specs ++ more) places ≡ indexed_items specs places
-same_items specs more [] have = refl
-same_items specs more (p ∷ places) have =
-    let below : p.spec < length specs = have 0 p (omega arith) in
-    let rest : indexed_items (specs ++ more) places ≡ indexed_items specs places = same_items specs more places (λ k d h. have (suc k) d (omega (arith, h))) in
-    ap (λ s. record { spec = s; at = p.at; base = p.base; step = p.step } ∷ indexed_items (specs ++ more) places) (get_or_append_left specs more no_field p.spec below)
-    ∙ ap (λ xs. item_at_location specs p ∷ xs) rest
-
--- one item more
-pub one_more : (now : List IndexedItem) (specs specs1 specs2 : List FieldSpec) (places places1 places2 : List ItemLocation) (item : IndexedItem) (place : ℕ) → indexed_items specs places ≡ now
-    → All (λ p. p.spec < length specs) places → specs1 ≡ specs → places1 ≡ places → IsPut specs1 item.spec place specs2
-    → places2 ≡ places1 ++ record { at = item.at; base = item.base; spec = place; step = item.step } ∷ [] → indexed_items specs2 places2 ≡ now ++ item ∷ []
-one_more now specs specs1 specs2 places places1 places2 item place view have same_specs same_places put is =
-    let last : ItemLocation = record { at = item.at; base = item.base; spec = place; step = item.step } in
-    let all : places2 ≡ places ++ last ∷ [] = is ∙ ap (λ ps. ps ++ last ∷ []) same_places in
-    let grown : specs2 ≡ specs ++ put.more = put.grows ∙ ap (λ ss. ss ++ put.more) same_specs in
-    let before : indexed_items specs2 places ≡ now = ap (λ ss. indexed_items ss places) grown ∙ same_items specs put.more places have ∙ view in
-    ap (indexed_items specs2) all ∙ map-append (item_at_location specs2) places (last ∷ [])
-    ∙ ap (λ xs. xs ++ item_at_location specs2 last ∷ []) before
-    ∙ ap (λ s. now ++ record { spec = s; at = item.at; base = item.base; step = item.step } ∷ []) put.fits.is
-
 -- ---- The items that a reader of compressed data keeps.
 
 pub length-items_at : (bits : List Bool) (n : ℕ) (kept : List IndexedItem) → length (items_at bits n kept) ≡ length kept
@@ -171,7 +126,7 @@ items_at-append : (bits : List Bool) (n : ℕ) (kept : List IndexedItem) (e : In
 items_at-append bits n [] e = refl
 items_at-append bits n (x ∷ kept) e = ap (λ xs. item_at bits n x ∷ xs) (items_at-append bits n kept e)
 
-pub takes_one : (bits : List Bool) (at n : ℕ) (kept kept' : List IndexedItem) (e : IndexedItem) (seen : ItemBits) → e.at ≡ at → (length (items_at bits n kept) + 1) * n ≤ max_values
+pub takes_one : (bits : List Bool) (at n : ℕ) (kept kept' : List IndexedItem) (e : IndexedItem) (seen : ItemBits) → start_of e ≡ at → (length (items_at bits n kept) + 1) * n ≤ max_values
     → IsSeen bits at n e.spec seen → kept' ≡ kept ++ e ∷ []
     → IsPackedTaken (packed_view bits at n kept) e.spec seen.answer (packed_view bits seen.end n kept')
 takes_one bits at n kept kept' e seen here few look is = record {

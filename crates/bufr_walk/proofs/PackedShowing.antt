@@ -4,7 +4,7 @@ use Rattle.std.proofs.Common.{◌≡◌, ℕ, ◌+◌, ◌-◌, ◌*◌, ◌<◌
 use Rattle.std.proofs.lemmas.List.{drop-drop, drop_all, get_or-take, take_all, append-nil, take_more_set, replicate-append-replicate}
 use Rattle.bufr_bits.specs.Prelude.{bits_of, are_all_ones}
 use Rattle.bufr_tables.specs.Prelude.{entry_of, is_character, Row}
-use Rattle.bufr_walk.specs.Prelude.{IndexedItem, PackedValues, packed_values, range_calls, packed_calls, IsPackedOf, IsReading, course_of, content_at, item_at, item_call, view_of, octets_in, text, missing, shown_text, shown_missing, shown, Content, FieldSpec, content_kept, call_kept, IsStoredReading, KeepsValues, held_of, fits_at, items_at, ShowFault, Sofar, Call, Timed, timed, Shows, subset_call, calls_for, turns_for, Item, Values, apart, together, items_kept, Read, item_calls, turns_after, turns_in, subset_calls, subsets_from, items_of_subset, without_turns, plain}
+use Rattle.bufr_walk.specs.Prelude.{start_of, IndexedItem, PackedValues, packed_values, range_calls, packed_calls, IsPackedOf, IsReading, course_of, content_at, item_at, item_call, view_of, octets_in, text, missing, shown_text, shown_missing, shown, Content, FieldSpec, content_kept, call_kept, IsStoredReading, KeepsValues, held_of, fits_at, items_at, ShowFault, Sofar, Call, Timed, timed, Shows, subset_call, calls_for, turns_for, Item, Values, apart, together, items_kept, Read, item_calls, turns_after, turns_in, subset_calls, subsets_from, items_of_subset, without_turns, plain}
 use Rattle.bufr_walk.proofs.PackedLemmas.{base_content, kept_parts, padded_text, text_content, text_within}
 use Rattle.bufr_walk.proofs.PlainLemmas.{bits_length, octets_prefix}
 use Rattle.std.specs.List.{list_all}
@@ -29,18 +29,18 @@ whole_text spec count k bits octets e is = grind (arith, common_steps, octets_pr
 
 -- the text at its place
 pub span_text : (bits : List Bool) (n : ℕ) (e : IndexedItem) (j place : ℕ) → fits_at bits n e ≡ true → 1 ≤ e.step → j < n → is_character e.spec.kind ≡ true
-    → place ≡ e.at + (e.spec.width + 6) + j * (8 * e.step)
+    → place ≡ start_of e + (e.spec.width + 6) + j * (8 * e.step)
     → padded_text (e.spec.width / 8) e.step (take (8 * e.step) (drop place bits)) ≡ content_kept bits n e j
 span_text bits n e j place h some below c is =
-    ap (λ bs. padded_text (e.spec.width / 8) e.step (take (8 * e.step) bs)) (ap (λ p. drop p bits) is ∙ sym (drop-drop (j * (8 * e.step)) (e.at + (e.spec.width + 6)) bits))
+    ap (λ bs. padded_text (e.spec.width / 8) e.step (take (8 * e.step) bs)) (ap (λ p. drop p bits) is ∙ sym (drop-drop (j * (8 * e.step)) (start_of e + (e.spec.width + 6)) bits))
     ∙ text_content bits n e j h some below c
 
 pub span_within : (octets : List ℕ) (n : ℕ) (e : IndexedItem) (j : ℕ) → fits_at (bits_of octets) n e ≡ true → 1 ≤ e.step → j < n → is_character e.spec.kind ≡ true
-    → e.at + (e.spec.width + 6) + (j + 1) * (8 * e.step) ≤ 8 * length octets
+    → start_of e + (e.spec.width + 6) + (j + 1) * (8 * e.step) ≤ 8 * length octets
 span_within octets n e j h some below c = omega (arith, text_within (bits_of octets) n e j h some below c, bits_length octets)
 
 -- an item is within the bits
-pub base_within : (octets : List ℕ) (n : ℕ) (e : IndexedItem) → fits_at (bits_of octets) n e ≡ true → e.at + e.spec.width ≤ 8 * length octets
+pub base_within : (octets : List ℕ) (n : ℕ) (e : IndexedItem) → fits_at (bits_of octets) n e ≡ true → start_of e + e.spec.width ≤ 8 * length octets
 base_within octets n e h = let p = kept_parts (bits_of octets) n e h in omega (arith, p.within, bits_length octets)
 
 -- ---- Calls that show compressed data, joined.

@@ -1,6 +1,6 @@
 -- Only contracts need this file. The readers of data, compressed or not: one pass over them, fields
 -- shown at once, an item as the code reads it, and what a reading keeps.
-use Rattle.std.specs.Prelude.{ℕ, ◌≡◌, ◌≤◌, ◌+◌, Bool, List, drop, Result, Ok, Err, ◌++◌, ◌<◌, ◌*◌, ◌%◌, ◌==◌, ◌&&◌, ◌||◌, true, false, [], ◌∷◌, length, take, ◌/◌, ◌-◌, map, get_or, is_some, Option}
+use Rattle.std.specs.Prelude.{ℕ, ◌≡◌, ◌≤◌, ◌+◌, Bool, List, drop, Result, Ok, Err, ◌++◌, ◌<◌, ◌*◌, ◌^◌, ◌%◌, ◌==◌, ◌&&◌, ◌||◌, true, false, [], ◌∷◌, length, take, ◌/◌, ◌-◌, map, get_or, is_some, Option}
 use Rattle.bufr_walk.specs.Content.{Taken, missing, ShownValue, Coding, step_of, increments, increased, FieldSpec, Content, answer_of, plain_field, found, data_end, FieldFault, FieldRead, packed_field, answer_first}
 use Rattle.bufr_walk.specs.Reading.{wrong_of, Item, plain, turns_after, ReadsPass, Read, course_of, max_values, items_at_once, Data, Values, apart, together, IsReading, ShowFault, Call, item_call, view_of, Timed, item_calls, Shows, View, PackedValues}
 use Rattle.bufr_walk.specs.Pass.{DataPass, Place, reading_of, values_read}
@@ -10,15 +10,13 @@ use Rattle.std.proofs.Common.{ap}
 use Rattle.bufr_tables.specs.Prelude.{Row, Tree, is_character}
 use Rattle.bufr_walk.specs.declared.plain.ShowStop.{ShowStop}
 use Rattle.bufr_walk.specs.declared.plain.ShowStop.TheVariants as show_stop
-use Rattle.std.specs.List.{list_all, All}
+use Rattle.std.specs.List.{list_all}
 use Rattle.bufr_bits.specs.Prelude.{bits_of, number_of}
 pub use Rattle.bufr_walk.specs.declared.item_index.IndexedItem.{IndexedItem}
 use Rattle.bufr_walk.specs.declared.fault.DataFault.{DataFault}
 use Rattle.bufr_walk.specs.declared.fault.DataFault.TheVariants as data_fault
 use Rattle.bufr_walk.specs.declared.compressed.ItemBits.{ItemBits}
 use Rattle.bufr_walk.specs.declared.reading.StoredItems.{StoredItems}
-use Rattle.bufr_walk.specs.Rules.{unsigned_field}
-use Rattle.bufr_walk.specs.declared.item_index.ItemLocation.{ItemLocation}
 use Rattle.bufr_walk.specs.declared.reading.StoredItems.TheVariants as stored
 
 -- data, a reading, a view and a place from their parts
@@ -178,11 +176,15 @@ abbrev pub was_found : Result (FieldRead (List Content)) FieldFault → Bool
 was_found (Ok f) = true
 was_found (Err why) = false
 
+-- the bit where the item of an entry begins
+abbrev pub start_of : IndexedItem → ℕ
+start_of e = 2 ^ 32 * e.at_high + e.at_low
+
 -- the item at the location of an entry
 abbrev pub item_at : (bits : List Bool) (subsets : ℕ) → IndexedItem → Item (List Content)
 item_at bits n e = record {
   spec = e.spec;
-  content = contents_found (packed_field n e.spec (drop e.at bits));
+  content = contents_found (packed_field n e.spec (drop (start_of e) bits));
 }
 
 -- the items at the locations of entries
@@ -194,7 +196,7 @@ items_at bits n (e ∷ kept) = item_at bits n e ∷ items_at bits n kept
 -- whether an entry has the number of the base in the bits; a text has none
 abbrev pub has_base : (bits : List Bool) → IndexedItem → Bool
 has_base bits e =
-    is_character e.spec.kind || (e.base == number_of (take e.spec.width (drop e.at bits)))
+    is_character e.spec.kind || (e.base == number_of (take e.spec.width (drop (start_of e) bits)))
 
 -- whether each increment is valid
 abbrev pub are_valid : Coding → (k subsets : ℕ) → (base suffix : List Bool) → Bool
@@ -204,8 +206,8 @@ are_valid c k n base suffix =
 -- whether an item is at the location of an entry, with its k and base
 abbrev pub fits_at : (bits : List Bool) (subsets : ℕ) → IndexedItem → Bool
 fits_at bits n e =
-    was_found (packed_field n e.spec (drop e.at bits))
-    && ((e.step == number_of (take 6 (drop (e.at + e.spec.width) bits))) && has_base bits e)
+    was_found (packed_field n e.spec (drop (start_of e) bits))
+    && ((e.step == number_of (take 6 (drop (start_of e + e.spec.width) bits))) && has_base bits e)
 
 -- compressed data with these entries, as they are shown
 abbrev pub packed_values : List Row → (bits : List Bool) (subsets : ℕ) → List IndexedItem
@@ -218,12 +220,14 @@ abbrev pub packed_view : (bits : List Bool) (at subsets : ℕ) → List IndexedI
 packed_view bits at n kept =
     record { bits = bits; at = at; subsets = n; items = items_at bits n kept }
 
--- what holds of a reader: each item has at least one bit and the six of its k
+-- what holds of a reader: each item has at least one bit and the six of its k, and at most 2,550
+-- bits for each subset
 pub record IsPackedIn (bits : List Bool) (at subsets : ℕ) (kept : List IndexedItem) : Type 0 where
   pub within : at ≤ length bits
   pub some : 1 ≤ subsets
   pub few : length kept * subsets ≤ max_values
   pub held : 7 * length kept ≤ at
+  pub near : at ≤ 2550 * (length kept * subsets)
   pub fit : list_all (fits_at bits subsets) kept ≡ true
 
 -- the rest begins with an item, and this is its answer
@@ -284,7 +288,8 @@ AreKept d entries items =
 
 -- the content of a kept item for one subset, counted from 0
 abbrev pub content_kept : (bits : List Bool) (subsets : ℕ) → IndexedItem → (subset : ℕ) → Content
-content_kept bits n e j = content_at j (contents_found (packed_field n e.spec (drop e.at bits)))
+content_kept bits n e j =
+    content_at j (contents_found (packed_field n e.spec (drop (start_of e) bits)))
 
 -- the call that shows a kept item
 abbrev pub call_kept : List Row → (bits : List Bool) (subsets : ℕ) → IndexedItem → (subset : ℕ)
@@ -327,49 +332,10 @@ pub record IsStoredReading (r : Read) (k : StoredItems) : Type 0 where
   pub pays : PaysBits (values_read r) r.bits
   pub short : r.bits ≤ max_values
 
--- ---- The index of the items of compressed data, and their specifications.
+-- ---- The index of the items of compressed data.
 
--- the room for entries, once room was made for the last of them
-abbrev pub room_for : (entries : ℕ) → ℕ
-room_for entries = (entries + (items_at_once - 1)) / items_at_once * items_at_once
-
--- how many more entries have room
-abbrev pub room_left : (entries : ℕ) → ℕ
-room_left entries = room_for entries - entries
-
--- a default for an index after the last field; no item has it
-abbrev pub no_field : FieldSpec
-no_field = unsigned_field 0 0
-
--- the item of a location
-abbrev pub item_at_location : List FieldSpec → ItemLocation → IndexedItem
-item_at_location specs p =
-    record { spec = get_or specs p.spec no_field; at = p.at; base = p.base; step = p.step }
-
--- the items of all locations
-abbrev pub indexed_items : List FieldSpec → List ItemLocation → List IndexedItem
-indexed_items specs places = map (item_at_location specs) places
-
--- a field has this index among others
-pub record HasSpecAt (specs : List FieldSpec) (place : ℕ) (spec : FieldSpec) : Type 0 where
-  pub below : place < length specs
-  pub is : get_or specs place no_field ≡ spec
-
--- a field is among those that were there before, or is appended
-pub record IsPut (specs : List FieldSpec) (spec : FieldSpec) (place : ℕ)
-    (specs' : List FieldSpec) : Type 0 where
-  pub more : List FieldSpec
-  pub grows : specs' ≡ specs ++ more
-  pub few : length more ≤ 1
-  pub fits : HasSpecAt specs' place spec
-
--- each location has its field; the items have room until it is made again, and a field with each;
--- the room is at most that for twice what is kept and 64 more
-pub record IsKeptBy (specs : List FieldSpec) (places : List ItemLocation)
-    (room_specs room_places : ℕ) : Type 0 where
-  pub have : All (λ p. p.spec < length specs) places
-  pub few : length specs ≤ length places
-  pub has_room : room_for (length places) ≤ room_places
-  pub has_room_for_specs : length specs + room_left (length places) ≤ room_specs
-  pub most_places : room_places ≤ 2 * length places + items_at_once
-  pub most_specs : room_specs ≤ 2 * length specs + items_at_once
+-- entries have room up to the next multiple of 64, where it is made again, and no more than twice
+-- as many and 64 need
+pub record HasRoom (entries room : ℕ) : Type 0 where
+  pub enough : (entries + (items_at_once - 1)) / items_at_once * items_at_once ≤ room
+  pub most : room ≤ 2 * entries + items_at_once

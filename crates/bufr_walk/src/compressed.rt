@@ -128,6 +128,7 @@ fn valid_item_at(
     ensures seen { MatchResult result (λ s. IsSeen (bits_of (octets_of bits.now)) at subsets
         spec.now s) (λ e. IsUnseen (bits_of (octets_of bits.now)) at subsets spec.now e) }
     ensures shape { IfOk result (λ s. IsFor spec.now s.answer) }
+    ensures near { IfOk result (λ s. s.end ≤ at + 2550 * subsets) }
 {
     let width = u64::from(spec.width());
     let left = bits.len_bits() - at;
@@ -184,16 +185,14 @@ fn valid_item_at(
 pub const MAX_VALUES: u64 = 134_217_728;
 
 /// Fields of compressed data: each item occurs once for all subsets. An item is a base, six bits
-/// `k`, and where `k` is above 0 an increment for each subset. It keeps the location of each item,
-/// and the fields among them. (WMO-No. 306, Volume I.2, FM 94: section 4, compression)
+/// `k`, and where `k` is above 0 an increment for each subset. It keeps each item with its
+/// location. (WMO-No. 306, Volume I.2, FM 94: section 4, compression)
 #[derive(Drop)]
 pub struct PackedIn<'a> {
     bits: BitSlice<'a>,
     pub(crate) at: u64,
     subsets: u16,
     pub(crate) kept: ItemIndex,
-    /// The guess at the index of the next field.
-    next: u32,
 }
 
 impl<'a> Model for PackedIn<'a> {
@@ -218,7 +217,6 @@ impl<'a> PackedIn<'a> {
             at: 0,
             subsets,
             kept: ItemIndex::new(alloc),
-            next: 0,
         }
     }
 }
@@ -243,24 +241,14 @@ impl<'a> Fields for PackedIn<'a> {
         let seen = valid_item_at(&self.bits, self.at, self.subsets, spec)?;
         let item = IndexedItem {
             spec: *spec,
-            at: self.at,
             base: seen.base,
+            at_low: (self.at % (1 << 32)) as u32,
+            at_high: (self.at >> 32) as u16,
             step: seen.step,
         };
-        let index = self.kept.keep(self.next, item)?;
-        self.next = index.saturating_add(1);
+        self.kept.keep(item)?;
         self.at = seen.end;
         Ok(seen.answer)
-    }
-
-    fn look_at(&mut self, index: u32) {
-        // For the proof alone: with a field used, the reader's invariant is known.
-        let _ = &self.bits;
-        self.next = index;
-    }
-
-    fn last_place(&self) -> Option<u32> {
-        Some(self.next.saturating_sub(1))
     }
 
     fn bits(&self) -> u64 {
@@ -298,7 +286,7 @@ fn number_of(pack: &PackedData<'_>, item: &IndexedItem, subset: u16) -> Option<u
         return Some(item.base);
     }
     let k = u32::from(item.step);
-    let increment_at = item.at + (u64::from(width) + 6) + u64::from(subset) * u64::from(k);
+    let increment_at = item.at() + (u64::from(width) + 6) + u64::from(subset) * u64::from(k);
     let increment = number_at(&pack.bits, increment_at, k);
     let sum = item.base + increment;
     if !may_be_missing {
@@ -337,7 +325,7 @@ fn value_of<'a: 't, 't>(
         (content_kept (bits_of (octets_of pack.now.bits)) pack.now.subsets item.now subset) }
 {
     if item.step == 0 {
-        return value_at(&pack.bits, item.at, &item.spec, text);
+        return value_at(&pack.bits, item.at(), &item.spec, text);
     }
     if !item.spec.is_text() {
         return match number_of(pack, item, subset) {
@@ -347,7 +335,7 @@ fn value_of<'a: 't, 't>(
     }
     let width = item.spec.width();
     let k = u32::from(item.step);
-    let increment_at = item.at + (u64::from(width) + 6) + u64::from(subset) * u64::from(8 * k);
+    let increment_at = item.at() + (u64::from(width) + 6) + u64::from(subset) * u64::from(8 * k);
     let missing = ones_at(&pack.bits, increment_at, 8 * k);
     if missing {
         return Value::Missing;

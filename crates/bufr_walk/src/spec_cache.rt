@@ -16,11 +16,10 @@ pub(crate) const NO_KEY: u64 = 0x4000_0000_0000_0000;
 /// The key of an entry that has no spec.
 const EMPTY: u64 = u64::MAX;
 
-/// A cached spec: its key, and the index of its field in what the last reading kept.
+/// A cached spec and its key.
 #[derive(Clone, Copy)]
 pub(crate) struct CachedSpec {
     key: u64,
-    pub(crate) kept: u32,
     pub(crate) spec: Spec,
 }
 
@@ -90,27 +89,21 @@ impl<'a> SpecCache<'a> {
     {
         self.entries.clear();
         let spec = Spec::text(Role::Element, Fxy::from_word(0), 8, false);
-        self.entries.resize(
-            cells.min(MAX_CELLS),
-            CachedSpec {
-                key: EMPTY,
-                kept: 0,
-                spec,
-            },
-        )
+        let empty = CachedSpec { key: EMPTY, spec };
+        self.entries.resize(cells.min(MAX_CELLS), empty)
     }
 
     /// The spec that was found last for a cell, if it was found under this key.
     #[inline(always)]
-    pub(crate) fn get(&self, place: u32, key: u64) -> Option<&CachedSpec>
+    pub(crate) fn get(&self, place: u32, key: u64) -> Option<&Spec>
         requires { key < 2 ^ 63 }
-        ensures { IfSome result (λ cached. IsSpecBy self.now key cached.now.spec) }
+        ensures { IfSome result (λ spec. IsSpecBy self.now key spec.now) }
     {
         let place = place as usize;
         if place < self.entries.len() {
             let cached = &self.entries[place];
             if cached.key == key {
-                return Some(cached);
+                return Some(&cached.spec);
             }
         }
         None
@@ -123,23 +116,7 @@ impl<'a> SpecCache<'a> {
     {
         let place = place as usize;
         if key < NO_KEY && place < self.entries.len() {
-            let kept = self.entries[place].kept;
-            self.entries[place] = CachedSpec {
-                key,
-                kept,
-                spec: *spec,
-            };
-        }
-    }
-
-    /// Notes the index of the field of a cell among those that are kept.
-    #[inline(always)]
-    pub(crate) fn set_kept(&mut self, place: u32, kept: u32)
-        ensures { self.new ≡ self.old }
-    {
-        let place = place as usize;
-        if place < self.entries.len() {
-            self.entries[place].kept = kept;
+            self.entries[place] = CachedSpec { key, spec: *spec };
         }
     }
 }

@@ -95,18 +95,6 @@ pub trait Fields {
         ensures step { takes self.old spec.now result self.new }
         ensures shape { IfOk result (λ t. IsFor spec.now t) };
 
-    /// Sets the index at which fields that are kept look first for the next field. It is a guess.
-    fn look_at(&mut self, place: u32)
-        ensures { self.new ≡ self.old }
-    {
-        let _ = place;
-    }
-
-    /// The index of the field that was taken last, where fields are kept.
-    fn last_place(&self) -> Option<u32> {
-        None
-    }
-
     /// How many bits were used, by whole items.
     fn bits(&self) -> u64
         ensures { result ≡ used self.now };
@@ -190,21 +178,14 @@ fn take_field<S: Fields>(
     ensures same { cache.new ≡ cache.old }
 {
     let key = in_force.key(&field);
-    let answer = match cache.get(place, key) {
-        Some(cached) => {
-            fields.look_at(cached.kept);
-            in_force.take_other(&cached.spec, fields)
-        }
+    match cache.get(place, key) {
+        Some(spec) => in_force.take_other(spec, fields),
         None => {
             let spec = in_force.spec(cache.table, &field)?;
             cache.insert(place, key, &spec);
             in_force.take(field.fxy(), &spec, fields)
         }
-    };
-    if let Some(kept) = fields.last_place() {
-        cache.set_kept(place, kept);
     }
-    answer
 }
 
 /// Walks over the cells of a template once, field by field: over one subset, or over all of them

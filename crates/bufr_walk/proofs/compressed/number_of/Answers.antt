@@ -1,7 +1,7 @@
 use Rattle.std.proofs.Common.{◌≡◌, ℕ, ◌+◌, ◌*◌, ◌^◌, ◌<◌, ◌≤◌, List, false, true, length, arith, sym, ◌∙◌, ap}
 use Rattle.bufr_bits.specs.Prelude.{bits_of, octets_of}
 use Rattle.bufr_tables.specs.Prelude.{is_character}
-use Rattle.bufr_walk.specs.Prelude.{IndexedItem, fits_at}
+use Rattle.bufr_walk.specs.Prelude.{IndexedItem, start_of, fits_at}
 use Rattle.std.proofs.Math.Nat.{pow-le-pow_right}
 use Rattle.bufr_walk.proofs.PackedLemmas.{number_within, kept_number, step_small, increment_at, all_ones}
 use Rattle.bufr_walk.proofs.PlainLemmas.{bits_length}
@@ -10,14 +10,15 @@ use Rattle.bufr_walk.proofs.compressed.number_of.Goals as goal
 use Rattle.bufr_walk.proofs.compressed.number_of.Goals.{then-increment-k-via-then-increment-k, then-increment-k-via-else-increment-k+then-sum-width, else-may_be_missing-via-then-may_be_missing+else-item-width, else-may_be_missing-via-else-may_be_missing}
 
 -- the increment is within the bits, at the place that is reached in 64 bits
-reach : (octets : List ℕ) (n : ℕ) (e : IndexedItem) (j wide subset step k : ℕ) → fits_at (bits_of octets) n e ≡ true → 1 ≤ e.step → j < n → is_character e.spec.kind ≡ false → wide ≡ e.spec.width
+reach : (octets : List ℕ) (n : ℕ) (e : IndexedItem) (at j wide subset step k : ℕ) → fits_at (bits_of octets) n e ≡ true → 1 ≤ e.step → j < n → is_character e.spec.kind ≡ false → at ≡ start_of e
+    → wide ≡ e.spec.width
     → subset ≡ j → step ≡ k → k ≡ e.step
-    → e.at + (wide + 6) + subset * step + k ≤ 8 * length octets
-reach octets n e j wide subset step k h some below c ew es e8 ek =
+    → at + (wide + 6) + subset * step + k ≤ 8 * length octets
+reach octets n e at j wide subset step k h some below c ea ew es e8 ek =
     let room = number_within (bits_of octets) n e j h some below c in
     let one : (j + 1) * e.step ≡ j * e.step + e.step = omega arith in
     let there : subset * step ≡ j * e.step = ap (λ x. x * step) es ∙ ap (λ x. j * x) (e8 ∙ ek) in
-    omega (arith, room, one, there, ew, ek, bits_length octets)
+    omega (arith, room, one, there, ea, ew, ek, bits_length octets)
 
 pub returns-then-item-width-clause-value : goal.returns-then-item-width-clause-value
 returns-then-item-width-clause-value c =
@@ -40,19 +41,20 @@ pub overflow_add-increment_at-2 : goal.overflow_add-increment_at-2
 overflow_add-increment_at-2 c =
     let room = number_within (bits_of (octets_of c.args.pack.now.bits)) c.args.pack.now.subsets c.args.item.now c.args.subset c.requires.fits (omega (arith, c.if-item-eq0.false)) c.requires.subset
     c.requires.number in
-    omega (arith, room, bits_length (octets_of c.args.pack.now.bits), c.from.ensures, c.width-width.ensures.value)
+    omega (arith, room, bits_length (octets_of c.args.pack.now.bits), c.at.ensures, c.from.ensures, c.width-width.ensures.value)
 
 pub overflow_add-increment_at-3 : goal.overflow_add-increment_at-3
 overflow_add-increment_at-3 c =
     omega (
       arith,
-      reach (octets_of c.args.pack.now.bits) c.args.pack.now.subsets c.args.item.now c.args.subset _ _ _ _ c.requires.fits (omega (arith, c.if-item-eq0.false)) c.requires.subset
-          c.requires.number (c.from.ensures ∙ c.width-width.ensures.value) c.from-2.ensures c.from-3.ensures c.from-k.ensures,
+      reach (octets_of c.args.pack.now.bits) c.args.pack.now.subsets c.args.item.now _ c.args.subset _ _ _ _ c.requires.fits (omega (arith, c.if-item-eq0.false)) c.requires.subset
+          c.requires.number c.at.ensures (c.from.ensures ∙ c.width-width.ensures.value) c.from-2.ensures c.from-3.ensures c.from-k.ensures,
     )
 
 pub number_at-increment-requires-clause-within : goal.number_at-increment-requires-clause-within
 number_at-increment-requires-clause-within c =
-    reach (octets_of c.args.pack.now.bits) c.args.pack.now.subsets c.args.item.now c.args.subset _ _ _ _ c.requires.fits (omega (arith, c.if-item-eq0.false)) c.requires.subset c.requires.number
+    reach (octets_of c.args.pack.now.bits) c.args.pack.now.subsets c.args.item.now _ c.args.subset _ _ _ _ c.requires.fits (omega (arith, c.if-item-eq0.false)) c.requires.subset c.requires.number
+    c.at.ensures
     (c.from.ensures ∙ c.width-width.ensures.value) c.from-2.ensures c.from-3.ensures c.from-k.ensures
 
 pub overflow_add-sum : goal.overflow_add-sum
@@ -70,7 +72,8 @@ returns-then-not-may_be_missing-clause-value c =
     let octets = octets_of c.args.pack.now.bits in
     let item = c.args.item.now in
     let some : 1 ≤ item.step = omega (arith, c.if-item-eq0.false) in
-    let more = increment_at octets item.at item.spec.width c.from-k.result item.step c.args.subset _ _ _ c.number_at-increment.result (c.from.ensures ∙ c.width-width.ensures.value) c.from-2.ensures
+    let more = increment_at octets (start_of item) _ item.spec.width c.from-k.result item.step c.args.subset _ _ _ c.number_at-increment.result c.at.ensures
+    (c.from.ensures ∙ c.width-width.ensures.value) c.from-2.ensures
     c.from-3.ensures c.from-k.ensures c.number_at-increment.ensures.value in
     (kept_never octets c.args.pack.now.subsets item c.args.subset c.number_at-increment.result c.requires.fits some c.requires.subset c.requires.number more
     (sym c.may_be_missing-may_be_missing.ensures ∙ c.if-not-may_be_missing.true)).0
@@ -80,7 +83,8 @@ returns-then-not-may_be_missing-clause-below c =
     let octets = octets_of c.args.pack.now.bits in
     let item = c.args.item.now in
     let some : 1 ≤ item.step = omega (arith, c.if-item-eq0.false) in
-    let more = increment_at octets item.at item.spec.width c.from-k.result item.step c.args.subset _ _ _ c.number_at-increment.result (c.from.ensures ∙ c.width-width.ensures.value) c.from-2.ensures
+    let more = increment_at octets (start_of item) _ item.spec.width c.from-k.result item.step c.args.subset _ _ _ c.number_at-increment.result c.at.ensures
+    (c.from.ensures ∙ c.width-width.ensures.value) c.from-2.ensures
     c.from-3.ensures c.from-k.ensures c.number_at-increment.ensures.value in
     let most = (kept_never octets c.args.pack.now.subsets item c.args.subset c.number_at-increment.result c.requires.fits some c.requires.subset c.requires.number more
     (sym c.may_be_missing-may_be_missing.ensures ∙ c.if-not-may_be_missing.true)).1 in
@@ -92,7 +96,8 @@ returns-then-increment-k-clause-value c =
     let octets = octets_of c.args.pack.now.bits in
     let item = c.args.item.now in
     let some : 1 ≤ item.step = omega (arith, c.if-item-eq0.false) in
-    let more = increment_at octets item.at item.spec.width c.from-k.result item.step c.args.subset _ _ _ c.number_at-increment.result (c.from.ensures ∙ c.width-width.ensures.value) c.from-2.ensures
+    let more = increment_at octets (start_of item) _ item.spec.width c.from-k.result item.step c.args.subset _ _ _ c.number_at-increment.result c.at.ensures
+    (c.from.ensures ∙ c.width-width.ensures.value) c.from-2.ensures
     c.from-3.ensures c.from-k.ensures c.number_at-increment.ensures.value in
     let all = all_ones _ _ c.width-width.ensures.value (c.width-width.ensures.narrow c.requires.number) in
     elim c.then-increment-k.branch [
@@ -108,7 +113,8 @@ returns-clause-value c =
     let octets = octets_of c.args.pack.now.bits in
     let item = c.args.item.now in
     let some : 1 ≤ item.step = omega (arith, c.if-item-eq0.false) in
-    let more = increment_at octets item.at item.spec.width c.from-k.result item.step c.args.subset _ _ _ c.number_at-increment.result (c.from.ensures ∙ c.width-width.ensures.value) c.from-2.ensures
+    let more = increment_at octets (start_of item) _ item.spec.width c.from-k.result item.step c.args.subset _ _ _ c.number_at-increment.result c.at.ensures
+    (c.from.ensures ∙ c.width-width.ensures.value) c.from-2.ensures
     c.from-3.ensures c.from-k.ensures c.number_at-increment.ensures.value in
     let all = all_ones _ _ c.width-width.ensures.value (c.width-width.ensures.narrow c.requires.number) in
     kept_some octets c.args.pack.now.subsets item c.args.subset c.number_at-increment.result c.requires.fits some c.requires.subset c.requires.number more
