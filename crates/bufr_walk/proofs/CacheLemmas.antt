@@ -1,12 +1,13 @@
 -- What is cached: specs by their keys, and lists of descriptors in slots.
 use Rattle.std.proofs.lemmas.Grind.{common_steps}
-use Rattle.std.proofs.Common.{◌≡◌, ◌≢◌, ℕ, zero, suc, inl, inr, Contains, slice_set, ◌+◌, ◌*◌, ◌<◌, arith, sym, ◌^◌, false, List, Ok, ap, subst, ◌≤◌, [], ◌∷◌, ◌++◌, length, length-append, nat_lt}
-use Rattle.bufr_walk.specs.Prelude.{Lists, IsKept, MayStay, list_of, lists_of, OperatorModel, IsKey, is_defining, element_spec, factor_spec, unsigned_field, IsFieldKey, descriptor_of, key_word, spec_of, FieldSpec, is_reference, IsSpecBy, IsOther, TableField}
+use Rattle.std.proofs.Common.{◌≡◌, ◌≢◌, ℕ, zero, suc, inl, inr, Contains, slice_set, get_or, drop, refl, ◌⊎◌, ◌∙◌, ◌-◌, ◌+◌, ◌*◌, ◌<◌, arith, sym, ◌^◌, false, List, Ok, ap, subst, ◌≤◌, [], ◌∷◌, ◌++◌, length, length-append, nat_lt}
+use Rattle.bufr_walk.specs.Prelude.{Lists, with_room, IsKept, MayStay, list_of, lists_of, OperatorModel, IsKey, is_defining, element_spec, factor_spec, unsigned_field, IsFieldKey, descriptor_of, key_word, spec_of, FieldSpec, is_reference, IsSpecBy, IsOther, TableField}
 use Rattle.std.proofs.lemmas.Bool.Decides.{nat_tests}
 use Rattle.bufr_tables.specs.Prelude.{Row, Sequence}
 use Rattle.bufr_walk.proofs.WalkLemmas.{fitted_role, element_cases, kind_role}
-use Rattle.std.specs.List.{All}
-use Rattle.std.proofs.lemmas.List.Elements.{All-append, All-cons, All-head, All-tail, All-nil}
+use Rattle.std.specs.List.{All, remove}
+use Rattle.std.proofs.lemmas.List.{map-append, drop-map, length-map, length-drop}
+use Rattle.std.proofs.lemmas.List.Elements.{All-append, All-drop, All-cons, All-head, All-tail, All-nil}
 use Rattle.bufr_walk.specs.declared.lists.Slot.{Slot}
 use Rattle.bufr_walk.specs.declared.operators.TableField.TheVariants as field
 
@@ -79,12 +80,33 @@ pub all_stay : (b : List Row) (d : List Sequence) (slots : List Slot) → All (I
 all_stay b d [] h = All-nil (MayStay b d)
 all_stay b d (s ∷ slots) h = All-cons (MayStay b d) (list_of s) (lists_of slots) (All-head (IsOther b d) s slots h).stays (all_stay b d slots (All-tail (IsOther b d) s slots h))
 
--- one slot more
-pub one_more : (b : List Row) (d : List Sequence) (slots : List Slot) (s : Slot) → All (IsOther b d) slots → IsOther b d s → All (IsOther b d) (slots ++ s ∷ [])
-one_more b d slots s h p = All-append (IsOther b d) slots (s ∷ []) h (All-cons (IsOther b d) s [] p (All-nil (IsOther b d)))
+-- a slot is put beside others
+pub others_more : (b : List Row) (d : List Sequence) (slots more : List Slot) (s : Slot) → All (IsOther b d) slots → more ≡ with_room slots → IsOther b d s → All (IsOther b d) (more ++ s ∷ [])
+others_more b d slots more s h is p =
+    All-append (IsOther b d) more (s ∷ []) (rw is (All-drop (IsOther b d) (length slots - 126) slots h)) (All-cons (IsOther b d) s [] p (All-nil (IsOther b d)))
 
-pub one_longer : (slots : List Slot) (s : Slot) → length slots ≤ 126 → length (slots ++ s ∷ []) ≤ 127
-one_longer slots s h = simp length-append (omega arith)
+pub few_more : (slots more : List Slot) (s : Slot) → length slots ≤ 127 → more ≡ with_room slots → length (more ++ s ∷ []) ≤ 127
+few_more slots more s few is = omega (arith, few, length-append more (s ∷ []), ap length is, length-drop (length slots - 126) slots)
+
+pub lists_more : (slots more : List Slot) (s : Slot) → more ≡ with_room slots → lists_of (more ++ s ∷ []) ≡ with_room (lists_of slots) ++ list_of s ∷ []
+lists_more slots more s is =
+    map-append list_of more (s ∷ []) ∙ ap (λ xs. xs ++ list_of s ∷ [])
+    (ap lists_of is ∙ sym (drop-map list_of (length slots - 126) slots) ∙ ap (λ n. drop (n - 126) (lists_of slots)) (sym (length-map slots list_of)))
+
+-- a list is among those of the slots where one of them has it
+pub slot_contains : (slots : List Slot) (i : ℕ) (list : List ℕ) → i < length slots → ((s : Slot) → s ≡ get_or slots i s → list_of s ≡ list) → Contains (lists_of slots) list
+slot_contains [] i list h is = absurd (omega (arith, h))
+slot_contains (s ∷ slots) zero list h is = (0, omega arith, is s refl)
+slot_contains (s ∷ slots) (suc i) list h is =
+    let more = slot_contains slots i list (omega (arith, h)) is in
+    (suc more.0, omega (arith, more.1), more.2)
+
+-- the list of the last slot is among those of all
+pub last_kept : (slots : List Slot) (s : Slot) → Contains (lists_of (slots ++ s ∷ [])) (list_of s)
+last_kept [] s = (0, omega arith, refl)
+last_kept (t ∷ slots) s =
+    let more = last_kept slots s in
+    (suc more.0, omega (arith, more.1), more.2)
 
 -- a list is among those of the slots where one of them was replaced by its slot
 pub set_contains : (slots : List Slot) (i : ℕ) (s : Slot) (list : List ℕ) → i < length slots → list_of s ≡ list → Contains (lists_of (slice_set slots i s)) list
@@ -95,11 +117,41 @@ set_contains (t ∷ slots) (suc i) s list h e =
     (suc more.0, omega (arith, more.1), more.2)
 
 -- a list is not kept where no slot has it
-none_contains : (slots : List Slot) (list : List ℕ) → All (λ s. s.templates.list ≢ list) slots → Contains (lists_of slots) list → ⊥
+none_contains : (slots : List Slot) (list : List ℕ) → All (λ s. list_of s ≢ list) slots → Contains (lists_of slots) list → ⊥
 none_contains [] list h (k, few, is) = omega (arith, few)
-none_contains (s ∷ slots) list h (zero, few, is) = All-head (λ (s : Slot). s.templates.list ≢ list) s slots h is
-none_contains (s ∷ slots) list h (suc k, few, is) = none_contains slots list (All-tail (λ (s : Slot). s.templates.list ≢ list) s slots h) (k, omega (arith, few), is)
+none_contains (s ∷ slots) list h (zero, few, is) = All-head (λ (s : Slot). list_of s ≢ list) s slots h is
+none_contains (s ∷ slots) list h (suc k, few, is) = none_contains slots list (All-tail (λ (s : Slot). list_of s ≢ list) s slots h) (k, omega (arith, few), is)
 
-pub none_kept : (l : Lists) (slots : List Slot) (list : List ℕ) → l.others ≡ lists_of slots → l.list ≢ list → All (λ s. s.templates.list ≢ list) slots → IsKept l list → ⊥
+pub none_kept : (l : Lists) (slots : List Slot) (list : List ℕ) → l.others ≡ lists_of slots → l.list ≢ list → All (λ s. list_of s ≢ list) slots → IsKept l list → ⊥
 none_kept l slots list are last others (inl is) = last is
 none_kept l slots list are last others (inr is) = none_contains slots list others (subst (λ xs. Contains xs list) are is)
+
+-- where a slot is selected, the lists of the others stay: another slot takes its place, or none does
+pub set_stays : (slots : List Slot) (i : ℕ) (t : Slot) (wanted list : List ℕ) → i < length slots → ((s : Slot) → s ≡ get_or slots i s → list_of s ≡ wanted) → Contains (lists_of slots) list
+    → (wanted ≡ list) ⊎ Contains (lists_of (slice_set slots i t)) list
+set_stays [] i t wanted list h is c = absurd (omega (arith, h))
+set_stays (s ∷ slots) zero t wanted list h is (zero, few, e) = inl (sym (is s refl) ∙ e)
+set_stays (s ∷ slots) zero t wanted list h is (suc k, few, e) = inr (suc k, omega (arith, few), e)
+set_stays (s ∷ slots) (suc i) t wanted list h is (zero, few, e) = inr (0, omega arith, e)
+set_stays (s ∷ slots) (suc i) t wanted list h is (suc k, few, e) = later (set_stays slots i t wanted list (omega (arith, h)) is (k, omega (arith, few), e))
+  where
+    later : (wanted ≡ list) ⊎ Contains (lists_of (slice_set slots i t)) list → (wanted ≡ list) ⊎ Contains (lists_of (s ∷ slice_set slots i t)) list
+    later (inl e) = inl e
+    later (inr (k, few, e)) = inr (suc k, omega (arith, few), e)
+
+pub remove_stays : (slots : List Slot) (i : ℕ) (wanted list : List ℕ) → i < length slots → ((s : Slot) → s ≡ get_or slots i s → list_of s ≡ wanted) → Contains (lists_of slots) list
+    → (wanted ≡ list) ⊎ Contains (lists_of (remove slots i)) list
+remove_stays [] i wanted list h is c = absurd (omega (arith, h))
+remove_stays (s ∷ slots) zero wanted list h is (zero, few, e) = inl (sym (is s refl) ∙ e)
+remove_stays (s ∷ slots) zero wanted list h is (suc k, few, e) = inr (k, omega (arith, few), e)
+remove_stays (s ∷ slots) (suc i) wanted list h is (zero, few, e) = inr (0, omega arith, e)
+remove_stays (s ∷ slots) (suc i) wanted list h is (suc k, few, e) = later (remove_stays slots i wanted list (omega (arith, h)) is (k, omega (arith, few), e))
+  where
+    later : (wanted ≡ list) ⊎ Contains (lists_of (remove slots i)) list → (wanted ≡ list) ⊎ Contains (lists_of (s ∷ remove slots i)) list
+    later (inl e) = inl e
+    later (inr (k, few, e)) = inr (suc k, omega (arith, few), e)
+
+-- a list is kept: the last one, or that of a slot
+pub kept_beside : (x : Slot) (wanted list : List ℕ) (more : List Slot) → list_of x ≡ wanted → (wanted ≡ list) ⊎ Contains (lists_of more) list → (list_of x ≡ list) ⊎ Contains (lists_of more) list
+kept_beside x wanted list more e (inl f) = inl (e ∙ f)
+kept_beside x wanted list more e (inr c) = inr c

@@ -1,12 +1,12 @@
 //! The last lists of descriptors, each with its template and the specs that its cells were read by.
-ghost use Rattle.std.specs.Prelude.{◌≡◌, ◌<◌, Ok, IfSome, ◌≢◌, ◌≤◌, [], drop, length, true, false, IfErr, OnOk, List, Err, Contains, IfNone, get_or};
+ghost use Rattle.std.specs.Prelude.{◌≡◌, ◌<◌, Ok, IfOk, IfSome, ◌≢◌, ◌≤◌, ◌++◌, ◌∷◌, [], ℕ, length, vec_len, vec_capacity, true, false, IfErr, OnOk, OnErr, List, Err, Contains, IfNone, get_or};
 ghost use Rattle.bufr_tables.specs.Prelude.{Row, Sequence, tree_of, tables_of};
 ghost use Rattle.std.specs.List.{All};
-ghost use Rattle.bufr_walk.specs.Prelude.{MayStay, IsSlotBy, IsOther, IsKept};
+ghost use Rattle.bufr_walk.specs.Prelude.{MayStay, IsSlotBy, IsKept, with_room};
 ghost use Rattle.bufr_walk.specs.declared.lists.Slot.{Slot};
 
 use crate::spec_cache::SpecCache;
-use bufr_tables::{Fxy, SelectedTemplate, TableB, TableD, Template, TemplateFault};
+use bufr_tables::{Fxy, TableB, TableD, Template, TemplateFault};
 use std::alloc::{AllocError, Global};
 use std::marker::Model;
 use std::mem;
@@ -17,50 +17,71 @@ const MAX_OTHERS: usize = 127;
 /// The most descriptors of a list beside the last one, and the most cells of its template.
 const MAX_KEPT: usize = 1024;
 
-/// A list of descriptors with its template, and the specs of its cells.
+/// A list of descriptors, the template or fault that it is expanded to, and the specs of its cells.
 #[derive(Drop)]
 struct Slot<'a> {
-    templates: SelectedTemplate<'a>,
+    list: Vec<Fxy>,
+    answer: Result<Template, TemplateFault>,
     specs: SpecCache<'a>,
 }
 
 impl<'a> Slot<'a> {
-    /// The list of no descriptors.
-    fn new(alloc: Global, table_b: &'a TableB, table_d: &'a TableD) -> Slot<'a>
-        ensures slot { IsSlotBy table_b.now table_d.now result }
-        ensures list { result.templates.list ≡ [] }
+    /// The list of no descriptors. Takes no memory.
+    fn new(alloc: Global, table_b: &'a TableB) -> Slot<'a>
+        ensures slot { (table_d : List Sequence) → IsSlotBy table_b.now table_d result }
+        ensures list { result.list.items ≡ [] }
     {
         Slot {
-            templates: SelectedTemplate::new(alloc, table_b, table_d),
+            list: Vec::new(alloc),
+            answer: Err(TemplateFault::EmptyGroup(Fxy::from_word(0))),
             specs: SpecCache::new(alloc, table_b),
         }
     }
 
-    /// Expands this list, and makes room for the specs of its cells.
-    fn expand(&mut self, descriptors: &[Fxy]) -> Result<(), AllocError>
-        ensures table_b { self.new.templates.table_b ≡ self.old.templates.table_b }
-        ensures table_d { self.new.templates.table_d ≡ self.old.templates.table_d }
-        ensures specs { self.new.specs ≡ self.old.specs }
-        ensures list { OnOk result (self.new.templates.list ≡ descriptors.now) }
+    /// Expands a list, and makes room for the specs of its cells.
+    fn expand(
+        alloc: Global,
+        descriptors: &[Fxy],
+        table_b: &'a TableB,
+        table_d: &TableD,
+    ) -> Result<Slot<'a>, AllocError>
+        ensures slot { IfOk result (λ slot. IsSlotBy table_b.now table_d.now slot) }
+        ensures list { IfOk result (λ slot. slot.list.items ≡ descriptors.now) }
     {
-        self.templates.select(descriptors)?;
-        match self.templates.answer() {
-            Ok(template) => self.specs.reset(template.cells().len()),
-            Err(_) => Ok(()),
+        let mut specs = SpecCache::new(alloc, table_b);
+        let answer = Template::build(alloc, descriptors, table_b, table_d);
+        match &answer {
+            Ok(template) => specs.reset(template.cells().len())?,
+            Err(TemplateFault::Memory) => return Err(AllocError),
+            Err(_) => {}
         }
+        let list = Vec::from_slice(alloc, descriptors)?;
+        Ok(Slot {
+            list,
+            answer,
+            specs,
+        })
+    }
+
+    /// Whether its list is this one.
+    fn has(&self, descriptors: &[Fxy]) -> bool
+        ensures same { result ≡ true → self.now.list.items ≡ descriptors.now }
+        ensures other { result ≡ false → self.now.list.items ≢ descriptors.now }
+    {
+        self.list.as_slice() == descriptors
     }
 
     /// Whether it may stay beside the last one.
     fn may_stay(&self) -> bool
-        ensures stays { result ≡ true → MayStay self.now.templates.table_b
-            self.now.templates.table_d self.now.templates.list }
-        ensures goes { result ≡ false → ¬ MayStay self.now.templates.table_b
-            self.now.templates.table_d self.now.templates.list }
+        ensures stays { result ≡ true → (table_b : List Row) (table_d : List Sequence)
+            → IsSlotBy table_b table_d self.now → MayStay table_b table_d self.now.list.items }
+        ensures goes { result ≡ false → (table_b : List Row) (table_d : List Sequence)
+            → IsSlotBy table_b table_d self.now → ¬ MayStay table_b table_d self.now.list.items }
     {
-        if self.templates.len() > MAX_KEPT {
+        if self.list.len() > MAX_KEPT {
             return false;
         }
-        match self.templates.answer() {
+        match &self.answer {
             Ok(template) => template.places() as usize <= MAX_KEPT,
             Err(_) => false,
         }
@@ -71,22 +92,18 @@ impl<'a> Slot<'a> {
 fn index_of(slots: &[Slot<'_>], descriptors: &[Fxy]) -> Option<usize>
     ensures inside { IfSome result (λ index. index < length slots.now) }
     ensures there { IfSome result (λ index. (slot : Slot) → slot ≡ get_or slots.now index slot
-        → slot.templates.list ≡ descriptors.now) }
-    ensures none { IfNone result (All (λ slot. slot.templates.list ≢ descriptors.now) slots.now) }
+        → slot.list.items ≡ descriptors.now) }
+    ensures none { IfNone result (All (λ slot. slot.list.items ≢ descriptors.now) slots.now) }
 {
-    slots
-        .iter()
-        .position(|slot| slot.templates.is_selected(descriptors))
+    slots.iter().position(|slot| slot.has(descriptors))
 }
 
 /// Drops the first of the slots where there is no room for one more.
 fn drop_first(slots: &mut Vec<Slot<'_>>)
     requires { length slots.old.items ≤ 127 }
-    ensures few { length slots.new.items ≤ 126 }
-    ensures stay { length slots.old.items < 127 → slots.new.items ≡ slots.old.items }
-    ensures first { length slots.old.items ≡ 127 → slots.new.items ≡ drop 1 slots.old.items }
-    ensures others { (b : List Row) (d : List Sequence) → All (IsOther b d) slots.old.items
-        → All (IsOther b d) slots.new.items }
+    ensures items { slots.new.items ≡ with_room slots.old.items }
+    ensures few { vec_len slots.new ≤ vec_len slots.old }
+    ensures room { vec_capacity slots.new ≡ vec_capacity slots.old }
 {
     if slots.len() == MAX_OTHERS {
         let _ = slots.remove(0);
@@ -124,7 +141,7 @@ impl<'a> Model for TemplateCache<'a> {
     ghost view = { λ t. record {
       table_b = t.table_b.now;
       table_d = t.table_d.now;
-      list = t.last.templates.list;
+      list = t.last.list.items;
       others = lists_of t.others.items;
     } };
 
@@ -145,18 +162,22 @@ impl<'a> TemplateCache<'a> {
             alloc,
             table_b,
             table_d,
-            last: Slot::new(alloc, table_b, table_d),
+            last: Slot::new(alloc, table_b),
             others: Vec::new(alloc),
         }
     }
 
     /// Makes this list of descriptors the last one, and expands it if it is not kept. The list
-    /// before it is kept where it has at most 1,024 descriptors, and its template as many cells. At
-    /// most 127 others are kept, in at most 8 MB. A list that is kept is found without memory.
+    /// before it is kept as the last of the others if it has at most 1,024 descriptors, and its
+    /// template as many cells. At most 127 others are kept: if there are more, the first one is
+    /// dropped. A list that is kept is found without memory.
+    ///
+    /// The others take at most 9 MB: a descriptor takes 2 octets, a cell 8 (with room for up to
+    /// twice as many), and a cell's spec 48. That is at most 67,584 octets for each list.
     ///
     /// # Errors
     ///
-    /// [`AllocError`] where memory runs out.
+    /// [`AllocError`] where memory runs out. Then the lists are as before.
     pub fn select(&mut self, descriptors: &[Fxy]) -> Result<(), AllocError>
         ensures table_b { self.new.table_b ≡ self.old.table_b }
         ensures table_d { self.new.table_d ≡ self.old.table_d }
@@ -164,8 +185,17 @@ impl<'a> TemplateCache<'a> {
         ensures found { IsKept self.old descriptors.now → result ≡ Ok tt }
         ensures before { OnOk result (MayStay self.old.table_b self.old.table_d self.old.list
             → IsKept self.new self.old.list) }
+        ensures stay { IsKept self.old descriptors.now
+            → (list : List ℕ) → Contains self.old.others list → IsKept self.new list }
+        ensures added { OnOk result (¬ IsKept self.old descriptors.now
+            → MayStay self.old.table_b self.old.table_d self.old.list
+            → self.new.others ≡ with_room self.old.others ++ self.old.list ∷ []) }
+        ensures others { OnOk result (¬ IsKept self.old descriptors.now
+            → ¬ MayStay self.old.table_b self.old.table_d self.old.list
+            → self.new.others ≡ self.old.others) }
+        ensures same { OnErr result (self.new ≡ self.old) }
     {
-        if self.last.templates.is_selected(descriptors) {
+        if self.last.has(descriptors) {
             return Ok(());
         }
         if let Some(index) = index_of(&self.others, descriptors) {
@@ -176,23 +206,15 @@ impl<'a> TemplateCache<'a> {
             }
             return Ok(());
         }
-        if self.last.may_stay() {
-            self.set_aside()?;
+        let slot = Slot::expand(self.alloc, descriptors, self.table_b, self.table_d)?;
+        if !self.last.may_stay() {
+            self.last = slot;
+            return Ok(());
         }
-        self.last.expand(descriptors)
-    }
-
-    /// Puts the last list among the others. Then the list of no descriptors is the last.
-    fn set_aside(&mut self) -> Result<(), AllocError>
-        requires { MayStay self.old.table_b self.old.table_d self.old.list }
-        ensures table_b { self.new.table_b ≡ self.old.table_b }
-        ensures table_d { self.new.table_d ≡ self.old.table_d }
-        ensures before { OnOk result (Contains self.new.others self.old.list) }
-    {
+        self.others.reserve(1)?;
         drop_first(&mut self.others);
-        let fresh = Slot::new(self.alloc, self.table_b, self.table_d);
-        let slot = mem::replace(&mut self.last, fresh);
-        self.others.push(slot)?;
+        let before = mem::replace(&mut self.last, slot);
+        self.others.push_reserved(before);
         Ok(())
     }
 
@@ -223,7 +245,7 @@ impl<'a> TemplateCache<'a> {
             self.now.list ≡ result.now }
         ensures reported { IfErr result.now (λ why. why ≢ TemplateFault.Memory) }
     {
-        self.last.templates.answer()
+        &self.last.answer
     }
 
     /// The table that gives the elements of the templates.

@@ -1,13 +1,12 @@
 //! The operators in force, and the specification of a field under them.
-ghost use Rattle.std.specs.Prelude.{ℕ, ◌≡◌, ◌≤◌, ◌<◌, ◌*◌, ◌+◌, ◌^◌, ◌+ℤ◌, ◌*ℤ◌, ◌==◌, pos, unsigned_abs, List, Result, Ok, Err, Some, OnOk, IfOk, IfErr, true, false};
-ghost use Rattle.bufr_tables.specs.Prelude.{row_of_entry, is_legal_operator, is_inserted_text, IsRow};
-ghost use Rattle.bufr_walk.specs.Prelude.{if_valid_width, spec_by_kind, unsigned_field, scale_change_of, operator_width, OperatorModel, Redefined, current_reference, AreOperands, known_by, operator_model, IsOperatorKey, HasRole, descriptor_of, inserted_spec, begin, after_operator, after_field, IsFieldKey, spec_of, is_reference, TakesField};
+ghost use Rattle.std.specs.Prelude.{◌≡◌, ◌≤◌, ◌<◌, ◌*◌, ◌+◌, ◌^◌, ◌+ℤ◌, ◌*ℤ◌, ◌==◌, pos, unsigned_abs, List, Result, Ok, Err, Some, OnOk, IfErr, true, false};
+ghost use Rattle.bufr_tables.specs.Prelude.{row_of_entry, is_legal_operator, IsRow};
+ghost use Rattle.bufr_walk.specs.Prelude.{if_valid_width, spec_by_kind, unsigned_field, scale_change_of, operator_width, OperatorModel, Redefined, current_reference, AreOperands, known_by, operator_model, IsOperatorKey, HasRole, descriptor_of, begin, after_operator, IsFieldKey, spec_of};
 ghost use Rattle.bufr_tables.specs.declared.table_b.Kind.TheVariants as kinds;
 ghost use Rattle.bufr_walk.specs.declared.operators.OperatorOperands.{OperatorOperands};
 
-use crate::spec::{NumberParts, Role, Spec, Taken, TurnRefusal};
+use crate::spec::{NumberParts, Role, Spec, TurnRefusal};
 use crate::spec_cache::NO_KEY;
-use crate::walker::{Fields, WalkStop};
 use bufr_tables::{Entry, Fxy, Kind, TableB};
 use std::alloc::Global;
 use std::collections::BTreeMap;
@@ -18,10 +17,10 @@ use std::marker::Model;
 pub(crate) struct OperatorOperands {
     width_change: u8,
     scale_change: u8,
-    new_reference_width: u8,
+    pub(crate) new_reference_width: u8,
     precision_increase: u8,
     character_octets: u8,
-    local_width: u8,
+    pub(crate) local_width: u8,
 }
 
 /// No operator is in force.
@@ -57,10 +56,10 @@ impl TableField {
 /// descriptor. Data may define thousands of references, and each item looks for its own.
 #[derive(Drop)]
 pub(crate) struct OperatorState {
-    operands: OperatorOperands,
-    new_references: BTreeMap<u16, i64>,
+    pub(crate) operands: OperatorOperands,
+    pub(crate) new_references: BTreeMap<u16, i64>,
     /// The part of the operators in the key of a spec, or [`NO_KEY`].
-    key: u64,
+    pub(crate) key: u64,
 }
 
 impl Model for OperatorState {
@@ -75,7 +74,7 @@ impl Model for OperatorState {
 }
 
 /// The operands in one number. [`NO_KEY`] where a reference is being defined or was redefined.
-fn key_by(operands: OperatorOperands, new_references: &BTreeMap<u16, i64>) -> u64
+pub(crate) fn key_by(operands: OperatorOperands, new_references: &BTreeMap<u16, i64>) -> u64
     ensures { IsOperatorKey (operator_model operands (known_by new_references.now.entries)) result }
 {
     if operands.new_reference_width > 0 || !new_references.is_empty() {
@@ -339,88 +338,5 @@ impl OperatorState {
         }
         self.key = key_by(self.operands, &self.new_references);
         Ok(())
-    }
-
-    /// Takes a field that is no reference. The width of 2 06 Y ends with it.
-    #[inline(always)]
-    #[tactic(auto, using(crate::proofs::WalkLemmas::no_reference))]
-    // rule: 2-06-y-used-up
-    pub(crate) fn take_other<S: Fields>(
-        &mut self,
-        spec: &Spec,
-        fields: &mut S,
-    ) -> Result<Taken, WalkStop<S::Fault>>
-        requires { is_reference spec.now.role ≡ false }
-        ensures took { TakesField S.takes (Ok spec.now) fields.old result fields.new }
-        ensures kept { IfOk result (λ t. (fxy : ℕ) → self.new ≡ after_field self.old fxy t) }
-    {
-        match fields.take(spec) {
-            Ok(answer) => {
-                if self.operands.local_width != 0 {
-                    self.operands.local_width = 0;
-                    self.key = key_by(self.operands, &self.new_references);
-                }
-                Ok(answer)
-            }
-            Err(fault) => Err(WalkStop::Field(fault)),
-        }
-    }
-
-    /// Takes a text of the template (2 05 Y).
-    #[tactic(auto, using(crate::proofs::SpecLemmas::inserted_width))]
-    #[inline(always)]
-    // rule: 2-05-y, defining-no-inserted-text
-    pub(crate) fn take_inserted<S: Fields>(
-        &mut self,
-        fxy: Fxy,
-        fields: &mut S,
-    ) -> Result<Taken, WalkStop<S::Fault>>
-        requires legal { is_legal_operator fxy ≡ true }
-        requires text { is_inserted_text fxy ≡ true }
-        ensures took { TakesField S.takes (inserted_spec self.old fxy) fields.old result
-            fields.new }
-        ensures kept { IfOk result (λ t. self.new ≡ after_field self.old fxy t) }
-    {
-        if self.operands.new_reference_width > 0 {
-            return Err(WalkStop::Defining(fxy));
-        }
-        let spec = Spec::text(Role::Inserted, fxy, 8 * u32::from(fxy.y()), false);
-        self.take(fxy, &spec, fields)
-    }
-
-    /// Takes a field. The width of 2 06 Y ends with it, and a new reference is kept. Room for the
-    /// reference is made before.
-    #[tactic(auto, using(crate::proofs::SpecLemmas::with_again, crate::proofs::SpecLemmas::known_more))]
-    #[inline(never)]
-    // rule: last-reference-counts
-    pub(crate) fn take<S: Fields>(
-        &mut self,
-        fxy: Fxy,
-        spec: &Spec,
-        fields: &mut S,
-    ) -> Result<Taken, WalkStop<S::Fault>>
-        ensures took { TakesField S.takes (Ok spec.now) fields.old result fields.new }
-        ensures kept { IfOk result (λ t. self.new ≡ after_field self.old fxy t) }
-    {
-        if !spec.is_reference() {
-            return self.take_other(spec, fields);
-        }
-        self.key = NO_KEY;
-        match self.new_references.insert(fxy.word(), 0) {
-            Ok(_) => {}
-            Err(_) => return Err(WalkStop::Memory),
-        }
-        match fields.take(spec) {
-            Ok(Taken::Reference(reference)) => {
-                match self.new_references.insert(fxy.word(), reference) {
-                    Ok(_) => {}
-                    Err(_) => unreachable!(),
-                }
-                self.operands.local_width = 0;
-                Ok(Taken::Reference(reference))
-            }
-            Ok(_) => unreachable!(),
-            Err(fault) => Err(WalkStop::Field(fault)),
-        }
     }
 }

@@ -1,13 +1,13 @@
 //! The walk over the cells of a template, with the fields that it takes, its stops and its steps.
-ghost use Rattle.std.specs.Prelude.{◌≡◌, ℕ, ◌+◌, ◌-◌, ◌^◌, ◌<◌, Result, Ok, Err, IfOk, ◌≤◌, ◌*◌, ◌++◌, ◌∷◌, [], List, OnOk, OnErr};
-ghost use Rattle.bufr_walk.specs.Prelude.{ticked, Walked, TakesField, counted_item, FieldSpec, IsFor, Taken, after_field, descriptor_of, spec_of, stop_by};
+ghost use Rattle.std.specs.Prelude.{◌≡◌, ℕ, ◌+◌, ◌-◌, ◌^◌, ◌<◌, Result, Ok, Err, IfOk, ◌≤◌, ◌*◌, ◌++◌, ◌∷◌, [], List, OnOk, OnErr, true, false};
+ghost use Rattle.bufr_walk.specs.Prelude.{ticked, Walked, TakesField, counted_item, FieldSpec, IsFor, Taken, after_field, descriptor_of, spec_of, stop_by, inserted_spec, is_reference};
 ghost use Rattle.arrayvec.specs.ArrayVec.{array_vec_len};
-ghost use Rattle.bufr_tables.specs.Prelude.{places};
+ghost use Rattle.bufr_tables.specs.Prelude.{is_inserted_text, is_legal_operator, places};
 ghost use Rattle.bufr_walk.specs.declared.walker.Frame.{Frame};
 
-use crate::operators::{OperatorState, TableField};
-use crate::spec::{Spec, Taken, TurnRefusal};
-use crate::spec_cache::SpecCache;
+use crate::operators::{OperatorState, TableField, key_by};
+use crate::spec::{Role, Spec, Taken, TurnRefusal};
+use crate::spec_cache::{NO_KEY, SpecCache};
 use arrayvec::ArrayVec;
 use bufr_tables::{Cell, Fxy, TableB, Template};
 use std::alloc::Global;
@@ -107,6 +107,91 @@ pub trait Fields {
     /// A field that is not taken uses no bit.
     ghost refuses: { (s : Self) (spec : FieldSpec) (e : Self.Fault) (next : Self)
         → takes s spec (Err e) next → used next ≡ used s };
+}
+
+impl OperatorState {
+    /// Takes a field that is no reference. The width of 2 06 Y ends with it.
+    #[inline(always)]
+    #[tactic(auto, using(crate::proofs::WalkLemmas::no_reference))]
+    // rule: 2-06-y-used-up
+    pub(crate) fn take_other<S: Fields>(
+        &mut self,
+        spec: &Spec,
+        fields: &mut S,
+    ) -> Result<Taken, WalkStop<S::Fault>>
+        requires { is_reference spec.now.role ≡ false }
+        ensures took { TakesField S.takes (Ok spec.now) fields.old result fields.new }
+        ensures kept { IfOk result (λ t. (fxy : ℕ) → self.new ≡ after_field self.old fxy t) }
+    {
+        match fields.take(spec) {
+            Ok(answer) => {
+                if self.operands.local_width != 0 {
+                    self.operands.local_width = 0;
+                    self.key = key_by(self.operands, &self.new_references);
+                }
+                Ok(answer)
+            }
+            Err(fault) => Err(WalkStop::Field(fault)),
+        }
+    }
+
+    /// Takes a text of the template (2 05 Y).
+    #[tactic(auto, using(crate::proofs::SpecLemmas::inserted_width))]
+    #[inline(always)]
+    // rule: 2-05-y, defining-no-inserted-text
+    pub(crate) fn take_inserted<S: Fields>(
+        &mut self,
+        fxy: Fxy,
+        fields: &mut S,
+    ) -> Result<Taken, WalkStop<S::Fault>>
+        requires legal { is_legal_operator fxy ≡ true }
+        requires text { is_inserted_text fxy ≡ true }
+        ensures took { TakesField S.takes (inserted_spec self.old fxy) fields.old result
+            fields.new }
+        ensures kept { IfOk result (λ t. self.new ≡ after_field self.old fxy t) }
+    {
+        if self.operands.new_reference_width > 0 {
+            return Err(WalkStop::Defining(fxy));
+        }
+        let spec = Spec::text(Role::Inserted, fxy, 8 * u32::from(fxy.y()), false);
+        self.take(fxy, &spec, fields)
+    }
+
+    /// Takes a field. The width of 2 06 Y ends with it, and a new reference is kept. Room for the
+    /// reference is made before.
+    #[tactic(auto, using(crate::proofs::SpecLemmas::with_again, crate::proofs::SpecLemmas::known_more))]
+    #[inline(never)]
+    // rule: last-reference-counts
+    pub(crate) fn take<S: Fields>(
+        &mut self,
+        fxy: Fxy,
+        spec: &Spec,
+        fields: &mut S,
+    ) -> Result<Taken, WalkStop<S::Fault>>
+        ensures took { TakesField S.takes (Ok spec.now) fields.old result fields.new }
+        ensures kept { IfOk result (λ t. self.new ≡ after_field self.old fxy t) }
+    {
+        if !spec.is_reference() {
+            return self.take_other(spec, fields);
+        }
+        self.key = NO_KEY;
+        match self.new_references.insert(fxy.word(), 0) {
+            Ok(_) => {}
+            Err(_) => return Err(WalkStop::Memory),
+        }
+        match fields.take(spec) {
+            Ok(Taken::Reference(reference)) => {
+                match self.new_references.insert(fxy.word(), reference) {
+                    Ok(_) => {}
+                    Err(_) => unreachable!(),
+                }
+                self.operands.local_width = 0;
+                Ok(Taken::Reference(reference))
+            }
+            Ok(_) => unreachable!(),
+            Err(fault) => Err(WalkStop::Field(fault)),
+        }
+    }
 }
 
 /// An open group: first cell of its body, first cell after it, passes left after this one.
