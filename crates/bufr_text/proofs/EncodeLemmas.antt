@@ -1,8 +1,8 @@
 -- The bits and the turns of a walk that writes.
 use Rattle.std.proofs.Common.{inl, inr, ◌≡◌, ◌+◌, ℕ, suc, Bool, List, [], ◌∷◌, ◌++◌, length, length-append, Option, Some, None, Result, Ok, Err, refl, sym, ◌∙◌, ap, subst, arith, ◌<◌, get_or, true, false, ◌≤◌, zero, ◌-◌, ◌*◌, append_assoc, if◌then◌else◌}
 use Rattle.bufr_walk.specs.declared.spec.Taken.{Taken}
-use Rattle.bufr_walk.specs.Prelude.{bits_for, FieldSpec, octets_in, Course, Next, take_next, at_end, astray, refused, counts_of, Turns, finish, open_end, group, pass_end, factor_turn, element_turn, operator_turn, Rest, passes, unroll, TakenField, Takes, course_after, ticked, answers_of, oks, StopsWalk, Walked, element_spec, factor_spec, inserted_spec, OperatorModel, after_operator, after_field, would_be_many, CountedCourse, uncounted, counted_item, turns_ahead, turns_asked, turns_operated}
-use Rattle.bufr_fill.specs.Prelude.{written_item, IfDraftFault, at_line, DraftEntry, Holds, Ends, Subset, subset, prepend_to_subset, subsets_of, WrittenItem, Filler, fill_pass, bits_written, fill, with_bits_before, Writing, pass_writing, writing_then, bits_of_writing, turns_written, plain_filler, plain_writing, plain_data, packed_writing, cells_at, rows, most_items, packed_filler, packed_data, AreOctets, PlainOutModel, PlainFills, IsFaultNext, after_end, line_at, items_left, end_left, ends_of, PackedOutModel, new_packed_out, PackedFills, IsFaultHere, all_at_end, first_line_at, rows_left}
+use Rattle.bufr_walk.specs.Prelude.{bits_for, FieldSpec, octets_in, Course, Next, take_next, at_end, astray, refused, counts_of, Turns, finish, open_end, group, pass_end, factor_turn, element_turn, operator_turn, Rest, passes, unroll, TakenField, Takes, course_after, ticked, answers_of, oks, StopsWalk, Walked, element_spec, factor_spec, inserted_spec, OperatorModel, after_operator, after_field, would_be_many, CountedCourse, uncounted, counted_item, turns_ahead, turns_asked, turns_operated, answers_in}
+use Rattle.bufr_fill.specs.Prelude.{written_item, IfDraftFault, at_line, DraftEntry, Holds, Ends, Subset, subset, prepend_to_subset, subsets_of, WrittenItem, Filler, fill_pass, bits_written, fill, with_bits_before, Writing, pass_writing, writing_then, bits_of_writing, plain_filler, plain_writing, plain_data, packed_writing, cells_at, rows, most_items, packed_filler, packed_data, AreOctets, PlainOutModel, PlainFills, IsFaultNext, after_end, line_at, items_left, end_left, ends_of, PackedOutModel, new_packed_out, PackedFills, IsFaultHere, all_at_end, first_line_at, rows_left}
 use Rattle.bufr_fill.specs.declared.fault.DraftFault.{DraftFault}
 use Rattle.bufr_fill.proofs.FillSteps.{plain_written, pass_at, pass_with, pass_more, fill_end}
 use Rattle.bufr_fill.proofs.WalkLemmas.{HasFilled, after_answers, fills, walk_of_items, fault_as_defined}
@@ -32,7 +32,7 @@ abbrev count_filled : {D C E : Type 0} → Filler D C E → CountedCourse → Li
 count_filled filler course drafts = length (bits_written (fill_pass filler (uncounted course) drafts).items)
 
 abbrev turns_filled : {D C E : Type 0} → Filler D C E → CountedCourse → List D → ℕ
-turns_filled filler course drafts = turns_written filler course (fill_pass filler (uncounted course) drafts).items
+turns_filled filler course drafts = (course (answers_in (λ spec w. filler.gives spec w.content) (fill_pass filler (uncounted course) drafts).items)).turns
 
 module _ {D C E S : Type 0} (filler : Filler D C E) (left : S → List D) (out : S → List Bool) (takes : S → FieldSpec → Taken → S → Type 0)
     (fills : (s : S) (spec : FieldSpec) (t : Taken) (s' : S) → takes s spec t s' → HasFilled filler (left s) (out s) spec t (left s') (out s')) where
@@ -191,7 +191,7 @@ module _ {D C E S : Type 0} (filler : Filler D C E) (left : S → List D) (out :
       → turns_filled filler course (left s) ≡ turns_filled filler (λ results. course (t ∷ results)) (left mid)
   turns_of_one course s spec t mid next h =
       ap (turns_filled filler course) h.here
-      ∙ ap (λ p. turns_written filler course p.items) (pass_more filler (uncounted course) h.draft (left mid) spec (Ok h.item) next h.fills)
+      ∙ ap (λ p. (course (answers_in (λ spec w. filler.gives spec w.content) p.items)).turns) (pass_more filler (uncounted course) h.draft (left mid) spec (Ok h.item) next h.fills)
       ∙ ap (λ x. turns_filled filler (λ results. course (x ∷ results)) (left mid)) (sym h.gives)
 
   -- the turns of all drafts are those of the drafts that a walk left, after its items
@@ -210,11 +210,11 @@ module _ {D C E : Type 0} (filler : Filler D C E) where
   IsLast astray ds = Unit {0}
 
   here : (course : CountedCourse) (ds : List D) (n : Next) → (course []).next ≡ n → IsLast n ds → turns_filled filler course ds ≡ (course []).turns
-  here course ds n e h = ap (λ n. turns_written filler course (pass_at filler (uncounted course) ds n).items) e ∙ by n ds h
+  here course ds n e h = ap (λ n. (course (answers_in (λ spec w. filler.gives spec w.content) (pass_at filler (uncounted course) ds n).items)).turns) e ∙ by n ds h
     where
-      by : (n : Next) (ds : List D) → IsLast n ds → turns_written filler course (pass_at filler (uncounted course) ds n).items ≡ (course []).turns
+      by : (n : Next) (ds : List D) → IsLast n ds → (course (answers_in (λ spec w. filler.gives spec w.content) (pass_at filler (uncounted course) ds n).items)).turns ≡ (course []).turns
       by (take_next spec) [] h = refl
-      by (take_next spec) (d ∷ ds) h = ap (λ r. turns_written filler course (pass_with filler (uncounted course) d ds spec r).items) h.1
+      by (take_next spec) (d ∷ ds) h = ap (λ r. (course (answers_in (λ spec w. filler.gives spec w.content) (pass_with filler (uncounted course) d ds spec r).items)).turns) h.1
       by at_end ds h = refl
       by (refused why) ds h = refl
       by astray ds h = refl
@@ -222,7 +222,7 @@ module _ {D C E : Type 0} (filler : Filler D C E) where
   at_least : (course : CountedCourse) (ds : List D) → AddsTurns course → (course []).turns ≤ turns_filled filler course ds
   at_least course [] g = by (course []).next
     where
-      by : (n : Next) → (course []).turns ≤ turns_written filler course (pass_at filler (uncounted course) [] n).items
+      by : (n : Next) → (course []).turns ≤ (course (answers_in (λ spec w. filler.gives spec w.content) (pass_at filler (uncounted course) [] n).items)).turns
       by (take_next spec) = omega arith
       by at_end = omega arith
       by (refused why) = omega arith
@@ -231,12 +231,12 @@ module _ {D C E : Type 0} (filler : Filler D C E) where
       by (course []).next (λ t. omega (arith, g [] (t ∷ []), at_least (λ results. course (t ∷ results)) ds (λ results more. g (t ∷ results) more)))
     where
       at_field : (spec : FieldSpec) (r : Result (WrittenItem C) E) → ((t : Taken) → (course []).turns ≤ turns_filled filler (λ results. course (t ∷ results)) ds)
-          → (course []).turns ≤ turns_written filler course (pass_with filler (uncounted course) d ds spec r).items
+          → (course []).turns ≤ (course (answers_in (λ spec w. filler.gives spec w.content) (pass_with filler (uncounted course) d ds spec r).items)).turns
       at_field spec (Ok w) h = h (filler.gives spec w.content)
       at_field spec (Err why) h = omega arith
 
       by : (n : Next) → ((t : Taken) → (course []).turns ≤ turns_filled filler (λ results. course (t ∷ results)) ds)
-          → (course []).turns ≤ turns_written filler course (pass_at filler (uncounted course) (d ∷ ds) n).items
+          → (course []).turns ≤ (course (answers_in (λ spec w. filler.gives spec w.content) (pass_at filler (uncounted course) (d ∷ ds) n).items)).turns
       by (take_next spec) h = at_field spec (filler.fills spec d) h
       by n h = omega arith
 
@@ -392,7 +392,7 @@ subset_written n course s c mid c' s' w passed same few =
       turns = (next_writing course s.left).turns;
       is =
           let p = fill_pass (plain_filler end) (uncounted course) (items_left s.left) in
-          wrote_all filled.0 (bits_written p.items) p.stop (turns_written (plain_filler end) course p.items)
+          wrote_all filled.0 (bits_written p.items) p.stop (course (answers_in (λ spec w. (plain_filler end).gives spec w.content) p.items)).turns
           (filled.2 ∙ ap (with_bits_before (plain_filler end) filled.0) none.0 ∙ ap Ok (append-nil filled.0));
       written = same ∙ filled.1;
       left = sym none.1 ∙ k.suffix;

@@ -1,8 +1,9 @@
 -- Bounds on the items and the steps of readings and showings.
+use Rattle.std.proofs.lemmas.List.{length-map}
 use Rattle.std.proofs.Common.{◌≡◌, ℕ, zero, suc, ◌+◌, ◌-◌, ◌*◌, ◌<◌, ◌≤◌, List, [], ◌∷◌, length, Bool, true, false, ◌||◌, Result, Ok, Err, refl, ap, subst, arith, ◌++◌, inl, inr, drop, sym, ◌∙◌}
 use Rattle.std.proofs.Math.Nat.{mul-le-mul_left}
 use Rattle.bufr_tables.specs.Prelude.{Tree, bare, element, operator, fixed, delayed, size, places, consumes, is_inserted_text, Row, EveryGroupConsumes, IsSound}
-use Rattle.bufr_walk.specs.Prelude.{Course, next_item, Taken, TurnRefusal, FieldSpec, Content, OperatorModel, begin, after_operator, after_field, element_spec, factor_spec, inserted_spec, Turns, finish, operator_turn, Rest, unroll, passes, pass_end, at_end, astray, counts_of, TakenField, Takes, oks, answers_of, Walked, ticked, WalkStop, ShowFault, Call, Timed, item_calls, subset_calls, calls_for, items_called, turns_for, Shows, IsStoredReading, PaysBits, items_in, Read, course_of, Item, plain, item_answer, next_after, turns_after, turns_in, ReadsSubsets, Values, apart, together, IsReading, IsPackedReading, max_values, items_of_subset, subsets_from, each_subset, without_turns, walk_shown, group, NextTurn, CountedCourse, uncounted, counted_item, after_counted}
+use Rattle.bufr_walk.specs.Prelude.{Course, next_item, Taken, TurnRefusal, FieldSpec, Content, OperatorModel, begin, after_operator, after_field, element_spec, factor_spec, inserted_spec, Turns, finish, operator_turn, Rest, unroll, passes, pass_end, at_end, astray, counts_of, TakenField, Takes, oks, answers_of, Walked, ticked, WalkStop, ShowFault, Call, Timed, item_calls, subset_calls, calls_for, items_called, turns_for, Shows, IsStoredReading, PaysBits, items_in, Read, course_of, Item, plain, answers_in, turns_in, ReadsSubsets, Values, apart, together, IsReading, IsPackedReading, max_values, items_of_subset, subsets_from, each_subset, without_turns, walk_shown, group, NextTurn, CountedCourse, uncounted, counted_item, after, answer_of}
 use Rattle.bufr_walk.specs.declared.reading.StoredItems.{StoredItems}
 use Rattle.bufr_walk.specs.Pass.{values_read, calls_of, turns_shown}
 use Rattle.bufr_walk.proofs.WalkLemmas.{stop_cases}
@@ -248,18 +249,18 @@ called_more (t ∷ a) b = omega (arith, called_more a b)
 
 called_items : (table : List Row) (before : ℕ) (course : CountedCourse) (items : List (Item Content)) → items_called (item_calls table before course items) ≡ length items
 called_items table before course [] = refl
-called_items table before course (i ∷ items) = omega (arith, called_items table before (after_counted plain course i) items)
+called_items table before course (i ∷ items) = omega (arith, called_items table before (after plain course i) items)
 
 called_subsets : (table : List Row) (course : CountedCourse) (before number : ℕ) (subsets : List (List (Item Content)))
     → items_called (subset_calls table course before number subsets) ≡ items_in subsets
 called_subsets table course before number [] = refl
 called_subsets table course before number (items ∷ subsets) =
-    let suffix : List Timed = subset_calls table course (before + turns_after plain course items) (number + 1) subsets in
+    let suffix : List Timed = subset_calls table course (before + (course (answers_in answer_of items)).turns) (number + 1) subsets in
     omega (
       arith,
       called_more (item_calls table before course items) suffix,
       called_items table before course items,
-      called_subsets table course (before + turns_after plain course items) (number + 1) subsets,
+      called_subsets table course (before + (course (answers_in answer_of items)).turns) (number + 1) subsets,
     )
 
 pub length-items_of : (j : ℕ) (items : List (Item (List Content))) → length (items_of_subset j items) ≡ length items
@@ -308,22 +309,8 @@ shows_within sees most s (c ∷ calls) turns (Ok u) s' steps h t g = shows_withi
 shows_within sees most s (c ∷ calls) turns (Err why) s' steps h t g =
     elim h as (λ _. steps ≤ most) [ inl x ↦ ticked_most c.turns most steps x.1 g.0 | inr y ↦ shows_within sees most y.0 calls turns (Err why) s' steps y.2 t g.1 ]
 
--- what items returned to the walk
-abbrev answers_all : List (Item Content) → List Taken
-answers_all [] = []
-answers_all (i ∷ items) = item_answer plain i ∷ answers_all items
-
-gives_length : (items : List (Item Content)) → length (answers_all items) ≡ length items
-gives_length [] = refl
-gives_length (i ∷ items) = ap suc (gives_length items)
-
-turns_are : (course : CountedCourse) (items : List (Item Content)) → turns_after plain course items ≡ (course (answers_all items)).turns
-turns_are course [] = refl
-turns_are course (i ∷ items) = turns_are (after_counted plain course i) items
-
-next_is : (course : CountedCourse) (items : List (Item Content)) → next_after plain (uncounted course) items ≡ (course (answers_all items)).next
-next_is course [] = refl
-next_is course (i ∷ items) = next_is (after_counted plain course i) items
+gives_length : (items : List (Item Content)) → length (answers_in answer_of items) ≡ length items
+gives_length items = length-map items (λ i. answer_of i.spec i.content)
 
 -- a bound on the turns up to what comes after some items
 abbrev TurnsWithin : ℕ → ℕ → CountedCourse → Type 0
@@ -340,8 +327,8 @@ items_within : (n most : ℕ) (table : List Row) (before paid done : ℕ) (cours
 items_within n most table before paid done course [] h b m = tt
 items_within n most table before paid done course (i ∷ items) h b m = (
   omega (arith, h [], b, m, split n paid (done + 0 + 1), mono n (paid + (done + 0 + 1)) (paid + (done + suc (length items))) (omega arith)),
-  items_within n most table before paid (done + 1) (after_counted plain course i) items
-      (λ answers. subst (λ k. (course (item_answer plain i ∷ answers)).turns ≤ n * k) (counted done (length answers)) (h (item_answer plain i ∷ answers))) b
+  items_within n most table before paid (done + 1) (after plain course i) items
+      (λ answers. subst (λ k. (course (answer_of i.spec i.content ∷ answers)).turns ≤ n * k) (counted done (length answers)) (h (answer_of i.spec i.content ∷ answers))) b
       (subst (λ k. n * (paid + k) ≤ most) (moved done (length items)) m),
 )
   where
@@ -358,15 +345,15 @@ subsets_within most table template before paid number [] bits suffix sound h b m
 subsets_within most table template before paid number (items ∷ subsets) bits suffix sound h b m =
     let n : ℕ = places template in
     let course : CountedCourse = counted_item table template in
-    let turns : turns_after plain course items ≤ n * length items =
-    subst (λ k. turns_after plain course items ≤ n * k) (gives_length items)
-    (subst (λ k. k ≤ n * length (answers_all items)) (sym (turns_are course items)) (turns_in_all table template (answers_all items) sound (sym (next_is course items) ∙ h.1.1))) in
-    let more : before + turns_after plain course items ≤ n * (paid + length items) = omega (arith, b, turns, split n paid (length items)) in
-    let rest = subsets_within most table template (before + turns_after plain course items) (paid + length items) (number + 1) subsets h.0 suffix sound h.2 more
+    let turns : (course (answers_in answer_of items)).turns ≤ n * length items =
+    subst (λ k. (course (answers_in answer_of items)).turns ≤ n * k) (gives_length items)
+    (turns_in_all table template (answers_in answer_of items) sound h.1.1) in
+    let more : before + (course (answers_in answer_of items)).turns ≤ n * (paid + length items) = omega (arith, b, turns, split n paid (length items)) in
+    let rest = subsets_within most table template (before + (course (answers_in answer_of items)).turns) (paid + length items) (number + 1) subsets h.0 suffix sound h.2 more
     (subst (λ k. n * k ≤ most) (moved paid (length items) (items_in subsets)) m) in (
       (
         omega (arith, b, m, mono n paid (paid + (length items + items_in subsets)) (omega arith)),
-        within_more most (item_calls table before course items) (subset_calls table course (before + turns_after plain course items) (number + 1) subsets)
+        within_more most (item_calls table before course items) (subset_calls table course (before + (course (answers_in answer_of items)).turns) (number + 1) subsets)
             (items_within n most table before paid 0 course items (λ answers. subst (λ k. (course answers).turns ≤ n * k) (zeroed (length answers)) (turns_before table template answers sound)) b
             (omega (arith, m, mono n (paid + (0 + length items)) (paid + (length items + items_in subsets)) (omega arith)))) rest.0,
       ),
@@ -383,8 +370,8 @@ untimed_within : (most : ℕ) (table : List Row) (before number : ℕ) (subsets 
 untimed_within most table before number [] none = tt
 untimed_within most table before number (items ∷ subsets) none = (
   omega (arith, none),
-  within_more most (item_calls table before without_turns items) (subset_calls table without_turns (before + turns_after plain without_turns items) (number + 1) subsets) (one items)
-      (untimed_within most table (before + turns_after plain without_turns items) (number + 1) subsets (omega (arith, none, no_turns items))),
+  within_more most (item_calls table before without_turns items) (subset_calls table without_turns (before + (without_turns (answers_in answer_of items)).turns) (number + 1) subsets) (one items)
+      (untimed_within most table (before + (without_turns (answers_in answer_of items)).turns) (number + 1) subsets (omega (arith, none, no_turns items))),
 )
   where
     one : (items : List (Item Content)) → AllWithin most (item_calls table before without_turns items)

@@ -11,6 +11,7 @@ pub mod SpecLemmas
 pub mod NextField
 pub mod WalkProgress
 pub mod WalkLemmas
+pub mod WalkPass
 pub mod BoundLemmas
 pub mod PlainLemmas
 pub mod PackedLemmas

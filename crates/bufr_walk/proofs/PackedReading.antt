@@ -8,7 +8,7 @@ use Rattle.bufr_bits.specs.Prelude.{number_of, ◌>>=◌}
 use Rattle.bufr_tables.specs.Prelude.{is_character, Row, Tree}
 use Rattle.bufr_walk.specs.declared.compressed.ItemBits.{ItemBits}
 use Rattle.bufr_walk.specs.declared.fault.DataFault.{DataFault}
-use Rattle.bufr_walk.specs.Prelude.{FieldSpec, data_end, FieldFault, increment, unequal_factor, Content, FieldRead, found, step_of, coding_of, contents_across, if_equal, answer_first, packed_field, IsSeen, IsUnseen, HasSpecAt, IsPut, no_field, item_at_location, indexed_items, IsStoredReading, PackedCursor, item_at, items_at, contents_found, fits_at, packed_view, IsPackedTaken, wrong_of, PackedTakes, remaining_bits, refuses_packed, new_packed_in, fault_at, IndexedItem, max_values, items_at_once, Item, packed, ReadsItems, ReadsPass, next_after, turns_after, Data, together, IsPackedReading, spot, fault_at, bits_before, IsReading, KeepsValues, Stop, would_be_many, data_in, data_of, read_by, WalkStop, Next, take_next, refused, TakenField, Takes, ticked, oks, answers_of, Walked, TurnRefusal, stop_by, CountedCourse, uncounted, counted_item, after_counted}
+use Rattle.bufr_walk.specs.Prelude.{FieldSpec, data_end, FieldFault, increment, unequal_factor, Content, FieldRead, found, step_of, coding_of, contents_across, if_equal, answer_first, packed_field, IsSeen, IsUnseen, HasSpecAt, IsPut, no_field, item_at_location, indexed_items, IsStoredReading, PackedCursor, item_at, items_at, contents_found, fits_at, packed_view, IsPackedTaken, wrong_of, PackedTakes, remaining_bits, refuses_packed, new_packed_in, fault_at, IndexedItem, max_values, items_at_once, Item, packed, ReadsItems, ReadsPass, answers_in, Data, together, IsPackedReading, spot, bits_before, IsReading, KeepsValues, Stop, would_be_many, data_in, data_of, read_by, WalkStop, Next, take_next, refused, TakenField, Takes, ticked, oks, answers_of, Walked, TurnRefusal, stop_by, CountedCourse, uncounted, counted_item, after}
 use Rattle.std.specs.Ordering.{int_eq}
 use Rattle.std.proofs.Math.Bool.{beq}
 use Rattle.std.specs.List.{All, list_all}
@@ -226,8 +226,8 @@ no_room s a bits at n kept kept' e view same is full =
 pub record Passed (n : ℕ) (course : CountedCourse) (s : PackedCursor) (turns : List TakenField) (s' : PackedCursor) : Type 0 where
   pub read : List (Item (List Content))
   pub reads : ReadsItems (packed n) (uncounted course) read (remaining_bits s) (remaining_bits s')
-  pub next_is : next_after (packed n) (uncounted course) read ≡ (course (answers_of turns)).next
-  pub turns_are : turns_after (packed n) course read ≡ (course (answers_of turns)).turns
+  pub next_is : (course (answers_in answer_first read)).next ≡ (course (answers_of turns)).next
+  pub turns_are : (course (answers_in answer_first read)).turns ≡ (course (answers_of turns)).turns
   pub items : s'.items ≡ s.items ++ read
   pub bits : s'.bits ≡ s.bits
   pub subsets : s'.subsets ≡ n
@@ -247,7 +247,7 @@ passes n course s [] s' e h = record {
 passes n course s (i ∷ turns) s' e h =
     let step : IsPackedTaken s i.spec i.taken h.0 = h.2 in
     let item : Item (List Content) = record { spec = i.spec; content = step.contents } in
-    let same : (λ answers. course (i.taken ∷ answers)) ≡ after_counted (packed n) course item = ap (λ t answers. course (t ∷ answers)) step.gives in
+    let same : (λ answers. course (i.taken ∷ answers)) ≡ after (packed n) course item = ap (λ t answers. course (t ∷ answers)) step.gives in
     let more = passes n (λ answers. course (i.taken ∷ answers)) h.0 turns s' (step.subsets ∙ e) h.3 in
     record {
       read = item ∷ more.read;
@@ -257,8 +257,8 @@ passes n course s (i ∷ turns) s' e h =
         ap (λ m. packed_field m i.spec (remaining_bits s)) (sym e) ∙ step.field,
         subst (λ c. ReadsItems (packed n) (uncounted c) more.read (remaining_bits h.0) (remaining_bits s')) same more.reads,
       );
-      next_is = ap (λ c. next_after (packed n) (uncounted c) more.read) (sym same) ∙ more.next_is;
-      turns_are = ap (λ c. turns_after (packed n) c more.read) (sym same) ∙ more.turns_are;
+      next_is = ap (λ c. (c (answers_in answer_first more.read)).next) (sym same) ∙ more.next_is;
+      turns_are = ap (λ c. (c (answers_in answer_first more.read)).turns) (sym same) ∙ more.turns_are;
       items = more.items ∙ ap (λ xs. xs ++ more.read) step.items ∙ append_assoc s.items (item ∷ []) more.read;
       bits = more.bits ∙ step.bits;
       subsets = more.subsets;
@@ -276,9 +276,9 @@ packed_data n bits = record { compressed = true; subsets = n; bits = bits }
 
 -- the turns of the one pass
 together_turns : (n : ℕ) (course : CountedCourse) (bits : List Bool) → 1 ≤ n
-    → turns_in_all (packed n) course (passes_together (uncounted course) n bits) ≡ turns_after (packed n) course (first_items (items_by_pass (passes_together (uncounted course) n bits)))
+    → turns_in_all (packed n) course (passes_together (uncounted course) n bits) ≡ (course (answers_in answer_first (first_items (items_by_pass (passes_together (uncounted course) n bits))))).turns
 together_turns zero course bits some = absurd (omega (arith, some))
-together_turns (suc n) course bits some = none_more (turns_after (packed (suc n)) course (first_items (items_by_pass (passes_together (uncounted course) (suc n) bits))))
+together_turns (suc n) course bits some = none_more ((course (answers_in answer_first (first_items (items_by_pass (passes_together (uncounted course) (suc n) bits))))).turns)
   where
     none_more : (t : ℕ) → t + 0 ≡ t
     none_more t = omega arith
@@ -302,7 +302,7 @@ module _ (n : ℕ) (course : CountedCourse) (bits : List Bool) (s : PackedCursor
 
   -- an accepted walk
   pub walk_reads : (s' : PackedCursor) (c c' : ℕ) → c ≡ 0 → Walked PackedTakes course s c (Ok tt) s' c' → s'.at ≤ length s'.bits → length s'.items * s'.subsets ≤ max_values
-      → IsReading (uncounted course) (packed_data n bits) (together s'.items) s'.at × (c' ≡ ticked 0 (turns_after (packed n) course s'.items))
+      → IsReading (uncounted course) (packed_data n bits) (together s'.items) s'.at × (c' ≡ ticked 0 ((course (answers_in answer_first s'.items)).turns))
   walk_reads s' c c' zero_first w within few =
       let p = passes n course s w.0 s' begins w.1 in
       let are = all_items w.0 s' p in
@@ -314,8 +314,8 @@ module _ (n : ℕ) (course : CountedCourse) (bits : List Bool) (s : PackedCursor
           subst (λ b. s'.at ≤ length b) (all_bits w.0 s' p) within,
           reads_some n course s'.items bits (drop s'.at bits) some (subst (λ xs. ReadsPass (packed n) (uncounted course) xs bits (drop s'.at bits)) (sym are) whole) bound,
         ),
-        w.3 ∙ ap (λ t. ticked c t) (sym p.turns_are) ∙ ap (λ xs. ticked c (turns_after (packed n) course xs)) (sym are)
-            ∙ ap (λ b. ticked b (turns_after (packed n) course s'.items)) zero_first,
+        w.3 ∙ ap (λ t. ticked c t) (sym p.turns_are) ∙ ap (λ xs. ticked c (course (answers_in answer_first xs)).turns) (sym are)
+            ∙ ap (λ b. ticked b ((course (answers_in answer_first s'.items)).turns)) zero_first,
       )
 
   -- with the entries that were kept
@@ -333,7 +333,7 @@ module _ (n : ℕ) (course : CountedCourse) (bits : List Bool) (s : PackedCursor
         subst (λ u. ReadsData course d (Ok u) c') used (
           f.0,
           omega (arith, r.0.1, ap length f.2, length-drop s'.at bits),
-          r.1 ∙ ap (λ xs. ticked 0 (turns_after (packed n) course xs)) (sym f.1) ∙ ap (ticked 0) (sym (together_turns n course bits some)),
+          r.1 ∙ ap (λ xs. ticked 0 (course (answers_in answer_first xs)).turns) (sym f.1) ∙ ap (ticked 0) (sym (together_turns n course bits some)),
         ),
         subst (λ v. KeepsValues (kept.Together entries) d v) items (
           ap (λ b. items_at b n entries) (sym (all_bits w.0 s' p)) ∙ ap (λ k. items_at s'.bits k entries) (sym p.subsets) ∙ subst (λ x. items_at x.bits x.subsets entries ≡ x.items) view refl,
@@ -354,7 +354,7 @@ module _ (n : ℕ) (course : CountedCourse) (bits : List Bool) (s : PackedCursor
       let is = together_stops n (uncounted course) p.read bits (remaining_bits mid) next stop some (from_first turns mid p) (few_read turns mid p few) (sym (p.next_is ∙ e)) h in (
         ap (λ (ps : List (DataPass (List Content))). option_map (λ w. fault_at w 0 (length bits - length (left_after bits ps))) (stop_of ps)) is
             ∙ ap (λ b. Some (fault_at stop 0 b)) (place_is at (length (remaining_bits mid)) (length bits) (omega (arith, here, within, ap length (rest_is turns mid p), length-drop mid.at bits))),
-        ticks ∙ ap (ticked 0) (sym (ap (turns_in_all (packed n) course) is ∙ none_more (turns_after (packed n) course p.read) ∙ p.turns_are)),
+        ticks ∙ ap (ticked 0) (sym (ap (turns_in_all (packed n) course) is ∙ none_more (course (answers_in answer_first p.read)).turns ∙ p.turns_are)),
       )
     where
       place_is : (a b c : ℕ) → a + b ≡ c → c - b ≡ a
@@ -379,7 +379,7 @@ module _ (n : ℕ) (course : CountedCourse) (bits : List Bool) (s : PackedCursor
         spec = spec;
         next = p.next_is ∙ e;
         why = subst (λ l. ((l % items_at_once == 0) ≡ true) ⊎ (spec.role ≡ role.Reference)) (ap length (all_items turns mid p)) why;
-        turns_are = sym p.turns_are ∙ zero_plus (turns_after (packed n) course p.read);
+        turns_are = sym p.turns_are ∙ zero_plus (course (answers_in answer_first p.read)).turns;
       }
     where
       zero_plus : (t : ℕ) → t ≡ 0 + t

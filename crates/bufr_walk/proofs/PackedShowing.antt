@@ -4,7 +4,7 @@ use Rattle.std.proofs.Common.{◌≡◌, ℕ, ◌+◌, ◌-◌, ◌*◌, ◌<◌
 use Rattle.std.proofs.lemmas.List.{drop-drop, drop_all, get_or-take, take_all, append-nil, take_more_set, replicate-append-replicate}
 use Rattle.bufr_bits.specs.Prelude.{bits_of, are_all_ones}
 use Rattle.bufr_tables.specs.Prelude.{entry_of, is_character, Row}
-use Rattle.bufr_walk.specs.Prelude.{IndexedItem, PackedValues, packed_values, range_calls, packed_calls, IsPackedOf, IsReading, course_of, content_at, item_at, item_call, view_of, octets_in, text, missing, shown_text, shown_missing, shown, Content, FieldSpec, content_kept, call_kept, IsStoredReading, KeepsValues, held_of, fits_at, items_at, ShowFault, Sofar, Call, Timed, timed, Shows, subset_call, calls_for, turns_for, Item, Values, apart, together, items_kept, Read, item_calls, turns_after, turns_in, subset_calls, subsets_from, items_of_subset, without_turns, plain}
+use Rattle.bufr_walk.specs.Prelude.{IndexedItem, PackedValues, packed_values, range_calls, packed_calls, IsPackedOf, IsReading, course_of, content_at, item_at, item_call, view_of, octets_in, text, missing, shown_text, shown_missing, shown, Content, FieldSpec, content_kept, call_kept, IsStoredReading, KeepsValues, held_of, fits_at, items_at, ShowFault, Sofar, Call, Timed, timed, Shows, subset_call, calls_for, turns_for, Item, Values, apart, together, items_kept, Read, item_calls, answers_in, turns_in, subset_calls, subsets_from, items_of_subset, without_turns, plain, answer_of}
 use Rattle.bufr_walk.proofs.PackedLemmas.{base_content, kept_parts, padded_text, text_content, text_within}
 use Rattle.bufr_walk.proofs.PlainLemmas.{bits_length, octets_prefix}
 use Rattle.std.specs.List.{list_all}
@@ -61,7 +61,7 @@ module _ {S E : Type 0} (sees : S → Call → Result (Unit {0}) E → S → Typ
   shows_before s s1 [] b e h = absurd h
   shows_before s s1 (t ∷ a) b e h = elim h as (λ _. Shows sees s (t ∷ a ++ b) 0 (Err e) s1 0) [ inl x ↦ inl x | inr y ↦ inr (y.0, y.1, shows_before y.0 s1 a b e y.2) ]
 
-pub no_turns : (items : List (Item Content)) → turns_after plain without_turns items ≡ 0
+pub no_turns : (items : List (Item Content)) → (without_turns (answers_in answer_of items)).turns ≡ 0
 no_turns [] = refl
 no_turns (i ∷ items) = no_turns items
 
@@ -230,10 +230,10 @@ module _ {S E : Type 0} (sees : S → Call → Result (Unit {0}) E → S → Typ
   next_subset j h =
       let more : p.subsets - j ≡ suc (p.subsets - (j + 1)) = omega (arith, h) in
       let next : suc j ≡ j + 1 = omega arith in
-      let none : 0 + turns_after plain without_turns (items_of_subset j p.items) ≡ 0 = omega (arith, no_turns (items_of_subset j p.items)) in
+      let none : 0 + (without_turns (answers_in answer_of (items_of_subset j p.items))).turns ≡ 0 = omega (arith, no_turns (items_of_subset j p.items)) in
       ap (λ left. calls_on left j (j + 1)) more
       ∙ ap (λ calls. timed 0 (subset_call (j + 1)) ∷ calls
-      ++ subset_calls p.table without_turns (0 + turns_after plain without_turns (items_of_subset j p.items)) (j + 1 + 1) (subsets_from (p.subsets - (j + 1)) (suc j) p.items)) (sym (range_of_all p j))
+      ++ subset_calls p.table without_turns (0 + (without_turns (answers_in answer_of (items_of_subset j p.items))).turns) (j + 1 + 1) (subsets_from (p.subsets - (j + 1)) (suc j) p.items)) (sym (range_of_all p j))
       ∙ ap (λ turns. subset_at j ++ subset_calls p.table without_turns turns (j + 1 + 1) (subsets_from (p.subsets - (j + 1)) (suc j) p.items)) none
       ∙ ap (λ k. subset_at j ++ calls_on (p.subsets - (j + 1)) k (j + 1 + 1)) next
 

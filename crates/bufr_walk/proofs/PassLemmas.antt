@@ -4,7 +4,7 @@ use Rattle.bufr_bits.specs.Prelude.{number_of}
 use Rattle.bufr_walk.proofs.PackedLemmas.{item_parts, neither}
 use Rattle.std.proofs.Common.{◌≡◌, ℕ, zero, suc, ◌+◌, ◌-◌, ◌<◌, ◌≤◌, Bool, true, false, List, [], ◌∷◌, ◌++◌, length, Option, Some, None, Result, Ok, Err, ◌||◌, ◌*◌, nat_lt, take, refl, sym, ◌∙◌, ap, subst, arith, drop, length-drop, if◌then◌else◌}
 use Rattle.bufr_tables.specs.Prelude.{Row, Tree, IsLegal, Record, AreRows}
-use Rattle.bufr_walk.specs.Prelude.{packed_field, step_of, coding_of, contents_across, FieldSpec, Content, FieldFault, FieldRead, found, Course, Next, take_next, at_end, astray, refused, next_item, Item, DataCoding, plain, packed, item_answer, after, ReadsItems, ReadsPass, next_after, ReadsSubsets, IsPackedReading, Data, Values, apart, together, IsReading, Stop, would_be_many, max_values, wrong_of, stop_by}
+use Rattle.bufr_walk.specs.Prelude.{packed_field, step_of, coding_of, contents_across, FieldSpec, Content, FieldFault, FieldRead, found, Course, Next, take_next, at_end, astray, refused, next_item, Item, DataCoding, plain, packed, answers_in, after, ReadsItems, ReadsPass, ReadsSubsets, IsPackedReading, Data, Values, apart, together, IsReading, Stop, would_be_many, max_values, wrong_of, stop_by, answer_of, answer_first}
 use Rattle.bufr_walk.specs.declared.walker.WalkStop.TheVariants as stops
 use Rattle.bufr_walk.specs.declared.fault.DataFault.TheVariants as wrong
 use Rattle.bufr_walk.specs.Pass.{Step, Pass, empty_pass, item_then, pass_field, pass_next, pass, Place, read_field, reading, read_pass, DataPass, passes_apart, passes_together, stop_of, left_after, DataReading, reading_in, reading_of, EndsPass, ReadsTo}
@@ -64,7 +64,7 @@ module _ {C : Type 0} (form : DataCoding C) (many : ℕ → Bool) where
         reads = h.reads.3;
         few = λ j l. ap many (one_more from j) ∙ h.few (suc j) (omega (arith, l));
         count = refl;
-        ends = subst (λ k. EndsPass (reading form many) (next_after form (after form course x) xs) (place_at k left) o) (sym (one_more from (length xs))) h.ends;
+        ends = subst (λ k. EndsPass (reading form many) (((after form course x) (answers_in form.gives xs))) (place_at k left) o) (sym (one_more from (length xs))) h.ends;
       })
       (omega (arith, lt)) in
       item_first more course from bits x xs left h.reads few
@@ -218,7 +218,7 @@ together_is (suc n) course xs bits left h =
 
 -- the one pass, where it is stopped
 pub together_stops : (n : ℕ) (course : Course) (items : List (Item (List Content))) (bits left : List Bool) (next : Next) (stop : Stop) → 1 ≤ n → ReadsItems (packed n) course items bits left
-    → length items * n ≤ max_values → next ≡ next_after (packed n) course items
+    → length items * n ≤ max_values → next ≡ (course (answers_in answer_first items))
     → EndsPass (reading (packed n) (would_be_many n)) next (place_at (length items) left) (Some stop)
     → passes_together course n bits ≡ passed (0 + length items) items left (Some stop) ∷ []
 together_stops zero course items bits left next stop some h few is e = absurd (omega (arith, some))
@@ -262,7 +262,7 @@ module _ (course : Course) (sane : (m : ℕ) → IsSane m course) where
   fits form forth (suc n) course (x ∷ xs) bits left sane few h =
       let w = sane.1 x.spec h.1 in
       let f = forth x.spec bits x.content h.0 w.0 h.2 in
-      omega (arith, fits form forth n (after form course x) xs h.0 left (w.1 (item_answer form x) f.gives) (omega (arith, few)) h.3, f.some, f.within, length-drop f.size bits, ap length f.left_is)
+      omega (arith, fits form forth n (after form course x) xs h.0 left (w.1 (form.gives x.spec x.content) f.gives) (omega (arith, few)) h.3, f.some, f.within, length-drop f.size bits, ap length f.left_is)
 
   subset_ends : (x : List (Item Content)) (bits left : List Bool) → ReadsPass plain course x bits left → read_pass plain (λ items. false) course bits ≡ passed (0 + length x) x left None
   subset_ends x bits left h =
@@ -320,7 +320,7 @@ module _ (course : Course) (sane : (m : ℕ) → IsSane m course) where
       by None e h so more =
           let p = read_pass plain (λ items. false) course bits in
           let r = more h in
-          let ends = at_its_end plain (λ items. false) (next_after plain course p.items) p.state p.stop e so.0.ends in
+          let ends = at_its_end plain (λ items. false) (course (answers_in answer_of p.items)) p.state p.stop e so.0.ends in
           ((p.state.left, (so.0.reads, ends), r.0), ap suc r.1, suffix_then so.1.0 bits p.state.left _ so.1.1 so.1.2 r.2)
       by (Some why) e h so more = absurd cc
 
@@ -331,7 +331,7 @@ module _ (course : Course) (sane : (m : ℕ) → IsSane m course) where
   together_so (suc n) bits h =
       let p = read_pass (packed (suc n)) (would_be_many (suc n)) course bits in
       let so = pass_so (packed (suc n)) (would_be_many (suc n)) (packed_forth n) (suc (length bits)) course 0 bits (sane (suc (length bits))) (omega arith) in
-      let ends = at_its_end (packed (suc n)) (would_be_many (suc n)) (next_after (packed (suc n)) course p.items) p.state p.stop (only p.stop h) so.0.ends in
+      let ends = at_its_end (packed (suc n)) (would_be_many (suc n)) (course (answers_in answer_first p.items)) p.state p.stop (only p.stop h) so.0.ends in
       (((so.0.reads, ends), few_all (suc n) (length p.items) so.0.few), so.1)
     where
       only : (o : Option Stop) → (if is_some o then o else None) ≡ None → o ≡ None

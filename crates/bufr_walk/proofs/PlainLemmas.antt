@@ -8,8 +8,8 @@ use Rattle.bufr_bits.specs.Prelude.{bits_of, bits_at, number_of, are_all_ones}
 use Rattle.bufr_bits.proofs.BitLemmas.{length-bits_of, length-bits_at, are_all_ones-number, drop-bits_of, take-bits_of, number_of_middle, number-bits_of_octet}
 use Rattle.bufr_tables.specs.Prelude.{is_character}
 use Rattle.std.proofs.Common.{◌&&◌}
-use Rattle.bufr_walk.specs.Prelude.{number, CountedCourse, uncounted, counted_item, after_counted}
-use Rattle.bufr_walk.specs.Prelude.{turns_in, items_in, Stop, plain, WalkFault, Kind, Taken, Role, is_reference, FieldSpec, IsSpec, HasRole, HasWidth, answer_of, answer_by_role, content_in, signed_by, plain_field, found, data_end, octets_in, Content, Cursor, rest_of, past, IsTaken, fault_at, PlainTakes, WalkStop, Next, take_next, at_end, refused, TakenField, Takes, ticked, oks, answers_of, Walked, data_in, data_of, read_by, Read, course_of, Item, ReadsItems, next_after, turns_after, apart, together, Values, IsReading, KeepsValues, ReadsSubsets, max_values, IsStoredReading, IsReadAndPaid, TurnRefusal, stop_by, content_by, coding_by, coding_of, numbers, texts, missing, text, reference, count_in, reference_in}
+use Rattle.bufr_walk.specs.Prelude.{number, CountedCourse, uncounted, counted_item, after}
+use Rattle.bufr_walk.specs.Prelude.{turns_in, items_in, Stop, plain, WalkFault, Kind, Taken, Role, is_reference, FieldSpec, IsSpec, HasRole, HasWidth, answer_of, answer_by_role, content_in, signed_by, plain_field, found, data_end, octets_in, Content, Cursor, rest_of, past, IsTaken, fault_at, PlainTakes, WalkStop, Next, take_next, at_end, refused, TakenField, Takes, ticked, oks, answers_of, Walked, data_in, data_of, read_by, Read, course_of, Item, ReadsItems, answers_in, apart, together, Values, IsReading, KeepsValues, ReadsSubsets, max_values, IsStoredReading, IsReadAndPaid, TurnRefusal, stop_by, content_by, coding_by, coding_of, numbers, texts, missing, text, reference, count_in, reference_in}
 use Rattle.bufr_walk.specs.Pass.{DataPass, passes_apart, stop_of, left_after, turns_in_all, values_read, ReadsData, AnswersReading, EndsPass, read_field, reading}
 use Rattle.bufr_walk.specs.Readers.{items_by_pass, place_at}
 use Rattle.bufr_walk.specs.declared.fault.DataFault.{DataFault}
@@ -28,8 +28,8 @@ use Rattle.bufr_walk.proofs.WalkLemmas.{stop_cases}
 pub record PassComes (course : CountedCourse) (s : Cursor) (steps : ℕ) (next : Next) (s' : Cursor) (steps' : ℕ) : Type 0 where
   pub items : List (Item Content)
   pub reads : ReadsItems plain (uncounted course) items (rest_of s) (rest_of s')
-  pub next_is : next ≡ next_after plain (uncounted course) items
-  pub ticks : steps' ≡ ticked steps (turns_after plain course items)
+  pub next_is : next ≡ (course (answers_in answer_of items)).next
+  pub ticks : steps' ≡ ticked steps (course (answers_in answer_of items)).turns
   pub same : s'.bits ≡ s.bits
   pub pays : s.at + length items ≤ s'.at
 
@@ -288,18 +288,18 @@ borrowed_some now (Some s) octets want at count h small e = borrowed octets at c
 
 -- items that were taken are read, and what comes after them is the same, in as many turns
 pub reads : (course : CountedCourse) (s : Cursor) (items : List TakenField) (s' : Cursor) → Takes (oks PlainTakes) (uncounted course) s items s'
-    → (read : List (Item Content)) × ReadsItems plain (uncounted course) read (rest_of s) (rest_of s') × (next_after plain (uncounted course) read ≡ (course (answers_of items)).next)
-    × (turns_after plain course read ≡ (course (answers_of items)).turns)
+    → (read : List (Item Content)) × ReadsItems plain (uncounted course) read (rest_of s) (rest_of s') × ((course (answers_in answer_of read)).next ≡ (course (answers_of items)).next)
+    × ((course (answers_in answer_of read)).turns ≡ (course (answers_of items)).turns)
 reads course s [] s' h = ([], ap rest_of (sym h), refl, refl)
 reads course s (i ∷ items) s' h =
     let step = h.2 in
     let item : Item Content = record { spec = i.spec; content = step.content } in
-    let same : (λ answers. course (i.taken ∷ answers)) ≡ after_counted plain course item = ap (λ t answers. course (t ∷ answers)) step.gives in
+    let same : (λ answers. course (i.taken ∷ answers)) ≡ after plain course item = ap (λ t answers. course (t ∷ answers)) step.gives in
     let more = reads (λ answers. course (i.taken ∷ answers)) h.0 items s' h.3 in (
       item ∷ more.0,
       (rest_of h.0, h.1, step.field, subst (λ c. ReadsItems plain (uncounted c) more.0 (rest_of h.0) (rest_of s')) same more.1),
-      ap (λ c. next_after plain (uncounted c) more.0) (sym same) ∙ more.2,
-      ap (λ c. turns_after plain c more.0) (sym same) ∙ more.3,
+      ap (λ c. (c (answers_in answer_of more.0)).next) (sym same) ∙ more.2,
+      ap (λ c. (c (answers_in answer_of more.0)).turns) (sym same) ∙ more.3,
     )
 
 pub same_bits : (course : CountedCourse) (s : Cursor) (items : List TakenField) (s' : Cursor) → Takes (oks PlainTakes) (uncounted course) s items s' → s'.bits ≡ s.bits

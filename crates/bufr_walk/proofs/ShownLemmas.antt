@@ -3,7 +3,7 @@ use Rattle.std.proofs.lemmas.Grind.{common_steps}
 use Rattle.std.proofs.Common.{suc, None, Option, option_map, append_assoc, ◌≡◌, ℕ, ◌+◌, ◌-◌, ◌*◌, ◌^◌, ◌<◌, ◌≤◌, false, Bool, List, [], ◌∷◌, ◌++◌, length, drop, Some, refl, sym, ◌∙◌, ap, subst, arith, length-append, length-drop, ◌/◌, ◌&&◌, true, ◌⊎◌, inl, inr, take, Result, Ok, Err, ℤ, pos, ◌+ℤ◌, nat_lt, if◌then◌else◌, nat_le, not, unsigned_abs}
 use Rattle.std.proofs.lemmas.Bool.{ltb-true}
 use Rattle.bufr_bits.specs.Prelude.{bits_of, number_of, are_all_ones}
-use Rattle.bufr_walk.specs.Prelude.{Kind, WalkFault, Content, data_end, answer_of, number, text, missing, content_in, octets_in, signed_by, shown_number, shown_text, shown_missing, shown_reference, shown, FieldFault, FieldRead, found, plain_field, FieldSpec, IsSpec, HasRole, is_reference, IsFor, IsForRole, is_plain_number, is_plain, IsPlainNumber, Next, take_next, at_end, refused, ticked, TakenField, Takes, oks, answers_of, Walked, fault_at, bits_before, data_in, Stop, Item, plain, ReadsPass, ReadsSubsets, turns_after, turns_in, items_in, IsReading, apart, together, Values, Read, course_of, IsReadAndPaid, PaysBits, IsStoredReading, KeepsValues, calls_for, turns_for, Cursor, rest_of, past, IsTaken, Stage, stage, IsShown, IsUnshown, ShowingTakes, Sofar, ItemsShown, ItemsEnded, ItemsGo, ShowFault, TurnRefusal, Role, Taken, WalkStop, Call, item_call, view_of, Timed, timed, item_calls, Shows, EndsAt, IsReferenceValue, subset_call, subset_calls, stop_by, CountedCourse, uncounted, after_counted, counted_course_of}
+use Rattle.bufr_walk.specs.Prelude.{Kind, WalkFault, Content, data_end, answer_of, number, text, missing, content_in, octets_in, signed_by, shown_number, shown_text, shown_missing, shown_reference, shown, FieldFault, FieldRead, found, plain_field, FieldSpec, IsSpec, HasRole, is_reference, IsFor, IsForRole, is_plain_number, is_plain, IsPlainNumber, Next, take_next, at_end, refused, ticked, TakenField, Takes, oks, answers_of, Walked, fault_at, bits_before, data_in, Stop, Item, plain, ReadsPass, ReadsSubsets, answers_in, turns_in, items_in, IsReading, apart, together, Values, Read, course_of, IsReadAndPaid, PaysBits, IsStoredReading, KeepsValues, calls_for, turns_for, Cursor, rest_of, past, IsTaken, Stage, stage, IsShown, IsUnshown, ShowingTakes, Sofar, ItemsShown, ItemsEnded, ItemsGo, ShowFault, TurnRefusal, Role, Taken, WalkStop, Call, item_call, view_of, Timed, timed, item_calls, Shows, EndsAt, IsReferenceValue, subset_call, subset_calls, stop_by, CountedCourse, uncounted, after, counted_course_of}
 use Rattle.bufr_tables.specs.Prelude.{Row, is_character}
 use Rattle.bufr_walk.specs.declared.plain.ShowStop.{ShowStop}
 use Rattle.std.proofs.lemmas.Bool.Decides.{nat_tests}
@@ -36,7 +36,7 @@ pub reads_more : (course : CountedCourse) (xs : List (List (Item Content))) (x :
 reads_more course [] x bits mid suffix h r = (suffix, subst (λ z. ReadsPass plain (uncounted course) x z suffix) (sym h) r, refl)
 reads_more course (y ∷ xs) x bits mid suffix h r = (h.0, h.1, reads_more course xs x h.0 mid suffix h.2 r)
 
-pub turns_more : (course : CountedCourse) (xs : List (List (Item Content))) (x : List (Item Content)) → turns_in course (xs ++ x ∷ []) ≡ turns_in course xs + turns_after plain course x
+pub turns_more : (course : CountedCourse) (xs : List (List (Item Content))) (x : List (Item Content)) → turns_in course (xs ++ x ∷ []) ≡ turns_in course xs + (course (answers_in answer_of x)).turns
 turns_more course [] x = omega arith
 turns_more course (y ∷ xs) x = omega (arith, turns_more course xs x)
 
@@ -107,7 +107,7 @@ one_more n course bits i s s' c c' h p few within forth =
       subsets = h.subsets ++ p.items ∷ [];
       whole = reads_more course h.subsets p.items bits (rest_of s) (rest_of s') h.whole (p.reads, sym p.next_is);
       count_is = omega (arith, length-append h.subsets (p.items ∷ []), h.count_is);
-      ticks = p.ticks ∙ ap (λ x. ticked x (turns_after plain course p.items)) h.ticks ∙ ticked_more (turns_in course h.subsets) (turns_after plain course p.items)
+      ticks = p.ticks ∙ ap (λ x. ticked x (course (answers_in answer_of p.items)).turns) h.ticks ∙ ticked_more (turns_in course h.subsets) (course (answers_in answer_of p.items)).turns
           ∙ ap (ticked 0) (sym (turns_more course h.subsets p.items));
       same = same;
       few = sums n s.at s'.at c c' h.few few forth;
@@ -119,7 +119,7 @@ one_more n course bits i s s' c c' h p few within forth =
           ∙ sym (append_assoc h.passes (pass ∷ []) (passes_apart (uncounted course) more (rest_of s')));
       none = stop_append h.passes (pass ∷ []) h.none;
       left = left_append bits h.passes (pass ∷ []);
-      turns = turns_append course h.passes (pass ∷ []) ∙ sums_to (turns_in_all plain course h.passes) (turns_in course h.subsets) (turns_after plain course p.items) h.turns
+      turns = turns_append course h.passes (pass ∷ []) ∙ sums_to (turns_in_all plain course h.passes) (turns_in course h.subsets) (course (answers_in answer_of p.items)).turns h.turns
           ∙ sym (turns_more course h.subsets p.items);
       items = map-append (λ (q : DataPass Content). q.items) h.passes (pass ∷ []) ∙ ap (λ xs. xs ++ p.items ∷ []) h.items;
     }
@@ -143,10 +143,10 @@ one_more n course bits i s s' c c' h p few within forth =
         split n a d b e = ap (λ x. n * x) e ∙ grind arith
 
 ticks_of : (n : ℕ) (course : CountedCourse) (bits : List Bool) (i : ℕ) (s s' : Cursor) (c c' : ℕ) (next : Next) (h : SubsetsRead n course bits i s c) (p : PassComes course s c next s' c')
-    → c' ≡ ticked 0 (turns_in_all plain course h.passes + turns_after plain course p.items)
+    → c' ≡ ticked 0 (turns_in_all plain course h.passes + (course (answers_in answer_of p.items)).turns)
 ticks_of n course bits i s s' c c' next h p =
-    p.ticks ∙ ap (λ x. ticked x (turns_after plain course p.items)) h.ticks ∙ ticked_more (turns_in course h.subsets) (turns_after plain course p.items)
-    ∙ ap (λ t. ticked 0 (t + turns_after plain course p.items)) (sym h.turns)
+    p.ticks ∙ ap (λ x. ticked x (course (answers_in answer_of p.items)).turns) h.ticks ∙ ticked_more (turns_in course h.subsets) (course (answers_in answer_of p.items)).turns
+    ∙ ap (λ t. ticked 0 (t + (course (answers_in answer_of p.items)).turns)) (sym h.turns)
 
 here : (s : Cursor) (bits : List Bool) → s.bits ≡ bits → s.at ≤ length bits → s.at + length (rest_of s) ≡ length bits
 here s bits e h = omega (arith, length-drop s.at s.bits, ap length e, h)
@@ -201,7 +201,7 @@ stopped_there n course octets total i s s' c c' why h more p within = by p
         (fuel course s s' c c' (take_next q.0) m within) in
         inr (
           q.3,
-          turns_in_all plain course h.passes + turns_after plain course m.items,
+          turns_in_all plain course h.passes + (course (answers_in answer_of m.items)).turns,
           record {
             done = h.passes;
             here = read_pass plain (λ items. false) (uncounted course) (rest_of s);
@@ -241,7 +241,7 @@ stopped_there n course octets total i s s' c c' why h more p within = by p
               ∙ ap (λ l. Some (fault_at q.1 (i + 1) (length (bits_of octets) - length l))) (left_append (bits_of octets) h.passes (pass ∷ []))
               ∙ ap (λ b. Some (fault_at q.1 (i + 1) b)) (place_is s'.at (length (rest_of s')) (length (bits_of octets)) at),
           ticks_of n course (bits_of octets) i s s' c c' q.0 h m ∙ ap (ticked 0)
-              (sym (ap (turns_in_all plain course) all ∙ turns_append course h.passes (pass ∷ []) ∙ sums_to (turns_in_all plain course h.passes) (turns_after plain course m.items))),
+              (sym (ap (turns_in_all plain course) all ∙ turns_append course h.passes (pass ∷ []) ∙ sums_to (turns_in_all plain course h.passes) (course (answers_in answer_of m.items)).turns)),
         ))
 
 -- the turns up to a fault
@@ -325,14 +325,14 @@ same_item : (course : CountedCourse) (spec : FieldSpec) (a : Item Content) (c : 
 same_item course spec a c bits mid mid' e e' f f' = grind (arith, common_steps, same_found)
 
 course_is : (course : CountedCourse) (i : TakenField) (a : Item Content) (c : Content) → i.taken ≡ answer_of i.spec c → item_of i.spec c ≡ a
-    → (λ more. course (i.taken ∷ more)) ≡ after_counted plain course a
-course_is course i a c e is = ap (λ t more. course (t ∷ more)) e ∙ ap (after_counted plain course) is
+    → (λ more. course (i.taken ∷ more)) ≡ after plain course a
+course_is course i a c e is = ap (λ t more. course (t ∷ more)) e ∙ ap (after plain course) is
 
-suffix_of : (course : CountedCourse) (i : TakenField) (a : Item Content) (others : List (Item Content)) (mid' mid left : List Bool) → (λ more. course (i.taken ∷ more)) ≡ after_counted plain course a
+suffix_of : (course : CountedCourse) (i : TakenField) (a : Item Content) (others : List (Item Content)) (mid' mid left : List Bool) → (λ more. course (i.taken ∷ more)) ≡ after plain course a
     → mid' ≡ mid
-    → ReadsPass plain (uncounted (after_counted plain course a)) others mid' left → ReadsPass plain (uncounted (λ more. course (i.taken ∷ more))) others mid left
+    → ReadsPass plain (uncounted (after plain course a)) others mid' left → ReadsPass plain (uncounted (λ more. course (i.taken ∷ more))) others mid left
 suffix_of course i a others mid' mid left go e r = subst (λ c. ReadsPass plain (uncounted c) others mid left) (sym go)
-    (subst (λ b. ReadsPass plain (uncounted (after_counted plain course a)) others b left) e r)
+    (subst (λ b. ReadsPass plain (uncounted (after plain course a)) others b left) e r)
 
 -- the end of a walk over data that were read before: the visitor refuses, or memory runs out
 abbrev pub IsEnd : {E : Type 0} → WalkStop (ShowStop E) → ShowFault E → Type 0
@@ -387,14 +387,14 @@ module _ {V E : Type 0} (sees : V → Call → Result (Unit {0}) E → V → Typ
   sofar_call s s1 t rest h = record { on = λ turns r s' steps w. call_on s s1 t rest turns r s' steps h w }
 
   -- the rest of a showing among the items of a reading
-  pub record Left (table : List Row) (course : CountedCourse) (before : ℕ) (all : List (Item Content)) (left : List Bool) (more : List Timed) (answer_of : List Taken) (v : V) (s' : Stage V) : Type
+  pub record Left (table : List Row) (course : CountedCourse) (before : ℕ) (all : List (Item Content)) (left : List Bool) (more : List Timed) (answers : List Taken) (v : V) (s' : Stage V) : Type
       0 where
     pub rest : List (Item Content)
     pub further : CountedCourse
     pub reads : ReadsPass plain (uncounted further) rest (rest_of s'.cursor) left
-    pub here : further [] ≡ course answer_of
+    pub here : further [] ≡ course answers
     pub so_far : Sofar sees v (item_calls table before course all ++ more) s'.visitor (item_calls table before further rest ++ more)
-    pub turns : turns_after plain course all ≡ turns_after plain further rest
+    pub turns : (course (answers_in answer_of all)).turns ≡ (further (answers_in answer_of rest)).turns
 
   no_item : (course : CountedCourse) (spec : FieldSpec) → (course []).next ≡ take_next spec → (course []).next ≡ at_end → ⊥
   no_item course spec e f = let g : take_next spec ≡ at_end = sym e ∙ f in cc
@@ -446,14 +446,14 @@ module _ {V E : Type 0} (sees : V → Call → Result (Unit {0}) E → V → Typ
           reads = l.reads;
           here = l.here;
           so_far = sofar_then (on s).visitor (on h.0).visitor (on s').visitor (item_calls table before course (a ∷ others) ++ more)
-              (item_calls table before (after_counted plain course a) others ++ more)
+              (item_calls table before (after plain course a) others ++ more)
               (item_calls table before l.further l.rest ++ more)
               (sofar_call (on s).visitor (on h.0).visitor (timed (before + (course []).turns) (item_call (view_of table a.spec a.content)))
-              (item_calls table before (after_counted plain course a) others ++ more)
+              (item_calls table before (after plain course a) others ++ more)
               (subst (λ (z : Item Content). sees (on s).visitor (item_call (view_of table z.spec z.content)) (Ok tt) (on h.0).visitor) is.0
               (subst (λ rows. sees (on s).visitor (item_call (view_of rows i.spec h.2.is_taken.content)) (Ok tt) (on h.0).visitor) t h.2.call)))
               (subst (λ c. Sofar sees (on h.0).visitor (item_calls table before c others ++ more) (on s').visitor (item_calls table before l.further l.rest ++ more)) go l.so_far);
-          turns = ap (λ c. turns_after plain c others) (sym go) ∙ l.turns;
+          turns = ap (λ c. (c (answers_in answer_of others)).turns) (sym go) ∙ l.turns;
         }
 
     table_so : (course : CountedCourse) (s : S) (items : List TakenField) (s' : S) → Takes (oks took) (uncounted course) s items s' → (on s').table ≡ (on s).table
@@ -471,7 +471,7 @@ module _ {V E : Type 0} (sees : V → Call → Result (Unit {0}) E → V → Typ
       left_is = λ all left r.
           let l = shown_so table 0 course s w.0 s' w.1 t all left [] r in
           let g = all_gone l.further l.rest (rest_of (on s').cursor) left (ap (λ a. a.next) l.here ∙ w.2) l.reads in
-          (g.1, w.3 ∙ ap (ticked c) (sym (l.turns ∙ ap (λ z. turns_after plain l.further z) g.0 ∙ ap (λ a. a.turns) l.here)));
+          (g.1, w.3 ∙ ap (ticked c) (sym (l.turns ∙ ap (λ z. (l.further (answers_in answer_of z)).turns) g.0 ∙ ap (λ a. a.turns) l.here)));
     }
 
     -- the item at which a showing ends
@@ -590,9 +590,9 @@ pub record SubsetShown {S E : Type 0} (sees : S → Call → Result (Unit {0}) E
     (s' : S)
     (steps' : ℕ) : Type 0 where
   pub shown : (before : ℕ) (items : List (Item Content)) (subsets : List (List (Item Content))) (left : List Bool) → ReadsPass plain (uncounted course) items (rest_of c) left → steps ≡ ticked 0 before
-      → Sofar sees s (subset_calls table course before number (items ∷ subsets)) s' (subset_calls table course (before + turns_after plain course items) (number + 1) subsets)
+      → Sofar sees s (subset_calls table course before number (items ∷ subsets)) s' (subset_calls table course (before + (course (answers_in answer_of items)).turns) (number + 1) subsets)
   pub left_is : (items : List (Item Content)) (left : List Bool) → ReadsPass plain (uncounted course) items (rest_of c) left
-      → (rest_of c' ≡ left) × (steps' ≡ ticked steps (turns_after plain course items))
+      → (rest_of c' ≡ left) × (steps' ≡ ticked steps (course (answers_in answer_of items)).turns)
 
 -- a subset was shown up to a call that ended the showing
 pub record SubsetEnded {S E : Type 0} (sees : S → Call → Result (Unit {0}) E → S → Type 0) (table : List Row) (course : CountedCourse) (number : ℕ) (c : Cursor) (s : S) (steps : ℕ) (why : ShowFault E)
@@ -611,13 +611,13 @@ module _ {V E : Type 0} (sees : V → Call → Result (Unit {0}) E → V → Typ
       → ItemsGo sees table course c s1 steps r c' s' steps' → SubsetGoes sees table course index c s steps r c' s' steps'
   subset_goes index c c' s s1 s' steps steps' (Ok u) h g = record {
     shown = λ before items subsets left r e.
-        let suffix : List Timed = subset_calls table course (before + turns_after plain course items) (index + 1) subsets in
+        let suffix : List Timed = subset_calls table course (before + (course (answers_in answer_of items)).turns) (index + 1) subsets in
         sofar_then sees s s1 s' _ (item_calls table before course items ++ suffix) suffix
         (sofar_call sees s s1 (timed before (subset_call index)) (item_calls table before course items ++ suffix) h) (g.shown before items left suffix r);
     left_is = g.left_is;
   }
   subset_goes index c c' s s1 s' steps steps' (Err why) h g = record {
-    ended = λ before items subsets left turns r e. inr (s1, h, g.ended before items left (subset_calls table course (before + turns_after plain course items) (index + 1) subsets) turns r e);
+    ended = λ before items subsets left turns r e. inr (s1, h, g.ended before items left (subset_calls table course (before + (course (answers_in answer_of items)).turns) (index + 1) subsets) turns r e);
   }
 
   pub subset_refused : (index : ℕ) (c c' : Cursor) (s s' : V) (steps steps' : ℕ) (e : E) → sees s (subset_call index) (Err e) s' → steps' ≡ steps
@@ -641,15 +641,15 @@ module _ {V E : Type 0} (sees : V → Call → Result (Unit {0}) E → V → Typ
       by (items ∷ more) whole count total so_far =
           let l = r.left_is items whole.0 whole.1 in
           record {
-            before = h.before + turns_after plain course items;
+            before = h.before + (course (answers_in answer_of items)).turns;
             more = more;
             whole = subst (λ b. ReadsSubsets (uncounted course) more b left) (sym l.0) whole.2;
             count = omega (arith, count);
-            ticks = l.1 ∙ ap (λ k. ticked k (turns_after plain course items)) h.ticks ∙ ticked_more h.before (turns_after plain course items);
+            ticks = l.1 ∙ ap (λ k. ticked k (course (answers_in answer_of items)).turns) h.ticks ∙ ticked_more h.before (course (answers_in answer_of items)).turns;
             total = omega (arith, total);
             shown = sofar_then sees s s1 s2 (subset_calls table course 0 1 all) (subset_calls table course h.before (done + 1) (items ∷ more))
-                (subset_calls table course (h.before + turns_after plain course items) (done + 1 + 1) more) so_far
-                (subst (λ k. Sofar sees s1 (subset_calls table course h.before k (items ∷ more)) s2 (subset_calls table course (h.before + turns_after plain course items) (k + 1) more)) n
+                (subset_calls table course (h.before + (course (answers_in answer_of items)).turns) (done + 1 + 1) more) so_far
+                (subst (λ k. Sofar sees s1 (subset_calls table course h.before k (items ∷ more)) s2 (subset_calls table course (h.before + (course (answers_in answer_of items)).turns) (k + 1) more)) n
                 (r.shown h.before items more whole.0 whole.1 h.ticks));
           }
 

@@ -10,7 +10,7 @@ use Rattle.bufr_walk.specs.Steps.{CountedCourse, uncounted, counted_item, ticked
 use Rattle.bufr_walk.specs.declared.fault.WalkFault.TheVariants as walk_fault
 use Rattle.bufr_walk.specs.declared.fault.DataFault.TheVariants as data_fault
 use Rattle.bufr_walk.specs.declared.walker.WalkStop.TheVariants as stops
-use Rattle.bufr_walk.specs.Reading.{DataCoding, plain, packed, would_be_many, Data, Stop, wrong_of, WalkFault, fault_at, Item, Values, apart, together, Read, course_of, Timed, calls_for, turns_for, PackedValues, next_after, turns_after, items_at_once, ReadsItems}
+use Rattle.bufr_walk.specs.Reading.{DataCoding, plain, packed, would_be_many, Data, Stop, wrong_of, WalkFault, fault_at, Item, Values, apart, together, Read, course_of, Timed, calls_for, turns_for, PackedValues, answers_in, items_at_once, ReadsItems}
 use Rattle.bufr_walk.specs.declared.spec.Role.TheVariants as role
 use Rattle.bufr_tables.specs.Prelude.{Row, Tree}
 
@@ -211,7 +211,7 @@ pub record ReadsTo {C : Type 0} (form : DataCoding C) (many : ℕ → Bool) (cou
   pub reads : ReadsItems form course p.items from.left p.state.left
   pub few : (j : ℕ) → j < length p.items → many (from.items + j) ≡ false
   pub count : p.state.items ≡ from.items + length p.items
-  pub ends : EndsPass (reading form many) (next_after form course p.items) p.state p.stop
+  pub ends : EndsPass (reading form many) (course (answers_in form.gives p.items)) p.state p.stop
 
 -- ---- The turns of passes.
 
@@ -219,7 +219,7 @@ pub record ReadsTo {C : Type 0} (form : DataCoding C) (many : ℕ → Bool) (cou
 abbrev pub turns_in_all : {C : Type 0} → DataCoding C → CountedCourse → List (DataPass C) → ℕ
 turns_in_all form course [] = 0
 turns_in_all form course (p ∷ passes) =
-    turns_after form course p.items + turns_in_all form course passes
+    (course (answers_in form.gives p.items)).turns + turns_in_all form course passes
 
 -- the turns of the reading of data by a course
 abbrev pub turns_read_in : CountedCourse → (compressed : Bool) → (subsets : ℕ) → List Bool → ℕ
@@ -245,9 +245,10 @@ pub record RunsShort {C : Type 0} (form : DataCoding C) (wants : ℕ → Bool) (
   pub more : List (Item C)
   pub are : here.items ≡ items ++ more
   pub spec : FieldSpec
-  pub next : next_after form (uncounted course) items ≡ take_next spec
+  pub next : (course (answers_in form.gives items)).next ≡ take_next spec
   pub why : (wants (length items) ≡ true) ⊎ (spec.role ≡ role.Reference)
-  pub turns_are : turns ≡ turns_in_all form course done + turns_after form course items
+  pub turns_are : turns
+      ≡ turns_in_all form course done + (course (answers_in form.gives items)).turns
 
 -- in one of the passes of a reading; compressed data want memory for each 64th item
 abbrev pub MayRunShort : CountedCourse → (compressed : Bool) → (subsets : ℕ) → List Bool

@@ -2,7 +2,7 @@
 -- shown at once, an item as the code reads it, and what a reading keeps.
 use Rattle.std.specs.Prelude.{ℕ, ◌≡◌, ◌≤◌, ◌+◌, Bool, List, drop, Result, Ok, Err, ◌++◌, ◌<◌, ◌*◌, ◌%◌, ◌==◌, ◌&&◌, ◌||◌, true, false, [], ◌∷◌, length, take, ◌/◌, ◌-◌, map, get_or, is_some, Option}
 use Rattle.bufr_walk.specs.Content.{Taken, missing, ShownValue, Coding, step_of, increments, increased, FieldSpec, Content, answer_of, plain_field, found, data_end, FieldFault, FieldRead, packed_field, answer_first}
-use Rattle.bufr_walk.specs.Reading.{wrong_of, Item, plain, turns_after, ReadsPass, Read, course_of, max_values, items_at_once, Data, Values, apart, together, IsReading, ShowFault, Call, item_call, view_of, Timed, item_calls, Shows, View, PackedValues}
+use Rattle.bufr_walk.specs.Reading.{wrong_of, Item, plain, answers_in, ReadsPass, Read, course_of, max_values, items_at_once, Data, Values, apart, together, IsReading, ShowFault, Call, item_call, view_of, Timed, item_calls, Shows, View, PackedValues}
 use Rattle.bufr_walk.specs.Pass.{DataPass, Place, reading_of, values_read}
 use Rattle.bufr_walk.specs.Course.{Course}
 use Rattle.bufr_walk.specs.Steps.{CountedCourse, uncounted, ticked}
@@ -134,7 +134,7 @@ pub record ItemsShown {S E : Type 0} (sees : S → Call → Result (Unit {0}) E 
       → Sofar sees s (item_calls table before course items ++ more) s' more
   pub left_is : (items : List (Item Content)) (left : List Bool)
       → ReadsPass plain (uncounted course) items (rest_of c) left
-      → (rest_of c' ≡ left) × (steps' ≡ ticked steps (turns_after plain course items))
+      → (rest_of c' ≡ left) × (steps' ≡ ticked steps (course (answers_in answer_of items)).turns)
 
 -- the items of a subset were shown up to one that ended the showing
 pub record ItemsEnded {S E : Type 0} (sees : S → Call → Result (Unit {0}) E → S → Type 0)
