@@ -16,7 +16,7 @@ use Rattle.bufr_tables.specs.Prelude.{Row, Tree, bare, element, operator, fixed,
 use Rattle.bufr_walk.specs.declared.spec.TurnRefusal.{TurnRefusal}
 use Rattle.std.proofs.lemmas.List.{append-nil}
 use Rattle.bufr_walk.specs.declared.walker.WalkStop.{WalkStop}
-use Rattle.bufr_walk.proofs.ShownLemmas.{ticked_more}
+use Rattle.bufr_walk.proofs.PlainReading.{ticked_more}
 use Rattle.bufr_fill.proofs.EntryLemmas.{length-subsets, length-prepended}
 use Rattle.bufr_fill.proofs.PackedWalks.{stays, written_as_defined, fault_as_defined as packed_fault_as_defined, fills as packed_fills}
 use Rattle.bufr_fill.specs.declared.fault.DraftFault.TheVariants as draft_fault

@@ -1,11 +1,13 @@
 -- Bounds on the items and the steps of readings and showings.
+use Rattle.bufr_walk.proofs.PassLemmas.{pass_at_end, next_pass}
+use Rattle.bufr_walk.specs.Readers.{first_items, items_by_pass, place_at}
 use Rattle.std.proofs.lemmas.List.{length-map}
-use Rattle.std.proofs.Common.{◌≡◌, ℕ, zero, suc, ◌+◌, ◌-◌, ◌*◌, ◌<◌, ◌≤◌, List, [], ◌∷◌, length, Bool, true, false, ◌||◌, Result, Ok, Err, refl, ap, subst, arith, ◌++◌, inl, inr, drop, sym, ◌∙◌}
+use Rattle.std.proofs.Common.{◌≡◌, ℕ, zero, suc, ◌+◌, ◌-◌, ◌*◌, ◌<◌, ◌≤◌, List, ◌∷◌, length, Bool, true, false, ◌||◌, Result, Ok, Err, refl, ap, subst, arith, ◌++◌, inl, inr, sym, None, []}
 use Rattle.std.proofs.Math.Nat.{mul-le-mul_left}
 use Rattle.bufr_tables.specs.Prelude.{Tree, bare, element, operator, fixed, delayed, size, places, consumes, is_inserted_text, Row, EveryGroupConsumes, IsSound}
-use Rattle.bufr_walk.specs.Prelude.{Course, next_item, Taken, TurnRefusal, FieldSpec, Content, OperatorModel, begin, after_operator, after_field, element_spec, factor_spec, inserted_spec, Turns, finish, operator_turn, Rest, unroll, passes, pass_end, at_end, astray, counts_of, TakenField, Takes, oks, answers_of, Walked, ticked, WalkStop, ShowFault, Call, Timed, item_calls, subset_calls, calls_for, items_called, turns_for, Shows, IsStoredReading, PaysBits, items_in, Read, course_of, Item, plain, answers_in, turns_in, ReadsSubsets, Values, apart, together, IsReading, IsPackedReading, max_values, items_of_subset, subsets_from, each_subset, without_turns, walk_shown, group, NextTurn, CountedCourse, uncounted, counted_item, after, answer_of}
+use Rattle.bufr_walk.specs.Prelude.{next_item, Taken, TurnRefusal, FieldSpec, Content, OperatorModel, begin, after_operator, after_field, element_spec, factor_spec, inserted_spec, Turns, finish, operator_turn, Rest, unroll, passes, pass_end, at_end, astray, counts_of, TakenField, Takes, oks, answers_of, Walked, ticked, WalkStop, ShowFault, Call, Timed, item_calls, subset_calls, calls_for, items_called, turns_for, Shows, IsStoredReading, PaysBits, items_in, Read, course_of, Item, plain, answers_in, turns_in, apart, together, max_values, subsets_from, each_subset, without_turns, walk_shown, group, NextTurn, CountedCourse, uncounted, counted_item, after, answer_of, counted_course_of}
 use Rattle.bufr_walk.specs.declared.reading.StoredItems.{StoredItems}
-use Rattle.bufr_walk.specs.Pass.{values_read, calls_of, turns_shown}
+use Rattle.bufr_walk.specs.Pass.{values_read, calls_of, turns_shown, passes_apart, passes_together, read_pass, reading_in, stop_of}
 use Rattle.bufr_walk.proofs.WalkLemmas.{stop_cases}
 use Rattle.bufr_walk.proofs.WalkProgress.{in_one_turn, counted_ahead, counted_asked, counted_operated, counted_either}
 use Rattle.bufr_walk.proofs.PackedShowing.{no_turns, no_turns_in}
@@ -263,31 +265,9 @@ called_subsets table course before number (items ∷ subsets) =
       called_subsets table course (before + (course (answers_in answer_of items)).turns) (number + 1) subsets,
     )
 
-pub length-items_of : (j : ℕ) (items : List (Item (List Content))) → length (items_of_subset j items) ≡ length items
-length-items_of j [] = refl
-length-items_of j (i ∷ items) = ap suc (length-items_of j items)
-
--- each item of compressed data is one of each subset
-items_apart : (n j : ℕ) (items : List (Item (List Content))) → items_in (subsets_from n j items) ≡ length items * n
-items_apart zero j items = omega arith
-items_apart (suc n) j items =
-    let more : length items * suc n ≡ length items + length items * n = grind arith in
-    omega (arith, more, length-items_of j items, items_apart n (suc j) items)
-
-packed_few : (table : List Row) (n used : ℕ) (course : Course) (items : List (Item (List Content))) (bits suffix : List Bool) → IsPackedReading n course items bits suffix
-    → length items * n ≤ max_values
-packed_few table zero used course items bits suffix h = omega arith
-packed_few table (suc n) used course items bits suffix h = h.1
-
 -- the items of all calls
 pub few_items : (r : Read) (k : StoredItems) → IsStoredReading r k → items_called (calls_of r) ≤ max_values
-few_items r k h =
-    let v = values_read r in
-    omega (arith, called_subsets r.table (walk_shown r v) 0 1 (each_subset r.source.subsets v), by v h.reading h.pays)
-  where
-    by : (v : Values) → IsReading (course_of r) r.source v r.bits → PaysBits v r.bits → items_in (each_subset r.source.subsets v) ≤ max_values
-    by (apart xs) g p = omega (arith, p, h.short)
-    by (together xs) g p = omega (arith, items_apart r.source.subsets 0 xs, packed_few r.table r.source.subsets r.bits (course_of r) xs r.source.bits (drop r.bits r.source.bits) g.2)
+few_items r k h = let v = values_read r in omega (arith, called_subsets r.table (walk_shown r v) 0 1 (each_subset r.source.subsets v), h.most)
 
 -- calls before each of which at most so many turns are made
 abbrev AllWithin : ℕ → List Timed → Type 0
@@ -338,18 +318,31 @@ items_within n most table before paid done course (i ∷ items) h b m = (
     moved : (d l : ℕ) → d + suc l ≡ d + 1 + l
     moved d l = omega arith
 
-subsets_within : (most : ℕ) (table : List Row) (template : Tree) (before paid number : ℕ) (subsets : List (List (Item Content))) (bits suffix : List Bool) → IsSound template
-    → ReadsSubsets (uncounted (counted_item table template)) subsets bits suffix → before ≤ places template * paid → places template * (paid + items_in subsets) ≤ most
+-- the template ends after the items of each subset
+abbrev AllEnd : CountedCourse → List (List (Item Content)) → Type 0
+AllEnd course [] = Unit {0}
+AllEnd course (items ∷ subsets) = ((course (answers_in answer_of items)).next ≡ at_end) × AllEnd course subsets
+
+all_end : (course : CountedCourse) (n : ℕ) (bits : List Bool) → stop_of (passes_apart (uncounted course) n bits) ≡ None → AllEnd course (items_by_pass (passes_apart (uncounted course) n bits))
+all_end course zero bits h = tt
+all_end course (suc n) bits h =
+    let k = next_pass (uncounted course) n bits h in
+    let p = read_pass plain (λ items. false) (uncounted course) bits in
+    subst (λ ps. AllEnd course (items_by_pass ps)) (sym k.1)
+    (pass_at_end plain (λ items. false) (suc (length bits)) (uncounted course) (place_at 0 bits) k.0, all_end course n p.state.left k.2)
+
+subsets_within : (most : ℕ) (table : List Row) (template : Tree) (before paid number : ℕ) (subsets : List (List (Item Content))) → IsSound template
+    → AllEnd (counted_item table template) subsets → before ≤ places template * paid → places template * (paid + items_in subsets) ≤ most
     → AllWithin most (subset_calls table (counted_item table template) before number subsets) × (before + turns_in (counted_item table template) subsets ≤ most)
-subsets_within most table template before paid number [] bits suffix sound h b m = (tt, omega (arith, b, m, mono (places template) paid (paid + 0) (omega arith)))
-subsets_within most table template before paid number (items ∷ subsets) bits suffix sound h b m =
+subsets_within most table template before paid number [] sound h b m = (tt, omega (arith, b, m, mono (places template) paid (paid + 0) (omega arith)))
+subsets_within most table template before paid number (items ∷ subsets) sound h b m =
     let n : ℕ = places template in
     let course : CountedCourse = counted_item table template in
     let turns : (course (answers_in answer_of items)).turns ≤ n * length items =
     subst (λ k. (course (answers_in answer_of items)).turns ≤ n * k) (gives_length items)
-    (turns_in_all table template (answers_in answer_of items) sound h.1.1) in
+    (turns_in_all table template (answers_in answer_of items) sound h.0) in
     let more : before + (course (answers_in answer_of items)).turns ≤ n * (paid + length items) = omega (arith, b, turns, split n paid (length items)) in
-    let rest = subsets_within most table template (before + (course (answers_in answer_of items)).turns) (paid + length items) (number + 1) subsets h.0 suffix sound h.2 more
+    let rest = subsets_within most table template (before + (course (answers_in answer_of items)).turns) (paid + length items) (number + 1) subsets sound h.1 more
     (subst (λ k. n * k ≤ most) (moved paid (length items) (items_in subsets)) m) in (
       (
         omega (arith, b, m, mono n paid (paid + (length items + items_in subsets)) (omega arith)),
@@ -382,14 +375,18 @@ untimed_within most table before number (items ∷ subsets) none = (
 pub steps_within : {S E : Type 0} (sees : S → Call → Result (Unit {0}) E → S → Type 0) (r : Read) (k : StoredItems) (s s' : S) (result : Result (Unit {0}) (ShowFault E)) (steps : ℕ)
     → IsSound r.template → IsStoredReading r k
     → Shows sees s (calls_of r) (turns_shown r) result s' steps → steps ≤ places r.template * r.bits
-steps_within sees r k s s' result steps sound h shows = by (values_read r) h.reading h.pays shows
+steps_within sees r k s s' result steps sound h shows = by r.source.compressed h.none h.pays shows
   where
-    by : (values : Values) → IsReading (course_of r) r.source values r.bits → PaysBits values r.bits → Shows sees s (calls_for r values) (turns_for r values) result s' steps
-        → steps ≤ places r.template * r.bits
-    by (apart subsets) g p w =
-        let all = subsets_within (places r.template * r.bits) r.table r.template 0 0 1 subsets r.source.bits (drop r.bits r.source.bits) sound g.2.0 (omega arith)
+    by : (b : Bool) → (reading_in (course_of r) b r.source.subsets r.source.bits).stop ≡ None
+        → (let values = (reading_in (course_of r) b r.source.subsets r.source.bits).values in
+        PaysBits values r.bits → Shows sees s (calls_for r values) (turns_for r values) result s' steps → steps ≤ places r.template * r.bits)
+    by false none p w =
+        let subsets = items_by_pass (passes_apart (course_of r) r.source.subsets r.source.bits) in
+        let all = subsets_within (places r.template * r.bits) r.table r.template 0 0 1 subsets sound (all_end (counted_course_of r) r.source.subsets r.source.bits none) (omega arith)
         (mono (places r.template) (0 + items_in subsets) r.bits (omega (arith, p))) in
         shows_within sees (places r.template * r.bits) s (calls_for r (apart subsets)) (turns_for r (apart subsets)) result s' steps w (omega (arith, all.1)) all.0
-    by (together items) g p w = shows_within sees (places r.template * r.bits) s (calls_for r (together items)) (turns_for r (together items)) result s' steps w
+    by true none p w =
+        let items = first_items (items_by_pass (passes_together (course_of r) r.source.subsets r.source.bits)) in
+        shows_within sees (places r.template * r.bits) s (calls_for r (together items)) (turns_for r (together items)) result s' steps w
         (omega (arith, no_turns_in (subsets_from r.source.subsets 0 items)))
         (untimed_within (places r.template * r.bits) r.table 0 1 (subsets_from r.source.subsets 0 items) refl)

@@ -14,6 +14,7 @@ pub mod WalkLemmas
 pub mod WalkPass
 pub mod BoundLemmas
 pub mod PlainLemmas
+pub mod PlainReading
 pub mod PackedLemmas
 pub mod PackedReading
 pub mod PackedShowing

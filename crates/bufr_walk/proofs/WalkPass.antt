@@ -33,7 +33,8 @@ module _ {T C E : Type 0} (how : Passing T C E) where
   pass_so items state stop = ap (λ (xs : List (Item C)). record { items = xs; state = state; stop = stop }) (append-nil items)
 
   -- the pass ends after its items
-  pub pass_ends : (next : Next) (course : Course) (p : T) (items : List (Item C)) (state : T) (most : ℕ) (stop : Option E) → Passes next course p items state → length items < most → EndsPass how next state stop
+  pub pass_ends : (next : Next) (course : Course) (p : T) (items : List (Item C)) (state : T) (most : ℕ) (stop : Option E) → Passes next course p items state → length items < most
+      → EndsPass how next state stop
       → pass how most course p ≡ record { items = items; state = state; stop = stop }
   pass_ends next course p items state most stop h lt e =
       let g = h most lt in g.1 ∙ ap (items_before items) (at_last next state stop g.0 e) ∙ pass_so items state stop
@@ -53,11 +54,11 @@ module _ {T C E : Type 0} (how : Passing T C E) where
         ap (λ (q : Pass T C E). q.items) g.1 ∙ ap (λ n. items ++ (pass_next how n state g.0).items) n ∙ ap (λ r. items ++ (pass_field how spec state r g.0).items) step,
       )
 
-  passes_none : (course : Course) (p : T) → Passes (course []) course p [] p
+  pub passes_none : (course : Course) (p : T) → Passes (course []) course p [] p
   passes_none course p zero lt = absurd (omega (arith, lt))
   passes_none course p (suc most) lt = (λ f. pass how most (λ answers. course (f.returned ∷ answers)) f.state, refl)
 
-  passes_one : (next : Next) (course : Course) (p : T) (spec : FieldSpec) (c : C) (t : Taken) (mid : T) (items : List (Item C)) (state : T) → course [] ≡ take_next spec
+  pub passes_one : (next : Next) (course : Course) (p : T) (spec : FieldSpec) (c : C) (t : Taken) (mid : T) (items : List (Item C)) (state : T) → course [] ≡ take_next spec
       → how.step spec p ≡ Ok (record { content = c; returned = t; state = mid }) → Passes next (λ answers. course (t ∷ answers)) mid items state → Passes next course p (item spec c ∷ items) state
   passes_one next course p spec c t mid items state n step h zero lt = absurd (omega (arith, lt))
   passes_one next course p spec c t mid items state n step h (suc most) lt =
