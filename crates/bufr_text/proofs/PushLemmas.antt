@@ -367,7 +367,7 @@ no-steps r = by (each_subset r.source.subsets (values_read r))
     course : CountedCourse
     course = walk_shown r (values_read r)
 
-    by : (subsets : List (List (Item Content))) → StepsWithin (subset_calls r.table course 0 1 subsets) (turns_in course subsets) 0
+    by : (subsets : List (List (Item Content))) → StepsWithin (subset_calls r.table course 0 1 subsets) (turns_in answer_of course subsets) 0
     by [] = refl
     by (items ∷ subsets) = inl refl
 

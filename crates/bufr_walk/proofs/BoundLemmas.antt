@@ -326,14 +326,14 @@ AllEnd course (items ∷ subsets) = ((course (answers_in answer_of items)).next 
 all_end : (course : CountedCourse) (n : ℕ) (bits : List Bool) → stop_of (passes_apart (uncounted course) n bits) ≡ None → AllEnd course (items_by_pass (passes_apart (uncounted course) n bits))
 all_end course zero bits h = tt
 all_end course (suc n) bits h =
-    let k = next_pass (uncounted course) n bits h in
+    let k = next_pass (uncounted course) (suc n) n bits refl h in
     let p = read_pass plain (λ items. false) (uncounted course) bits in
     subst (λ ps. AllEnd course (items_by_pass ps)) (sym k.1)
     (pass_at_end plain (λ items. false) (suc (length bits)) (uncounted course) (place_at 0 bits) k.0, all_end course n p.state.left k.2)
 
 subsets_within : (most : ℕ) (table : List Row) (template : Tree) (before paid number : ℕ) (subsets : List (List (Item Content))) → IsSound template
     → AllEnd (counted_item table template) subsets → before ≤ places template * paid → places template * (paid + items_in subsets) ≤ most
-    → AllWithin most (subset_calls table (counted_item table template) before number subsets) × (before + turns_in (counted_item table template) subsets ≤ most)
+    → AllWithin most (subset_calls table (counted_item table template) before number subsets) × (before + turns_in answer_of (counted_item table template) subsets ≤ most)
 subsets_within most table template before paid number [] sound h b m = (tt, omega (arith, b, m, mono (places template) paid (paid + 0) (omega arith)))
 subsets_within most table template before paid number (items ∷ subsets) sound h b m =
     let n : ℕ = places template in

@@ -9,7 +9,7 @@ use Rattle.bufr_bits.specs.Prelude.{number_of, ◌>>=◌, bits_of}
 use Rattle.bufr_tables.specs.Prelude.{is_character, Row, Tree}
 use Rattle.bufr_walk.specs.declared.compressed.ItemBits.{ItemBits}
 use Rattle.bufr_walk.specs.declared.fault.DataFault.{DataFault}
-use Rattle.bufr_walk.specs.Prelude.{FieldSpec, data_end, FieldFault, increment, unequal_factor, Content, FieldRead, found, step_of, coding_of, contents_across, if_equal, answer_first, packed_field, IsSeen, IsUnseen, HasSpecAt, IsPut, no_field, item_at_location, indexed_items, IsStoredReading, PackedCursor, item_at, items_at, contents_found, fits_at, packed_view, IsPackedTaken, wrong_of, PackedTakes, remaining_bits, new_packed_in, fault_at, IndexedItem, max_values, items_at_once, Item, packed, answers_in, Data, bits_before, KeepsValues, Stop, would_be_many, data_in, data_of, read_by, WalkStop, Next, take_next, ticked, Walked, CountedCourse, uncounted, counted_item, Course, Taken, items_in, items_of_subset, subsets_from, spec_by_kind, view}
+use Rattle.bufr_walk.specs.Prelude.{FieldSpec, data_end, FieldFault, increment, unequal_factor, Content, FieldRead, found, step_of, coding_of, contents_across, if_equal, answer_first, packed_field, IsSeen, IsUnseen, HasSpecAt, IsPut, no_field, item_at_location, indexed_items, IsStoredReading, PackedCursor, item_at, items_at, contents_found, fits_at, packed_view, IsPackedTaken, wrong_of, PackedTakes, remaining_bits, new_packed_in, fault_at, IndexedItem, max_values, items_at_once, Item, packed, answers_in, Data, bits_before, KeepsValues, Stop, would_be_many, data_in, data_of, read_by, WalkStop, Next, take_next, ticked, Walked, CountedCourse, uncounted, counted_item, Course, Taken, items_in, items_of_subset, subsets_from, spec_by_kind, view, turns_in}
 use Rattle.std.specs.Ordering.{int_eq}
 use Rattle.std.proofs.Math.Bool.{beq}
 use Rattle.std.specs.List.{All, list_all}
@@ -22,7 +22,7 @@ use Rattle.bufr_walk.specs.declared.spec.Role.TheVariants as role
 use Rattle.bufr_walk.specs.declared.walker.WalkStop.TheVariants as stops
 use Rattle.bufr_walk.specs.declared.fault.WalkFault.TheVariants as fault
 use Rattle.bufr_walk.specs.declared.reading.StoredItems.TheVariants as kept
-use Rattle.bufr_walk.specs.Pass.{DataPass, passes_together, stop_of, left_after, turns_in_all, turns_read, reading_of, ReadsData, AnswersReading, EndsPass, reading, read_field, Place, Step, read_pass}
+use Rattle.bufr_walk.specs.Pass.{DataPass, passes_together, stop_of, left_after, turns_read, reading_of, ReadsData, AnswersReading, EndsPass, reading, read_field, Place, Step, read_pass}
 use Rattle.bufr_walk.specs.Readers.{place_at, items_by_pass, first_items}
 
 -- compressed data were read, each item is kept, and they are not too many
@@ -318,7 +318,7 @@ module _ (n : ℕ) (course : CountedCourse) (bits : List Bool) (s : PackedCursor
 
   ticks_are : (g : Goes) (stop : Option Stop) → passes_together (uncounted course) n bits ≡ record { items = g.items; state = g.state; stop = stop } ∷ []
       → c' ≡ ticked 0 (turns_read course (packed_data n bits))
-  ticks_are g stop is = ticks g ∙ ap (ticked 0) (none_more (course (answers_in answer_first g.items)).turns ∙ sym (ap (turns_in_all (packed n) course) is))
+  ticks_are g stop is = ticks g ∙ ap (ticked 0) (none_more (course (answers_in answer_first g.items)).turns ∙ sym (ap (λ ps. turns_in answer_first course (items_by_pass ps)) is))
     where
       none_more : (t : ℕ) → t ≡ t + 0
       none_more t = omega arith

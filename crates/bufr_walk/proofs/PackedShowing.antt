@@ -65,7 +65,7 @@ pub no_turns : (items : List (Item Content)) → (without_turns (answers_in answ
 no_turns [] = refl
 no_turns (i ∷ items) = no_turns items
 
-pub no_turns_in : (subsets : List (List (Item Content))) → turns_in without_turns subsets ≡ 0
+pub no_turns_in : (subsets : List (List (Item Content))) → turns_in answer_of without_turns subsets ≡ 0
 no_turns_in [] = refl
 no_turns_in (items ∷ subsets) = omega (arith, no_turns items, no_turns_in subsets)
 

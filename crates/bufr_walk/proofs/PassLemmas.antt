@@ -153,18 +153,19 @@ pass_at_end {C} form many (suc most) course p h = by (course []) refl (λ t q. p
     by (take_next spec) e again h = at_field spec (many p.items) (form.field spec p.left) again h
 
 -- the next of passes that do not stop, and those after it
-pub next_pass : (course : Course) (n : ℕ) (bits : List Bool) → stop_of (passes_apart course (suc n) bits) ≡ None
+pub next_pass : (course : Course) (n left : ℕ) (bits : List Bool) → n ≡ suc left → stop_of (passes_apart course n bits) ≡ None
     → (let p = read_pass plain (λ items. false) course bits in
-    (p.stop ≡ None) × (passes_apart course (suc n) bits ≡ p ∷ passes_apart course n p.state.left) × (stop_of (passes_apart course n p.state.left) ≡ None))
-next_pass course n bits h = by (read_pass plain (λ items. false) course bits).stop refl h
+    (p.stop ≡ None) × (passes_apart course n bits ≡ p ∷ passes_apart course left p.state.left) × (stop_of (passes_apart course left p.state.left) ≡ None))
+next_pass course n left bits one h =
+    let p = read_pass plain (λ items. false) course bits in
+    let k = by p.stop refl (subst (λ m. stop_of (passes_apart course m bits) ≡ None) one h) in
+    (k.0, ap (λ m. passes_apart course m bits) one ∙ ap (λ o. p ∷ (if is_none o then passes_apart course left p.state.left else [])) k.0, k.1)
   where
     by : (o : Option Stop) → (read_pass plain (λ items. false) course bits).stop ≡ o
         → (let p = read_pass plain (λ items. false) course bits in
-        (if is_some o then o else stop_of (if is_none o then passes_apart course n p.state.left else [])) ≡ None
-        → (p.stop ≡ None) × (passes_apart course (suc n) bits ≡ p ∷ passes_apart course n p.state.left) × (stop_of (passes_apart course n p.state.left) ≡ None))
-    by None e h =
-        let p = read_pass plain (λ items. false) course bits in
-        (e, ap (λ o. p ∷ (if is_none o then passes_apart course n p.state.left else [])) e, h)
+        (if is_some o then o else stop_of (if is_none o then passes_apart course left p.state.left else [])) ≡ None
+        → (p.stop ≡ None) × (stop_of (passes_apart course left p.state.left) ≡ None))
+    by None e h = (e, h)
     by (Some why) e h = absurd cc
 
 -- so few items that one more is not too many
@@ -282,7 +283,7 @@ module _ (course : Course) (sane : (m : ℕ) → IsSane m course) where
   subsets_so zero bits h = (refl, refl, (0, omega arith, refl))
   subsets_so (suc n) bits h =
       let p = read_pass plain (λ items. false) course bits in
-      let k = next_pass course n bits h in
+      let k = next_pass course (suc n) n bits refl h in
       let so = pass_so plain (λ items. false) plain_forth (suc (length bits)) course 0 bits (sane (suc (length bits))) (omega arith) in
       let r = subsets_so n p.state.left k.2 in
       subst (λ ps. ReadsSubsets course (items_by_pass ps) bits (left_after bits ps) × (length (items_by_pass ps) ≡ suc n) × IsSuffix bits (left_after bits ps)) (sym k.1) (

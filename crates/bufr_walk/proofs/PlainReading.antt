@@ -4,7 +4,7 @@ use Rattle.std.proofs.lemmas.Grind.{common_steps}
 use Rattle.std.proofs.lemmas.List.{append-nil}
 use Rattle.std.specs.Prelude.{is_none, is_some}
 use Rattle.bufr_bits.specs.Prelude.{bits_of}
-use Rattle.bufr_walk.specs.Prelude.{FieldSpec, Taken, Content, answer_of, plain_field, Stop, WalkStop, plain, Item, answers_in, CountedCourse, uncounted, Next, take_next, at_end, ticked, Walked, Cursor, rest_of, PlainTakes, data_in, fault_at, bits_before, items_in, place_at, items_by_pass, PaysBits, Place, DataPass, reading_of, reading, EndsPass, read_pass, passes_apart, stop_of, left_after, turns_in_all, ReadsData}
+use Rattle.bufr_walk.specs.Prelude.{FieldSpec, Taken, Content, answer_of, plain_field, Stop, WalkStop, plain, Item, answers_in, CountedCourse, uncounted, Next, take_next, at_end, ticked, Walked, Cursor, rest_of, PlainTakes, data_in, fault_at, bits_before, items_in, place_at, items_by_pass, PaysBits, Place, DataPass, reading_of, reading, EndsPass, read_pass, passes_apart, stop_of, left_after, ReadsData, turns_in}
 use Rattle.bufr_walk.specs.Pass.{read_field}
 use Rattle.bufr_walk.specs.declared.fault.DataFault.{DataFault}
 use Rattle.bufr_walk.specs.declared.fault.DataFault.TheVariants as wrong
@@ -90,7 +90,7 @@ pub record SubsetsRead (n : ℕ) (course : CountedCourse) (bits : List Bool) (co
   pub count_is : length passes ≡ count
   pub none : stop_of passes ≡ None
   pub left : left_after bits passes ≡ rest_of s
-  pub ticks : steps ≡ ticked 0 (turns_in_all plain course passes)
+  pub ticks : steps ≡ ticked 0 (turns_in answer_of course (items_by_pass passes))
   pub same : s.bits ≡ bits
   pub within : s.at ≤ length bits
   pub few : steps ≤ n * s.at
@@ -110,7 +110,7 @@ left_append bits [] b = refl
 left_append bits (p ∷ a) b = left_append p.state.left a b
 
 turns_append : (course : CountedCourse) (a : List (DataPass Content)) (p : DataPass Content)
-    → turns_in_all plain course (a ++ p ∷ []) ≡ turns_in_all plain course a + (course (answers_in answer_of p.items)).turns
+    → turns_in answer_of course (items_by_pass (a ++ p ∷ [])) ≡ turns_in answer_of course (items_by_pass a) + (course (answers_in answer_of p.items)).turns
 turns_append course [] p = omega arith
 turns_append course (q ∷ a) p = omega (arith, turns_append course a p)
 
@@ -144,9 +144,9 @@ none_yet n course bits s steps e z = record {
 
 module _ (n : ℕ) (course : CountedCourse) (bits : List Bool) (i : ℕ) (s s' : Cursor) (c c' : ℕ) (h : SubsetsRead n course bits i s c) where
   -- the turns up to where the next walk has come
-  ticks_of : (g : Goes course s c s' c') → c' ≡ ticked 0 (turns_in_all plain course h.passes + (course (answers_in answer_of g.items)).turns)
+  ticks_of : (g : Goes course s c s' c') → c' ≡ ticked 0 (turns_in answer_of course (items_by_pass h.passes) + (course (answers_in answer_of g.items)).turns)
   ticks_of g =
-      g.ticks ∙ ap (λ x. ticked x (course (answers_in answer_of g.items)).turns) h.ticks ∙ ticked_more (turns_in_all plain course h.passes) (course (answers_in answer_of g.items)).turns
+      g.ticks ∙ ap (λ x. ticked x (course (answers_in answer_of g.items)).turns) h.ticks ∙ ticked_more (turns_in answer_of course (items_by_pass h.passes)) (course (answers_in answer_of g.items)).turns
 
   -- the bits that are left
   left_is : (g : Goes course s c s' c') (stop : Option Stop) → left_after bits (h.passes ++ record { items = g.items; state = g.state; stop = stop } ∷ []) ≡ rest_of s'
@@ -233,7 +233,7 @@ module _ (n : ℕ) (course : CountedCourse) (octets : List ℕ) (total i : ℕ) 
     all_read = (
       ap stop_of are_all ∙ h.none,
       ap (λ (ps : List (DataPass Content)). s.at + length (left_after (bits_of octets) ps)) are_all ∙ ap (λ l. s.at + length l) h.left ∙ here s (bits_of octets) h.same h.within,
-      h.ticks ∙ ap (λ ps. ticked 0 (turns_in_all plain course ps)) (sym are_all),
+      h.ticks ∙ ap (λ ps. ticked 0 (turns_in answer_of course (items_by_pass ps))) (sym are_all),
     )
 
     pub all_paid : PaysBits (reading_of (uncounted course) (data_in false total octets)).values s.at
@@ -275,14 +275,14 @@ module _ (n : ℕ) (course : CountedCourse) (octets : List ℕ) (total i : ℕ) 
                 ∙ ap (λ k. Some (fault_at why k (length (bits_of octets) - length (left_after (bits_of octets) (h.passes ++ pass ∷ []))))) count
                 ∙ ap (λ l. Some (fault_at why (i + 1) (length (bits_of octets) - length l))) (left_is n course (bits_of octets) i s s' c c' h g (Some why))
                 ∙ ap (λ b. Some (fault_at why (i + 1) b)) (place_is s'.at (length (rest_of s')) (length (bits_of octets)) at),
-            ticks_of n course (bits_of octets) i s s' c c' h g ∙ ap (ticked 0) (sym (ap (turns_in_all plain course) all ∙ turns_append course h.passes pass)),
+            ticks_of n course (bits_of octets) i s s' c c' h g ∙ ap (ticked 0) (sym (ap (λ ps. turns_in answer_of course (items_by_pass ps)) all ∙ turns_append course h.passes pass)),
           )
       by g (inr q) =
           let begins = pass_begins (reading plain (λ n. false)) (course (answers_in answer_of g.items)).next (uncounted course) (place_at 0 (rest_of s)) g.items g.state (suc (length (rest_of s)))
           g.passes (omega (arith, g.meets.pays)) in
           inr (
             ap (λ w. fault_at w (i + 1) s'.at) q.3,
-            turns_in_all plain course h.passes + (course (answers_in answer_of g.items)).turns,
+            turns_in answer_of course (items_by_pass h.passes) + (course (answers_in answer_of g.items)).turns,
             record {
               done = h.passes;
               here = read_pass plain (λ n. false) (uncounted course) (rest_of s);

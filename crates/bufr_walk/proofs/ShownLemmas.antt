@@ -322,95 +322,107 @@ module _ {V E : Type 0} (sees : V → Call → Result (Unit {0}) E → V → Typ
 
 -- ---- Subsets that are shown one after another.
 
-module _ {V E : Type 0} (sees : V → Call → Result (Unit {0}) E → V → Type 0) (table : List Row) (course : CountedCourse) where
-  -- the items of passes
+module _ {V E : Type 0} (sees : V → Call → Result (Unit {0}) E → V → Type 0) (table : List Row) (course : CountedCourse) (n : ℕ) (bits : List Bool) where
+  -- the items of some passes
   abbrev items_of : ℕ → List Bool → List (List (Item Content))
-  items_of n bits = items_by_pass (passes_apart (uncounted course) n bits)
+  items_of left rest = items_by_pass (passes_apart (uncounted course) left rest)
 
-  -- some of the subsets `all` were shown, and so many are left
-  pub record SubsetsShown (all : List (List (Item Content))) (done left : ℕ) (s : V) (c : Cursor) (s' : V) (steps : ℕ) : Type 0 where
+  -- the calls of all n subsets, and their turns
+  abbrev all : List Timed
+  all = subset_calls table course 0 1 (items_of n bits)
+
+  abbrev all_turns : ℕ
+  all_turns = turns_in answer_of course (items_of n bits)
+
+  -- some of the subsets were shown
+  pub record SubsetsShown (done : ℕ) (s : V) (c : Cursor) (s' : V) (steps : ℕ) : Type 0 where
     pub before : ℕ
-    pub none : stop_of (passes_apart (uncounted course) left (rest_of c)) ≡ None
+    pub none : stop_of (passes_apart (uncounted course) (n - done) (rest_of c)) ≡ None
     pub ticks : steps ≡ ticked 0 before
-    pub total : before + turns_in course (items_of left (rest_of c)) ≡ turns_in course all
-    pub so_far : Sofar sees s (subset_calls table course 0 1 all) s' (subset_calls table course before (done + 1) (items_of left (rest_of c)))
+    pub total : before + turns_in answer_of course (items_of (n - done) (rest_of c)) ≡ all_turns
+    pub so_far : Sofar sees s all s' (subset_calls table course before (done + 1) (items_of (n - done) (rest_of c)))
 
   -- nothing was shown yet
-  pub none_shown : (n : ℕ) (bits : List Bool) (s : V) (c : Cursor) (steps : ℕ) → c ≡ record { bits = bits; at = 0 } → steps ≡ 0 → stop_of (passes_apart (uncounted course) n bits) ≡ None
-      → SubsetsShown (items_of n bits) 0 (n - 0) s c s steps
-  none_shown n bits s c steps first z none =
-      let rest : rest_of c ≡ bits = ap rest_of first in
-      let all : n - 0 ≡ n = omega arith in
-      subst (λ k. SubsetsShown (items_of n bits) 0 k s c s steps) (sym all) (record {
-        before = 0;
-        none = subst (λ b. stop_of (passes_apart (uncounted course) n b) ≡ None) (sym rest) none;
-        ticks = z ∙ ticked_none;
-        total = ap (λ b. 0 + turns_in course (items_of n b)) rest ∙ zero_plus (turns_in course (items_of n bits));
-        so_far = subst (λ b. Sofar sees s (subset_calls table course 0 1 (items_of n bits)) s (subset_calls table course 0 (0 + 1) (items_of n b))) (sym rest)
-            (sofar_self sees s (subset_calls table course 0 1 (items_of n bits)));
-      })
+  pub none_shown : (s : V) (c : Cursor) (steps : ℕ) → c ≡ record { bits = bits; at = 0 } → steps ≡ 0 → stop_of (passes_apart (uncounted course) n bits) ≡ None → SubsetsShown 0 s c s steps
+  none_shown s c steps first z none = record {
+    before = 0;
+    none = ap stop_of whole ∙ none;
+    ticks = z ∙ ticked_none;
+    total = ap (λ ps. 0 + turns_in answer_of course (items_by_pass ps)) whole ∙ zero_plus all_turns;
+    so_far = subst (λ ps. Sofar sees s all s (subset_calls table course 0 (0 + 1) (items_by_pass ps))) (sym whole) (sofar_self sees s all);
+  }
     where
+      whole : passes_apart (uncounted course) (n - 0) (rest_of c) ≡ passes_apart (uncounted course) n bits
+      whole = ap (λ k. passes_apart (uncounted course) k (rest_of c)) (minus_none n) ∙ ap (λ x. passes_apart (uncounted course) n (rest_of x)) first
+        where
+          minus_none : (k : ℕ) → k - 0 ≡ k
+          minus_none k = omega arith
+
       zero_plus : (k : ℕ) → 0 + k ≡ k
       zero_plus k = omega arith
 
       ticked_none : 0 ≡ ticked 0 0
       ticked_none = grind (arith, common_steps)
 
-  module _ (all : List (List (Item Content))) (done left : ℕ) (s : V) (c : Cursor) (s1 : V) (steps : ℕ) (h : SubsetsShown all done (suc left) s c s1 steps) where
+  module _ (done : ℕ) (s : V) (c : Cursor) (s1 : V) (steps : ℕ) (h : SubsetsShown done s c s1 steps) (lt : done < n) where
+    -- the pass of the next subset, its turns, and the subsets after it
     abbrev coming : DataPass Content
     coming = read_pass plain (λ n. false) (uncounted course) (rest_of c)
 
-    -- the pass of the next subset
-    pub next_reads : coming.stop ≡ None
-    next_reads = (next_pass (uncounted course) left (rest_of c) h.none).0
+    abbrev turns : ℕ
+    turns = (course (answers_in answer_of coming.items)).turns
 
-    abbrev next_calls : V → Type 0
-    next_calls s2 = Sofar sees s (subset_calls table course 0 1 all) s2
-        (item_calls table h.before course coming.items
-        ++ subset_calls table course (h.before + (course (answers_in answer_of coming.items)).turns) (done + 1 + 1) (items_of left coming.state.left))
+    abbrev later : List (List (Item Content))
+    later = items_of (n - (done + 1)) coming.state.left
+
+    next : (coming.stop ≡ None) × (passes_apart (uncounted course) (n - done) (rest_of c) ≡ coming ∷ passes_apart (uncounted course) (n - (done + 1)) coming.state.left)
+        × (stop_of (passes_apart (uncounted course) (n - (done + 1)) coming.state.left) ≡ None)
+    next = next_pass (uncounted course) (n - done) (n - (done + 1)) (rest_of c) (omega (arith, lt)) h.none
+
+    pub next_reads : coming.stop ≡ None
+    next_reads = next.0
+
+    so_far : Sofar sees s all s1 (subset_calls table course h.before (done + 1) (coming.items ∷ later))
+    so_far = subst (λ ps. Sofar sees s all s1 (subset_calls table course h.before (done + 1) (items_by_pass ps))) next.1 h.so_far
 
     -- its own call
-    called : (s2 : V) → sees s1 (subset_call (done + 1)) (Ok tt) s2 → next_calls s2
-    called s2 call =
-        sofar_then sees s s1 s2 (subset_calls table course 0 1 all) (subset_calls table course h.before (done + 1) (items_of (suc left) (rest_of c))) _ h.so_far
-        (subst (λ ps. Sofar sees s1 (subset_calls table course h.before (done + 1) (items_by_pass ps)) s2
-        (item_calls table h.before course coming.items
-        ++ subset_calls table course (h.before + (course (answers_in answer_of coming.items)).turns) (done + 1 + 1) (items_of left coming.state.left)))
-        (sym (next_pass (uncounted course) left (rest_of c) h.none).1) (sofar_call sees s1 s2 (timed h.before (subset_call (done + 1))) _ call))
+    called : (s2 : V) → sees s1 (subset_call (done + 1)) (Ok tt) s2
+        → Sofar sees s all s2 (item_calls table h.before course coming.items ++ subset_calls table course (h.before + turns) (done + 1 + 1) later)
+    called s2 call = sofar_then sees s s1 s2 _ _ _ so_far (sofar_call sees s1 s2 (timed h.before (subset_call (done + 1))) _ call)
 
     -- one subset more
-    pub one_shown : (s2 s3 : V) (c' : Cursor) (steps' : ℕ) → sees s1 (subset_call (done + 1)) (Ok tt) s2 → ItemsGo sees table course c s2 steps (Ok tt) c' s3 steps'
-        → SubsetsShown all (done + 1) left s c' s3 steps'
-    one_shown s2 s3 c' steps' call g =
-        let turns : ℕ = (course (answers_in answer_of coming.items)).turns in
-        record {
-          before = h.before + turns;
-          none = subst (λ l. stop_of (passes_apart (uncounted course) left l) ≡ None) (sym g.left) (next_pass (uncounted course) left (rest_of c) h.none).2;
-          ticks = g.ticks ∙ ap (λ k. ticked k turns) h.ticks ∙ ticked_more h.before turns;
-          total = ap (λ l. h.before + turns + turns_in course (items_of left l)) g.left ∙ assoc h.before turns (turns_in course (items_of left coming.state.left))
-              ∙ ap (λ ps. h.before + turns_in course (items_by_pass ps)) (sym (next_pass (uncounted course) left (rest_of c) h.none).1) ∙ h.total;
-          so_far = subst (λ l. Sofar sees s (subset_calls table course 0 1 all) s3 (subset_calls table course (h.before + turns) (done + 1 + 1) (items_of left l))) (sym g.left)
-              (sofar_then sees s s2 s3 _ _ _ (called s2 call) (g.shown h.before (subset_calls table course (h.before + turns) (done + 1 + 1) (items_of left coming.state.left))));
-        }
+    pub one_shown : (s2 s3 : V) (c' : Cursor) (steps' : ℕ) → sees s1 (subset_call (done + 1)) (Ok tt) s2 → ItemsGo sees table course c s2 steps (Ok tt) c' s3 steps' → SubsetsShown (done + 1) s c' s3 steps'
+    one_shown s2 s3 c' steps' call g = record {
+      before = h.before + turns;
+      none = ap (λ l. stop_of (passes_apart (uncounted course) (n - (done + 1)) l)) g.left ∙ next.2;
+      ticks = g.ticks ∙ ap (λ k. ticked k turns) h.ticks ∙ ticked_more h.before turns;
+      total = ap (λ l. h.before + turns + turns_in answer_of course (items_of (n - (done + 1)) l)) g.left ∙ assoc h.before turns (turns_in answer_of course later)
+          ∙ ap (λ ps. h.before + turns_in answer_of course (items_by_pass ps)) (sym next.1) ∙ h.total;
+      so_far = subst (λ l. Sofar sees s all s3 (subset_calls table course (h.before + turns) (done + 1 + 1) (items_of (n - (done + 1)) l))) (sym g.left)
+          (sofar_then sees s s2 s3 _ _ _ (called s2 call) (g.shown h.before (subset_calls table course (h.before + turns) (done + 1 + 1) later)));
+    }
       where
         assoc : (a b c : ℕ) → a + b + c ≡ a + (b + c)
         assoc a b c = omega arith
 
     -- the showing ends in it
     pub ended_so : (s2 s3 : V) (c' : Cursor) (steps' : ℕ) (why : ShowFault E) → sees s1 (subset_call (done + 1)) (Ok tt) s2 → ItemsGo sees table course c s2 steps (Err why) c' s3 steps'
-        → Shows sees s (subset_calls table course 0 1 all) (turns_in course all) (Err why) s3 steps'
-    ended_so s2 s3 c' steps' why call g = (called s2 call).on (turns_in course all) (Err why) s3 steps' (g h.before _ (turns_in course all) h.ticks)
+        → Shows sees s all all_turns (Err why) s3 steps'
+    ended_so s2 s3 c' steps' why call g = (called s2 call).on all_turns (Err why) s3 steps' (g h.before _ all_turns h.ticks)
 
     -- or at its own call
-    pub refused_so : (s2 : V) (e : E) → sees s1 (subset_call (done + 1)) (Err e) s2
-        → Shows sees s (subset_calls table course 0 1 all) (turns_in course all) (Err (show_fault.Visitor e)) s2 steps
-    refused_so s2 e call = h.so_far.on (turns_in course all) (Err (show_fault.Visitor e)) s2 steps
-        (subst (λ ps. Shows sees s1 (subset_calls table course h.before (done + 1) (items_by_pass ps)) (turns_in course all) (Err (show_fault.Visitor e)) s2 steps)
-        (sym (next_pass (uncounted course) left (rest_of c) h.none).1) (inl (call, h.ticks)))
+    pub refused_so : (s2 : V) (e : E) → sees s1 (subset_call (done + 1)) (Err e) s2 → Shows sees s all all_turns (Err (show_fault.Visitor e)) s2 steps
+    refused_so s2 e call = so_far.on all_turns (Err (show_fault.Visitor e)) s2 steps (inl (call, h.ticks))
 
-  pub all_subsets : (all : List (List (Item Content))) (done : ℕ) (s s1 : V) (c : Cursor) (steps : ℕ) → SubsetsShown all done 0 s c s1 steps
-      → Shows sees s (subset_calls table course 0 1 all) (turns_in course all) (Ok tt) s1 steps
-  all_subsets all done s s1 c steps h = h.so_far.on (turns_in course all) (Ok tt) s1 steps (refl, h.ticks ∙ ap (ticked 0) (omega (arith, h.total)))
+  pub all_subsets : (done : ℕ) (s s1 : V) (c : Cursor) (steps : ℕ) → SubsetsShown done s c s1 steps → n ≤ done → Shows sees s all all_turns (Ok tt) s1 steps
+  all_subsets done s s1 c steps h ge =
+      let none : passes_apart (uncounted course) (n - done) (rest_of c) ≡ [] = ap (λ k. passes_apart (uncounted course) k (rest_of c)) (none_left n done ge) in
+      let total : h.before + 0 ≡ all_turns = ap (λ ps. h.before + turns_in answer_of course (items_by_pass ps)) (sym none) ∙ h.total in
+      (subst (λ ps. Sofar sees s all s1 (subset_calls table course h.before (done + 1) (items_by_pass ps))) none h.so_far).on all_turns (Ok tt) s1 steps
+      (refl, h.ticks ∙ ap (ticked 0) (omega (arith, total)))
+    where
+      none_left : (n done : ℕ) → n ≤ done → n - done ≡ 0
+      none_left n done h = omega (arith, h)
 
 -- ---- Plain numbers: those of elements, which stay below 2 ^ 63.
 
@@ -460,7 +472,7 @@ plain_for a p = subst (λ r. IsForRole r taken.Plain) (sym p.role) tt
 -- a reading of data that are not compressed was shown
 pub apart_shown : {V E : Type 0} (sees : V → Call → Result (Unit {0}) E → V → Type 0) (r : Read) (v v' : V) (result : Result (Unit {0}) (ShowFault E)) (steps : ℕ) → IsStoredReading r kept.Apart
     → (let all = items_by_pass (passes_apart (course_of r) r.source.subsets r.source.bits) in
-    Shows sees v (subset_calls r.table (counted_course_of r) 0 1 all) (turns_in (counted_course_of r) all) result v' steps)
+    Shows sees v (subset_calls r.table (counted_course_of r) 0 1 all) (turns_in answer_of (counted_course_of r) all) result v' steps)
     → Shows sees v (calls_of r) (turns_shown r) result v' steps
 apart_shown sees r v v' result steps h shows = by r.source.compressed h.keeps
   where

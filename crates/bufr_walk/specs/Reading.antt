@@ -233,11 +233,12 @@ course_of r = next_item r.table r.template
 abbrev pub counted_course_of : Read → CountedCourse
 counted_course_of r = counted_item r.table r.template
 
--- the turns of some whole subsets
-abbrev pub turns_in : CountedCourse → List (List (Item Content)) → ℕ
-turns_in course [] = 0
-turns_in course (items ∷ subsets) =
-    (course (answers_in answer_of items)).turns + turns_in course subsets
+-- the turns of the passes that have these items, each up to what comes next after them
+abbrev pub turns_in : {C : Type 0} → (FieldSpec → C → Taken) → CountedCourse
+    → List (List (Item C)) → ℕ
+turns_in gives course [] = 0
+turns_in gives course (items ∷ more) =
+    (course (answers_in gives items)).turns + turns_in gives course more
 
 -- ---- The calls of a visitor that show a reading, in order, up to its first fault.
 
@@ -326,7 +327,8 @@ calls_for r values =
 
 -- the turns of a showing
 abbrev pub turns_for : Read → Values → ℕ
-turns_for r values = turns_in (walk_shown r values) (each_subset r.source.subsets values)
+turns_for r values =
+    turns_in answer_of (walk_shown r values) (each_subset r.source.subsets values)
 
 -- 1 for a call of an item, 0 for one of a subset
 abbrev pub item_or_not : Call → ℕ

@@ -481,8 +481,8 @@ pub(crate) fn show_plain<V: Visitor>(
         (bits_of (octets_of given.now.bits))) in
         Shows V.sees visitor.old
         (subset_calls cache.old (counted_item cache.old given.now.template.now) 0 1 all)
-        (turns_in (counted_item cache.old given.now.template.now) all) result visitor.new
-        steps.new }
+        (turns_in answer_of (counted_item cache.old given.now.template.now) all) result
+        visitor.new steps.new }
 {
     let mut input = PlainIn::new(given.bits);
     'subsets: for done in 0..given.subsets {
