@@ -1,10 +1,11 @@
 -- A walk over drafts writes as the definition does.
-use Rattle.bufr_walk.specs.Prelude.{FieldSpec, bits_for, answer_of, Course, take_next, Next, at_end, astray, refused, TakenField, Takes, answers_of, oks}
-use Rattle.bufr_walk.specs.Pass.{Passing, Pass, Step, pass_next, pass_field, empty_pass, item_then, EndsPass}
-use Rattle.bufr_fill.specs.Prelude.{Taken, WrittenItem, Filler, filling, fill_pass, with_items, bits_written, answers_in, fill, bits_of_pass, WritesDrafts, written_item, plain_filler, DraftEntry, Holds, Ends, DraftFault, at_line, item_too_many, PlainOutModel, PlainFills, IsFaultNext, items_left, end_left, map_err, ◌>>=◌, subsets_of}
+use Rattle.bufr_walk.specs.Prelude.{FieldSpec, bits_for, answer_of, Course, take_next, Next, at_end, astray, refused, TakenField, Takes, answers_of, answers_in, oks}
+use Rattle.bufr_walk.specs.Pass.{empty_pass, item_then, EndsPass}
+use Rattle.bufr_walk.proofs.WalkPass.{at_last}
+use Rattle.bufr_fill.specs.Prelude.{Taken, WrittenItem, Filler, filling, fill_pass, with_items, bits_written, fill, bits_of_pass, WritesDrafts, written_item, plain_filler, DraftEntry, Holds, Ends, DraftFault, at_line, item_too_many, PlainOutModel, PlainFills, IsFaultNext, items_left, end_left, map_err, ◌>>=◌, subsets_of}
 use Rattle.bufr_fill.proofs.FillSteps.{pass_more}
 use Rattle.bufr_fill.proofs.EntryLemmas.{length-prepended}
-use Rattle.std.proofs.Common.{Option, Some, None, refl, sym, ◌∙◌, ap, subst, append_assoc, ℕ, length, arith, ◌≡◌, Bool, List, [], ◌∷◌, ◌++◌, Ok, Err}
+use Rattle.std.proofs.Common.{Option, Some, refl, sym, ◌∙◌, ap, subst, append_assoc, ℕ, length, arith, ◌≡◌, Bool, List, [], ◌∷◌, ◌++◌, Ok, Err}
 use Rattle.std.proofs.lemmas.List.{append-nil}
 
 -- ---- A walk over drafts writes as the definition does.
@@ -41,17 +42,9 @@ module _ {D C E S : Type 0} (filler : Filler D C E) (left : S → List D) (out :
         },
       )
 
--- at what ends a pass, nothing more is passed
-pub pass_ends : {S C E : Type 0} (how : Passing S C E) (next : Next) (s : S) (stop : Option E) (go : Step S C → Pass S C E) → EndsPass how next s stop → pass_next how next s go ≡ empty_pass s stop
-pass_ends how (take_next spec) s None go h = absurd h
-pass_ends how (take_next spec) s (Some why) go h = ap (λ r. pass_field how spec s r go) h
-pass_ends how at_end s stop go h = ap (empty_pass s) (sym h)
-pass_ends how (refused why) s stop go h = ap (empty_pass s) (sym h)
-pass_ends how astray s stop go h = absurd h
-
 module _ {D C E : Type 0} (filler : Filler D C E) where
   pub fill_ends : (course : Course) (ds : List D) (stop : Option E) → EndsPass (filling filler) (course []) ds stop → fill_pass filler course ds ≡ empty_pass ds stop
-  fill_ends course ds stop h = pass_ends (filling filler) (course []) ds stop _ h
+  fill_ends course ds stop h = at_last (filling filler) (course []) ds stop _ h
 
   -- where a walk ends or stops, its pass does
   pub walk_ends : (course : Course) (walked : List TakenField) (old new : List Bool) (drafts left : List D) (stop : Option E) → (w : WritesDrafts filler course walked old new drafts left)

@@ -3,11 +3,10 @@
 use Rattle.std.specs.Prelude.{ℕ, ◌≡◌, ◌<◌, ◌-◌, ◌/◌, ◌^◌, ◌==◌, Bool, true, false, List, length, nat_abs, ◌+◌, ◌≤◌, ◌++◌, Ok, ◌⊎◌, Err}
 use Rattle.std.specs.List.{list_all, AllByRecursion, AllZip}
 use Rattle.bufr_walk.specs.declared.spec.Role.TheVariants as role
-use Rattle.bufr_walk.specs.Prelude.{FieldSpec, Content, number, text, missing, reference, Course, next_item, TakenField, answers_of, subsets_from, Item, IsPackedReading, ReadsSubsets, IsPlainReading}
+use Rattle.bufr_walk.specs.Prelude.{FieldSpec, Content, number, text, missing, reference, Course, next_item, TakenField, answers_of, answers_in, subsets_from, Item, IsPackedReading, ReadsSubsets, IsPlainReading}
 use Rattle.bufr_fill.specs.Draft.{at_line, Role, raw_limit, draft_value_of, content_of, Draft, Subset, DraftValue, number_token, text_form, missing_form, reference_token, ItemFault}
 use Rattle.bufr_fill.specs.declared.fault.ItemFault.TheVariants as item_fault
 use Rattle.bufr_fill.specs.Encoding.{Kind, plain_data, packed_data, Filler, WrittenItem, fill_pass, bits_written, with_items}
-use Rattle.bufr_fill.specs.Steps.{answers_in}
 use Rattle.bufr_tables.specs.Prelude.{IsLegal, Record, Row, AreRows, Tree}
 use Rattle.bufr_tables.specs.declared.table_b.Kind.TheVariants as kind
 

@@ -1,19 +1,15 @@
 -- Only contracts need this file. The bits and the turns of a writing, up to its first fault. (own)
-use Rattle.std.specs.Prelude.{Bool, List, [], ◌∷◌, ◌++◌, Result, Ok, Err, ℕ, ◌+◌, true, false, length, Option, Some, None, map}
-use Rattle.bufr_walk.specs.Prelude.{CountedCourse, uncounted, Item, would_be_many, FieldSpec}
+use Rattle.std.specs.Prelude.{Bool, List, [], ◌∷◌, ◌++◌, Result, Ok, Err, ℕ, ◌+◌, true, false, length, Option, Some, None}
+use Rattle.bufr_walk.specs.Prelude.{CountedCourse, uncounted, answers_in, would_be_many}
 use Rattle.std.specs.Option.{option_map_or}
 use Rattle.bufr_fill.specs.Draft.{Subset, DraftFault}
-use Rattle.bufr_fill.specs.Encoding.{Taken, Filler, fill_pass, bits_written, plain_filler, packed_filler, most_items, rows}
+use Rattle.bufr_fill.specs.Encoding.{Filler, fill_pass, bits_written, plain_filler, packed_filler, most_items, rows}
 
 -- what is written: the bits up to the first fault, that fault (if any), and the number of turns
 pub record Writing (E : Type 0) : Type 0 where
   pub bits : List Bool
   pub stop : Option E
   pub turns : ℕ
-
--- the answers of items: the part of their contents that affects the walk
-abbrev pub answers_in : {C : Type 0} → (FieldSpec → C → Taken) → List (Item C) → List Taken
-answers_in gives items = map (λ i. gives i.spec i.content) items
 
 -- what a pass writes
 abbrev pub pass_writing : {D C E : Type 0} → Filler D C E → CountedCourse → List D → Writing E

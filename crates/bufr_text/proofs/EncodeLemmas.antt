@@ -1,8 +1,8 @@
 -- The bits and the turns of a walk that writes.
 use Rattle.std.proofs.Common.{inl, inr, ◌≡◌, ◌+◌, ℕ, suc, Bool, List, [], ◌∷◌, ◌++◌, length, length-append, Option, Some, None, Result, Ok, Err, refl, sym, ◌∙◌, ap, subst, arith, ◌<◌, get_or, true, false, ◌⊎◌, ◌≤◌, zero, ◌-◌, ◌*◌, append_assoc, if◌then◌else◌}
 use Rattle.bufr_walk.specs.declared.spec.Taken.{Taken}
-use Rattle.bufr_walk.specs.Prelude.{FieldSpec, octets_in, Course, Next, at_end, counts_of, Turns, finish, open_end, group, pass_end, factor_turn, element_turn, operator_turn, Rest, passes, unroll, TakenField, Takes, Item, ticked, answers_of, oks, StopsWalk, Walked, element_spec, factor_spec, inserted_spec, OperatorModel, after_operator, after_field, CountedCourse, uncounted, counted_item, turns_ahead, turns_asked, turns_operated}
-use Rattle.bufr_fill.specs.Prelude.{IfDraftFault, at_line, DraftEntry, Holds, Ends, Subset, subset, prepend_to_subset, subsets_of, WrittenItem, Filler, fill_pass, bits_written, Writing, pass_writing, writing_then, bits_of_writing, answers_in, WritesDrafts, filling, writing_of, plain_filler, plain_writing, packed_writing, cells_at, rows, most_items, AreOctets, PlainOutModel, PlainFills, IsFaultNext, after_end, line_at, items_left, end_left, ends_of, PackedOutModel, new_packed_out, PackedFills, IsFaultHere, all_at_end, first_line_at, rows_left}
+use Rattle.bufr_walk.specs.Prelude.{FieldSpec, octets_in, Course, Next, at_end, counts_of, Turns, finish, open_end, group, pass_end, factor_turn, element_turn, operator_turn, Rest, passes, unroll, TakenField, Takes, Item, answers_in, ticked, answers_of, oks, StopsWalk, Walked, element_spec, factor_spec, inserted_spec, OperatorModel, after_operator, after_field, CountedCourse, uncounted, counted_item, turns_ahead, turns_asked, turns_operated}
+use Rattle.bufr_fill.specs.Prelude.{IfDraftFault, at_line, DraftEntry, Holds, Ends, Subset, subset, prepend_to_subset, subsets_of, WrittenItem, Filler, fill_pass, bits_written, Writing, pass_writing, writing_then, bits_of_writing, WritesDrafts, filling, writing_of, plain_filler, plain_writing, packed_writing, cells_at, rows, most_items, AreOctets, PlainOutModel, PlainFills, IsFaultNext, after_end, line_at, items_left, end_left, ends_of, PackedOutModel, new_packed_out, PackedFills, IsFaultHere, all_at_end, first_line_at, rows_left}
 use Rattle.bufr_fill.specs.declared.fault.DraftFault.{DraftFault}
 use Rattle.bufr_fill.proofs.FillSteps.{plain_written}
 use Rattle.bufr_fill.proofs.WalkLemmas.{walk_ends, left_after, walk_of_items, stops_at}
@@ -17,7 +17,7 @@ use Rattle.bufr_walk.specs.declared.spec.TurnRefusal.{TurnRefusal}
 use Rattle.std.proofs.lemmas.List.{append-nil, map-append}
 use Rattle.bufr_walk.specs.declared.walker.WalkStop.{WalkStop}
 use Rattle.bufr_walk.specs.Pass.{EndsPass}
-use Rattle.bufr_walk.proofs.ShownLemmas.{ticked_more}
+use Rattle.bufr_walk.proofs.PlainReading.{ticked_more}
 use Rattle.bufr_fill.proofs.EntryLemmas.{length-subsets, length-prepended}
 use Rattle.bufr_fill.proofs.PackedWalks.{filler, came, walk_of_rows, stops_across, ends_across}
 use Rattle.bufr_fill.specs.declared.fault.DraftFault.TheVariants as draft_fault
