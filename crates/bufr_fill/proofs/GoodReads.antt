@@ -4,7 +4,7 @@ use Rattle.bufr_fill.proofs.PackedBack.{AreOctets-append, AreOctets-spaces}
 use Rattle.bufr_fill.proofs.FieldLemmas.{same_ok}
 use Rattle.std.proofs.lemmas.Bool.{ltb-false, ltb-true}
 use Rattle.bufr_tables.specs.Prelude.{is_character}
-use Rattle.bufr_walk.specs.Prelude.{FieldSpec, IsSpec, HasWidth, HasRole, is_reference, Content, number, text, missing, reference, answer_by_role, answer_of, found, plain_field, packed_field, answer_first, Course, Item, DataCoding, plain, packed, ReadsItems, ReadsSubsets, item_answer, after}
+use Rattle.bufr_walk.specs.Prelude.{FieldSpec, IsSpec, HasWidth, HasRole, is_reference, Content, number, text, missing, reference, answer_by_role, answer_of, found, plain_field, packed_field, answer_first, Course, Item, DataCoding, plain, packed, ReadsItems, ReadsSubsets, after}
 use Rattle.bufr_fill.specs.Prelude.{Role, Kind, FitsRole, AreOctets, FitsNumber, FitsText, FitsReference, FitsKind, Fits, HasOctets, DraftValue, number_token, text_form, missing_form, reference_token, Draft, is_marked, raw_within, raw_of, reference_of, text_within, content_by_form, is_of, wrong_for, content_of, raw_limit}
 use Rattle.bufr_fill.specs.declared.fault.ItemFault.TheVariants as wrong
 use Rattle.bufr_walk.proofs.NextField.{IsGoodCourse}
@@ -44,8 +44,8 @@ module _ {C : Type 0} (form : DataCoding C) (gives : (spec : FieldSpec) (c : C) 
   fields_of_reads course [] bits suffix good h = tt
   fields_of_reads course (i ∷ items) bits suffix good h =
       let here : IsField i.spec = good [] i.spec tt h.1 in
-      let within : IsWithin (item_answer form i) = gives i.spec i.content bits h.0 here.spec h.2 in
-      (here, fields_of_reads (after form course i) items h.0 suffix (λ answers spec w e. good (item_answer form i ∷ answers) spec (within, w) e) h.3)
+      let within : IsWithin (form.gives i.spec i.content) = gives i.spec i.content bits h.0 here.spec h.2 in
+      (here, fields_of_reads (after form course i) items h.0 suffix (λ answers spec w e. good (form.gives i.spec i.content ∷ answers) spec (within, w) e) h.3)
 
 pub all_specs : {C : Type 0} (items : List (Item C)) → AllFields items → AllSpecs items
 all_specs [] h = tt

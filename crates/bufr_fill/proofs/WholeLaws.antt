@@ -13,7 +13,7 @@ use Rattle.bufr_fill.proofs.GoodReads.{plain_specs, packed_specs}
 use Rattle.bufr_fill.proofs.PackedLaws.{packed_count}
 use Rattle.bufr_fill.proofs.FormLaws.{subset_count, packed_rewritten, together, apart, all_followed, AllFollow, follow_reading, plain_subsets, subsets_said, subset_bits, row_bits}
 use Rattle.bufr_fill.proofs.BackLaws.{plain_template_back, packed_template_back}
-use Rattle.bufr_walk.proofs.BoundLemmas.{length-items_of}
+use Rattle.bufr_walk.proofs.PackedReading.{length-items_of}
 
 -- ---- The drafts of compressed data, subset after subset, have the rows of the items.
 

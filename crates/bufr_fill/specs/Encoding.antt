@@ -80,6 +80,10 @@ module _ {D C E : Type 0} (filler : Filler D C E) where
 abbrev pub bits_written : {C : Type 0} → List (Item (WrittenItem C)) → List Bool
 bits_written {C} items = flat_map (λ (i : Item (WrittenItem C)). i.content.bits) items
 
+-- items, and then those of a pass
+abbrev pub with_items : {S C E : Type 0} → List (Item C) → Pass S C E → Pass S C E
+with_items items p = record p { items = items ++ p.items }
+
 -- the bits that a pass wrote, or what stopped it
 abbrev pub bits_of_pass : {S C E : Type 0} → Pass S (WrittenItem C) E → Result (List Bool) E
 bits_of_pass p = option_map_or (λ why. Err why) p.stop (Ok (bits_written p.items))

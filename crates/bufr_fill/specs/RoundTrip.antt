@@ -3,10 +3,10 @@
 use Rattle.std.specs.Prelude.{ℕ, ◌≡◌, ◌<◌, ◌-◌, ◌/◌, ◌^◌, ◌==◌, Bool, true, false, List, length, nat_abs, ◌+◌, ◌≤◌, ◌++◌, Ok, ◌⊎◌, Err}
 use Rattle.std.specs.List.{list_all, AllByRecursion, AllZip}
 use Rattle.bufr_walk.specs.declared.spec.Role.TheVariants as role
-use Rattle.bufr_walk.specs.Prelude.{FieldSpec, Content, number, text, missing, reference, Course, next_item, TakenField, course_after, subsets_from, Item, IsPackedReading, ReadsSubsets, IsPlainReading}
+use Rattle.bufr_walk.specs.Prelude.{FieldSpec, Content, number, text, missing, reference, Course, next_item, TakenField, answers_of, answers_in, subsets_from, Item, IsPackedReading, ReadsSubsets, IsPlainReading}
 use Rattle.bufr_fill.specs.Draft.{at_line, Role, raw_limit, draft_value_of, content_of, Draft, Subset, DraftValue, number_token, text_form, missing_form, reference_token, ItemFault}
 use Rattle.bufr_fill.specs.declared.fault.ItemFault.TheVariants as item_fault
-use Rattle.bufr_fill.specs.Encoding.{Kind, plain_data, packed_data, Filler, fill, with_bits_before}
+use Rattle.bufr_fill.specs.Encoding.{Kind, plain_data, packed_data, Filler, WrittenItem, fill_pass, bits_written, with_items}
 use Rattle.bufr_tables.specs.Prelude.{IsLegal, Record, Row, AreRows, Tree}
 use Rattle.bufr_tables.specs.declared.table_b.Kind.TheVariants as kind
 
@@ -163,11 +163,12 @@ OfTemplates law =
     (records : List Record) (table : List Row) (template : Tree) → AreRows records table
     → IsLegal template → law (next_item table template)
 
--- a walk wrote what the definition makes of the drafts, up to those that it left
-abbrev pub WritesDrafts : {D C E : Type 0} → Filler D C E → Course → List TakenField
-    → (old new : List Bool)
-    → (drafts left : List D) → Type 0
-WritesDrafts filler course items old new drafts left =
-    (bits : List Bool) × (new ≡ old ++ bits)
-    × (fill filler course drafts
-    ≡ with_bits_before filler bits (fill filler (course_after course items) left))
+-- A walk wrote what the definition makes of the drafts, up to those that it left: the pass over the
+-- drafts has these items, with the answers of the walk, and goes on as the pass over those left.
+pub record WritesDrafts {D C E : Type 0} (filler : Filler D C E) (course : Course)
+    (walked : List TakenField) (old new : List Bool) (drafts left : List D) : Type 0 where
+  pub items : List (Item (WrittenItem C))
+  pub bits : new ≡ old ++ bits_written items
+  pub answers : answers_in (λ spec w. filler.gives spec w.content) items ≡ answers_of walked
+  pub is : fill_pass filler course drafts
+      ≡ with_items items (fill_pass filler (λ more. course (answers_of walked ++ more)) left)

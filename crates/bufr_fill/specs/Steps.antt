@@ -1,23 +1,15 @@
 -- Only contracts need this file. The bits and the turns of a writing, up to its first fault. (own)
 use Rattle.std.specs.Prelude.{Bool, List, [], ◌∷◌, ◌++◌, Result, Ok, Err, ℕ, ◌+◌, true, false, length, Option, Some, None}
-use Rattle.bufr_walk.specs.Prelude.{CountedCourse, uncounted, Item, would_be_many}
+use Rattle.bufr_walk.specs.Prelude.{CountedCourse, uncounted, answers_in, would_be_many}
 use Rattle.std.specs.Option.{option_map_or}
 use Rattle.bufr_fill.specs.Draft.{Subset, DraftFault}
-use Rattle.bufr_fill.specs.Encoding.{WrittenItem, Filler, fill_pass, bits_written, plain_filler, packed_filler, most_items, rows}
+use Rattle.bufr_fill.specs.Encoding.{Filler, fill_pass, bits_written, plain_filler, packed_filler, most_items, rows}
 
 -- what is written: the bits up to the first fault, that fault (if any), and the number of turns
 pub record Writing (E : Type 0) : Type 0 where
   pub bits : List Bool
   pub stop : Option E
   pub turns : ℕ
-
--- the number of turns of a pass that wrote these items, up to what comes next after them
-abbrev pub turns_written : {D C E : Type 0} → Filler D C E → CountedCourse
-    → List (Item (WrittenItem C)) → ℕ
-turns_written filler course [] = (course []).turns
-turns_written filler course (i ∷ items) =
-    turns_written filler
-    (λ answers. course (filler.gives i.spec i.content.content ∷ answers)) items
 
 -- what a pass writes
 abbrev pub pass_writing : {D C E : Type 0} → Filler D C E → CountedCourse → List D → Writing E
@@ -26,7 +18,7 @@ pass_writing filler course drafts =
     record {
       bits = bits_written p.items;
       stop = p.stop;
-      turns = turns_written filler course p.items;
+      turns = (course (answers_in (λ spec w. filler.gives spec w.content) p.items)).turns;
     }
 
 -- what w writes and then, unless w stopped, what `rest` writes; the second argument is `w.stop`

@@ -13,7 +13,7 @@ use Rattle.bufr_frame.specs.Prelude.{Sections}
 use Rattle.bufr_frame.specs.declared.fault.RunFault.TheVariants.{Write, Memory}
 use Rattle.bufr_tables.specs.Prelude.{Row, fxy_text, row_comment, row_line_start}
 use Rattle.bufr_walk.specs.declared.fault.ShowFault.{ShowFault}
-use Rattle.bufr_walk.specs.Prelude.{item_call, Timed, View, shown_missing, shown_number, view_of, item_calls, subset_calls, calls_for, calls_of, turns_shown, values_read, Shows, EndsAt, Content, ticked, Item, Values, plain, turns_after, walk_shown, each_subset, turns_in, CountedCourse, after_counted}
+use Rattle.bufr_walk.specs.Prelude.{item_call, Timed, View, shown_missing, shown_number, view_of, item_calls, subset_calls, calls_for, calls_of, turns_shown, values_read, Shows, EndsAt, Content, ticked, Item, Values, plain, answers_in, walk_shown, each_subset, turns_in, CountedCourse, after, answer_of}
 use Rattle.bufr_bits.specs.Prelude.{decimal_text_of}
 use Rattle.std.proofs.lemmas.Bool.Decides.{nat_tests}
 use Rattle.bufr_walk.specs.declared.fault.ShowFault.TheVariants as show
@@ -254,7 +254,7 @@ pub items-text : (table : List Row) (before : ℕ) (course : CountedCourse) (ite
     → calls_text (item_calls table before course items) ≡ text_of_lines (map item_text (items_shown table items))
 items-text table before course [] = refl
 items-text table before course (i ∷ items) =
-    ap (λ l. (call_line (item_call (view_of table i.spec i.content)) ++ 10 ∷ []) ++ l) (items-text table before (after_counted plain course i) items)
+    ap (λ l. (call_line (item_call (view_of table i.spec i.content)) ++ 10 ∷ []) ++ l) (items-text table before (after plain course i) items)
 
 -- a subset, and those after it
 subset-text : (number : ℕ) (calls more : List Timed) (lines suffix : List (List ℕ)) → calls_text calls ≡ text_of_lines lines → calls_text more ≡ text_of_lines suffix
@@ -266,9 +266,9 @@ subsets-text : (table : List Row) (course : CountedCourse) (before number : ℕ)
 unfolding subset_lines
 subsets-text table course before number [] = refl
 subsets-text table course before number (items ∷ subsets) =
-    subset-text number (item_calls table before course items) (subset_calls table course (before + turns_after plain course items) (number + 1) subsets)
+    subset-text number (item_calls table before course items) (subset_calls table course (before + (course (answers_in answer_of items)).turns) (number + 1) subsets)
     (map item_text (items_shown table items)) (subset_lines (number + 1) (map (items_shown table) subsets))
-    (items-text table before course items) (subsets-text table course (before + turns_after plain course items) (number + 1) subsets)
+    (items-text table before course items) (subsets-text table course (before + (course (answers_in answer_of items)).turns) (number + 1) subsets)
 
 -- the calls of a reading write its subsets
 pub reading-text : (r : outcome.Read) (values : Values) → calls_text (calls_for r values) ≡ text_of_lines (subset_lines 1 (dump_items r.table r.source.subsets values))
@@ -367,7 +367,7 @@ no-steps r = by (each_subset r.source.subsets (values_read r))
     course : CountedCourse
     course = walk_shown r (values_read r)
 
-    by : (subsets : List (List (Item Content))) → StepsWithin (subset_calls r.table course 0 1 subsets) (turns_in course subsets) 0
+    by : (subsets : List (List (Item Content))) → StepsWithin (subset_calls r.table course 0 1 subsets) (turns_in answer_of course subsets) 0
     by [] = refl
     by (items ∷ subsets) = inl refl
 

@@ -1,10 +1,13 @@
 -- Bounds on the items and the steps of readings and showings.
-use Rattle.std.proofs.Common.{◌≡◌, ℕ, zero, suc, ◌+◌, ◌-◌, ◌*◌, ◌<◌, ◌≤◌, List, [], ◌∷◌, length, Bool, true, false, ◌||◌, Result, Ok, Err, refl, ap, subst, arith, ◌++◌, inl, inr, drop, sym, ◌∙◌}
+use Rattle.bufr_walk.proofs.PassLemmas.{pass_at_end, next_pass}
+use Rattle.bufr_walk.specs.Readers.{first_items, items_by_pass, place_at}
+use Rattle.std.proofs.lemmas.List.{length-map}
+use Rattle.std.proofs.Common.{◌≡◌, ℕ, zero, suc, ◌+◌, ◌-◌, ◌*◌, ◌<◌, ◌≤◌, List, ◌∷◌, length, Bool, true, false, ◌||◌, Result, Ok, Err, refl, ap, subst, arith, ◌++◌, inl, inr, sym, None, []}
 use Rattle.std.proofs.Math.Nat.{mul-le-mul_left}
 use Rattle.bufr_tables.specs.Prelude.{Tree, bare, element, operator, fixed, delayed, size, places, consumes, is_inserted_text, Row, EveryGroupConsumes, IsSound}
-use Rattle.bufr_walk.specs.Prelude.{Course, next_item, Taken, TurnRefusal, FieldSpec, Content, OperatorModel, begin, after_operator, after_field, element_spec, factor_spec, inserted_spec, Turns, finish, operator_turn, Rest, unroll, passes, pass_end, at_end, astray, counts_of, TakenField, Takes, oks, answers_of, Walked, ticked, WalkStop, ShowFault, Call, Timed, item_calls, subset_calls, calls_for, items_called, turns_for, Shows, IsStoredReading, PaysBits, items_in, Read, course_of, Item, plain, item_answer, next_after, turns_after, turns_in, ReadsSubsets, Values, apart, together, IsReading, IsPackedReading, max_values, items_of_subset, subsets_from, each_subset, without_turns, walk_shown, group, NextTurn, CountedCourse, uncounted, counted_item, after_counted}
+use Rattle.bufr_walk.specs.Prelude.{next_item, Taken, TurnRefusal, FieldSpec, Content, OperatorModel, begin, after_operator, after_field, element_spec, factor_spec, inserted_spec, Turns, finish, operator_turn, Rest, unroll, passes, pass_end, at_end, astray, counts_of, TakenField, Takes, oks, answers_of, Walked, ticked, WalkStop, ShowFault, Call, Timed, item_calls, subset_calls, calls_for, items_called, turns_for, Shows, IsStoredReading, PaysBits, items_in, Read, course_of, Item, plain, answers_in, turns_in, apart, together, max_values, subsets_from, each_subset, without_turns, walk_shown, group, NextTurn, CountedCourse, uncounted, counted_item, after, answer_of, counted_course_of}
 use Rattle.bufr_walk.specs.declared.reading.StoredItems.{StoredItems}
-use Rattle.bufr_walk.specs.Pass.{values_read, calls_of, turns_shown}
+use Rattle.bufr_walk.specs.Pass.{values_read, calls_of, turns_shown, passes_apart, passes_together, read_pass, reading_in, stop_of}
 use Rattle.bufr_walk.proofs.WalkLemmas.{stop_cases}
 use Rattle.bufr_walk.proofs.WalkProgress.{in_one_turn, counted_ahead, counted_asked, counted_operated, counted_either}
 use Rattle.bufr_walk.proofs.PackedShowing.{no_turns, no_turns_in}
@@ -248,45 +251,23 @@ called_more (t ∷ a) b = omega (arith, called_more a b)
 
 called_items : (table : List Row) (before : ℕ) (course : CountedCourse) (items : List (Item Content)) → items_called (item_calls table before course items) ≡ length items
 called_items table before course [] = refl
-called_items table before course (i ∷ items) = omega (arith, called_items table before (after_counted plain course i) items)
+called_items table before course (i ∷ items) = omega (arith, called_items table before (after plain course i) items)
 
 called_subsets : (table : List Row) (course : CountedCourse) (before number : ℕ) (subsets : List (List (Item Content)))
     → items_called (subset_calls table course before number subsets) ≡ items_in subsets
 called_subsets table course before number [] = refl
 called_subsets table course before number (items ∷ subsets) =
-    let suffix : List Timed = subset_calls table course (before + turns_after plain course items) (number + 1) subsets in
+    let suffix : List Timed = subset_calls table course (before + (course (answers_in answer_of items)).turns) (number + 1) subsets in
     omega (
       arith,
       called_more (item_calls table before course items) suffix,
       called_items table before course items,
-      called_subsets table course (before + turns_after plain course items) (number + 1) subsets,
+      called_subsets table course (before + (course (answers_in answer_of items)).turns) (number + 1) subsets,
     )
-
-pub length-items_of : (j : ℕ) (items : List (Item (List Content))) → length (items_of_subset j items) ≡ length items
-length-items_of j [] = refl
-length-items_of j (i ∷ items) = ap suc (length-items_of j items)
-
--- each item of compressed data is one of each subset
-items_apart : (n j : ℕ) (items : List (Item (List Content))) → items_in (subsets_from n j items) ≡ length items * n
-items_apart zero j items = omega arith
-items_apart (suc n) j items =
-    let more : length items * suc n ≡ length items + length items * n = grind arith in
-    omega (arith, more, length-items_of j items, items_apart n (suc j) items)
-
-packed_few : (table : List Row) (n used : ℕ) (course : Course) (items : List (Item (List Content))) (bits suffix : List Bool) → IsPackedReading n course items bits suffix
-    → length items * n ≤ max_values
-packed_few table zero used course items bits suffix h = omega arith
-packed_few table (suc n) used course items bits suffix h = h.1
 
 -- the items of all calls
 pub few_items : (r : Read) (k : StoredItems) → IsStoredReading r k → items_called (calls_of r) ≤ max_values
-few_items r k h =
-    let v = values_read r in
-    omega (arith, called_subsets r.table (walk_shown r v) 0 1 (each_subset r.source.subsets v), by v h.reading h.pays)
-  where
-    by : (v : Values) → IsReading (course_of r) r.source v r.bits → PaysBits v r.bits → items_in (each_subset r.source.subsets v) ≤ max_values
-    by (apart xs) g p = omega (arith, p, h.short)
-    by (together xs) g p = omega (arith, items_apart r.source.subsets 0 xs, packed_few r.table r.source.subsets r.bits (course_of r) xs r.source.bits (drop r.bits r.source.bits) g.2)
+few_items r k h = let v = values_read r in omega (arith, called_subsets r.table (walk_shown r v) 0 1 (each_subset r.source.subsets v), h.most)
 
 -- calls before each of which at most so many turns are made
 abbrev AllWithin : ℕ → List Timed → Type 0
@@ -308,22 +289,8 @@ shows_within sees most s (c ∷ calls) turns (Ok u) s' steps h t g = shows_withi
 shows_within sees most s (c ∷ calls) turns (Err why) s' steps h t g =
     elim h as (λ _. steps ≤ most) [ inl x ↦ ticked_most c.turns most steps x.1 g.0 | inr y ↦ shows_within sees most y.0 calls turns (Err why) s' steps y.2 t g.1 ]
 
--- what items returned to the walk
-abbrev answers_all : List (Item Content) → List Taken
-answers_all [] = []
-answers_all (i ∷ items) = item_answer plain i ∷ answers_all items
-
-gives_length : (items : List (Item Content)) → length (answers_all items) ≡ length items
-gives_length [] = refl
-gives_length (i ∷ items) = ap suc (gives_length items)
-
-turns_are : (course : CountedCourse) (items : List (Item Content)) → turns_after plain course items ≡ (course (answers_all items)).turns
-turns_are course [] = refl
-turns_are course (i ∷ items) = turns_are (after_counted plain course i) items
-
-next_is : (course : CountedCourse) (items : List (Item Content)) → next_after plain (uncounted course) items ≡ (course (answers_all items)).next
-next_is course [] = refl
-next_is course (i ∷ items) = next_is (after_counted plain course i) items
+gives_length : (items : List (Item Content)) → length (answers_in answer_of items) ≡ length items
+gives_length items = length-map items (λ i. answer_of i.spec i.content)
 
 -- a bound on the turns up to what comes after some items
 abbrev TurnsWithin : ℕ → ℕ → CountedCourse → Type 0
@@ -340,8 +307,8 @@ items_within : (n most : ℕ) (table : List Row) (before paid done : ℕ) (cours
 items_within n most table before paid done course [] h b m = tt
 items_within n most table before paid done course (i ∷ items) h b m = (
   omega (arith, h [], b, m, split n paid (done + 0 + 1), mono n (paid + (done + 0 + 1)) (paid + (done + suc (length items))) (omega arith)),
-  items_within n most table before paid (done + 1) (after_counted plain course i) items
-      (λ answers. subst (λ k. (course (item_answer plain i ∷ answers)).turns ≤ n * k) (counted done (length answers)) (h (item_answer plain i ∷ answers))) b
+  items_within n most table before paid (done + 1) (after plain course i) items
+      (λ answers. subst (λ k. (course (answer_of i.spec i.content ∷ answers)).turns ≤ n * k) (counted done (length answers)) (h (answer_of i.spec i.content ∷ answers))) b
       (subst (λ k. n * (paid + k) ≤ most) (moved done (length items)) m),
 )
   where
@@ -351,22 +318,35 @@ items_within n most table before paid done course (i ∷ items) h b m = (
     moved : (d l : ℕ) → d + suc l ≡ d + 1 + l
     moved d l = omega arith
 
-subsets_within : (most : ℕ) (table : List Row) (template : Tree) (before paid number : ℕ) (subsets : List (List (Item Content))) (bits suffix : List Bool) → IsSound template
-    → ReadsSubsets (uncounted (counted_item table template)) subsets bits suffix → before ≤ places template * paid → places template * (paid + items_in subsets) ≤ most
-    → AllWithin most (subset_calls table (counted_item table template) before number subsets) × (before + turns_in (counted_item table template) subsets ≤ most)
-subsets_within most table template before paid number [] bits suffix sound h b m = (tt, omega (arith, b, m, mono (places template) paid (paid + 0) (omega arith)))
-subsets_within most table template before paid number (items ∷ subsets) bits suffix sound h b m =
+-- the template ends after the items of each subset
+abbrev AllEnd : CountedCourse → List (List (Item Content)) → Type 0
+AllEnd course [] = Unit {0}
+AllEnd course (items ∷ subsets) = ((course (answers_in answer_of items)).next ≡ at_end) × AllEnd course subsets
+
+all_end : (course : CountedCourse) (n : ℕ) (bits : List Bool) → stop_of (passes_apart (uncounted course) n bits) ≡ None → AllEnd course (items_by_pass (passes_apart (uncounted course) n bits))
+all_end course zero bits h = tt
+all_end course (suc n) bits h =
+    let k = next_pass (uncounted course) (suc n) n bits refl h in
+    let p = read_pass plain (λ items. false) (uncounted course) bits in
+    subst (λ ps. AllEnd course (items_by_pass ps)) (sym k.1)
+    (pass_at_end plain (λ items. false) (suc (length bits)) (uncounted course) (place_at 0 bits) k.0, all_end course n p.state.left k.2)
+
+subsets_within : (most : ℕ) (table : List Row) (template : Tree) (before paid number : ℕ) (subsets : List (List (Item Content))) → IsSound template
+    → AllEnd (counted_item table template) subsets → before ≤ places template * paid → places template * (paid + items_in subsets) ≤ most
+    → AllWithin most (subset_calls table (counted_item table template) before number subsets) × (before + turns_in answer_of (counted_item table template) subsets ≤ most)
+subsets_within most table template before paid number [] sound h b m = (tt, omega (arith, b, m, mono (places template) paid (paid + 0) (omega arith)))
+subsets_within most table template before paid number (items ∷ subsets) sound h b m =
     let n : ℕ = places template in
     let course : CountedCourse = counted_item table template in
-    let turns : turns_after plain course items ≤ n * length items =
-    subst (λ k. turns_after plain course items ≤ n * k) (gives_length items)
-    (subst (λ k. k ≤ n * length (answers_all items)) (sym (turns_are course items)) (turns_in_all table template (answers_all items) sound (sym (next_is course items) ∙ h.1.1))) in
-    let more : before + turns_after plain course items ≤ n * (paid + length items) = omega (arith, b, turns, split n paid (length items)) in
-    let rest = subsets_within most table template (before + turns_after plain course items) (paid + length items) (number + 1) subsets h.0 suffix sound h.2 more
+    let turns : (course (answers_in answer_of items)).turns ≤ n * length items =
+    subst (λ k. (course (answers_in answer_of items)).turns ≤ n * k) (gives_length items)
+    (turns_in_all table template (answers_in answer_of items) sound h.0) in
+    let more : before + (course (answers_in answer_of items)).turns ≤ n * (paid + length items) = omega (arith, b, turns, split n paid (length items)) in
+    let rest = subsets_within most table template (before + (course (answers_in answer_of items)).turns) (paid + length items) (number + 1) subsets sound h.1 more
     (subst (λ k. n * k ≤ most) (moved paid (length items) (items_in subsets)) m) in (
       (
         omega (arith, b, m, mono n paid (paid + (length items + items_in subsets)) (omega arith)),
-        within_more most (item_calls table before course items) (subset_calls table course (before + turns_after plain course items) (number + 1) subsets)
+        within_more most (item_calls table before course items) (subset_calls table course (before + (course (answers_in answer_of items)).turns) (number + 1) subsets)
             (items_within n most table before paid 0 course items (λ answers. subst (λ k. (course answers).turns ≤ n * k) (zeroed (length answers)) (turns_before table template answers sound)) b
             (omega (arith, m, mono n (paid + (0 + length items)) (paid + (length items + items_in subsets)) (omega arith)))) rest.0,
       ),
@@ -383,8 +363,8 @@ untimed_within : (most : ℕ) (table : List Row) (before number : ℕ) (subsets 
 untimed_within most table before number [] none = tt
 untimed_within most table before number (items ∷ subsets) none = (
   omega (arith, none),
-  within_more most (item_calls table before without_turns items) (subset_calls table without_turns (before + turns_after plain without_turns items) (number + 1) subsets) (one items)
-      (untimed_within most table (before + turns_after plain without_turns items) (number + 1) subsets (omega (arith, none, no_turns items))),
+  within_more most (item_calls table before without_turns items) (subset_calls table without_turns (before + (without_turns (answers_in answer_of items)).turns) (number + 1) subsets) (one items)
+      (untimed_within most table (before + (without_turns (answers_in answer_of items)).turns) (number + 1) subsets (omega (arith, none, no_turns items))),
 )
   where
     one : (items : List (Item Content)) → AllWithin most (item_calls table before without_turns items)
@@ -395,14 +375,18 @@ untimed_within most table before number (items ∷ subsets) none = (
 pub steps_within : {S E : Type 0} (sees : S → Call → Result (Unit {0}) E → S → Type 0) (r : Read) (k : StoredItems) (s s' : S) (result : Result (Unit {0}) (ShowFault E)) (steps : ℕ)
     → IsSound r.template → IsStoredReading r k
     → Shows sees s (calls_of r) (turns_shown r) result s' steps → steps ≤ places r.template * r.bits
-steps_within sees r k s s' result steps sound h shows = by (values_read r) h.reading h.pays shows
+steps_within sees r k s s' result steps sound h shows = by r.source.compressed h.none h.pays shows
   where
-    by : (values : Values) → IsReading (course_of r) r.source values r.bits → PaysBits values r.bits → Shows sees s (calls_for r values) (turns_for r values) result s' steps
-        → steps ≤ places r.template * r.bits
-    by (apart subsets) g p w =
-        let all = subsets_within (places r.template * r.bits) r.table r.template 0 0 1 subsets r.source.bits (drop r.bits r.source.bits) sound g.2.0 (omega arith)
+    by : (b : Bool) → (reading_in (course_of r) b r.source.subsets r.source.bits).stop ≡ None
+        → (let values = (reading_in (course_of r) b r.source.subsets r.source.bits).values in
+        PaysBits values r.bits → Shows sees s (calls_for r values) (turns_for r values) result s' steps → steps ≤ places r.template * r.bits)
+    by false none p w =
+        let subsets = items_by_pass (passes_apart (course_of r) r.source.subsets r.source.bits) in
+        let all = subsets_within (places r.template * r.bits) r.table r.template 0 0 1 subsets sound (all_end (counted_course_of r) r.source.subsets r.source.bits none) (omega arith)
         (mono (places r.template) (0 + items_in subsets) r.bits (omega (arith, p))) in
         shows_within sees (places r.template * r.bits) s (calls_for r (apart subsets)) (turns_for r (apart subsets)) result s' steps w (omega (arith, all.1)) all.0
-    by (together items) g p w = shows_within sees (places r.template * r.bits) s (calls_for r (together items)) (turns_for r (together items)) result s' steps w
+    by true none p w =
+        let items = first_items (items_by_pass (passes_together (course_of r) r.source.subsets r.source.bits)) in
+        shows_within sees (places r.template * r.bits) s (calls_for r (together items)) (turns_for r (together items)) result s' steps w
         (omega (arith, no_turns_in (subsets_from r.source.subsets 0 items)))
         (untimed_within (places r.template * r.bits) r.table 0 1 (subsets_from r.source.subsets 0 items) refl)

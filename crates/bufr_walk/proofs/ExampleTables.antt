@@ -4,7 +4,7 @@ use Rattle.std.proofs.Common.{ℕ, ◌+◌, ◌*◌, List, [], ◌∷◌, length
 use Rattle.bufr_bits.specs.Prelude.{bits_of}
 use Rattle.bufr_tables.specs.declared.table_b.Kind.TheVariants as kind
 use Rattle.bufr_tables.specs.Prelude.{Row, Tree}
-use Rattle.bufr_walk.specs.Prelude.{Kind, TurnRefusal, FieldSpec, ShownValue, shown, FieldFault, next_item, counted_item, CountedCourse, DataCoding, plain, packed, turns_after, Stop, stop_by, wrong_of}
+use Rattle.bufr_walk.specs.Prelude.{Kind, TurnRefusal, FieldSpec, ShownValue, shown, FieldFault, next_item, counted_item, CountedCourse, DataCoding, plain, packed, answers_in, Stop, stop_by, wrong_of}
 use Rattle.bufr_walk.specs.declared.walker.WalkStop.TheVariants as stops
 use Rattle.bufr_walk.specs.Pass.{Pass as DataPass, Place, passes_apart, passes_together}
 
@@ -61,7 +61,7 @@ ending_of (Some stop) left turns = stopped stop left turns
 -- what a pass of the definitions shows
 seen : {C V : Type 0} → DataCoding C → CountedCourse → (FieldSpec → C → V) → DataPass Place C Stop → Pass V
 unfolding ending_of
-seen form course shows p = record { items = map (λ i. (i.spec.fxy, shows i.spec i.content)) p.items; ending = ending_of p.stop (length p.state.left) (turns_after form course p.items) }
+seen form course shows p = record { items = map (λ i. (i.spec.fxy, shows i.spec i.content)) p.items; ending = ending_of p.stop (length p.state.left) (course (answers_in form.gives p.items)).turns }
 
 first : {V : Type 0} → List (Pass V) → Pass V
 first [] = record { items = []; ending = unknown }

@@ -1,11 +1,12 @@
 -- Worked examples of groups, of subsets one after another, and of where the data end, computed from
 -- the definitions.
-use Rattle.std.proofs.Common.{◌≡◌, ℕ, Bool, true, false, List, [], ◌∷◌, pos, negsuc, refl, take, drop}
+use Rattle.bufr_walk.specs.Pass.{reading_in}
+use Rattle.std.proofs.Common.{◌≡◌, ℕ, Bool, true, false, List, [], ◌∷◌, pos, negsuc, refl, take, drop, None}
 use Rattle.bufr_bits.specs.Prelude.{bits_of}
 use Rattle.bufr_tables.specs.declared.table_b.Kind.TheVariants as kind
 use Rattle.bufr_tables.specs.Prelude.{Tree, bare, element, operator, fixed, delayed}
 use Rattle.bufr_walk.specs.declared.spec.Role.TheVariants as role
-use Rattle.bufr_walk.specs.Prelude.{next_item, counted_item, Content, reference, number, text, shown_number, shown_text, shown_reference, data_end, Item, turns_in, IsPlainReading}
+use Rattle.bufr_walk.specs.Prelude.{next_item, counted_item, Content, reference, number, text, shown_number, shown_text, shown_reference, data_end, Item, turns_in, apart, answer_of}
 use Rattle.bufr_walk.proofs.ExampleTables.{fxy, table, done, field_fault, one, two, gives}
 
 -- A group of so many passes leaves the operators of its passes in force. Fails where a pass or a
@@ -97,16 +98,10 @@ minus_400 fxy = record {
 }
 
 -- rule: subsets-without-padding
-reading_of_changes : IsPlainReading 2 (next_item table changed_after) ((at_288_15 ∷ minus_400 3173 ∷ []) ∷ (at_288_15 ∷ minus_400 3173 ∷ []) ∷ []) data_of_two []
+reading_of_changes : reading_in (next_item table changed_after) false 2 data_of_two
+    ≡ record { values = apart ((at_288_15 ∷ minus_400 3173 ∷ []) ∷ (at_288_15 ∷ minus_400 3173 ∷ []) ∷ []); stop = None; subset = 2; left = [] }
 unfolding table changed_after at_288_15 minus_400 next_item data_of_two
-reading_of_changes = (
-  (
-    drop 26 data_of_two,
-    ((drop 16 data_of_two, refl, refl, (drop 26 data_of_two, refl, refl, refl)), refl),
-    ([], ((drop 42 data_of_two, refl, refl, ([], refl, refl, refl)), refl), refl),
-  ),
-  refl,
-)
+reading_of_changes = refl
 
 block_10 : Item Content
 block_10 = record {
@@ -118,16 +113,10 @@ data_of_definitions : List Bool
 unfolding bits_of
 data_of_definitions = bits_of (21 ∷ 200 ∷ 10 ∷ 228 ∷ 0 ∷ [])
 
-reading_of_definitions : IsPlainReading 2 (next_item table defining_after) ((block_10 ∷ minus_400 257 ∷ []) ∷ (block_10 ∷ minus_400 257 ∷ []) ∷ []) data_of_definitions (drop 34 data_of_definitions)
+reading_of_definitions : reading_in (next_item table defining_after) false 2 data_of_definitions
+    ≡ record { values = apart ((block_10 ∷ minus_400 257 ∷ []) ∷ (block_10 ∷ minus_400 257 ∷ []) ∷ []); stop = None; subset = 2; left = drop 34 data_of_definitions }
 unfolding table defining_after block_10 minus_400 next_item data_of_definitions
-reading_of_definitions = (
-  (
-    drop 17 data_of_definitions,
-    ((drop 7 data_of_definitions, refl, refl, (drop 17 data_of_definitions, refl, refl, refl)), refl),
-    (drop 34 data_of_definitions, ((drop 24 data_of_definitions, refl, refl, (drop 34 data_of_definitions, refl, refl, refl)), refl), refl),
-  ),
-  refl,
-)
+reading_of_definitions = refl
 
 letter : ℕ → Item Content
 letter octet = record {
@@ -136,11 +125,12 @@ letter octet = record {
 }
 
 -- rule: subsets-without-padding
-reading_of_letters : IsPlainReading 2 (next_item table text_width_after) ((letter 65 ∷ []) ∷ (letter 66 ∷ []) ∷ []) (bits_of (65 ∷ 66 ∷ [])) []
+reading_of_letters : reading_in (next_item table text_width_after) false 2 (bits_of (65 ∷ 66 ∷ []))
+    ≡ record { values = apart ((letter 65 ∷ []) ∷ (letter 66 ∷ []) ∷ []); stop = None; subset = 2; left = [] }
 unfolding table text_width_after letter next_item bits_of
-reading_of_letters = ((bits_of (66 ∷ []), ((bits_of (66 ∷ []), refl, refl, refl), refl), ([], (([], refl, refl, refl), refl), refl)), refl)
+reading_of_letters = refl
 
 -- The turns are those of all subsets: fails where they begin anew.
-turns_of_both : turns_in (counted_item table changed_after) ((at_288_15 ∷ minus_400 3173 ∷ []) ∷ (at_288_15 ∷ minus_400 3173 ∷ []) ∷ []) ≡ 16
+turns_of_both : turns_in answer_of (counted_item table changed_after) ((at_288_15 ∷ minus_400 3173 ∷ []) ∷ (at_288_15 ∷ minus_400 3173 ∷ []) ∷ []) ≡ 16
 unfolding table changed_after at_288_15 minus_400 next_item
 turns_of_both = refl

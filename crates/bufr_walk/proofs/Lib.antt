@@ -11,8 +11,10 @@ pub mod SpecLemmas
 pub mod NextField
 pub mod WalkProgress
 pub mod WalkLemmas
+pub mod WalkPass
 pub mod BoundLemmas
 pub mod PlainLemmas
+pub mod PlainReading
 pub mod PackedLemmas
 pub mod PackedReading
 pub mod PackedShowing

@@ -1,37 +1,34 @@
 -- A walk over compressed data reads them as the definition does, and keeps its items.
+use Rattle.bufr_walk.proofs.WalkPass.{Comes, IsStep, pass_begins, pass_ends, stopped_passes, whole_passes, item}
 use Rattle.std.proofs.lemmas.Grind.{common_steps}
-use Rattle.std.proofs.Common.{option_map, ◌≡◌, ℕ, ◌+◌, ◌*◌, ◌<◌, ◌≤◌, Bool, true, false, List, length, take, drop, Ok, Err, sym, ◌∙◌, ap, arith, suc, ◌++◌, ◌∷◌, [], refl, zero, ◌^◌, Result, subst, ◌⊎◌, inl, inr, ◌-◌, Option, Some, None, append_assoc, ◌%◌, nat_lt, ◌||◌, ◌==◌, if◌then◌else◌}
+use Rattle.std.proofs.Common.{option_map, ◌≡◌, ℕ, ◌+◌, ◌*◌, ◌<◌, ◌≤◌, Bool, true, false, List, length, take, drop, Ok, Err, sym, ◌∙◌, ap, arith, suc, ◌++◌, ◌∷◌, [], refl, zero, Result, subst, ◌⊎◌, inl, inr, ◌-◌, Option, Some, None, ◌%◌, nat_lt, ◌||◌, ◌==◌, if◌then◌else◌, length-append}
 use Rattle.std.proofs.lemmas.Bool.{le-ltb, lt-ltb}
-use Rattle.std.proofs.lemmas.List.{length-drop, drop-drop, append-nil}
-use Rattle.bufr_bits.specs.Prelude.{number_of, ◌>>=◌}
+use Rattle.std.proofs.lemmas.List.{length-drop, drop-drop}
+use Rattle.bufr_bits.specs.Prelude.{number_of, ◌>>=◌, bits_of}
 use Rattle.bufr_tables.specs.Prelude.{is_character, Row, Tree}
 use Rattle.bufr_walk.specs.declared.compressed.ItemBits.{ItemBits}
 use Rattle.bufr_walk.specs.declared.fault.DataFault.{DataFault}
-use Rattle.bufr_walk.specs.Prelude.{start_of, FieldSpec, data_end, FieldFault, increment, unequal_factor, Content, FieldRead, found, step_of, coding_of, contents_across, if_equal, answer_first, packed_field, IsSeen, IsUnseen, IsStoredReading, PackedCursor, item_at, items_at, contents_found, fits_at, packed_view, IsPackedTaken, wrong_of, PackedTakes, remaining_bits, refuses_packed, new_packed_in, fault_at, IndexedItem, max_values, items_at_once, Item, packed, ReadsItems, ReadsPass, next_after, turns_after, Data, together, IsPackedReading, spot, fault_at, bits_before, IsReading, KeepsValues, Stop, would_be_many, data_in, data_of, read_by, WalkStop, Next, take_next, refused, TakenField, Takes, ticked, oks, answers_of, Walked, TurnRefusal, stop_by, CountedCourse, uncounted, counted_item, after_counted}
+use Rattle.bufr_walk.specs.Prelude.{start_of, FieldSpec, data_end, FieldFault, increment, unequal_factor, Content, FieldRead, found, step_of, coding_of, contents_across, if_equal, answer_first, packed_field, IsSeen, IsUnseen, IsStoredReading, PackedCursor, item_at, items_at, contents_found, fits_at, packed_view, IsPackedTaken, wrong_of, PackedTakes, remaining_bits, new_packed_in, fault_at, IndexedItem, max_values, items_at_once, Item, packed, Data, fault_at, bits_before, KeepsValues, Stop, would_be_many, data_in, data_of, read_by, WalkStop, Next, take_next, ticked, Walked, CountedCourse, uncounted, counted_item, answers_in, Course, Taken, items_in, items_of_subset, subsets_from, spec_by_kind, view, turns_in}
 use Rattle.std.specs.List.{list_all}
 use Rattle.std.proofs.Math.Nat.{mul-le-mul_left}
 use Rattle.bufr_frame.specs.Prelude.{Sections}
-use Rattle.bufr_walk.proofs.PlainLemmas.{used_most}
 use Rattle.bufr_walk.proofs.PackedLemmas.{item_by}
 use Rattle.bufr_walk.specs.declared.fault.DataFault.TheVariants as wrong
 use Rattle.bufr_walk.specs.declared.spec.Role.TheVariants as role
 use Rattle.bufr_walk.specs.declared.walker.WalkStop.TheVariants as stops
 use Rattle.bufr_walk.specs.declared.fault.WalkFault.TheVariants as fault
 use Rattle.bufr_walk.specs.declared.reading.StoredItems.TheVariants as kept
-use Rattle.bufr_walk.proofs.WalkLemmas.{stop_cases}
-use Rattle.bufr_walk.specs.Pass.{DataPass, passes_together, stop_of, left_after, turns_in_all, turns_read, reading_of, fault_of, RunsShort, ReadsData, AnswersReading, EndsPass, reading, read_field}
+use Rattle.bufr_walk.specs.Pass.{DataPass, passes_together, stop_of, left_after, turns_read, reading_of, ReadsData, AnswersReading, EndsPass, reading, read_field, Place, Step, read_pass}
 use Rattle.bufr_walk.specs.Readers.{place_at, items_by_pass, first_items}
-use Rattle.bufr_walk.proofs.PassLemmas.{together_read, together_stops, together_begins}
 
--- compressed data were read, and each item is kept
+-- compressed data were read, each item is kept, and they are not too many
 abbrev pub IsReadAndKept : CountedCourse → Data → List IndexedItem → (used steps : ℕ) → Type 0
 IsReadAndKept course d entries used steps =
-    let values = (reading_of (uncounted course) d).values in
-    IsReading (uncounted course) d values used × ReadsData course d (Ok used) steps × KeepsValues (kept.Together entries) d values
+    ReadsData course d (Ok used) steps × KeepsValues (kept.Together entries) d (reading_of (uncounted course) d).values × (length entries * d.subsets ≤ max_values)
 
 -- with no subset nothing is read
 pub none_read : (course : CountedCourse) (bits : List Bool) → IsReadAndKept course (record { compressed = true; subsets = 0; bits = bits }) [] 0 0
-none_read course bits = ((refl, omega arith, (refl, refl)), (refl, omega arith, refl), (refl, refl))
+none_read course bits = ((refl, omega arith, refl), (refl, refl), omega arith)
 
 module _ (bits : List Bool) (at n : ℕ) (a : FieldSpec) where
   -- the k that is read there
@@ -164,10 +161,6 @@ fault_here s a bits at n kept e view few h = subst (λ x. PackedTakes x a (Err e
     by increment f = (record { why = increment; field = f; fault = refl }, refl, few)
     by unequal_factor f = (record { why = unequal_factor; field = f; fault = refl }, refl, few)
 
--- how many values were read
-pub few_values : (s : PackedCursor) (bits : List Bool) (at n : ℕ) (kept : List IndexedItem) → packed_view bits at n kept ≡ s → length kept * n ≤ max_values → length s.items * s.subsets ≤ max_values
-few_values s bits at n kept e h = subst (λ x. length x.items * x.subsets ≤ max_values) e (subst (λ l. l * n ≤ max_values) (sym (length-items_at bits n kept)) h)
-
 -- no room could be made
 pub no_room : (s : PackedCursor) (a : FieldSpec) (bits : List Bool) (at n : ℕ) (kept kept' : List IndexedItem) (e : DataFault) → packed_view bits at n kept ≡ s → kept' ≡ kept → e ≡ wrong.Memory
     → length kept % items_at_once ≡ 0 → PackedTakes s a (Err e) (packed_view bits at n kept')
@@ -175,237 +168,187 @@ no_room s a bits at n kept kept' e view same is full =
     subst (λ w. PackedTakes s a (Err w) (packed_view bits at n kept')) (sym is)
     (ap (packed_view bits at n) same ∙ view, subst (λ x. length x.items % items_at_once ≡ 0) view (subst (λ l. l % items_at_once ≡ 0) (sym (length-items_at bits n kept)) full))
 
--- ---- A walk over compressed data reads them as the definition does.
+-- ---- A walk over compressed data makes their one pass.
 
--- the items that some turns read
-pub record Passed (n : ℕ) (course : CountedCourse) (s : PackedCursor) (turns : List TakenField) (s' : PackedCursor) : Type 0 where
-  pub read : List (Item (List Content))
-  pub reads : ReadsItems (packed n) (uncounted course) read (remaining_bits s) (remaining_bits s')
-  pub next_is : next_after (packed n) (uncounted course) read ≡ (course (answers_of turns)).next
-  pub turns_are : turns_after (packed n) course read ≡ (course (answers_of turns)).turns
-  pub items : s'.items ≡ s.items ++ read
-  pub bits : s'.bits ≡ s.bits
-  pub subsets : s'.subsets ≡ n
+-- the walk and its pass, after items that take at least a bit each
+pub record IsPackedAt (n : ℕ) (bits : List Bool) (xs : List (Item (List Content))) (s : PackedCursor) (p : Place) : Type 0 where
+  pub place : p ≡ place_at (length xs) (remaining_bits s)
+  pub items : s.items ≡ xs
+  pub same : s.bits ≡ bits
+  pub subsets : s.subsets ≡ n
+  pub pays : length xs ≤ s.at
 
--- items that were taken are read, and what comes after them is the same, in as many turns
-pub passes : (n : ℕ) (course : CountedCourse) (s : PackedCursor) (turns : List TakenField) (s' : PackedCursor) → s.subsets ≡ n → Takes (oks PackedTakes) (uncounted course) s turns s'
-    → Passed n course s turns s'
-passes n course s [] s' e h = record {
-  read = [];
-  reads = ap remaining_bits (sym h);
-  next_is = refl;
-  turns_are = refl;
-  items = ap (λ x. x.items) h ∙ sym (append-nil s.items);
-  bits = ap (λ x. x.bits) h;
-  subsets = ap (λ x. x.subsets) h ∙ e;
+-- the step at a field, by whether one more item would be too many
+abbrev step_if : (n : ℕ) → FieldSpec → Place → Bool → Result (Step Place (List Content)) Stop
+step_if n spec p b = if b then Err (stops.Field (wrong.TooManyValues spec.fxy)) else read_field (packed n) spec p.items (packed_field n spec p.left)
+
+module _ (n : ℕ) (bits : List Bool) (xs : List (Item (List Content))) (s : PackedCursor) (spec : FieldSpec) (p : Place) (m : IsPackedAt n bits xs s p) where
+  values : (length s.items + 1) * s.subsets ≡ (length xs + 1) * n
+  values = ap (λ (ys : List (Item (List Content))). (length ys + 1) * s.subsets) m.items ∙ ap (λ k. (length xs + 1) * k) m.subsets
+
+  stepped : (b : Bool) → would_be_many n (length xs) ≡ b → (reading (packed n) (would_be_many n)).step spec p ≡ step_if n spec (place_at (length xs) (remaining_bits s)) b
+  stepped b e = ap (λ (q : Place). step_if n spec q (would_be_many n q.items)) m.place ∙ ap (step_if n spec (place_at (length xs) (remaining_bits s))) e
+
+  read_here : (r : Result (FieldRead (List Content)) FieldFault) → (length s.items + 1) * s.subsets ≤ max_values → packed_field s.subsets spec (remaining_bits s) ≡ r
+      → (reading (packed n) (would_be_many n)).step spec p ≡ read_field (packed n) spec (length xs) r
+  read_here r few e = stepped false (le-ltb max_values ((length xs + 1) * n) (subst (λ v. v ≤ max_values) values few))
+      ∙ ap (read_field (packed n) spec (length xs)) (ap (λ k. packed_field k spec (remaining_bits s)) (sym m.subsets) ∙ e)
+
+pub packed_follows : (n : ℕ) (bits : List Bool) (before : List (Item (List Content))) (s : PackedCursor) (spec : FieldSpec) (t : Taken) (s' : PackedCursor) (p : Place)
+    → IsPackedAt n bits before s p → PackedTakes s spec (Ok t) s' → IsStep PackedTakes (reading (packed n) (would_be_many n)) answer_first (IsPackedAt n bits) before spec t s' p
+packed_follows n bits before s spec t s' p m h = record {
+  content = h.contents;
+  state = place_at (length before + 1) (remaining_bits s');
+  step = read_here n bits before s spec p m (Ok (found h.contents (remaining_bits s'))) h.few h.field
+      ∙ ap (λ r. Ok (record { content = h.contents; returned = r; state = place_at (length before + 1) (remaining_bits s') })) (sym h.gives);
+  answer = h.gives;
+  meets = record {
+    place = ap (λ k. place_at k (remaining_bits s')) (sym (length-append before (item spec h.contents ∷ [])));
+    items = h.items ∙ ap (λ ys. ys ++ item spec h.contents ∷ []) m.items;
+    same = h.bits ∙ m.same;
+    subsets = h.subsets ∙ m.subsets;
+    pays = omega (arith, m.pays, length-append before (item spec h.contents ∷ []), h.forth);
+  };
 }
-passes n course s (i ∷ turns) s' e h =
-    let step : IsPackedTaken s i.spec i.taken h.0 = h.2 in
-    let item : Item (List Content) = record { spec = i.spec; content = step.contents } in
-    let same : (λ answers. course (i.taken ∷ answers)) ≡ after_counted (packed n) course item = ap (λ t answers. course (t ∷ answers)) step.gives in
-    let more = passes n (λ answers. course (i.taken ∷ answers)) h.0 turns s' (step.subsets ∙ e) h.3 in
-    record {
-      read = item ∷ more.read;
-      reads = (
-        remaining_bits h.0,
-        h.1,
-        ap (λ m. packed_field m i.spec (remaining_bits s)) (sym e) ∙ step.field,
-        subst (λ c. ReadsItems (packed n) (uncounted c) more.read (remaining_bits h.0) (remaining_bits s')) same more.reads,
-      );
-      next_is = ap (λ c. next_after (packed n) (uncounted c) more.read) (sym same) ∙ more.next_is;
-      turns_are = ap (λ c. turns_after (packed n) c more.read) (sym same) ∙ more.turns_are;
-      items = more.items ∙ ap (λ xs. xs ++ more.read) step.items ∙ append_assoc s.items (item ∷ []) more.read;
-      bits = more.bits ∙ step.bits;
-      subsets = more.subsets;
-    }
 
--- with a subset at least
-reads_some : (n : ℕ) (course : CountedCourse) (items : List (Item (List Content))) (bits suffix : List Bool) → 1 ≤ n → ReadsPass (packed n) (uncounted course) items bits suffix
-    → length items * n ≤ max_values
-    → IsPackedReading n (uncounted course) items bits suffix
-reads_some zero course items bits suffix some h few = absurd (omega arith)
-reads_some (suc n) course items bits suffix some h few = (h, few)
+-- why a walk stopped: so does its pass, or memory ran out before a reference or for more items
+abbrev pub PackedFails : ℕ → List Bool → List (Item (List Content)) → Place → Next → WalkStop DataFault → PackedCursor → Type 0
+PackedFails n bits xs p next why s' =
+    IsPackedAt n bits xs s' p × (EndsPass (reading (packed n) (would_be_many n)) next p (Some why)
+    ⊎ ((spec : FieldSpec) × (next ≡ take_next spec) × (((length xs % items_at_once == 0) ≡ true) ⊎ (spec.role ≡ role.Reference)) × ((subset at : ℕ) → fault_at why subset at ≡ fault.Memory)))
+
+pub packed_fails : (n : ℕ) (bits : List Bool) (xs : List (Item (List Content))) (s : PackedCursor) (p : Place) (spec : FieldSpec) (e : DataFault) (s' : PackedCursor) → IsPackedAt n bits xs s p
+    → PackedTakes s spec (Err e) s' → PackedFails n bits xs p (take_next spec) (stops.Field e) s'
+packed_fails n bits xs s p spec e s' m h = by e h
+  where
+    moved : s' ≡ s → IsPackedAt n bits xs s' p
+    moved e = subst (λ x. IsPackedAt n bits xs x p) (sym e) m
+
+    unseen : (e : DataFault) → IsUnseen s.bits s.at s.subsets spec e → s' ≡ s → (length s.items + 1) * s.subsets ≤ max_values → PackedFails n bits xs p (take_next spec) (stops.Field e) s'
+    unseen e u same few = (moved same, inl (read_here n bits xs s spec p m (Err u.why) few u.field ∙ ap (λ x. Err (stops.Field x)) (sym u.fault)))
+
+    by : (e : DataFault) → PackedTakes s spec (Err e) s' → PackedFails n bits xs p (take_next spec) (stops.Field e) s'
+    by (wrong.TooManyValues fxy) h = (
+      moved h.2,
+      inl (stepped n bits xs s spec p m true (lt-ltb max_values ((length xs + 1) * n) (subst (λ v. max_values < v) (values n bits xs s spec p m) h.1))
+          ∙ ap (λ f. Err (stops.Field (wrong.TooManyValues f))) (sym h.0)),
+    )
+    by wrong.Memory h =
+        (moved h.0, inr (spec, refl, inl (ap (λ k. k == 0) (ap (λ (ys : List (Item (List Content))). length ys % items_at_once) (sym m.items) ∙ h.1)), λ subset at. refl))
+    by (wrong.DataEnd fxy) h = unseen (wrong.DataEnd fxy) h.0 h.1 h.2
+    by (wrong.Increment fxy) h = unseen (wrong.Increment fxy) h.0 h.1 h.2
+    by (wrong.UnequalFactor fxy) h = unseen (wrong.UnequalFactor fxy) h.0 h.1 h.2
 
 abbrev packed_data : ℕ → List Bool → Data
 packed_data n bits = record { compressed = true; subsets = n; bits = bits }
 
--- the turns of the one pass
-together_turns : (n : ℕ) (course : CountedCourse) (bits : List Bool) → 1 ≤ n
-    → turns_in_all (packed n) course (passes_together (uncounted course) n bits) ≡ turns_after (packed n) course (first_items (items_by_pass (passes_together (uncounted course) n bits)))
-together_turns zero course bits some = absurd (omega (arith, some))
-together_turns (suc n) course bits some = none_more (turns_after (packed (suc n)) course (first_items (items_by_pass (passes_together (uncounted course) (suc n) bits))))
-  where
-    none_more : (t : ℕ) → t + 0 ≡ t
-    none_more t = omega arith
+one_pass : (n : ℕ) (course : Course) (bits : List Bool) → 1 ≤ n → passes_together course n bits ≡ read_pass (packed n) (would_be_many n) course bits ∷ []
+one_pass zero course bits some = absurd (omega (arith, some))
+one_pass (suc n) course bits some = refl
 
 -- from the first bit on
-module _ (n : ℕ) (course : CountedCourse) (bits : List Bool) (s : PackedCursor) (first : s ≡ new_packed_in bits n) (some : 1 ≤ n) where
-  begins : s.subsets ≡ n
-  begins = ap (λ x. x.subsets) first
+module _ (n : ℕ) (course : CountedCourse) (bits : List Bool) (s : PackedCursor) (first : s ≡ new_packed_in bits n) (some : 1 ≤ n) (s' : PackedCursor) (c c' : ℕ) (zero_first : c ≡ 0)
+    (within : s'.at ≤ length s'.bits) where
+  abbrev Goes : Type 0
+  Goes = Comes PackedTakes (reading (packed n) (would_be_many n)) answer_first (IsPackedAt n bits) course (place_at 0 bits) c s' c'
 
-  all_items : (turns : List TakenField) (s' : PackedCursor) (p : Passed n course s turns s') → s'.items ≡ p.read
-  all_items turns s' p = p.items ∙ ap (λ x. x.items ++ p.read) first
+  at_first : IsPackedAt n bits [] s (place_at 0 bits)
+  at_first = subst (λ x. IsPackedAt n bits [] x (place_at 0 bits)) (sym first) (record { place = refl; items = refl; same = refl; subsets = refl; pays = omega arith })
 
-  all_bits : (turns : List TakenField) (s' : PackedCursor) → Passed n course s turns s' → s'.bits ≡ bits
-  all_bits turns s' p = p.bits ∙ ap (λ x. x.bits) first
+  abbrev next_of : Goes → Next
+  next_of g = (course (answers_in answer_first g.items)).next
 
-  rest_is : (turns : List TakenField) (s' : PackedCursor) → Passed n course s turns s' → remaining_bits s' ≡ drop s'.at bits
-  rest_is turns s' p = ap (drop s'.at) (all_bits turns s' p)
+  enough : (g : Goes) → length g.items < suc (length bits)
+  enough g = omega (arith, g.meets.pays, within, ap length g.meets.same)
 
-  from_first : (turns : List TakenField) (s' : PackedCursor) (p : Passed n course s turns s') → ReadsItems (packed n) (uncounted course) p.read bits (remaining_bits s')
-  from_first turns s' p = subst (λ here. ReadsItems (packed n) (uncounted course) p.read here (remaining_bits s')) (ap remaining_bits first) p.reads
+  passes_are : (g : Goes) (stop : Option Stop) → EndsPass (reading (packed n) (would_be_many n)) (next_of g) g.state stop
+      → passes_together (uncounted course) n bits ≡ record { items = g.items; state = g.state; stop = stop } ∷ []
+  passes_are g stop e =
+      one_pass n (uncounted course) bits some
+      ∙ ap (λ p. p ∷ [])
+      (pass_ends (reading (packed n) (would_be_many n)) (next_of g) (uncounted course) (place_at 0 bits) g.items g.state (suc (length bits)) stop g.passes (enough g) e)
 
-  -- an accepted walk
-  pub walk_reads : (s' : PackedCursor) (c c' : ℕ) → c ≡ 0 → Walked PackedTakes course s c (Ok tt) s' c' → s'.at ≤ length s'.bits → length s'.items * s'.subsets ≤ max_values
-      → IsReading (uncounted course) (packed_data n bits) (together s'.items) s'.at × (c' ≡ ticked 0 (turns_after (packed n) course s'.items))
-  walk_reads s' c c' zero_first w within few =
-      let p = passes n course s w.0 s' begins w.1 in
-      let are = all_items w.0 s' p in
-      let whole : ReadsPass (packed n) (uncounted course) p.read bits (drop s'.at bits) =
-      (subst (λ b. ReadsItems (packed n) (uncounted course) p.read bits b) (rest_is w.0 s' p) (from_first w.0 s' p), p.next_is ∙ w.2) in
-      let bound : length s'.items * n ≤ max_values = subst (λ m. length s'.items * m ≤ max_values) p.subsets few in (
-        (
-          refl,
-          subst (λ b. s'.at ≤ length b) (all_bits w.0 s' p) within,
-          reads_some n course s'.items bits (drop s'.at bits) some (subst (λ xs. ReadsPass (packed n) (uncounted course) xs bits (drop s'.at bits)) (sym are) whole) bound,
-        ),
-        w.3 ∙ ap (λ t. ticked c t) (sym p.turns_are) ∙ ap (λ xs. ticked c (turns_after (packed n) course xs)) (sym are)
-            ∙ ap (λ b. ticked b (turns_after (packed n) course s'.items)) zero_first,
-      )
+  ticks : (g : Goes) → c' ≡ ticked 0 (course (answers_in answer_first g.items)).turns
+  ticks g = g.ticks ∙ ap (λ b. ticked b (course (answers_in answer_first g.items)).turns) zero_first
 
-  -- with the entries that were kept
-  pub whole_read : (s' : PackedCursor) (c c' : ℕ) (held : List Bool) (at m : ℕ) (entries : List IndexedItem) → packed_view held at m entries ≡ s' → c ≡ 0 → Walked PackedTakes course s c (Ok tt) s' c'
-      → at ≤ length held → length entries * m ≤ max_values → list_all (fits_at held m) entries ≡ true
-      → IsReadAndKept course (packed_data n bits) entries at c'
-  whole_read s' c c' held at m entries view zero_first w within few fit =
-      let p = passes n course s w.0 s' begins w.1 in
-      let d = packed_data n bits in
-      let r = walk_reads s' c c' zero_first w (subst (λ x. x.at ≤ length x.bits) view within) (few_values s' held at m entries view few) in
-      let f = together_read n (uncounted course) s'.items bits (drop s'.at bits) r.0.2 in
-      let items : together s'.items ≡ (reading_of (uncounted course) (packed_data n bits)).values = ap together (sym f.1) in
-      let used : s'.at ≡ at = sym (ap (λ x. x.at) view) in (
-        subst (λ u. IsReading (uncounted course) d (reading_of (uncounted course) d).values u) used (subst (λ v. IsReading (uncounted course) d v s'.at) items r.0),
-        subst (λ u. ReadsData course d (Ok u) c') used (
-          f.0,
-          omega (arith, r.0.1, ap length f.2, length-drop s'.at bits),
-          r.1 ∙ ap (λ xs. ticked 0 (turns_after (packed n) course xs)) (sym f.1) ∙ ap (ticked 0) (sym (together_turns n course bits some)),
-        ),
-        subst (λ v. KeepsValues (kept.Together entries) d v) items (
-          ap (λ b. items_at b n entries) (sym (all_bits w.0 s' p)) ∙ ap (λ k. items_at s'.bits k entries) (sym p.subsets) ∙ subst (λ x. items_at x.bits x.subsets entries ≡ x.items) view refl,
-          ap (λ b. list_all (fits_at b n) entries) (sym (all_bits w.0 s' p)) ∙ ap (λ k. list_all (fits_at s'.bits k) entries) (sym p.subsets)
-              ∙ subst (λ x. list_all (fits_at x.bits x.subsets) entries ≡ true) view fit,
-        ),
-      )
-
-  few_read : (turns : List TakenField) (mid : PackedCursor) (p : Passed n course s turns mid) → length mid.items * n ≤ max_values → length p.read * n ≤ max_values
-  few_read turns mid p few = subst (λ xs. length xs * n ≤ max_values) (all_items turns mid p) few
-
-  -- it was refused there
-  refused_so : (turns : List TakenField) (mid : PackedCursor) (p : Passed n course s turns mid) (next : Next) (stop : Stop) (at c' : ℕ) → (course (answers_of turns)).next ≡ next
-      → mid.at ≤ length bits → length mid.items * n ≤ max_values → at ≡ mid.at → c' ≡ ticked 0 (course (answers_of turns)).turns
-      → EndsPass (reading (packed n) (would_be_many n)) next (place_at (length p.read) (remaining_bits mid)) (Some stop)
-      → (fault_of (packed_data n bits) (reading_of (uncounted course) (packed_data n bits)) ≡ Some (fault_at stop 0 at)) × (c' ≡ ticked 0 (turns_read course (packed_data n bits)))
-  refused_so turns mid p next stop at c' e within few here ticks h =
-      let is = together_stops n (uncounted course) p.read bits (remaining_bits mid) next stop some (from_first turns mid p) (few_read turns mid p few) (sym (p.next_is ∙ e)) h in (
-        ap (λ (ps : List (DataPass (List Content))). option_map (λ w. fault_at w 0 (length bits - length (left_after bits ps))) (stop_of ps)) is
-            ∙ ap (λ b. Some (fault_at stop 0 b)) (place_is at (length (remaining_bits mid)) (length bits) (omega (arith, here, within, ap length (rest_is turns mid p), length-drop mid.at bits))),
-        ticks ∙ ap (ticked 0) (sym (ap (turns_in_all (packed n) course) is ∙ none_more (turns_after (packed n) course p.read) ∙ p.turns_are)),
-      )
+  ticks_are : (g : Goes) (stop : Option Stop) → passes_together (uncounted course) n bits ≡ record { items = g.items; state = g.state; stop = stop } ∷ []
+      → c' ≡ ticked 0 (turns_read course (packed_data n bits))
+  ticks_are g stop is = ticks g ∙ ap (ticked 0) (none_more (course (answers_in answer_first g.items)).turns ∙ sym (ap (λ ps. turns_in answer_first course (items_by_pass ps)) is))
     where
-      place_is : (a b c : ℕ) → a + b ≡ c → c - b ≡ a
-      place_is a b c e = omega (arith, e)
-
-      none_more : (t : ℕ) → t + 0 ≡ t
+      none_more : (t : ℕ) → t ≡ t + 0
       none_more t = omega arith
 
-  short_so : (turns : List TakenField) (mid : PackedCursor) (p : Passed n course s turns mid) (spec : FieldSpec) → (course (answers_of turns)).next ≡ take_next spec
-      → length mid.items * n ≤ max_values → ((length mid.items % items_at_once == 0) ≡ true) ⊎ (spec.role ≡ role.Reference)
-      → RunsShort (packed n) (λ items. items % items_at_once == 0) course (passes_together (uncounted course) n bits) (course (answers_of turns)).turns
-  short_so turns mid p spec e few why =
-      let begins = together_begins n (uncounted course) p.read bits (remaining_bits mid) some (from_first turns mid p) (few_read turns mid p few) in
-      record {
-        done = [];
-        here = begins.0;
-        later = [];
-        among = begins.1;
-        items = p.read;
-        more = begins.2;
-        are = begins.3;
-        spec = spec;
-        next = p.next_is ∙ e;
-        why = subst (λ l. ((l % items_at_once == 0) ≡ true) ⊎ (spec.role ≡ role.Reference)) (ap length (all_items turns mid p)) why;
-        turns_are = sym p.turns_are ∙ zero_plus (turns_after (packed n) course p.read);
-      }
-    where
-      zero_plus : (t : ℕ) → t ≡ 0 + t
-      zero_plus t = omega arith
+  left_is : (g : Goes) → s'.at + length g.state.left ≡ length bits
+  left_is g = omega (arith, within, ap length g.meets.same, ap (λ (p : Place). length p.left) g.meets.place, length-drop s'.at s'.bits)
 
-  -- a fault of the field
-  field_so : (turns : List TakenField) (mid : PackedCursor) (p : Passed n course s turns mid) (spec : FieldSpec) (at c' : ℕ) (why : FieldFault) → (course (answers_of turns)).next ≡ take_next spec
-      → mid.at ≤ length bits → length mid.items * n ≤ max_values → at ≡ mid.at
-      → (length mid.items + 1) * mid.subsets ≤ max_values → packed_field mid.subsets spec (remaining_bits mid) ≡ Err why → c' ≡ ticked 0 (course (answers_of turns)).turns
-      → ReadsData course (packed_data n bits) (Err (fault_at (stops.Field (wrong_of spec.fxy why)) 0 at)) c'
-  field_so turns mid p spec at c' why e within few here room field ticks =
-      inl (refused_so turns mid p (take_next spec) (stops.Field (wrong_of spec.fxy why)) at c' e within few here ticks (
-      ap (λ b. if b then Err (stops.Field (wrong.TooManyValues spec.fxy)) else read_field (packed n) spec (length p.read) (packed_field n spec (remaining_bits mid))) many
-      ∙ ap (read_field (packed n) spec (length p.read)) (ap (λ m. packed_field m spec (remaining_bits mid)) (sym p.subsets) ∙ field)))
-    where
-      many : would_be_many n (length p.read) ≡ false
-      many = le-ltb max_values ((length p.read + 1) * n) (subst (λ xs. (length xs + 1) * n ≤ max_values) (all_items turns mid p) (subst (λ m. (length mid.items + 1) * m ≤ max_values) p.subsets room))
+  -- an accepted walk, with the entries that were kept
+  pub whole_read : (held : List Bool) (at m : ℕ) (entries : List IndexedItem) → packed_view held at m entries ≡ s' → Walked PackedTakes course s c (Ok tt) s' c'
+      → length entries * m ≤ max_values → list_all (fits_at held m) entries ≡ true → IsReadAndKept course (packed_data n bits) entries at c'
+  whole_read held at m entries view w few fit =
+      let r = whole_passes PackedTakes (reading (packed n) (would_be_many n)) answer_first (IsPackedAt n bits) (packed_follows n bits) course s c s' c' (place_at 0 bits) at_first w in
+      let g = r.0 in
+      let is = passes_are g None (subst (λ x. EndsPass (reading (packed n) (would_be_many n)) x g.state None) (sym r.1) refl) in
+      let items : items_at s'.bits s'.subsets entries ≡ g.items = subst (λ x. items_at x.bits x.subsets entries ≡ x.items) view refl ∙ g.meets.items in (
+        (ap stop_of is, ap (λ ps. at + length (left_after bits ps)) is ∙ ap (λ k. k + length g.state.left) (ap (λ x. x.at) view) ∙ left_is g, ticks_are g None is),
+        (
+          ap (λ b. items_at b n entries) (sym g.meets.same) ∙ ap (λ k. items_at s'.bits k entries) (sym g.meets.subsets) ∙ items ∙ ap (λ ps. first_items (items_by_pass ps)) (sym is),
+          ap (λ b. list_all (fits_at b n) entries) (sym g.meets.same) ∙ ap (λ k. list_all (fits_at s'.bits k) entries) (sym g.meets.subsets)
+              ∙ subst (λ x. list_all (fits_at x.bits x.subsets) entries ≡ true) view fit,
+        ),
+        subst (λ k. length entries * k ≤ max_values) (ap (λ x. x.subsets) view ∙ g.meets.subsets) few,
+      )
 
-  -- a refused walk
-  pub walk_stops : (s' : PackedCursor) (c c' at : ℕ) (why : WalkStop DataFault) → c ≡ 0 → Walked PackedTakes course s c (Err why) s' c' → s'.at ≤ length s'.bits
-      → length s'.items * s'.subsets ≤ max_values → at ≡ s'.at → ReadsData course (packed_data n bits) (Err (fault_at why 0 at)) c'
-  walk_stops s' c c' at why zero_first w within few here =
-      stop_cases PackedTakes (λ next y. (course (answers_of w.0)).next ≡ next → ReadsData course (packed_data n bits) (Err (fault_at y 0 at)) c') w.1 s' field
-      (λ spec r e q. inr (refl, (course (answers_of w.0)).turns, short_so w.0 w.1 p spec q (room e) (inr r), ticks)) refuses (course (answers_of w.0)).next why w.3 refl
-    where
-      p : Passed n course s w.0 w.1
-      p = passes n course s w.0 w.1 begins w.2
+  module _ (why : WalkStop DataFault) (w : Walked PackedTakes course s c (Err why) s' c') where
+    stopped : (g : Goes) × PackedFails n bits g.items g.state (next_of g) why s'
+    stopped =
+        let r = stopped_passes PackedTakes (reading (packed n) (would_be_many n)) answer_first (IsPackedAt n bits) (packed_follows n bits) (PackedFails n bits) (packed_fails n bits)
+        (λ xs x p spec m h. (m, inr (spec, refl, inr h, λ subset at. refl))) (λ xs x p y m. (m, inl refl)) course s c why s' c' (place_at 0 bits) at_first w in
+        (record { items = r.1.items; state = r.1.state; meets = r.2.0; ticks = r.1.ticks; passes = r.1.passes }, r.2)
 
-      ticks : c' ≡ ticked 0 (course (answers_of w.0)).turns
-      ticks = w.4 ∙ ap (λ b. ticked b (course (answers_of w.0)).turns) zero_first
+    pub stopped_within : s'.at ≤ length bits
+    stopped_within = subst (λ b. s'.at ≤ length b) stopped.0.meets.same within
 
-      -- nothing was changed
-      inside : s' ≡ w.1 → w.1.at ≤ length bits
-      inside e = subst (λ b. w.1.at ≤ length b) (all_bits w.0 w.1 p) (subst (λ x. x.at ≤ length x.bits) e within)
+    -- a refused walk
+    pub walk_stops : (at : ℕ) → at ≡ s'.at → ReadsData course (packed_data n bits) (Err (fault_at why 0 at)) c'
+    walk_stops at here = by stopped.0 stopped.1.1
+      where
+        place_is : (a b c : ℕ) → a + b ≡ c → c - b ≡ a
+        place_is a b c e = omega (arith, e)
 
-      room : s' ≡ w.1 → length w.1.items * n ≤ max_values
-      room e = subst (λ m. length w.1.items * m ≤ max_values) p.subsets (subst (λ x. length x.items * x.subsets ≤ max_values) e few)
-
-      place : s' ≡ w.1 → at ≡ w.1.at
-      place e = here ∙ ap (λ x. x.at) e
-
-      wrong_so : (spec : FieldSpec) (e : DataFault) → (course (answers_of w.0)).next ≡ take_next spec → IsUnseen w.1.bits w.1.at w.1.subsets spec e → s' ≡ w.1
-          → (length w.1.items + 1) * w.1.subsets ≤ max_values → ReadsData course (packed_data n bits) (Err (fault_at (stops.Field e) 0 at)) c'
-      wrong_so spec e q h same room_for =
-          subst (λ x. ReadsData course (packed_data n bits) (Err (fault_at (stops.Field x) 0 at)) c') (sym h.fault)
-          (field_so w.0 w.1 p spec at c' h.why q (inside same) (room same) (place same) room_for h.field ticks)
-
-      many_so : (spec : FieldSpec) → max_values < (length w.1.items + 1) * w.1.subsets → would_be_many n (length p.read) ≡ true
-      many_so spec h = lt-ltb max_values ((length p.read + 1) * n)
-          (subst (λ xs. max_values < (length xs + 1) * n) (all_items w.0 w.1 p) (subst (λ m. max_values < (length w.1.items + 1) * m) p.subsets h))
-
-      field : (spec : FieldSpec) (e : DataFault) → PackedTakes w.1 spec (Err e) s' → (course (answers_of w.0)).next ≡ take_next spec
-          → ReadsData course (packed_data n bits) (Err (fault_at (stops.Field e) 0 at)) c'
-      field spec (wrong.TooManyValues fxy) h q =
-          subst (λ f. ReadsData course (packed_data n bits) (Err (fault.TooManyValues (spot 0 f at))) c') (sym h.0)
-          (inl (refused_so w.0 w.1 p (take_next spec) (stops.Field (wrong.TooManyValues spec.fxy)) at c' q (inside h.2) (room h.2) (place h.2) ticks
-          (ap (λ b. if b then Err (stops.Field (wrong.TooManyValues spec.fxy)) else read_field (packed n) spec (length p.read) (packed_field n spec (remaining_bits w.1))) (many_so spec h.1))))
-      field spec wrong.Memory h q = inr (refl, (course (answers_of w.0)).turns, short_so w.0 w.1 p spec q (room h.0) (inl (ap (λ k. k == 0) h.1)), ticks)
-      field spec (wrong.DataEnd fxy) h q = wrong_so spec (wrong.DataEnd fxy) q h.0 h.1 h.2
-      field spec (wrong.Increment fxy) h q = wrong_so spec (wrong.Increment fxy) q h.0 h.1 h.2
-      field spec (wrong.UnequalFactor fxy) h q = wrong_so spec (wrong.UnequalFactor fxy) q h.0 h.1 h.2
-
-      refuses : (x : TurnRefusal) → s' ≡ w.1 → (course (answers_of w.0)).next ≡ refused x → ReadsData course (packed_data n bits) (Err (fault_at (stop_by x) 0 at)) c'
-      refuses x e q = inl (refused_so w.0 w.1 p (refused x) (stop_by x) at c' q (inside e) (room e) (place e) ticks refl)
-
-pub stopped_within : (course : CountedCourse) (bits : List Bool) (n : ℕ) (s s' : PackedCursor) (c c' : ℕ) (why : WalkStop DataFault) → s ≡ new_packed_in bits n
-    → Walked PackedTakes course s c (Err why) s' c' → s'.at ≤ length s'.bits → s'.at ≤ length bits
-stopped_within course bits n s s' c c' why first w h =
-    let p = passes n course s w.0 w.1 (ap (λ x. x.subsets) first) w.2 in
-    subst (λ b. s'.at ≤ length b) (stop_cases PackedTakes (λ next y. s'.bits ≡ w.1.bits) w.1 s' (λ spec e g. ap (λ x. x.bits) (refuses_packed w.1 spec e s' g)) (λ spec r g. ap (λ x. x.bits) g)
-    (λ x g. ap (λ z. z.bits) g) (course (answers_of w.0)).next why w.3 ∙ p.bits ∙ ap (λ x. x.bits) first) h
+        by : (g : Goes) → EndsPass (reading (packed n) (would_be_many n)) (next_of g) g.state (Some why)
+            ⊎ ((spec : FieldSpec) × (next_of g ≡ take_next spec) × (((length g.items % items_at_once == 0) ≡ true) ⊎ (spec.role ≡ role.Reference))
+            × ((subset at : ℕ) → fault_at why subset at ≡ fault.Memory))
+            → ReadsData course (packed_data n bits) (Err (fault_at why 0 at)) c'
+        by g (inl e) =
+            let is = passes_are g (Some why) e in
+            inl (
+              ap (λ (ps : List (DataPass (List Content))). option_map (λ w. fault_at w 0 (length bits - length (left_after bits ps))) (stop_of ps)) is
+                  ∙ ap (λ b. Some (fault_at why 0 b)) (place_is s'.at (length g.state.left) (length bits) (left_is g) ∙ sym here),
+              ticks_are g (Some why) is,
+            )
+        by g (inr q) =
+            let begins = pass_begins (reading (packed n) (would_be_many n)) (next_of g) (uncounted course) (place_at 0 bits) g.items g.state (suc (length bits)) g.passes (enough g) in
+            inr (
+              q.3 0 at,
+              (course (answers_in answer_first g.items)).turns,
+              record {
+                done = [];
+                here = read_pass (packed n) (would_be_many n) (uncounted course) bits;
+                later = [];
+                among = one_pass n (uncounted course) bits some;
+                items = g.items;
+                more = begins.0;
+                are = begins.1;
+                spec = q.0;
+                next = q.1;
+                why = q.2;
+                turns_are = zero_plus (course (answers_in answer_first g.items)).turns;
+              },
+              ticks g,
+            )
+          where
+            zero_plus : (t : ℕ) → t ≡ 0 + t
+            zero_plus t = omega arith
 
 -- the bound of steps
 pub few_stopped : (k steps steps' at here all : ℕ) (s : PackedCursor) (bits : List Bool) (n : ℕ) (why : WalkStop DataFault) → s ≡ new_packed_in bits n → steps ≡ 0
@@ -414,10 +357,30 @@ few_stopped k steps steps' at here all s bits n why first e h u within = grind (
 
 -- ---- The parts of a reading of compressed data.
 
+-- each item of compressed data is one of each subset
+pub length-items_of : (j : ℕ) (items : List (Item (List Content))) → length (items_of_subset j items) ≡ length items
+length-items_of j [] = refl
+length-items_of j (i ∷ items) = ap suc (length-items_of j items)
+
+items_apart : (n j : ℕ) (items : List (Item (List Content))) → items_in (subsets_from n j items) ≡ length items * n
+items_apart zero j items = omega arith
+items_apart (suc n) j items =
+    let more : length items * suc n ≡ length items + length items * n = grind arith in
+    omega (arith, more, length-items_of j items, items_apart n (suc j) items)
+
 pub packed_held : (table : List Row) (template : Tree) (subsets : ℕ) (octets : List ℕ) (used steps : ℕ) (entries : List IndexedItem)
-    → IsReadAndKept (counted_item table template) (data_in true subsets octets) entries used steps → 7 * length entries ≤ used → length octets < 2 ^ 24
+    → IsReadAndKept (counted_item table template) (data_in true subsets octets) entries used steps → 7 * length entries ≤ used
     → IsStoredReading (read_by table template (data_in true subsets octets) used (length entries)) (kept.Together entries)
-packed_held table template subsets octets used steps entries h few short = record { reading = h.0; keeps = h.2; few = few; pays = tt; short = used_most octets used short h.0.1 }
+packed_held table template subsets octets used steps entries h few =
+    let items = first_items (items_by_pass (passes_together (uncounted (counted_item table template)) subsets (bits_of octets))) in
+    record {
+      none = h.0.0;
+      keeps = h.1;
+      few = few;
+      pays = tt;
+      most = subst (λ k. k ≤ max_values)
+          (ap (λ k. k * subsets) (sym (length-items_at (bits_of octets) subsets entries) ∙ ap length h.1.0) ∙ sym (items_apart subsets 0 items)) h.2;
+    }
 
 -- the compressed data of a message
 pub packed_data_same : (m : Sections) (subsets : ℕ) (octets : List ℕ) → m.compressed ≡ true → subsets ≡ m.subsets → octets ≡ m.payload → data_in true subsets octets ≡ data_of m
@@ -426,4 +389,4 @@ packed_data_same m subsets octets packed e f = grind (arith, common_steps)
 pub packed_is : (table : List Row) (template : Tree) (m : Sections) (subsets : ℕ) (octets : List ℕ) (used held steps : ℕ) (entries : List IndexedItem) → data_in true subsets octets ≡ data_of m
     → IsReadAndKept (counted_item table template) (data_in true subsets octets) entries used steps
     → AnswersReading table template (data_of m) (Ok (read_by table template (data_in true subsets octets) used held)) steps
-packed_is table template m subsets octets used held steps entries e h = (refl, refl, e, subst (λ d. ReadsData (counted_item table template) d (Ok used) steps) e h.1)
+packed_is table template m subsets octets used held steps entries e h = (refl, refl, e, subst (λ d. ReadsData (counted_item table template) d (Ok used) steps) e h.0)

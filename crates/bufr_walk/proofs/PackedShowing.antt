@@ -1,10 +1,10 @@
 -- Compressed data shown from what a reading keeps.
 use Rattle.std.proofs.lemmas.Grind.{common_steps}
-use Rattle.std.proofs.Common.{◌≡◌, ℕ, ◌+◌, ◌-◌, ◌*◌, ◌<◌, ◌≤◌, Bool, true, false, List, ◌++◌, length, take, drop, replicate, sym, ◌∙◌, ap, arith, zero, suc, get_or, set, length-take-le, Some, ◌==◌, Result, Ok, Err, [], ◌∷◌, inl, inr, refl, subst, add-one, append_assoc, if◌then◌else◌, ◌/◌}
+use Rattle.std.proofs.Common.{◌≡◌, ℕ, ◌+◌, ◌-◌, ◌*◌, ◌<◌, ◌≤◌, Bool, true, false, List, ◌++◌, length, take, drop, replicate, sym, ◌∙◌, ap, arith, zero, suc, get_or, set, length-take-le, Some, ◌==◌, Result, Ok, Err, ◌∷◌, inl, inr, refl, subst, add-one, append_assoc, if◌then◌else◌, ◌/◌, []}
 use Rattle.std.proofs.lemmas.List.{drop-drop, drop_all, get_or-take, take_all, append-nil, take_more_set, replicate-append-replicate}
 use Rattle.bufr_bits.specs.Prelude.{bits_of, are_all_ones}
 use Rattle.bufr_tables.specs.Prelude.{entry_of, is_character, Row}
-use Rattle.bufr_walk.specs.Prelude.{start_of, IndexedItem, PackedValues, packed_values, range_calls, packed_calls, IsPackedOf, IsReading, course_of, content_at, item_at, item_call, view_of, octets_in, text, missing, shown_text, shown_missing, shown, Content, FieldSpec, content_kept, call_kept, IsStoredReading, KeepsValues, held_of, fits_at, items_at, ShowFault, Sofar, Call, Timed, timed, Shows, subset_call, calls_for, turns_for, Item, Values, apart, together, items_kept, Read, item_calls, turns_after, turns_in, subset_calls, subsets_from, items_of_subset, without_turns, plain}
+use Rattle.bufr_walk.specs.Prelude.{start_of, IndexedItem, PackedValues, packed_values, range_calls, packed_calls, IsPackedOf, course_of, content_at, item_at, item_call, view_of, octets_in, text, missing, shown_text, shown_missing, shown, Content, FieldSpec, content_kept, call_kept, IsStoredReading, KeepsValues, held_of, fits_at, items_at, ShowFault, Sofar, Call, Timed, timed, Shows, subset_call, calls_for, turns_for, Item, Values, apart, together, items_kept, Read, item_calls, turns_in, subset_calls, subsets_from, items_of_subset, without_turns, answers_in, answer_of}
 use Rattle.bufr_walk.proofs.PackedLemmas.{base_content, kept_parts, padded_text, text_content, text_within}
 use Rattle.bufr_walk.proofs.PlainLemmas.{bits_length, octets_prefix}
 use Rattle.std.specs.List.{list_all}
@@ -13,7 +13,7 @@ use Rattle.std.proofs.Math.Seq.{drop-cons}
 use Rattle.bufr_bits.proofs.DecimalLemmas.{and_first, and_second}
 use Rattle.bufr_walk.proofs.ShownLemmas.{sofar_self, sofar_then, sofar_call}
 use Rattle.bufr_walk.specs.declared.reading.StoredItems.{StoredItems}
-use Rattle.bufr_walk.specs.Pass.{values_read, calls_of, turns_shown}
+use Rattle.bufr_walk.specs.Pass.{values_read, calls_of, turns_shown, reading_in}
 use Rattle.bufr_walk.specs.declared.fault.ShowFault.TheVariants as fault
 use Rattle.bufr_walk.specs.declared.reading.StoredItems.TheVariants as kept
 
@@ -61,11 +61,11 @@ module _ {S E : Type 0} (sees : S → Call → Result (Unit {0}) E → S → Typ
   shows_before s s1 [] b e h = absurd h
   shows_before s s1 (t ∷ a) b e h = elim h as (λ _. Shows sees s (t ∷ a ++ b) 0 (Err e) s1 0) [ inl x ↦ inl x | inr y ↦ inr (y.0, y.1, shows_before y.0 s1 a b e y.2) ]
 
-pub no_turns : (items : List (Item Content)) → turns_after plain without_turns items ≡ 0
+pub no_turns : (items : List (Item Content)) → (without_turns (answers_in answer_of items)).turns ≡ 0
 no_turns [] = refl
 no_turns (i ∷ items) = no_turns items
 
-pub no_turns_in : (subsets : List (List (Item Content))) → turns_in without_turns subsets ≡ 0
+pub no_turns_in : (subsets : List (List (Item Content))) → turns_in answer_of without_turns subsets ≡ 0
 no_turns_in [] = refl
 no_turns_in (items ∷ subsets) = omega (arith, no_turns items, no_turns_in subsets)
 
@@ -230,10 +230,11 @@ module _ {S E : Type 0} (sees : S → Call → Result (Unit {0}) E → S → Typ
   next_subset j h =
       let more : p.subsets - j ≡ suc (p.subsets - (j + 1)) = omega (arith, h) in
       let next : suc j ≡ j + 1 = omega arith in
-      let none : 0 + turns_after plain without_turns (items_of_subset j p.items) ≡ 0 = omega (arith, no_turns (items_of_subset j p.items)) in
+      let none : 0 + (without_turns (answers_in answer_of (items_of_subset j p.items))).turns ≡ 0 = omega (arith, no_turns (items_of_subset j p.items)) in
       ap (λ left. calls_on left j (j + 1)) more
       ∙ ap (λ calls. timed 0 (subset_call (j + 1)) ∷ calls
-      ++ subset_calls p.table without_turns (0 + turns_after plain without_turns (items_of_subset j p.items)) (j + 1 + 1) (subsets_from (p.subsets - (j + 1)) (suc j) p.items)) (sym (range_of_all p j))
+      ++ subset_calls p.table without_turns (0 + (without_turns (answers_in answer_of (items_of_subset j p.items))).turns) (j + 1 + 1) (subsets_from (p.subsets - (j + 1)) (suc j) p.items))
+      (sym (range_of_all p j))
       ∙ ap (λ turns. subset_at j ++ subset_calls p.table without_turns turns (j + 1 + 1) (subsets_from (p.subsets - (j + 1)) (suc j) p.items)) none
       ∙ ap (λ k. subset_at j ++ calls_on (p.subsets - (j + 1)) k (j + 1 + 1)) next
 
@@ -281,13 +282,13 @@ are_together kept.Apart = false
 are_together (kept.Together entries) = true
 
 pub compressed_kept : (r : Read) (k : StoredItems) → IsStoredReading r k → are_together k ≡ r.source.compressed
-compressed_kept r k h = by k (values_read r) h.keeps h.reading
+compressed_kept r k h = by k r.source.compressed h.keeps
   where
-    by : (k : StoredItems) (v : Values) → KeepsValues k r.source v → IsReading (course_of r) r.source v r.bits → are_together k ≡ r.source.compressed
-    by kept.Apart (apart xs) w reading = sym reading.0
-    by kept.Apart (together xs) w reading = absurd w
-    by (kept.Together entries) (apart xs) w reading = absurd w
-    by (kept.Together entries) (together xs) w reading = sym reading.0
+    by : (k : StoredItems) (b : Bool) → KeepsValues k r.source (reading_in (course_of r) b r.source.subsets r.source.bits).values → are_together k ≡ b
+    by kept.Apart false w = refl
+    by kept.Apart true w = absurd w
+    by (kept.Together entries) false w = absurd w
+    by (kept.Together entries) true w = refl
 
 -- the calls that show a reading of compressed data
 pub packed_shown : {V E : Type 0} (sees : V → Call → Result (Unit {0}) E → V → Type 0) (p : PackedValues) (r : Read) (v v' : V) (result : Result (Unit {0}) (ShowFault E)) (steps : ℕ) → IsPackedOf p r

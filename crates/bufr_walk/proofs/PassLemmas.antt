@@ -1,21 +1,19 @@
 -- A pass over data reads each item where the one before ended.
+use Rattle.bufr_walk.proofs.WalkPass.{Passes, passes_none, passes_one, pass_ends}
 use Rattle.std.proofs.lemmas.Bool.{ltb-false, le-ltb}
 use Rattle.bufr_bits.specs.Prelude.{number_of}
 use Rattle.bufr_walk.proofs.PackedLemmas.{item_parts, neither}
-use Rattle.std.proofs.Common.{◌≡◌, ℕ, zero, suc, ◌+◌, ◌-◌, ◌<◌, ◌≤◌, Bool, true, false, List, [], ◌∷◌, ◌++◌, length, Option, Some, None, Result, Ok, Err, ◌||◌, ◌*◌, nat_lt, take, refl, sym, ◌∙◌, ap, subst, arith, drop, length-drop, if◌then◌else◌}
+use Rattle.std.proofs.Common.{◌≡◌, ℕ, zero, suc, ◌+◌, ◌-◌, ◌<◌, ◌≤◌, Bool, true, false, List, ◌∷◌, length, Option, Some, None, Result, Ok, Err, ◌||◌, ◌*◌, nat_lt, take, refl, sym, ◌∙◌, ap, subst, arith, drop, length-drop, if◌then◌else◌, []}
 use Rattle.bufr_tables.specs.Prelude.{Row, Tree, IsLegal, Record, AreRows}
-use Rattle.bufr_walk.specs.Prelude.{packed_field, step_of, coding_of, contents_across, FieldSpec, Content, FieldFault, FieldRead, found, Course, Next, take_next, at_end, astray, refused, next_item, Item, DataCoding, plain, packed, item_answer, after, ReadsItems, ReadsPass, next_after, ReadsSubsets, IsPackedReading, Data, Values, apart, together, IsReading, Stop, would_be_many, max_values, wrong_of, stop_by}
+use Rattle.bufr_walk.specs.Prelude.{packed_field, step_of, coding_of, contents_across, FieldSpec, Content, FieldFault, FieldRead, found, Course, Next, take_next, at_end, astray, refused, next_item, Item, DataCoding, plain, packed, answers_in, after, ReadsItems, ReadsPass, ReadsSubsets, IsPackedReading, Data, Values, apart, together, IsReading, Stop, would_be_many, max_values, wrong_of, stop_by, Taken}
 use Rattle.bufr_walk.specs.declared.walker.WalkStop.TheVariants as stops
 use Rattle.bufr_walk.specs.declared.fault.DataFault.TheVariants as wrong
-use Rattle.bufr_walk.specs.Pass.{Step, Pass, empty_pass, item_then, pass_field, pass_next, pass, Place, read_field, reading, read_pass, DataPass, passes_apart, passes_together, stop_of, left_after, DataReading, reading_in, reading_of, EndsPass, ReadsTo}
+use Rattle.bufr_walk.specs.Pass.{Pass, empty_pass, item_then, pass_field, pass_next, pass, Place, read_field, reading, read_pass, DataPass, passes_apart, passes_together, stop_of, left_after, DataReading, reading_in, reading_of, EndsPass, ReadsTo}
 use Rattle.bufr_walk.specs.Readers.{place_at, items_by_pass, first_items}
 use Rattle.std.proofs.lemmas.Grind.{common_steps}
 use Rattle.std.proofs.lemmas.List.{drop-drop}
 use Rattle.bufr_walk.proofs.CourseLemmas.{IsSane, Forth, plain_forth, packed_forth, rows_within, template_sane}
 use Rattle.std.specs.Prelude.{is_none, is_some}
-
-no_stop : (s : Stop) → ◌≡◌ {A = Option Stop} None (Some s) → ⊥
-no_stop s e = cc
 
 none_more : (a : ℕ) → a + 0 ≡ a
 none_more a = omega arith
@@ -28,58 +26,28 @@ abbrev pub passed : {C : Type 0} → ℕ → List (Item C) → List Bool → Opt
 passed place items left o = record { items = items; state = place_at place left; stop = o }
 
 module _ {C : Type 0} (form : DataCoding C) (many : ℕ → Bool) where
-  -- at what ends a pass, nothing more is passed
-  at_last : (next : Next) (s : Place) (o : Option Stop) (go : Step Place C → Pass Place C Stop) → EndsPass (reading form many) next s o
-      → pass_next (reading form many) next s go ≡ empty_pass s o
-  at_last (take_next spec) s None go h = absurd h
-  at_last (take_next spec) s (Some why) go h = ap (λ r. pass_field (reading form many) spec s r go) h
-  at_last at_end s o go h = ap (empty_pass s) (sym h)
-  at_last (refused why) s o go h = ap (empty_pass s) (sym h)
-  at_last astray s o go h = absurd h
-
-  -- an item that is read is followed by the rest of the pass
-  item_first : (most : ℕ) (course : Course) (from : ℕ) (bits : List Bool) (x : Item C) (xs : List (Item C)) (left : List Bool) → (h : ReadsItems form course (x ∷ xs) bits left) → many from ≡ false
-      → pass (reading form many) (suc most) course (place_at from bits) ≡ item_then x.spec x.content (pass (reading form many) most (after form course x) (place_at (from + 1) h.0))
-  item_first most course from bits x xs left h few =
-      let go : Step Place C → Pass Place C Stop = λ f. pass (reading form many) most (λ answers. course (f.returned ∷ answers)) f.state in
-      ap (λ n. pass_next (reading form many) n (place_at from bits) go) h.1
-      ∙ ap (λ b. pass_field (reading form many) x.spec (place_at from bits)
-      (if b then Err (stops.Field (wrong.TooManyValues x.spec.fxy)) else read_field form x.spec from (form.field x.spec bits)) go) few
-      ∙ ap (λ r. pass_field (reading form many) x.spec (place_at from bits) (read_field form x.spec from r) go) h.2
+  -- items that are read are those of the pass, up to what comes next
+  reads_pass : (course : Course) (from : ℕ) (bits : List Bool) (items : List (Item C)) (left : List Bool) → ReadsItems form course items bits left
+      → ((j : ℕ) → j < length items → many (from + j) ≡ false)
+      → Passes (reading form many) (course (answers_in form.gives items)) course (place_at from bits) items (place_at (from + length items) left)
+  reads_pass course from bits [] left h few =
+      subst (λ p. Passes (reading form many) (course []) course (place_at from bits) [] p) (ap (place_at from) h ∙ ap (λ k. place_at k left) (sym (none_more from)))
+      (passes_none (reading form many) course (place_at from bits))
+  reads_pass course from bits (x ∷ xs) left h few =
+      passes_one (reading form many) (course (answers_in form.gives (x ∷ xs))) course (place_at from bits) x.spec x.content (form.gives x.spec x.content) (place_at (from + 1) h.0) xs
+      (place_at (from + length (x ∷ xs)) left) h.1
+      (ap (λ b. if b then Err (stops.Field (wrong.TooManyValues x.spec.fxy)) else read_field form x.spec from (form.field x.spec bits)) (ap many (sym (none_more from)) ∙ few 0 (omega arith))
+      ∙ ap (read_field form x.spec from) h.2)
+      (subst (λ k. Passes (reading form many) (course (answers_in form.gives (x ∷ xs))) (after form course x) (place_at (from + 1) h.0) xs (place_at k left)) (one_more from (length xs))
+      (reads_pass (after form course x) (from + 1) h.0 xs left h.3 (λ j l. ap many (one_more from j) ∙ few (suc j) (omega (arith, l)))))
 
   -- a pass with these items and this end is what the function gives
   pub pass_is : (most : ℕ) (course : Course) (from : ℕ) (bits : List Bool) (items : List (Item C)) (left : List Bool) (o : Option Stop)
       → ReadsTo form many course (place_at from bits) (passed (from + length items) items left o) → length items < most
       → pass (reading form many) most course (place_at from bits) ≡ passed (from + length items) items left o
-  pass_is zero course from bits items left o h lt = absurd (omega (arith, lt))
-  pass_is (suc more) course from bits [] left o h lt =
-      let here : place_at (from + 0) left ≡ place_at from bits = ap (λ k. place_at k left) (none_more from) ∙ ap (place_at from) (sym h.reads) in
-      at_last (course []) (place_at from bits) o (λ f. pass (reading form many) more (λ answers. course (f.returned ∷ answers)) f.state)
-      (subst (λ s. EndsPass (reading form many) (course []) s o) here h.ends)
-      ∙ ap (λ s. empty_pass s o) (sym here)
-  pass_is (suc more) course from bits (x ∷ xs) left o h lt =
-      let few : many from ≡ false = subst (λ k. many k ≡ false) (none_more from) (h.few 0 (omega arith)) in
-      let rest = pass_is more (after form course x) (from + 1) h.reads.0 xs left o
-      (record {
-        reads = h.reads.3;
-        few = λ j l. ap many (one_more from j) ∙ h.few (suc j) (omega (arith, l));
-        count = refl;
-        ends = subst (λ k. EndsPass (reading form many) (next_after form (after form course x) xs) (place_at k left) o) (sym (one_more from (length xs))) h.ends;
-      })
-      (omega (arith, lt)) in
-      item_first more course from bits x xs left h.reads few
-      ∙ ap (item_then x.spec x.content) rest
-      ∙ ap (λ k. passed k (x ∷ xs) left o) (one_more from (length xs))
-
-  -- a pass begins with the items that are read
-  pub pass_prefix : (most : ℕ) (course : Course) (from : ℕ) (bits : List Bool) (items : List (Item C)) (left : List Bool) → ReadsItems form course items bits left
-      → ((j : ℕ) → j < length items → many (from + j) ≡ false) → length items < most
-      → (more : List (Item C)) × ((pass (reading form many) most course (place_at from bits)).items ≡ items ++ more)
-  pass_prefix most course from bits [] left h few lt = ((pass (reading form many) most course (place_at from bits)).items, refl)
-  pass_prefix zero course from bits (x ∷ xs) left h few lt = absurd (omega (arith, lt))
-  pass_prefix (suc most) course from bits (x ∷ xs) left h few lt =
-      let rest = pass_prefix most (after form course x) (from + 1) h.0 xs left h.3 (λ j l. ap many (one_more from j) ∙ few (suc j) (omega (arith, l))) (omega (arith, lt)) in
-      (rest.0, ap (λ (p : Pass Place C Stop). p.items) (item_first most course from bits x xs left h (subst (λ k. many k ≡ false) (none_more from) (few 0 (omega arith)))) ∙ ap (λ z. x ∷ z) rest.1)
+  pass_is most course from bits items left o h lt =
+      pass_ends (reading form many) (course (answers_in form.gives items)) course (place_at from bits) items (place_at (from + length items) left) most o
+      (reads_pass course from bits items left h.reads h.few) lt h.ends
 
 -- ---- A pass reads each item where the one before ended.
 
@@ -160,12 +128,45 @@ module _ {C : Type 0} (form : DataCoding C) (many : ℕ → Bool) where
 pub ended : {C : Type 0} (form : DataCoding C) (many : ℕ → Bool) (next : Next) (s : Place) → next ≡ at_end → EndsPass (reading form many) next s None
 ended form many next s e = subst (λ n. EndsPass (reading form many) n s None) (sym e) refl
 
-at_its_end : {C : Type 0} (form : DataCoding C) (many : ℕ → Bool) (next : Next) (s : Place) (o : Option Stop) → o ≡ None → EndsPass (reading form many) next s o → next ≡ at_end
-at_its_end form many at_end s o e h = refl
-at_its_end form many (take_next spec) s None e h = absurd h
-at_its_end form many (take_next spec) s (Some why) e h = absurd cc
-at_its_end form many (refused why) s o e h = absurd (no_stop (stop_by why) (sym e ∙ h))
-at_its_end form many astray s o e h = absurd h
+-- a pass over data that does not stop comes to the end of the template
+pub pass_at_end : {C : Type 0} (form : DataCoding C) (many : ℕ → Bool) (most : ℕ) (course : Course) (p : Place) → (pass (reading form many) most course p).stop ≡ None
+    → course (answers_in form.gives (pass (reading form many) most course p).items) ≡ at_end
+pass_at_end form many zero course p h = absurd cc
+pass_at_end {C} form many (suc most) course p h = by (course []) refl (λ t q. pass_at_end form many most (λ answers. course (t ∷ answers)) q) h
+  where
+    at_field : (spec : FieldSpec) (b : Bool) (r : Result (FieldRead C) FieldFault)
+        → ((t : Taken) (q : Place) → (let r = pass (reading form many) most (λ answers. course (t ∷ answers)) q in r.stop ≡ None → course (t ∷ answers_in form.gives r.items) ≡ at_end))
+        → (let q = pass_field (reading form many) spec p (if b then Err (stops.Field (wrong.TooManyValues spec.fxy)) else read_field form spec p.items r)
+        (λ f. pass (reading form many) most (λ answers. course (f.returned ∷ answers)) f.state) in
+        q.stop ≡ None → course (answers_in form.gives q.items) ≡ at_end)
+    at_field spec true r again h = absurd cc
+    at_field spec false (Err why) again h = absurd cc
+    at_field spec false (Ok f) again h = again (form.gives spec f.content) (place_at (p.items + 1) f.suffix) h
+
+    by : (next : Next) → course [] ≡ next
+        → ((t : Taken) (q : Place) → (let r = pass (reading form many) most (λ answers. course (t ∷ answers)) q in r.stop ≡ None → course (t ∷ answers_in form.gives r.items) ≡ at_end))
+        → (let q = pass_next (reading form many) next p (λ f. pass (reading form many) most (λ answers. course (f.returned ∷ answers)) f.state) in
+        q.stop ≡ None → course (answers_in form.gives q.items) ≡ at_end)
+    by at_end e again h = e
+    by astray e again h = absurd cc
+    by (refused why) e again h = absurd cc
+    by (take_next spec) e again h = at_field spec (many p.items) (form.field spec p.left) again h
+
+-- the next of passes that do not stop, and those after it
+pub next_pass : (course : Course) (n left : ℕ) (bits : List Bool) → n ≡ suc left → stop_of (passes_apart course n bits) ≡ None
+    → (let p = read_pass plain (λ items. false) course bits in
+    (p.stop ≡ None) × (passes_apart course n bits ≡ p ∷ passes_apart course left p.state.left) × (stop_of (passes_apart course left p.state.left) ≡ None))
+next_pass course n left bits one h =
+    let p = read_pass plain (λ items. false) course bits in
+    let k = by p.stop refl (subst (λ m. stop_of (passes_apart course m bits) ≡ None) one h) in
+    (k.0, ap (λ m. passes_apart course m bits) one ∙ ap (λ o. p ∷ (if is_none o then passes_apart course left p.state.left else [])) k.0, k.1)
+  where
+    by : (o : Option Stop) → (read_pass plain (λ items. false) course bits).stop ≡ o
+        → (let p = read_pass plain (λ items. false) course bits in
+        (if is_some o then o else stop_of (if is_none o then passes_apart course left p.state.left else [])) ≡ None
+        → (p.stop ≡ None) × (stop_of (passes_apart course left p.state.left) ≡ None))
+    by None e h = (e, h)
+    by (Some why) e h = absurd cc
 
 -- so few items that one more is not too many
 pub few_values : (n items j : ℕ) → items * n ≤ max_values → j < items → would_be_many n (0 + j) ≡ false
@@ -216,34 +217,6 @@ together_is (suc n) course xs bits left h =
     (record { reads = h.0.0; few = λ j lt. few_values (suc n) (length xs) j h.1 lt; count = refl; ends = ended (packed (suc n)) (would_be_many (suc n)) _ _ h.0.1 })
     (omega (arith, packed_fits (suc n) course xs bits left h.0.0)))
 
--- the one pass, where it is stopped
-pub together_stops : (n : ℕ) (course : Course) (items : List (Item (List Content))) (bits left : List Bool) (next : Next) (stop : Stop) → 1 ≤ n → ReadsItems (packed n) course items bits left
-    → length items * n ≤ max_values → next ≡ next_after (packed n) course items
-    → EndsPass (reading (packed n) (would_be_many n)) next (place_at (length items) left) (Some stop)
-    → passes_together course n bits ≡ passed (0 + length items) items left (Some stop) ∷ []
-together_stops zero course items bits left next stop some h few is e = absurd (omega (arith, some))
-together_stops (suc n) course items bits left next stop some h few is e =
-    ap (λ (p : DataPass (List Content)). p ∷ []) (pass_is (packed (suc n)) (would_be_many (suc n)) (suc (length bits)) course 0 bits items left (Some stop)
-    (record {
-      reads = h;
-      few = λ j lt. few_values (suc n) (length items) j few lt;
-      count = refl;
-      ends = subst (λ x. EndsPass (reading (packed (suc n)) (would_be_many (suc n))) x (place_at (0 + length items) left) (Some stop)) is
-          (subst (λ k. EndsPass (reading (packed (suc n)) (would_be_many (suc n))) next (place_at k left) (Some stop)) (zero_plus (length items)) e);
-    }) (omega (arith, packed_fits (suc n) course items bits left h)))
-  where
-    zero_plus : (k : ℕ) → k ≡ 0 + k
-    zero_plus k = omega arith
-
--- the one pass begins with these items
-pub together_begins : (n : ℕ) (course : Course) (items : List (Item (List Content))) (bits left : List Bool) → 1 ≤ n → ReadsItems (packed n) course items bits left → length items * n ≤ max_values
-    → (p : DataPass (List Content)) × (passes_together course n bits ≡ p ∷ []) × (more : List (Item (List Content))) × (p.items ≡ items ++ more)
-together_begins zero course items bits left some h few = absurd (omega (arith, some))
-together_begins (suc n) course items bits left some h few =
-    let begins = pass_prefix (packed (suc n)) (would_be_many (suc n)) (suc (length bits)) course 0 bits items left h (λ j lt. few_values (suc n) (length items) j few lt)
-    (omega (arith, packed_fits (suc n) course items bits left h)) in
-    (read_pass (packed (suc n)) (would_be_many (suc n)) course bits, refl, begins.0, begins.1)
-
 pub together_read : (n : ℕ) (course : Course) (xs : List (Item (List Content))) (bits left : List Bool) → IsPackedReading n course xs bits left
     → (stop_of (passes_together course n bits) ≡ None) × (first_items (items_by_pass (passes_together course n bits)) ≡ xs) × (left_after bits (passes_together course n bits) ≡ left)
 together_read zero course xs bits left h = (refl, sym h.0, h.1)
@@ -262,7 +235,14 @@ module _ (course : Course) (sane : (m : ℕ) → IsSane m course) where
   fits form forth (suc n) course (x ∷ xs) bits left sane few h =
       let w = sane.1 x.spec h.1 in
       let f = forth x.spec bits x.content h.0 w.0 h.2 in
-      omega (arith, fits form forth n (after form course x) xs h.0 left (w.1 (item_answer form x) f.gives) (omega (arith, few)) h.3, f.some, f.within, length-drop f.size bits, ap length f.left_is)
+      omega (
+        arith,
+        fits form forth n (after form course x) xs h.0 left (w.1 (form.gives x.spec x.content) f.gives) (omega (arith, few)) h.3,
+        f.some,
+        f.within,
+        length-drop f.size bits,
+        ap length f.left_is,
+      )
 
   subset_ends : (x : List (Item Content)) (bits left : List Bool) → ReadsPass plain course x bits left → read_pass plain (λ items. false) course bits ≡ passed (0 + length x) x left None
   subset_ends x bits left h =
@@ -303,26 +283,14 @@ module _ (course : Course) (sane : (m : ℕ) → IsSane m course) where
   subsets_so zero bits h = (refl, refl, (0, omega arith, refl))
   subsets_so (suc n) bits h =
       let p = read_pass plain (λ items. false) course bits in
+      let k = next_pass course (suc n) n bits refl h in
       let so = pass_so plain (λ items. false) plain_forth (suc (length bits)) course 0 bits (sane (suc (length bits))) (omega arith) in
-      by (read_pass plain (λ items. false) course bits).stop refl h so (subsets_so n (read_pass plain (λ items. false) course bits).state.left)
-    where
-      by : (o : Option Stop) → (read_pass plain (λ items. false) course bits).stop ≡ o
-          → (if is_some o then o else stop_of (if is_none o then passes_apart course n (read_pass plain (λ items. false) course bits).state.left else [])) ≡ None
-          → ReadsSo plain (λ items. false) course 0 bits (read_pass plain (λ items. false) course bits)
-          → (stop_of (passes_apart course n (read_pass plain (λ items. false) course bits).state.left) ≡ None
-          → ReadsSubsets course (items_by_pass (passes_apart course n (read_pass plain (λ items. false) course bits).state.left)) (read_pass plain (λ items. false) course bits).state.left
-          (left_after (read_pass plain (λ items. false) course bits).state.left (passes_apart course n (read_pass plain (λ items. false) course bits).state.left))
-          × (length (items_by_pass (passes_apart course n (read_pass plain (λ items. false) course bits).state.left)) ≡ n)
-          × IsSuffix (read_pass plain (λ items. false) course bits).state.left
-          (left_after (read_pass plain (λ items. false) course bits).state.left (passes_apart course n (read_pass plain (λ items. false) course bits).state.left)))
-          → let ps = read_pass plain (λ items. false) course bits ∷ (if is_none o then passes_apart course n (read_pass plain (λ items. false) course bits).state.left else []) in
-          ReadsSubsets course (items_by_pass ps) bits (left_after bits ps) × (length (items_by_pass ps) ≡ suc n) × IsSuffix bits (left_after bits ps)
-      by None e h so more =
-          let p = read_pass plain (λ items. false) course bits in
-          let r = more h in
-          let ends = at_its_end plain (λ items. false) (next_after plain course p.items) p.state p.stop e so.0.ends in
-          ((p.state.left, (so.0.reads, ends), r.0), ap suc r.1, suffix_then so.1.0 bits p.state.left _ so.1.1 so.1.2 r.2)
-      by (Some why) e h so more = absurd cc
+      let r = subsets_so n p.state.left k.2 in
+      subst (λ ps. ReadsSubsets course (items_by_pass ps) bits (left_after bits ps) × (length (items_by_pass ps) ≡ suc n) × IsSuffix bits (left_after bits ps)) (sym k.1) (
+        (p.state.left, (so.0.reads, pass_at_end plain (λ items. false) (suc (length bits)) course (place_at 0 bits) k.0), r.0),
+        ap suc r.1,
+        suffix_then so.1.0 bits p.state.left _ so.1.1 so.1.2 r.2,
+      )
 
   together_so : (n : ℕ) (bits : List Bool) → stop_of (passes_together course n bits) ≡ None
       → IsPackedReading n course (first_items (items_by_pass (passes_together course n bits))) bits (left_after bits (passes_together course n bits))
@@ -331,7 +299,7 @@ module _ (course : Course) (sane : (m : ℕ) → IsSane m course) where
   together_so (suc n) bits h =
       let p = read_pass (packed (suc n)) (would_be_many (suc n)) course bits in
       let so = pass_so (packed (suc n)) (would_be_many (suc n)) (packed_forth n) (suc (length bits)) course 0 bits (sane (suc (length bits))) (omega arith) in
-      let ends = at_its_end (packed (suc n)) (would_be_many (suc n)) (next_after (packed (suc n)) course p.items) p.state p.stop (only p.stop h) so.0.ends in
+      let ends = pass_at_end (packed (suc n)) (would_be_many (suc n)) (suc (length bits)) course (place_at 0 bits) (only p.stop h) in
       (((so.0.reads, ends), few_all (suc n) (length p.items) so.0.few), so.1)
     where
       only : (o : Option Stop) → (if is_some o then o else None) ≡ None → o ≡ None

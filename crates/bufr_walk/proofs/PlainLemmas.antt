@@ -1,6 +1,6 @@
 -- Fields and texts read from bits, and the readings that a walk over them makes.
 use Rattle.std.proofs.lemmas.Grind.{common_steps}
-use Rattle.std.proofs.Common.{◌≡◌, ℕ, suc, ◌+◌, ◌-◌, ◌*◌, ◌^◌, ◌<◌, ◌≤◌, Bool, true, false, List, [], ◌∷◌, length, take, drop, Ok, Err, refl, sym, ◌∙◌, ap, subst, arith, ℤ, pos, neg_ℤ, zero, ◌/◌, ◌%◌, ◌++◌, set, add-one, Result, ◌==◌, nat_lt, if◌then◌else◌, slice_index, slice_range, Option, Some, None, option_map, SomeIff, IfSome, ◌⊎◌, inl, inr}
+use Rattle.std.proofs.Common.{◌≡◌, ℕ, suc, ◌+◌, ◌-◌, ◌*◌, ◌^◌, ◌<◌, ◌≤◌, Bool, true, false, List, ◌∷◌, length, take, drop, Ok, Err, refl, sym, ◌∙◌, ap, subst, arith, ℤ, pos, neg_ℤ, zero, ◌/◌, ◌%◌, ◌++◌, set, add-one, ◌==◌, nat_lt, if◌then◌else◌, slice_index, slice_range, Option, Some, None, option_map, SomeIff, IfSome, []}
 use Rattle.std.proofs.lemmas.Bool.{le-ltb, lt-ltb}
 use Rattle.std.proofs.lemmas.List.{length-drop, drop-drop, drop-take, take-take, take_more_set, length-set, length-take-le}
 use Rattle.std.proofs.Math.Nat.{pow-le-pow_right}
@@ -8,55 +8,15 @@ use Rattle.bufr_bits.specs.Prelude.{bits_of, bits_at, number_of, are_all_ones}
 use Rattle.bufr_bits.proofs.BitLemmas.{length-bits_of, length-bits_at, are_all_ones-number, drop-bits_of, take-bits_of, number_of_middle, number-bits_of_octet}
 use Rattle.bufr_tables.specs.Prelude.{is_character}
 use Rattle.std.proofs.Common.{◌&&◌}
-use Rattle.bufr_walk.specs.Prelude.{number, CountedCourse, uncounted, counted_item, after_counted}
-use Rattle.bufr_walk.specs.Prelude.{turns_in, items_in, Stop, plain, WalkFault, Kind, Taken, Role, is_reference, FieldSpec, IsSpec, HasRole, HasWidth, answer_of, answer_by_role, content_in, signed_by, plain_field, found, data_end, octets_in, Content, Cursor, rest_of, past, IsTaken, fault_at, PlainTakes, WalkStop, Next, take_next, at_end, refused, TakenField, Takes, ticked, oks, answers_of, Walked, data_in, data_of, read_by, Read, course_of, Item, ReadsItems, next_after, turns_after, apart, together, Values, IsReading, KeepsValues, ReadsSubsets, max_values, IsStoredReading, IsReadAndPaid, TurnRefusal, stop_by, content_by, coding_by, coding_of, numbers, texts, missing, text, reference, count_in, reference_in}
-use Rattle.bufr_walk.specs.Pass.{DataPass, passes_apart, stop_of, left_after, turns_in_all, values_read, ReadsData, AnswersReading, EndsPass, read_field, reading}
-use Rattle.bufr_walk.specs.Readers.{items_by_pass, place_at}
-use Rattle.bufr_walk.specs.declared.fault.DataFault.{DataFault}
-use Rattle.bufr_walk.specs.declared.fault.DataFault.TheVariants as wrong
+use Rattle.bufr_walk.specs.Prelude.{number, uncounted, counted_item, PaysBits}
+use Rattle.bufr_walk.specs.Prelude.{plain, Kind, Taken, Role, is_reference, FieldSpec, IsSpec, HasRole, HasWidth, answer_of, answer_by_role, content_in, signed_by, plain_field, found, data_end, octets_in, Cursor, rest_of, past, IsTaken, data_in, data_of, read_by, Read, course_of, KeepsValues, max_values, IsStoredReading, content_by, coding_by, coding_of, numbers, texts, missing, text, reference, count_in, reference_in}
+use Rattle.bufr_walk.specs.Pass.{passes_apart, stop_of, ReadsData, AnswersReading, reading_in, reading_of}
 use Rattle.bufr_frame.specs.Prelude.{Sections}
 use Rattle.bufr_tables.specs.Prelude.{Row, Tree}
 use Rattle.bufr_tables.specs.declared.table_b.Kind.TheVariants as kind
 use Rattle.bufr_walk.specs.declared.spec.Role.TheVariants as role
 use Rattle.bufr_walk.specs.declared.spec.Taken.TheVariants as taken
-use Rattle.bufr_walk.specs.declared.walker.WalkStop.TheVariants as stops
-use Rattle.bufr_walk.specs.declared.fault.WalkFault.TheVariants as fault
 use Rattle.bufr_walk.specs.declared.reading.StoredItems.TheVariants as kept
-use Rattle.bufr_walk.proofs.WalkLemmas.{stop_cases}
-
--- items were read up to what comes next, and their turns were counted
-pub record PassComes (course : CountedCourse) (s : Cursor) (steps : ℕ) (next : Next) (s' : Cursor) (steps' : ℕ) : Type 0 where
-  pub items : List (Item Content)
-  pub reads : ReadsItems plain (uncounted course) items (rest_of s) (rest_of s')
-  pub next_is : next ≡ next_after plain (uncounted course) items
-  pub ticks : steps' ≡ ticked steps (turns_after plain course items)
-  pub same : s'.bits ≡ s.bits
-  pub pays : s.at + length items ≤ s'.at
-
--- `count` subsets were read, in at most n turns a bit
-pub record SubsetsRead (n : ℕ) (course : CountedCourse) (bits : List Bool) (count : ℕ) (s : Cursor) (steps : ℕ) : Type 0 where
-  pub subsets : List (List (Item Content))
-  pub whole : ReadsSubsets (uncounted course) subsets bits (rest_of s)
-  pub count_is : length subsets ≡ count
-  pub ticks : steps ≡ ticked 0 (turns_in course subsets)
-  pub same : s.bits ≡ bits
-  pub few : steps ≤ n * s.at
-  pub pays : items_in subsets ≤ s.at
-  pub within : s.at ≤ length bits
-  -- the passes that read them, and those that follow
-  pub passes : List (DataPass Content)
-  pub goes : (more : ℕ) → passes_apart (uncounted course) (count + more) bits ≡ passes ++ passes_apart (uncounted course) more (rest_of s)
-  pub none : stop_of passes ≡ None
-  pub left : left_after bits passes ≡ rest_of s
-  pub turns : turns_in_all plain course passes ≡ turns_in course subsets
-  pub items : items_by_pass passes ≡ subsets
-
--- what comes next cannot be read, or, where it is a reference, cannot be kept
-abbrev pub PassStops : CountedCourse → Cursor → (steps subset : ℕ) → WalkFault → Cursor → (steps' : ℕ) → Type 0
-PassStops course s steps subset why s' steps' =
-    ((spec : FieldSpec) × PassComes course s steps (take_next spec) s' steps' × (spec.role ≡ role.Reference) × (why ≡ fault.Memory))
-    ⊎ ((next : Next) × (stop : Stop) × PassComes course s steps next s' steps'
-    × ((items : ℕ) → EndsPass (reading plain (λ items. false)) next (place_at items (rest_of s')) (Some stop)) × (why ≡ fault_at stop subset s'.at))
 
 pub numeric_width : (k : Kind) (w : ℕ) → k ≡ kind.Numeric → HasWidth k w → w ≤ 63
 numeric_width kind.Character w e h = absurd cc
@@ -284,89 +244,18 @@ pub borrowed_some : {S : Type 0} (now : S → List ℕ) (r : Option S) (octets w
 borrowed_some now None octets want at count h small e = tt
 borrowed_some now (Some s) octets want at count h small e = borrowed octets at count (now s) h.0.0 h.0.1 h.1 small ∙ e
 
--- ---- A walk over bits reads them as the definition does.
-
--- items that were taken are read, and what comes after them is the same, in as many turns
-pub reads : (course : CountedCourse) (s : Cursor) (items : List TakenField) (s' : Cursor) → Takes (oks PlainTakes) (uncounted course) s items s'
-    → (read : List (Item Content)) × ReadsItems plain (uncounted course) read (rest_of s) (rest_of s') × (next_after plain (uncounted course) read ≡ (course (answers_of items)).next)
-    × (turns_after plain course read ≡ (course (answers_of items)).turns)
-reads course s [] s' h = ([], ap rest_of (sym h), refl, refl)
-reads course s (i ∷ items) s' h =
-    let step = h.2 in
-    let item : Item Content = record { spec = i.spec; content = step.content } in
-    let same : (λ answers. course (i.taken ∷ answers)) ≡ after_counted plain course item = ap (λ t answers. course (t ∷ answers)) step.gives in
-    let more = reads (λ answers. course (i.taken ∷ answers)) h.0 items s' h.3 in (
-      item ∷ more.0,
-      (rest_of h.0, h.1, step.field, subst (λ c. ReadsItems plain (uncounted c) more.0 (rest_of h.0) (rest_of s')) same more.1),
-      ap (λ c. next_after plain (uncounted c) more.0) (sym same) ∙ more.2,
-      ap (λ c. turns_after plain c more.0) (sym same) ∙ more.3,
-    )
-
-pub same_bits : (course : CountedCourse) (s : Cursor) (items : List TakenField) (s' : Cursor) → Takes (oks PlainTakes) (uncounted course) s items s' → s'.bits ≡ s.bits
-same_bits course s [] s' h = ap (λ x. x.bits) h
-same_bits course s (i ∷ items) s' h = same_bits (λ answers. course (i.taken ∷ answers)) h.0 items s' h.3 ∙ ap (λ x. x.bits) h.2.next
-
--- each item takes a bit
-reads_paid : (course : CountedCourse) (s : Cursor) (items : List TakenField) (s' : Cursor) (h : Takes (oks PlainTakes) (uncounted course) s items s')
-    → s.at + length (reads course s items s' h).0 ≤ s'.at
-unfolding reads
-reads_paid course s [] s' h = omega (arith, ap (λ x. x.at) h)
-reads_paid course s (i ∷ items) s' h = omega (arith, h.2.some, ap (λ x. x.at) h.2.next, reads_paid (λ answers. course (i.taken ∷ answers)) h.0 items s' h.3)
-
--- an accepted walk reads a subset
-pub pass_reads : (course : CountedCourse) (s s' : Cursor) (c c' : ℕ) → Walked PlainTakes course s c (Ok tt) s' c' → PassComes course s c at_end s' c'
-pass_reads course s s' c c' w =
-    let r = reads course s w.0 s' w.1 in
-    record { items = r.0; reads = r.1; next_is = sym (r.2 ∙ w.2); ticks = w.3 ∙ ap (ticked c) (sym r.3); same = same_bits course s w.0 s' w.1; pays = reads_paid course s w.0 s' w.1 }
-
--- a refused walk stops a reading
-pub pass_stops : (course : CountedCourse) (s s' : Cursor) (c c' subset at : ℕ) (why : WalkStop DataFault) → at ≡ s'.at → Walked PlainTakes course s c (Err why) s' c'
-    → PassStops course s c subset (fault_at why subset at) s' c'
-pass_stops course s s' c c' subset at why here w =
-    let r = reads course s w.0 w.1 w.2 in
-    stop_cases PlainTakes (λ next y. PassComes course s c next w.1 c' → PassStops course s c subset (fault_at y subset at) s' c') w.1 s' field
-    (λ spec h e p. inl (spec, moved (take_next spec) w.1 e p, h, refl)) refuses (course (answers_of w.0)).next why w.3
-    (record { items = r.0; reads = r.1; next_is = sym r.2; ticks = w.4 ∙ ap (ticked c) (sym r.3); same = same_bits course s w.0 w.1 w.2; pays = reads_paid course s w.0 w.1 w.2 })
-  where
-    moved : (next : Next) (mid : Cursor) → s' ≡ mid → PassComes course s c next mid c' → PassComes course s c next s' c'
-    moved next mid e p = subst (λ x. PassComes course s c next x c') (sym e) p
-
-    field : (spec : FieldSpec) (e : DataFault) → PlainTakes w.1 spec (Err e) s' → PassComes course s c (take_next spec) w.1 c' → PassStops course s c subset (fault_at (stops.Field e) subset at) s' c'
-    field spec e h p =
-        inr (
-          take_next spec,
-          stops.Field (wrong.DataEnd spec.fxy),
-          moved (take_next spec) w.1 h.2 p,
-          λ items. ap (read_field plain spec items) (ap (λ x. plain_field spec (rest_of x)) h.2 ∙ h.0),
-          ap (λ e. fault_at (stops.Field e) subset at) h.1 ∙ ap (fault_at (stops.Field (wrong.DataEnd spec.fxy)) subset) here,
-        )
-
-    refuses : (x : TurnRefusal) → s' ≡ w.1 → PassComes course s c (refused x) w.1 c' → PassStops course s c subset (fault_at (stop_by x) subset at) s' c'
-    refuses x e p = inr (refused x, stop_by x, moved (refused x) w.1 e p, λ items. refl, ap (fault_at (stop_by x) subset) here)
-
--- a walk does not move back
-takes_forth : (course : CountedCourse) (s : Cursor) (items : List TakenField) (s' : Cursor) → Takes (oks PlainTakes) (uncounted course) s items s' → s.at ≤ s'.at
-takes_forth course s [] s' h = omega (arith, ap (λ x. x.at) h)
-takes_forth course s (i ∷ items) s' h = omega (arith, takes_forth (λ answers. course (i.taken ∷ answers)) h.0 items s' h.3, ap (λ x. x.at) h.2.next)
-
-pub walk_forth : (course : CountedCourse) (s s' : Cursor) (c c' : ℕ) (r : Result (Unit {0}) (WalkStop DataFault)) → Walked PlainTakes course s c r s' c' → s.at ≤ s'.at
-walk_forth course s s' c c' (Ok u) w = takes_forth course s w.0 s' w.1
-walk_forth course s s' c c' (Err why) w = omega (
-  arith,
-  takes_forth course s w.0 w.1 w.2,
-  stop_cases PlainTakes (λ next y. w.1.at ≤ s'.at) w.1 s' (λ spec e h. omega (arith, ap (λ x. x.at) h.2)) (λ spec r h. omega (arith, ap (λ x. x.at) h)) (λ r h. omega (arith, ap (λ x. x.at) h))
-      (course (answers_of w.0)).next why w.3,
-)
-
 -- ---- The parts of a reading.
 
 -- the bits that are used are no more than a message may have
 pub used_most : (octets : List ℕ) (used : ℕ) → length octets < 2 ^ 24 → used ≤ length (bits_of octets) → used ≤ max_values
 used_most octets used h w = omega (arith, h, w, bits_length octets)
 
-pub plain_held : (table : List Row) (template : Tree) (subsets : ℕ) (octets : List ℕ) (used : ℕ) → length octets < 2 ^ 24
-    → IsReadAndPaid (uncounted (counted_item table template)) (data_in false subsets octets) used → IsStoredReading (read_by table template (data_in false subsets octets) used 0) kept.Apart
-plain_held table template subsets octets used short h = record { reading = h.0; keeps = tt; few = omega arith; pays = h.1; short = used_most octets used short h.0.1 }
+pub plain_held : (table : List Row) (template : Tree) (subsets : ℕ) (octets : List ℕ) (used steps : ℕ) → length octets < 2 ^ 24
+    → ReadsData (counted_item table template) (data_in false subsets octets) (Ok used) steps
+    → PaysBits (reading_of (uncounted (counted_item table template)) (data_in false subsets octets)).values used
+    → IsStoredReading (read_by table template (data_in false subsets octets) used 0) kept.Apart
+plain_held table template subsets octets used steps short h pays =
+    record { none = h.0; keeps = tt; few = omega arith; pays = pays; most = omega (arith, pays, used_most octets used short (omega (arith, h.1))) }
 
 -- the data of a message that are not compressed
 pub same_data : (m : Sections) (subsets : ℕ) (octets : List ℕ) → m.compressed ≡ false → subsets ≡ m.subsets → octets ≡ m.payload → data_in false subsets octets ≡ data_of m
@@ -378,11 +267,10 @@ pub plain_is : (table : List Row) (template : Tree) (m : Sections) (subsets : �
 plain_is table template m subsets octets used steps e h = (refl, refl, e, subst (λ d. ReadsData (counted_item table template) d (Ok used) steps) e h)
 
 -- data that are not compressed were read before, and can be shown
-pub readable_of : (r : Read) → IsStoredReading r kept.Apart → (all : List (List (Item Content))) × (left : List Bool) × ReadsSubsets (course_of r) all r.source.bits left
-    × (length all ≡ r.source.subsets)
-readable_of r h = by (values_read r) h.reading h.keeps
+pub readable_of : (r : Read) → IsStoredReading r kept.Apart → stop_of (passes_apart (course_of r) r.source.subsets r.source.bits) ≡ None
+readable_of r h = by r.source.compressed h.none h.keeps
   where
-    by : (v : Values) → IsReading (course_of r) r.source v r.bits → KeepsValues kept.Apart r.source v
-        → (all : List (List (Item Content))) × (left : List Bool) × ReadsSubsets (course_of r) all r.source.bits left × (length all ≡ r.source.subsets)
-    by (apart xs) g k = (xs, drop r.bits r.source.bits, g.2.0, g.2.1)
-    by (together xs) g k = absurd k
+    by : (b : Bool) → (reading_in (course_of r) b r.source.subsets r.source.bits).stop ≡ None
+        → KeepsValues kept.Apart r.source (reading_in (course_of r) b r.source.subsets r.source.bits).values → stop_of (passes_apart (course_of r) r.source.subsets r.source.bits) ≡ None
+    by false e k = e
+    by true e k = absurd k

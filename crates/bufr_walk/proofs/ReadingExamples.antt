@@ -1,8 +1,9 @@
 -- Worked examples of readings and texts, computed from the definitions.
-use Rattle.std.proofs.Common.{◌≡◌, ℕ, zero, suc, true, false, map, List, [], ◌∷◌, pos, negsuc, refl}
+use Rattle.bufr_walk.specs.Pass.{reading_in}
+use Rattle.std.proofs.Common.{◌≡◌, ℕ, zero, suc, true, false, map, List, [], ◌∷◌, pos, negsuc, refl, None}
 use Rattle.bufr_bits.specs.Prelude.{bits_of}
 use Rattle.bufr_tables.specs.Prelude.{Tree, bare, element, operator, delayed}
-use Rattle.bufr_walk.specs.Prelude.{FieldSpec, Content, number, text, missing, reference, same, shown_number, shown_text, shown_missing, shown_reference, data_end, increment, unequal_factor, next_item, Item, ReadsSubsets}
+use Rattle.bufr_walk.specs.Prelude.{FieldSpec, Content, number, text, missing, reference, same, shown_number, shown_text, shown_missing, shown_reference, data_end, increment, unequal_factor, next_item, Item, apart}
 use Rattle.bufr_walk.proofs.ExampleTables.{fxy, table, done, walk_fault, field_fault, one, together, gives}
 use Rattle.bufr_tables.specs.declared.table_b.Kind.TheVariants as kind
 use Rattle.bufr_walk.specs.declared.spec.TurnRefusal.TheVariants as refusal
@@ -157,10 +158,10 @@ as_quantity = record { fxy = 3173; role = role.Element; kind = kind.Numeric; wid
 at_288_15 : Item Content
 at_288_15 = record { spec = as_quantity; content = number 28815 }
 
-each_from_the_beginning : ReadsSubsets (next_item table widened_again) ((at_288_15 ∷ []) ∷ (at_288_15 ∷ []) ∷ []) (bits_of (112 ∷ 143 ∷ 112 ∷ 143 ∷ [])) []
+each_from_the_beginning : reading_in (next_item table widened_again) false 2 (bits_of (112 ∷ 143 ∷ 112 ∷ 143 ∷ []))
+    ≡ record { values = apart ((at_288_15 ∷ []) ∷ (at_288_15 ∷ []) ∷ []); stop = None; subset = 2; left = [] }
 unfolding table widened_again as_quantity at_288_15 next_item bits_of
-each_from_the_beginning =
-    (bits_of (112 ∷ 143 ∷ []), ((bits_of (112 ∷ 143 ∷ []), refl, refl, refl), refl), ([], (([], refl, refl, refl), refl), refl))
+each_from_the_beginning = refl
 
 -- a given width holds for one descriptor
 -- rule: 2-06-y-used-up

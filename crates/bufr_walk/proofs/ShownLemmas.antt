@@ -1,280 +1,28 @@
 -- The items and subsets that a walk with a visitor shows.
+use Rattle.std.proofs.Math.Path.{fun_ext}
+use Rattle.bufr_walk.proofs.PassLemmas.{next_pass}
+use Rattle.bufr_walk.proofs.PlainReading.{IsAt, plain_follows, ticked_more}
+use Rattle.bufr_walk.proofs.WalkPass.{Comes, IsStep, item, stopped_passes, whole_passes, pass_ends, pass_goes}
 use Rattle.std.proofs.lemmas.Grind.{common_steps}
-use Rattle.std.proofs.Common.{suc, None, Option, option_map, append_assoc, ◌≡◌, ℕ, ◌+◌, ◌-◌, ◌*◌, ◌^◌, ◌<◌, ◌≤◌, false, Bool, List, [], ◌∷◌, ◌++◌, length, drop, Some, refl, sym, ◌∙◌, ap, subst, arith, length-append, length-drop, ◌/◌, ◌&&◌, true, ◌⊎◌, inl, inr, take, Result, Ok, Err, ℤ, pos, ◌+ℤ◌, nat_lt, if◌then◌else◌, nat_le, not, unsigned_abs}
+use Rattle.std.proofs.Common.{suc, None, Option, append_assoc, ◌≡◌, ℕ, ◌+◌, ◌^◌, ◌<◌, ◌≤◌, false, Bool, List, ◌∷◌, ◌++◌, length, drop, Some, refl, sym, ◌∙◌, ap, subst, arith, ◌/◌, ◌&&◌, true, ◌⊎◌, inl, inr, take, Result, Ok, Err, ℤ, pos, ◌+ℤ◌, nat_lt, if◌then◌else◌, nat_le, not, unsigned_abs, ◌-◌, []}
 use Rattle.std.proofs.lemmas.Bool.{ltb-true}
-use Rattle.bufr_bits.specs.Prelude.{bits_of, number_of, are_all_ones}
-use Rattle.bufr_walk.specs.Prelude.{Kind, WalkFault, Content, data_end, answer_of, number, text, missing, content_in, octets_in, signed_by, shown_number, shown_text, shown_missing, shown_reference, shown, FieldFault, FieldRead, found, plain_field, FieldSpec, IsSpec, HasRole, is_reference, IsFor, IsForRole, is_plain_number, is_plain, IsPlainNumber, Next, take_next, at_end, refused, ticked, TakenField, Takes, oks, answers_of, Walked, fault_at, bits_before, data_in, Stop, Item, plain, ReadsPass, ReadsSubsets, turns_after, turns_in, items_in, IsReading, apart, together, Values, Read, course_of, IsReadAndPaid, PaysBits, IsStoredReading, KeepsValues, calls_for, turns_for, Cursor, rest_of, past, IsTaken, Stage, stage, IsShown, IsUnshown, ShowingTakes, Sofar, ItemsShown, ItemsEnded, ItemsGo, ShowFault, TurnRefusal, Role, Taken, WalkStop, Call, item_call, view_of, Timed, timed, item_calls, Shows, EndsAt, IsReferenceValue, subset_call, subset_calls, stop_by, CountedCourse, uncounted, after_counted, counted_course_of}
+use Rattle.bufr_bits.specs.Prelude.{number_of, are_all_ones}
+use Rattle.bufr_walk.specs.Prelude.{Kind, Content, data_end, answer_of, number, text, missing, content_in, octets_in, signed_by, shown_number, shown_text, shown_missing, shown_reference, shown, FieldFault, FieldRead, found, plain_field, FieldSpec, IsSpec, HasRole, is_reference, IsFor, IsForRole, is_plain_number, is_plain, IsPlainNumber, Next, take_next, ticked, Walked, Stop, Item, plain, answers_in, turns_in, Read, course_of, IsStoredReading, KeepsValues, calls_for, turns_for, Cursor, rest_of, past, IsTaken, Stage, stage, IsShown, IsUnshown, ShowingTakes, Sofar, ItemsGo, ShowFault, Role, Taken, WalkStop, Call, item_call, view_of, Timed, timed, item_calls, Shows, EndsAt, IsReferenceValue, subset_call, subset_calls, stop_by, CountedCourse, uncounted, after, counted_course_of, IsAllShown, same}
 use Rattle.bufr_tables.specs.Prelude.{Row, is_character}
 use Rattle.bufr_walk.specs.declared.plain.ShowStop.{ShowStop}
 use Rattle.std.proofs.lemmas.Bool.Decides.{nat_tests}
 use Rattle.bufr_bits.proofs.DecimalLemmas.{and_first, and_second}
-use Rattle.bufr_walk.proofs.PlainLemmas.{PassStops, answer_element, is_reference_role, PassComes, SubsetsRead, number_said, text_said, reference_said}
-use Rattle.bufr_walk.specs.declared.spec.TurnRefusal.TheVariants as refusal
-use Rattle.bufr_tables.specs.declared.table_b.Kind.TheVariants as kind
+use Rattle.bufr_walk.proofs.PlainLemmas.{answer_element, is_reference_role, number_said, text_said, reference_said}
 use Rattle.bufr_walk.specs.declared.fault.ShowFault.TheVariants as show_fault
 use Rattle.bufr_walk.specs.declared.plain.ShowStop.TheVariants as stop
 use Rattle.bufr_walk.specs.declared.spec.Role.TheVariants as role
 use Rattle.bufr_walk.specs.declared.walker.WalkStop.TheVariants as stops
 use Rattle.bufr_walk.specs.declared.fault.DataFault.TheVariants as wrong
 use Rattle.bufr_walk.specs.declared.spec.Taken.TheVariants as taken
-use Rattle.bufr_walk.proofs.WalkLemmas.{stop_cases}
-use Rattle.std.proofs.lemmas.List.{map-append, append-nil, length-map}
-use Rattle.bufr_walk.specs.Pass.{DataPass, read_pass, passes_apart, stop_of, left_after, turns_in_all, values_read, calls_of, turns_shown, ReadsData, ReadsTo, EndsPass, reading}
+use Rattle.std.proofs.lemmas.List.{map-append, append-nil}
+use Rattle.bufr_walk.specs.Pass.{DataPass, read_pass, passes_apart, stop_of, calls_of, turns_shown, EndsPass, reading, Place, Step, read_field, reading_in}
 use Rattle.bufr_walk.specs.Readers.{items_by_pass, place_at}
-use Rattle.bufr_walk.proofs.PassLemmas.{passed, pass_is, pass_prefix, ended}
 use Rattle.bufr_walk.specs.declared.reading.StoredItems.TheVariants as kept
-use Rattle.std.specs.Prelude.{is_none, is_some}
-
--- ---- Subsets that are read one after another.
-
-pub ticked_more : (a b : ℕ) → ticked (ticked 0 a) b ≡ ticked 0 (a + b)
-ticked_more a b = grind (arith, common_steps)
-
-pub reads_more : (course : CountedCourse) (xs : List (List (Item Content))) (x : List (Item Content)) (bits mid suffix : List Bool) → ReadsSubsets (uncounted course) xs bits mid
-    → ReadsPass plain (uncounted course) x mid suffix
-    → ReadsSubsets (uncounted course) (xs ++ x ∷ []) bits suffix
-reads_more course [] x bits mid suffix h r = (suffix, subst (λ z. ReadsPass plain (uncounted course) x z suffix) (sym h) r, refl)
-reads_more course (y ∷ xs) x bits mid suffix h r = (h.0, h.1, reads_more course xs x h.0 mid suffix h.2 r)
-
-pub turns_more : (course : CountedCourse) (xs : List (List (Item Content))) (x : List (Item Content)) → turns_in course (xs ++ x ∷ []) ≡ turns_in course xs + turns_after plain course x
-turns_more course [] x = omega arith
-turns_more course (y ∷ xs) x = omega (arith, turns_more course xs x)
-
-items_more : (xs : List (List (Item Content))) (x : List (Item Content)) → items_in (xs ++ x ∷ []) ≡ items_in xs + length x
-items_more [] x = omega arith
-items_more (y ∷ xs) x = omega (arith, items_more xs x)
-
--- passes one after another
-stop_append : (a b : List (DataPass Content)) → stop_of a ≡ None → stop_of (a ++ b) ≡ stop_of b
-stop_append [] b e = refl
-stop_append (p ∷ a) b e = by p.stop e (λ z. stop_append a b z)
-  where
-    by : (o : Option Stop) → (if is_some o then o else stop_of a) ≡ None → (stop_of a ≡ None → stop_of (a ++ b) ≡ stop_of b) → (if is_some o then o else stop_of (a ++ b)) ≡ stop_of b
-    by None e go = go e
-    by (Some why) e go = absurd cc
-
-left_append : (bits : List Bool) (a b : List (DataPass Content)) → left_after bits (a ++ b) ≡ left_after (left_after bits a) b
-left_append bits [] b = refl
-left_append bits (p ∷ a) b = left_append p.state.left a b
-
-turns_append : (course : CountedCourse) (a b : List (DataPass Content)) → turns_in_all plain course (a ++ b) ≡ turns_in_all plain course a + turns_in_all plain course b
-turns_append course [] b = omega arith
-turns_append course (p ∷ a) b = omega (arith, turns_append course a b)
-
--- what a pass over the bits that are left gives
-fuel : (course : CountedCourse) (s s' : Cursor) (c c' : ℕ) (next : Next) (p : PassComes course s c next s' c') → s'.at ≤ length s'.bits → length p.items < suc (length (rest_of s))
-fuel course s s' c c' next p within = omega (arith, p.pays, within, ap length p.same, length-drop s.at s.bits)
-
-came : (course : CountedCourse) (s s' : Cursor) (c c' : ℕ) (next : Next) (o : Option Stop) (p : PassComes course s c next s' c') → s'.at ≤ length s'.bits
-    → ReadsTo plain (λ n. false) (uncounted course) (place_at 0 (rest_of s)) (passed (0 + length p.items) p.items (rest_of s') o)
-    → read_pass plain (λ items. false) (uncounted course) (rest_of s) ≡ passed (0 + length p.items) p.items (rest_of s') o
-came course s s' c c' next o p within h = pass_is plain (λ n. false) (suc (length (rest_of s))) (uncounted course) 0 (rest_of s) p.items (rest_of s') o h (fuel course s s' c c' next p within)
-
--- nothing was read yet
-pub none_yet : (n : ℕ) (course : CountedCourse) (bits : List Bool) (s : Cursor) (steps : ℕ) → s ≡ record { bits = bits; at = 0 } → steps ≡ 0 → SubsetsRead n course bits 0 s steps
-none_yet n course bits s steps e z = record {
-  subsets = [];
-  whole = sym rest;
-  count_is = refl;
-  ticks = z ∙ ticked_none;
-  same = ap (λ x. x.bits) e;
-  few = omega (arith, z);
-  pays = omega arith;
-  within = omega (arith, ap (λ x. x.at) e);
-  passes = [];
-  goes = λ more. ap (λ k. passes_apart (uncounted course) k bits) (zero_plus more) ∙ ap (passes_apart (uncounted course) more) (sym rest);
-  none = refl;
-  left = sym rest;
-  turns = refl;
-  items = refl;
-}
-  where
-    rest : rest_of s ≡ bits
-    rest = ap rest_of e
-
-    zero_plus : (n : ℕ) → 0 + n ≡ n
-    zero_plus n = omega arith
-
-    ticked_none : 0 ≡ ticked 0 0
-    ticked_none = grind (arith, common_steps)
-
-pub one_more : (n : ℕ) (course : CountedCourse) (bits : List Bool) (i : ℕ) (s s' : Cursor) (c c' : ℕ) → SubsetsRead n course bits i s c → PassComes course s c at_end s' c'
-    → c' ≤ c + n * (s'.at - s.at)
-    → s'.at ≤ length s'.bits → s.at ≤ s'.at → SubsetsRead n course bits (i + 1) s' c'
-one_more n course bits i s s' c c' h p few within forth =
-    let same : s'.bits ≡ bits = p.same ∙ h.same in
-    record {
-      subsets = h.subsets ++ p.items ∷ [];
-      whole = reads_more course h.subsets p.items bits (rest_of s) (rest_of s') h.whole (p.reads, sym p.next_is);
-      count_is = omega (arith, length-append h.subsets (p.items ∷ []), h.count_is);
-      ticks = p.ticks ∙ ap (λ x. ticked x (turns_after plain course p.items)) h.ticks ∙ ticked_more (turns_in course h.subsets) (turns_after plain course p.items)
-          ∙ ap (ticked 0) (sym (turns_more course h.subsets p.items));
-      same = same;
-      few = sums n s.at s'.at c c' h.few few forth;
-      pays = omega (arith, items_more h.subsets p.items, h.pays, p.pays);
-      within = omega (arith, within, ap length same);
-      passes = h.passes ++ pass ∷ [];
-      goes = λ more. ap (λ k. passes_apart (uncounted course) k bits) (counted i more) ∙ h.goes (suc more)
-          ∙ ap (λ (q : DataPass Content). h.passes ++ (q ∷ (if is_none q.stop then passes_apart (uncounted course) more q.state.left else []))) is
-          ∙ sym (append_assoc h.passes (pass ∷ []) (passes_apart (uncounted course) more (rest_of s')));
-      none = stop_append h.passes (pass ∷ []) h.none;
-      left = left_append bits h.passes (pass ∷ []);
-      turns = turns_append course h.passes (pass ∷ []) ∙ sums_to (turns_in_all plain course h.passes) (turns_in course h.subsets) (turns_after plain course p.items) h.turns
-          ∙ sym (turns_more course h.subsets p.items);
-      items = map-append (λ (q : DataPass Content). q.items) h.passes (pass ∷ []) ∙ ap (λ xs. xs ++ p.items ∷ []) h.items;
-    }
-  where
-    pass : DataPass Content
-    pass = passed (0 + length p.items) p.items (rest_of s') None
-
-    is : read_pass plain (λ items. false) (uncounted course) (rest_of s) ≡ passed (0 + length p.items) p.items (rest_of s') None
-    is = came course s s' c c' at_end None p within (record { reads = p.reads; few = λ j lt. refl; count = refl; ends = ended plain (λ n. false) _ _ (sym p.next_is) })
-
-    counted : (i more : ℕ) → i + 1 + more ≡ i + suc more
-    counted i more = omega arith
-
-    sums_to : (a b c : ℕ) → a ≡ b → a + (c + 0) ≡ b + c
-    sums_to a b c e = omega (arith, e)
-
-    sums : (n a b c c' : ℕ) → c ≤ n * a → c' ≤ c + n * (b - a) → a ≤ b → c' ≤ n * b
-    sums n a b c c' h g f = let e : n * b ≡ n * a + n * (b - a) = split n a (b - a) b (omega (arith, f)) in omega (arith, e, h, g)
-      where
-        split : (n a d b : ℕ) → b ≡ a + d → n * b ≡ n * a + n * d
-        split n a d b e = ap (λ x. n * x) e ∙ grind arith
-
-ticks_of : (n : ℕ) (course : CountedCourse) (bits : List Bool) (i : ℕ) (s s' : Cursor) (c c' : ℕ) (next : Next) (h : SubsetsRead n course bits i s c) (p : PassComes course s c next s' c')
-    → c' ≡ ticked 0 (turns_in_all plain course h.passes + turns_after plain course p.items)
-ticks_of n course bits i s s' c c' next h p =
-    p.ticks ∙ ap (λ x. ticked x (turns_after plain course p.items)) h.ticks ∙ ticked_more (turns_in course h.subsets) (turns_after plain course p.items)
-    ∙ ap (λ t. ticked 0 (t + turns_after plain course p.items)) (sym h.turns)
-
-here : (s : Cursor) (bits : List Bool) → s.bits ≡ bits → s.at ≤ length bits → s.at + length (rest_of s) ≡ length bits
-here s bits e h = omega (arith, length-drop s.at s.bits, ap length e, h)
-
--- all subsets were read
-all_passes : (n : ℕ) (course : CountedCourse) (bits : List Bool) (total i : ℕ) (s : Cursor) (c : ℕ) (h : SubsetsRead n course bits i s c) → i ≡ total
-    → passes_apart (uncounted course) total bits ≡ h.passes
-all_passes n course bits total i s c h e = ap (λ k. passes_apart (uncounted course) k bits) (sym e ∙ plus_none i) ∙ h.goes 0 ∙ append-nil h.passes
-  where
-    plus_none : (a : ℕ) → a ≡ a + 0
-    plus_none a = omega arith
-
-pub all_read : (n : ℕ) (course : CountedCourse) (octets : List ℕ) (total i : ℕ) (s : Cursor) (c : ℕ) → SubsetsRead n course (bits_of octets) i s c → i ≡ total
-    → ReadsData course (data_in false total octets) (Ok s.at) c
-all_read n course octets total i s c h e =
-    let is = all_passes n course (bits_of octets) total i s c h e in (
-      ap stop_of is ∙ h.none,
-      ap (λ (ps : List (DataPass Content)). s.at + length (left_after (bits_of octets) ps)) is ∙ ap (λ l. s.at + length l) h.left ∙ here s (bits_of octets) h.same h.within,
-      h.ticks ∙ ap (ticked 0) (sym h.turns ∙ ap (turns_in_all plain course) (sym is)),
-    )
-
-pub all_paid : (n : ℕ) (course : CountedCourse) (octets : List ℕ) (total i : ℕ) (s : Cursor) (c : ℕ) → SubsetsRead n course (bits_of octets) i s c → i ≡ total
-    → IsReadAndPaid (uncounted course) (data_in false total octets) s.at
-all_paid n course octets total i s c h e =
-    let items : h.subsets ≡ items_by_pass (passes_apart (uncounted course) total (bits_of octets)) = sym h.items ∙ ap items_by_pass (sym (all_passes n course (bits_of octets) total i s c h e)) in
-    subst (λ xs. IsReading (uncounted course) (data_in false total octets) (apart xs) s.at × PaysBits (apart xs) s.at) items
-    ((refl, h.within, (subst (λ b. ReadsSubsets (uncounted course) h.subsets (bits_of octets) (drop s.at b)) h.same h.whole, h.count_is ∙ e)), h.pays)
-
--- a walk that stopped in one subset
-pub stopped_there : (n : ℕ) (course : CountedCourse) (octets : List ℕ) (total i : ℕ) (s s' : Cursor) (c c' : ℕ) (why : WalkFault) → SubsetsRead n course (bits_of octets) i s c → i < total
-    → PassStops course s c (i + 1) why s' c' → s'.at ≤ length s'.bits → ReadsData course (data_in false total octets) (Err why) c'
-stopped_there n course octets total i s s' c c' why h more p within = by p
-  where
-    goes : passes_apart (uncounted course) total (bits_of octets) ≡ h.passes ++
-        (read_pass plain (λ items. false) (uncounted course) (rest_of s) ∷ (if is_none (read_pass plain (λ items. false) (uncounted course) (rest_of s)).stop
-        then passes_apart (uncounted course) (total - (i + 1)) (read_pass plain (λ items. false) (uncounted course) (rest_of s)).state.left else []))
-    goes = ap (λ k. passes_apart (uncounted course) k (bits_of octets)) (others total i more) ∙ h.goes (suc (total - (i + 1)))
-      where
-        others : (total i : ℕ) → i < total → total ≡ i + suc (total - (i + 1))
-        others total i h = omega (arith, h)
-
-    place_is : (a b c : ℕ) → a + b ≡ c → c - b ≡ a
-    place_is a b c e = omega (arith, e)
-
-    sums_to : (a b : ℕ) → a + (b + 0) ≡ a + b
-    sums_to a b = omega arith
-
-    by : PassStops course s c (i + 1) why s' c' → ReadsData course (data_in false total octets) (Err why) c'
-    by (inl q) =
-        let m = q.1 in
-        let begins = pass_prefix plain (λ n. false) (suc (length (rest_of s))) (uncounted course) 0 (rest_of s) m.items (rest_of s') m.reads (λ j lt. refl)
-        (fuel course s s' c c' (take_next q.0) m within) in
-        inr (
-          q.3,
-          turns_in_all plain course h.passes + turns_after plain course m.items,
-          record {
-            done = h.passes;
-            here = read_pass plain (λ items. false) (uncounted course) (rest_of s);
-            later = if is_none (read_pass plain (λ items. false) (uncounted course) (rest_of s)).stop
-                then passes_apart (uncounted course) (total - (i + 1)) (read_pass plain (λ items. false) (uncounted course) (rest_of s)).state.left else [];
-            among = goes;
-            items = m.items;
-            more = begins.0;
-            are = begins.1;
-            spec = q.0;
-            next = sym m.next_is;
-            why = inr q.2;
-            turns_are = refl;
-          },
-          ticks_of n course (bits_of octets) i s s' c c' (take_next q.0) h m,
-        )
-    by (inr q) =
-        let m = q.2 in
-        let pass : DataPass Content = passed (0 + length m.items) m.items (rest_of s') (Some q.1) in
-        let is = came course s s' c c' q.0 (Some q.1) m within
-        (record {
-          reads = m.reads;
-          few = λ j lt. refl;
-          count = refl;
-          ends = subst (λ x. EndsPass (reading plain (λ n. false)) x (place_at (0 + length m.items) (rest_of s')) (Some q.1)) m.next_is (q.3 (0 + length m.items));
-        }) in
-        let all : passes_apart (uncounted course) total (bits_of octets) ≡ h.passes ++ pass ∷ [] =
-        goes ∙ ap (λ (z : DataPass Content). h.passes ++ (z ∷ (if is_none z.stop then passes_apart (uncounted course) (total - (i + 1)) z.state.left else []))) is in
-        let at : s'.at + length (rest_of s') ≡ length (bits_of octets) = here s' (bits_of octets) (m.same ∙ h.same) (omega (arith, within, ap length (m.same ∙ h.same))) in
-        let count : length (h.passes ++ pass ∷ []) ≡ i + 1 = omega
-        (arith, length-append h.passes (pass ∷ []), h.count_is, ap length h.items, length-map h.passes (λ (z : DataPass Content). z.items)) in
-        subst (λ x. ReadsData course (data_in false total octets) (Err x) c') (sym q.4) (inl (
-          ap (λ (ps : List (DataPass Content)). option_map (λ w. fault_at w (length ps) (length (bits_of octets) - length (left_after (bits_of octets) ps))) (stop_of ps)) all
-              ∙ ap (λ o. option_map (λ w. fault_at w (length (h.passes ++ pass ∷ [])) (length (bits_of octets) - length (left_after (bits_of octets) (h.passes ++ pass ∷ [])))) o)
-              (stop_append h.passes (pass ∷ []) h.none)
-              ∙ ap (λ k. Some (fault_at q.1 k (length (bits_of octets) - length (left_after (bits_of octets) (h.passes ++ pass ∷ []))))) count
-              ∙ ap (λ l. Some (fault_at q.1 (i + 1) (length (bits_of octets) - length l))) (left_append (bits_of octets) h.passes (pass ∷ []))
-              ∙ ap (λ b. Some (fault_at q.1 (i + 1) b)) (place_is s'.at (length (rest_of s')) (length (bits_of octets)) at),
-          ticks_of n course (bits_of octets) i s s' c c' q.0 h m ∙ ap (ticked 0)
-              (sym (ap (turns_in_all plain course) all ∙ turns_append course h.passes (pass ∷ []) ∙ sums_to (turns_in_all plain course h.passes) (turns_after plain course m.items))),
-        ))
-
--- the turns up to a fault
-pub few_stopped : (n : ℕ) (course : CountedCourse) (bits : List Bool) (i : ℕ) (s s' : Cursor) (c c' subset : ℕ) (why : WalkFault) → SubsetsRead n course bits i s c
-    → PassStops course s c subset why s' c'
-    → c' ≤ c + n * (s'.at - s.at + 1) → s'.at ≤ length s'.bits → s.at ≤ s'.at → c' ≤ n * (bits_before why (length bits) + 1)
-few_stopped n course bits i s s' c c' subset why h p few within forth = most (bits_before why (length bits)) (by p)
-  where
-    split : (n a d b : ℕ) → b ≡ a + d → n * b ≡ n * a + n * d
-    split n a d b e = ap (λ x. n * x) e ∙ grind arith
-
-    sums : (n a b c c' k : ℕ) → c ≤ n * a → c' ≤ c + n * (b - a + 1) → a ≤ b → b ≤ k → c' ≤ n * (k + 1)
-    sums n a b c c' k h g f w =
-        let e : n * (k + 1) ≡ n * a + n * (k + 1 - a) = split n a (k + 1 - a) (k + 1) (omega (arith, f, w)) in
-        let d : n * (k + 1 - a) ≡ n * (b - a + 1) + n * (k - b) = split n (b - a + 1) (k - b) (k + 1 - a) (omega (arith, f, w)) in
-        omega (arith, e, d, h, g)
-
-    most : (k : ℕ) → s'.at ≤ k → c' ≤ n * (k + 1)
-    most k w = sums n s.at s'.at c c' k h.few few forth w
-
-    at_spot : (stop : Stop) → s'.at ≤ length bits → s'.at ≤ bits_before (fault_at stop subset s'.at) (length bits)
-    at_spot (stops.Width f) h = omega arith
-    at_spot (stops.Defining f) h = omega arith
-    at_spot (stops.Field (wrong.DataEnd f)) h = omega arith
-    at_spot (stops.Field (wrong.Increment f)) h = omega arith
-    at_spot (stops.Field (wrong.UnequalFactor f)) h = omega arith
-    at_spot (stops.Field (wrong.TooManyValues f)) h = omega arith
-    at_spot (stops.Field wrong.Memory) h = h
-    at_spot stops.Memory h = h
-
-    by : PassStops course s c subset why s' c' → s'.at ≤ bits_before why (length bits)
-    by (inl p) = omega (arith, within, ap length (p.1.same ∙ h.same), ap (λ w. bits_before w (length bits)) p.3)
-    by (inr p) = omega (arith, ap (λ w. bits_before w (length bits)) p.4, at_spot p.1 (omega (arith, within, ap length (p.2.same ∙ h.same))))
 
 same_found : (a b : FieldRead Content) → ◌≡◌ {A = Result (FieldRead Content) FieldFault} (Ok a) (Ok b) → a ≡ b
 same_found a b e = cc
@@ -316,35 +64,25 @@ text_shown spec bits octets h k e is =
 pub reference_kept : (spec : FieldSpec) (bits : List Bool) → spec.role ≡ role.Reference → IsReferenceValue (shown spec (content_in spec bits))
 reference_kept spec bits e = subst (λ c. IsReferenceValue (shown spec c)) (sym (reference_said spec bits e)) tt
 
-abbrev item_of : FieldSpec → Content → Item Content
-item_of spec content = record { spec = spec; content = content }
-
--- what comes next is one item
-same_item : (course : CountedCourse) (spec : FieldSpec) (a : Item Content) (c : Content) (bits mid mid' : List Bool) → (course []).next ≡ take_next spec → (course []).next ≡ take_next a.spec
-    → plain_field spec bits ≡ Ok (found c mid) → plain_field a.spec bits ≡ Ok (found a.content mid') → (item_of spec c ≡ a) × (mid' ≡ mid)
-same_item course spec a c bits mid mid' e e' f f' = grind (arith, common_steps, same_found)
-
-course_is : (course : CountedCourse) (i : TakenField) (a : Item Content) (c : Content) → i.taken ≡ answer_of i.spec c → item_of i.spec c ≡ a
-    → (λ more. course (i.taken ∷ more)) ≡ after_counted plain course a
-course_is course i a c e is = ap (λ t more. course (t ∷ more)) e ∙ ap (after_counted plain course) is
-
-suffix_of : (course : CountedCourse) (i : TakenField) (a : Item Content) (others : List (Item Content)) (mid' mid left : List Bool) → (λ more. course (i.taken ∷ more)) ≡ after_counted plain course a
-    → mid' ≡ mid
-    → ReadsPass plain (uncounted (after_counted plain course a)) others mid' left → ReadsPass plain (uncounted (λ more. course (i.taken ∷ more))) others mid left
-suffix_of course i a others mid' mid left go e r = subst (λ c. ReadsPass plain (uncounted c) others mid left) (sym go)
-    (subst (λ b. ReadsPass plain (uncounted (after_counted plain course a)) others b left) e r)
+-- the step of a pass reads the content that the bits have
+step_content : (spec : FieldSpec) (bits : List Bool) (n : ℕ) (f : Step Place Content) → ◌≡◌ {A = Result (Step Place Content) Stop} (read_field plain spec n (plain_field spec bits)) (Ok f)
+    → content_in spec (take spec.width bits) ≡ f.content
+step_content spec bits n f h = by (nat_lt (length bits) spec.width) h
+  where
+    by : (b : Bool)
+        → ◌≡◌ {A = Result (Step Place Content) Stop} (read_field plain spec n (if b then Err data_end else Ok (found (content_in spec (take spec.width bits)) (drop spec.width bits)))) (Ok f)
+        → content_in spec (take spec.width bits) ≡ f.content
+    by true h = absurd cc
+    by false h = ap (λ (f : Step Place Content). f.content) (same_step _ f h)
+      where
+        same_step : (a b : Step Place Content) → ◌≡◌ {A = Result (Step Place Content) Stop} (Ok a) (Ok b) → a ≡ b
+        same_step a b e = cc
 
 -- the end of a walk over data that were read before: the visitor refuses, or memory runs out
 abbrev pub IsEnd : {E : Type 0} → WalkStop (ShowStop E) → ShowFault E → Type 0
 IsEnd (stops.Field (stop.Visitor e)) why = why ≡ show_fault.Visitor e
 IsEnd stops.Memory why = why ≡ show_fault.Memory
 IsEnd _ why = ⊥
-
--- whether a walk over such data may stop so
-abbrev pub MayEnd : {E : Type 0} → WalkStop (ShowStop E) → Type 0
-MayEnd (stops.Field (stop.Visitor e)) = Unit {0}
-MayEnd stops.Memory = Unit {0}
-MayEnd _ = ⊥
 
 module _ {V E : Type 0} (sees : V → Call → Result (Unit {0}) E → V → Type 0) where
   -- a field that was peeked at, shown and passed
@@ -386,295 +124,305 @@ module _ {V E : Type 0} (sees : V → Call → Result (Unit {0}) E → V → Typ
   pub sofar_call : (s s1 : V) (t : Timed) (rest : List Timed) → sees s t.call (Ok tt) s1 → Sofar sees s (t ∷ rest) s1 rest
   sofar_call s s1 t rest h = record { on = λ turns r s' steps w. call_on s s1 t rest turns r s' steps h w }
 
-  -- the rest of a showing among the items of a reading
-  pub record Left (table : List Row) (course : CountedCourse) (before : ℕ) (all : List (Item Content)) (left : List Bool) (more : List Timed) (answer_of : List Taken) (v : V) (s' : Stage V) : Type
-      0 where
-    pub rest : List (Item Content)
-    pub further : CountedCourse
-    pub reads : ReadsPass plain (uncounted further) rest (rest_of s'.cursor) left
-    pub here : further [] ≡ course answer_of
-    pub so_far : Sofar sees v (item_calls table before course all ++ more) s'.visitor (item_calls table before further rest ++ more)
-    pub turns : turns_after plain course all ≡ turns_after plain further rest
+-- a course after some items
+abbrev beyond : CountedCourse → List (Item Content) → CountedCourse
+beyond course xs answers = course (answers_in answer_of xs ++ answers)
 
-  no_item : (course : CountedCourse) (spec : FieldSpec) → (course []).next ≡ take_next spec → (course []).next ≡ at_end → ⊥
-  no_item course spec e f = let g : take_next spec ≡ at_end = sym e ∙ f in cc
+beyond_one : (course : CountedCourse) (xs : List (Item Content)) (x : Item Content) → after plain (beyond course xs) x ≡ beyond course (xs ++ x ∷ [])
+beyond_one course xs x =
+    fun_ext (λ answers. ap course (sym (ap (λ ts. ts ++ answers) (map-append (λ (i : Item Content). answer_of i.spec i.content) xs (x ∷ []))
+    ∙ append_assoc (answers_in answer_of xs) (answer_of x.spec x.content ∷ []) answers)))
 
-  -- at the end nothing is left
-  pub all_gone : (course : CountedCourse) (rest : List (Item Content)) (bits left : List Bool) → (course []).next ≡ at_end → ReadsPass plain (uncounted course) rest bits left
-      → (rest ≡ []) × (bits ≡ left)
-  all_gone course [] bits left e r = (refl, r.0)
-  all_gone course (x ∷ xs) bits left e r = absurd (no_item course x.spec r.0.1 e)
+beyond_all : (course : CountedCourse) (xs : List (Item Content)) → (beyond course xs []) ≡ course (answers_in answer_of xs)
+beyond_all course xs = ap course (append-nil (answers_in answer_of xs))
+
+module _ {V E : Type 0} (sees : V → Call → Result (Unit {0}) E → V → Type 0) (table : List Row) (course : CountedCourse) where
+  -- the calls of these items were made, whatever items and calls follow
+  abbrev Made : List (Item Content) → V → V → Type 0
+  Made xs v s = (before : ℕ) (more : List (Item Content)) (rest : List Timed)
+      → Sofar sees v (item_calls table before course (xs ++ more) ++ rest) s (item_calls table before (beyond course xs) more ++ rest)
+
+  made_none : (v : V) → Made [] v v
+  made_none v before more rest = sofar_self sees v (item_calls table before course more ++ rest)
+
+  made_one : (xs : List (Item Content)) (spec : FieldSpec) (c : Content) (v s s' : V) → Made xs v s → sees s (item_call (view_of table spec c)) (Ok tt) s' → Made (xs ++ item spec c ∷ []) v s'
+  made_one xs spec c v s s' m call before more rest =
+      let x : Item Content = item spec c in
+      let further : CountedCourse = after plain (beyond course xs) x in
+      sofar_then sees v s s' (item_calls table before course ((xs ++ x ∷ []) ++ more) ++ rest) (item_calls table before (beyond course xs) (x ∷ more) ++ rest)
+      (item_calls table before (beyond course (xs ++ x ∷ [])) more ++ rest)
+      (subst (λ ys. Sofar sees v (item_calls table before course ys ++ rest) s (item_calls table before (beyond course xs) (x ∷ more) ++ rest)) (sym (append_assoc xs (x ∷ []) more))
+      (m before (x ∷ more) rest))
+      (subst (λ k. Sofar sees s (item_calls table before (beyond course xs) (x ∷ more) ++ rest) s' (item_calls table before k more ++ rest)) (beyond_one course xs x)
+      (sofar_call sees s s' (timed (before + (beyond course xs []).turns) (item_call (view_of table spec c))) (item_calls table before further more ++ rest) call))
 
   module _ {S : Type 0} (on : S → Stage V) where
     abbrev pub took : S → FieldSpec → Result Taken (ShowStop E) → S → Type 0
     took s spec r t = ShowingTakes sees (on s) spec r (on t)
 
-    names_so : (course : CountedCourse) (s : S) (items : List TakenField) (s' : S) → Takes (oks took) (uncounted course) s items s' → ((on s').names ≡ (on s).names)
-    names_so course s [] s' h = ap (λ x. (on x).names) h
-    names_so course s (i ∷ items) s' h = names_so (λ answer_of. course (i.taken ∷ answer_of)) h.0 items s' h.3 ∙ h.2.names
+    -- a walk from `first` on and its pass, after items that were shown
+    pub record IsShownAt (first : S) (xs : List (Item Content)) (s : S) (p : Place) : Type 0 where
+      pub at : IsAt (on first).cursor xs (on s).cursor p
+      pub rows : (on s).table ≡ table
+      pub names : (on s).names ≡ (on first).names
+      pub made : Made xs (on first).visitor (on s).visitor
 
-    field_names : (s : S) (spec : FieldSpec) (e : ShowStop E) (s' : S) → took s spec (Err e) s' → ((on s').names ≡ (on s).names)
-    field_names s spec stop.DataEnd s' h = ap (λ x. x.names) h.1
-    field_names s spec (stop.Visitor e) s' h = h.names
-
-    pub same_names : (course : CountedCourse) (s : S) (c : ℕ) (r : Result (Unit {0}) (WalkStop (ShowStop E))) (s' : S) (c' : ℕ) → Walked took course s c r s' c' → ((on s').names ≡ (on s).names)
-    same_names course s c (Ok u) s' c' w = names_so course s w.0 s' w.1
-    same_names course s c (Err why) s' c' w = stop_cases took (λ next y. (on s').names ≡ (on w.1).names) w.1 s' (λ spec e h. field_names w.1 spec e s' h) (λ spec r h. ap (λ x. (on x).names) h)
-        (λ x h. ap (λ z. (on z).names) h) (course (answers_of w.0)).next why w.3 ∙ names_so course s w.0 w.1 w.2
-
-    shown_so : (table : List Row) (before : ℕ) (course : CountedCourse) (s : S) (items : List TakenField) (s' : S) → Takes (oks took) (uncounted course) s items s' → (on s).table ≡ table
-        → (all : List (Item Content)) (left : List Bool) (more : List Timed) → ReadsPass plain (uncounted course) all (rest_of (on s).cursor) left
-        → Left table course before all left more (answers_of items) (on s).visitor (on s')
-    shown_so table before course s [] s' h t all left more r = record {
-      rest = all;
-      further = course;
-      reads = subst (λ x. ReadsPass plain (uncounted course) all (rest_of (on x).cursor) left) (sym h) r;
-      here = refl;
-      so_far = subst (λ x. Sofar sees (on s).visitor (item_calls table before course all ++ more) (on x).visitor (item_calls table before course all ++ more)) (sym h)
-          (sofar_self (on s).visitor (item_calls table before course all ++ more));
-      turns = refl;
-    }
-    shown_so table before course s (i ∷ items) s' h t [] left more r = absurd (no_item course i.spec h.1 r.1)
-    shown_so table before course s (i ∷ items) s' h t (a ∷ others) left more r =
-        let is = same_item course i.spec a h.2.is_taken.content (rest_of (on s).cursor) (rest_of (on h.0).cursor) r.0.0 h.1 r.0.1 h.2.is_taken.field r.0.2 in
-        let go = course_is course i a h.2.is_taken.content h.2.is_taken.gives is.0 in
-        let l = shown_so table before (λ answer_of. course (i.taken ∷ answer_of)) h.0 items s' h.3 (h.2.table ∙ t) others left more
-        (suffix_of course i a others r.0.0 (rest_of (on h.0).cursor) left go is.1 (r.0.3, r.1)) in
+    show_follows : (first : S) (before : List (Item Content)) (s : S) (spec : FieldSpec) (t : Taken) (s' : S) (p : Place) → IsShownAt first before s p → took s spec (Ok t) s'
+        → IsStep took (reading plain (λ n. false)) answer_of (IsShownAt first) before spec t s' p
+    unfolding plain_follows
+    show_follows first before s spec t s' p m h =
+        let f = plain_follows (on first).cursor before (on s).cursor spec t (on s').cursor p m.at h.is_taken in
         record {
-          rest = l.rest;
-          further = l.further;
-          reads = l.reads;
-          here = l.here;
-          so_far = sofar_then (on s).visitor (on h.0).visitor (on s').visitor (item_calls table before course (a ∷ others) ++ more)
-              (item_calls table before (after_counted plain course a) others ++ more)
-              (item_calls table before l.further l.rest ++ more)
-              (sofar_call (on s).visitor (on h.0).visitor (timed (before + (course []).turns) (item_call (view_of table a.spec a.content)))
-              (item_calls table before (after_counted plain course a) others ++ more)
-              (subst (λ (z : Item Content). sees (on s).visitor (item_call (view_of table z.spec z.content)) (Ok tt) (on h.0).visitor) is.0
-              (subst (λ rows. sees (on s).visitor (item_call (view_of rows i.spec h.2.is_taken.content)) (Ok tt) (on h.0).visitor) t h.2.call)))
-              (subst (λ c. Sofar sees (on h.0).visitor (item_calls table before c others ++ more) (on s').visitor (item_calls table before l.further l.rest ++ more)) go l.so_far);
-          turns = ap (λ c. turns_after plain c others) (sym go) ∙ l.turns;
+          content = f.content;
+          state = f.state;
+          step = f.step;
+          answer = f.answer;
+          meets = record {
+            at = f.meets;
+            rows = h.table ∙ m.rows;
+            names = h.names ∙ m.names;
+            made = made_one before spec h.is_taken.content (on first).visitor (on s).visitor (on s').visitor m.made
+                (subst (λ rows. sees (on s).visitor (item_call (view_of rows spec h.is_taken.content)) (Ok tt) (on s').visitor) m.rows h.call);
+          };
         }
 
-    table_so : (course : CountedCourse) (s : S) (items : List TakenField) (s' : S) → Takes (oks took) (uncounted course) s items s' → (on s').table ≡ (on s).table
-    table_so course s [] s' h = ap (λ x. (on x).table) h
-    table_so course s (i ∷ items) s' h = table_so (λ answer_of. course (i.taken ∷ answer_of)) h.0 items s' h.3 ∙ h.2.table
+    -- why a walk stopped: its pass stops too, or the call of the next item ended the showing
+    abbrev ShowFails : S → List (Item Content) → Place → Next → WalkStop (ShowStop E) → S → Type 0
+    ShowFails first xs p next why s' = ((on s').names ≡ (on first).names) × (((stop : Stop) × EndsPass (reading plain (λ n. false)) next p (Some stop))
+        ⊎ ((spec : FieldSpec) × (next ≡ take_next spec) × (end : ShowFault E) × IsEnd why end
+        × ((f : Step Place Content) → (reading plain (λ n. false)).step spec p ≡ Ok f
+        → (mid : V) × Made xs (on first).visitor mid × EndsAt sees mid (item_call (view_of table spec f.content)) end (on s').visitor)))
 
-    -- the whole of a subset
-    pub all_shown : (table : List Row) (course : CountedCourse) (s : S) (c : ℕ) (s' : S) (c' : ℕ) → (on s).table ≡ table → Walked took course s c (Ok tt) s' c'
-        → ItemsShown sees table course (on s).cursor (on s).visitor c (on s').cursor (on s').visitor c'
-    all_shown table course s c s' c' t w = record {
-      shown = λ before all left more r.
-          let l = shown_so table before course s w.0 s' w.1 t all left more r in
-          let g = all_gone l.further l.rest (rest_of (on s').cursor) left (ap (λ a. a.next) l.here ∙ w.2) l.reads in
-          subst (λ z. Sofar sees (on s).visitor (item_calls table before course all ++ more) (on s').visitor (item_calls table before l.further z ++ more)) g.0 l.so_far;
-      left_is = λ all left r.
-          let l = shown_so table 0 course s w.0 s' w.1 t all left [] r in
-          let g = all_gone l.further l.rest (rest_of (on s').cursor) left (ap (λ a. a.next) l.here ∙ w.2) l.reads in
-          (g.1, w.3 ∙ ap (ticked c) (sym (l.turns ∙ ap (λ z. turns_after plain l.further z) g.0 ∙ ap (λ a. a.turns) l.here)));
-    }
+    -- the content that the step at a field reads
+    content_here : (first : S) (xs : List (Item Content)) (s : S) (p : Place) (spec : FieldSpec) (f : Step Place Content) → IsShownAt first xs s p
+        → (reading plain (λ n. false)).step spec p ≡ Ok f → content_in spec (take spec.width (rest_of (on s).cursor)) ≡ f.content
+    content_here first xs s p spec f m h =
+        step_content spec (rest_of (on s).cursor) (length xs) f (sym (ap (λ (q : Place). read_field plain spec q.items (plain_field spec q.left)) m.at.place) ∙ h)
 
-    -- the item at which a showing ends
-    ends_here : (table : List Row) (course further : CountedCourse) (answer_of : List Taken) (before c c' turns : ℕ) (rest : List (Item Content)) (left : List Bool) (more : List Timed)
-        (spec : FieldSpec)
-        (content : Content) (suffix : List Bool) (why : ShowFault E) (mid : S) (v' : V) → further [] ≡ course answer_of → (course answer_of).next ≡ take_next spec
-        → ReadsPass plain (uncounted further) rest (rest_of (on mid).cursor) left → plain_field spec (rest_of (on mid).cursor) ≡ Ok (found content suffix)
-        → EndsAt sees (on mid).visitor (item_call (view_of table spec content)) why v'
-        → c ≡ ticked 0 before → c' ≡ ticked c (course answer_of).turns → Shows sees (on mid).visitor (item_calls table before further rest ++ more) turns (Err why) v' c'
-    ends_here table course further answer_of before c c' turns [] left more spec content suffix why mid v' e n r f ends now ticks_are = absurd (no_item further spec (ap (λ a. a.next) e ∙ n) r.1)
-    ends_here table course further answer_of before c c' turns (x ∷ xs) left more spec content suffix why mid v' e n r f ends now ticks_are =
-        let spec_is : take_next spec ≡ take_next x.spec = sym n ∙ sym (ap (λ a. a.next) e) ∙ r.0.1 in
-        let same_spec : spec ≡ x.spec = cc in
-        let g : found content suffix ≡ found x.content r.0.0 = same_found _ _ (sym f ∙ ap (λ z. plain_field z (rest_of (on mid).cursor)) same_spec ∙ r.0.2) in
-        inl (
-          subst (λ z. EndsAt sees (on mid).visitor (item_call (view_of table z x.content)) why v') same_spec
-              (subst (λ z. EndsAt sees (on mid).visitor (item_call (view_of table spec z)) why v') (ap (λ (z : FieldRead Content). z.content) g) ends),
-          ticks_are ∙ ap (λ k. ticked k (course answer_of).turns) now ∙ ticked_more before (course answer_of).turns ∙ ap (λ a. ticked 0 (before + a.turns)) (sym e),
-        )
+    show_fails : (first : S) (xs : List (Item Content)) (s : S) (p : Place) (spec : FieldSpec) (e : ShowStop E) (s' : S) → IsShownAt first xs s p → took s spec (Err e) s'
+        → ShowFails first xs p (take_next spec) (stops.Field e) s'
+    show_fails first xs s p spec stop.DataEnd s' m h = (
+      ap (λ x. x.names) h.1 ∙ m.names,
+      inl (stops.Field (wrong.DataEnd spec.fxy), ap (λ (q : Place). read_field plain spec q.items (plain_field spec q.left)) m.at.place ∙ ap (read_field plain spec (length xs)) h.0),
+    )
+    show_fails first xs s p spec (stop.Visitor e) s' m h = (
+      h.names ∙ m.names,
+      inr (
+        spec,
+        refl,
+        show_fault.Visitor e,
+        refl,
+        λ f step. (
+          (on s).visitor,
+          m.made,
+          subst (λ c. sees (on s).visitor (item_call (view_of table spec c)) (Err e) (on s').visitor)
+              (sym (content_is spec (rest_of (on s).cursor) (rest_of (past (on s).cursor spec)) h.is_taken.content h.is_taken.field) ∙ content_here first xs s p spec f m step)
+              (subst (λ rows. sees (on s).visitor (item_call (view_of rows spec h.is_taken.content)) (Err e) (on s').visitor) m.rows h.call),
+        ),
+      ),
+    )
 
-    -- a reference before which memory ran out
-    memory_here : (table : List Row) (course further : CountedCourse) (answer_of : List Taken) (before c c' turns : ℕ) (rest : List (Item Content)) (left : List Bool) (more : List Timed)
-        (spec : FieldSpec)
-        (why : ShowFault E) (mid s' : S) → further [] ≡ course answer_of → (course answer_of).next ≡ take_next spec → ReadsPass plain (uncounted further) rest (rest_of (on mid).cursor) left
-        → why ≡ show_fault.Memory → spec.role ≡ role.Reference → s' ≡ mid
-        → c ≡ ticked 0 before → c' ≡ ticked c (course answer_of).turns → Shows sees (on mid).visitor (item_calls table before further rest ++ more) turns (Err why) (on s').visitor c'
-    memory_here table course further answer_of before c c' turns [] left more spec why mid s' e n r is kept same now ticks_are = absurd (no_item further spec (ap (λ a. a.next) e ∙ n) r.1)
-    memory_here table course further answer_of before c c' turns (x ∷ xs) left more spec why mid s' e n r is kept same now ticks_are =
-        let next : take_next spec ≡ take_next x.spec = sym n ∙ sym (ap (λ a. a.next) e) ∙ r.0.1 in
-        let same_spec : spec ≡ x.spec = cc in
-        let there : plain_field spec (rest_of (on mid).cursor) ≡ Ok (found x.content r.0.0) = ap (λ z. plain_field z (rest_of (on mid).cursor)) same_spec ∙ r.0.2 in
-        ends_here table course further answer_of before c c' turns (x ∷ xs) left more spec x.content r.0.0 why mid (on s').visitor e n r there
-        (subst (λ f. EndsAt sees (on mid).visitor (item_call (view_of table spec x.content)) f (on s').visitor) (sym is) (
-          ap (λ z. (on z).visitor) same,
-          subst (λ z. IsReferenceValue (shown spec z)) (content_is spec (rest_of (on mid).cursor) r.0.0 x.content there)
-              (reference_kept spec (take spec.width (rest_of (on mid).cursor)) kept),
-        )) now ticks_are
+    show_short : (first : S) (xs : List (Item Content)) (s : S) (p : Place) (spec : FieldSpec) → IsShownAt first xs s p → spec.role ≡ role.Reference
+        → ShowFails first xs p (take_next spec) stops.Memory s
+    show_short first xs s p spec m h = (
+      m.names,
+      inr (
+        spec,
+        refl,
+        show_fault.Memory,
+        refl,
+        λ f step. (
+          (on s).visitor,
+          m.made,
+          (refl, subst (λ c. IsReferenceValue (shown spec c)) (content_here first xs s p spec f m step) (reference_kept spec (take spec.width (rest_of (on s).cursor)) h)),
+        ),
+      ),
+    )
 
-    pub all_ended : (table : List Row) (course : CountedCourse) (s : S) (c : ℕ) (why : WalkStop (ShowStop E)) (end : ShowFault E) (s' : S) (c' : ℕ) → (on s).table ≡ table
-        → Walked took course s c (Err why) s' c' → IsEnd why end → ItemsEnded sees table course (on s).cursor (on s).visitor c end (on s').visitor c'
-    all_ended table course s c why end s' c' t w is = record {
-      ended = λ before all left more turns r now.
-          let l = shown_so table before course s w.0 w.1 w.2 t all left more r in
-          l.so_far.on turns (Err end) (on s').visitor c' (stop_cases took
-          (λ next y. (course (answers_of w.0)).next ≡ next → IsEnd y end → Shows sees (on w.1).visitor (item_calls table before l.further l.rest ++ more) turns (Err end) (on s').visitor c') w.1 s'
-          (field before left more turns now l.rest l.further l.here l.reads)
-          (λ spec h e n is. memory_here table course l.further (answers_of w.0) before c c' turns l.rest left more spec end w.1 s' l.here n l.reads is h e now w.4)
-          (λ x e n is. absurd (refuses x is)) (course (answers_of w.0)).next why w.3 refl is);
-    }
-      where
-        rows : (on w.1).table ≡ table
-        rows = table_so course s w.0 w.1 w.2 ∙ t
+    module _ (s : S) (c : ℕ) (s' : S) (c' : ℕ) (rows : (on s).table ≡ table) where
+      abbrev pass : DataPass Content
+      pass = read_pass plain (λ n. false) (uncounted course) (rest_of (on s).cursor)
 
-        field : (before : ℕ) (left : List Bool) (more : List Timed) (turns : ℕ) → c ≡ ticked 0 before → (rest : List (Item Content)) (further : CountedCourse) → further [] ≡ course (answers_of w.0)
-            → ReadsPass plain (uncounted further) rest (rest_of (on w.1).cursor) left → (spec : FieldSpec) (e : ShowStop E) → took w.1 spec (Err e) s' → (course (answers_of w.0)).next ≡ take_next spec
-            → IsEnd (stops.Field e) end → Shows sees (on w.1).visitor (item_calls table before further rest ++ more) turns (Err end) (on s').visitor c'
-        field before left more turns now rest further e r spec (stop.Visitor fault_is) h n is =
-            ends_here table course further (answers_of w.0) before c c' turns rest left more spec h.is_taken.content (rest_of (past (on w.1).cursor spec)) end w.1 (on s').visitor e n r
-            h.is_taken.field
-            (subst (λ f. EndsAt sees (on w.1).visitor (item_call (view_of table spec h.is_taken.content)) f (on s').visitor) (sym is)
-            (subst (λ rows. sees (on w.1).visitor (item_call (view_of rows spec h.is_taken.content)) (Err fault_is) (on s').visitor) rows h.call)) now w.4
-        field before left more turns now rest further e r spec stop.DataEnd h n is = absurd is
+      at_first : IsShownAt s [] s (place_at 0 (rest_of (on s).cursor))
+      at_first = record { at = record { place = refl; same = refl; pays = omega arith }; rows = rows; names = refl; made = made_none (on s).visitor }
 
-        refuses : (x : TurnRefusal) → IsEnd (stop_by x) end → ⊥
-        refuses (refusal.Width f) is = is
-        refuses (refusal.Defining f) is = is
+      -- a walk that ended
+      pub all_shown : Walked took course s c (Ok tt) s' c'
+          → ((on s').names ≡ (on s).names) × ItemsGo sees table course (on s).cursor (on s).visitor c (Ok tt) (on s').cursor (on s').visitor c'
+      all_shown w =
+          let r = whole_passes took (reading plain (λ n. false)) answer_of (IsShownAt s) (show_follows s) course s c s' c' (place_at 0 (rest_of (on s).cursor)) at_first w in
+          let g = r.0 in
+          let is : pass ≡ record { items = g.items; state = g.state; stop = None } =
+          pass_ends (reading plain (λ n. false)) (course (answers_in answer_of g.items)).next (uncounted course) (place_at 0 (rest_of (on s).cursor)) g.items g.state
+          (suc (length (rest_of (on s).cursor))) None g.passes (omega (arith, g.meets.at.pays)) (subst (λ x. EndsPass (reading plain (λ n. false)) x g.state None) (sym r.1) refl) in (
+            g.meets.names,
+            subst (λ (p : DataPass Content). IsAllShown sees table course (on s).visitor c p (on s').cursor (on s').visitor c') (sym is) (record {
+              shown = λ before more.
+                  subst (λ xs. Sofar sees (on s).visitor (item_calls table before course xs ++ more) (on s').visitor more) (append-nil g.items) (g.meets.made before [] more);
+              left = sym (ap (λ (q : Place). q.left) g.meets.at.place);
+              ticks = g.ticks;
+            }),
+          )
 
-    -- data that were read before can be shown to their end
-    pub may_end : (table : List Row) (course : CountedCourse) (s : S) (c : ℕ) (why : WalkStop (ShowStop E)) (s' : S) (c' : ℕ) (all : List (Item Content)) (left : List Bool) → (on s).table ≡ table
-        → ReadsPass plain (uncounted course) all (rest_of (on s).cursor) left → Walked took course s c (Err why) s' c' → MayEnd why
-    may_end table course s c why s' c' all left t r w =
-        let l = shown_so table 0 course s w.0 w.1 w.2 t all left [] r in
-        stop_cases took (λ next y. (l.further []).next ≡ next → MayEnd y) w.1 s' (λ spec e h n. field l.rest l.further spec e n h l.reads) (λ spec r h n. tt)
-        (λ x h n. absurd (no_refusal l.rest l.further x n l.reads)) (course (answers_of w.0)).next why w.3 (ap (λ a. a.next) l.here)
-      where
-        -- a walk is not refused where a reading goes on
-        goes_on : (rest : List (Item Content)) (further : CountedCourse) (next : Next) → (further []).next ≡ next → ReadsPass plain (uncounted further) rest (rest_of (on w.1).cursor) left
-            → (next ≡ at_end) ⊎ ((x : Item Content) × (mid : List Bool) × (next ≡ take_next x.spec) × (plain_field x.spec (rest_of (on w.1).cursor) ≡ Ok (found x.content mid)))
-        goes_on [] further next e r = inl (sym e ∙ r.1)
-        goes_on (x ∷ xs) further next e r = inr (x, r.0.0, sym e ∙ r.0.1, r.0.2)
+      -- a walk over data that were read before, and that stopped
+      pub all_ended : (why : WalkStop (ShowStop E)) → pass.stop ≡ None → Walked took course s c (Err why) s' c'
+          → ((on s').names ≡ (on s).names) × (end : ShowFault E) × IsEnd why end × ItemsGo sees table course (on s).cursor (on s).visitor c (Err end) (on s').cursor (on s').visitor c'
+      all_ended why none w =
+          let r = stopped_passes took (reading plain (λ n. false)) answer_of (IsShownAt s) (show_follows s) (ShowFails s) (show_fails s) (show_short s)
+          (λ xs x p y m. (m.names, inl (stop_by y, refl))) course s c why s' c' (place_at 0 (rest_of (on s).cursor)) at_first w in
+          let k = by r.0 r.1 r.2.1 in (r.2.0, k.0, k.1, k.2)
+        where
+          by : (mid : S) (g : Comes took (reading plain (λ n. false)) answer_of (IsShownAt s) course (place_at 0 (rest_of (on s).cursor)) c mid c')
+              → ((stop : Stop) × EndsPass (reading plain (λ n. false)) (course (answers_in answer_of g.items)).next g.state (Some stop))
+              ⊎ ((spec : FieldSpec) × ((course (answers_in answer_of g.items)).next ≡ take_next spec) × (end : ShowFault E) × IsEnd why end
+              × ((f : Step Place Content) → (reading plain (λ n. false)).step spec g.state ≡ Ok f
+              → (v : V) × Made g.items (on s).visitor v × EndsAt sees v (item_call (view_of table spec f.content)) end (on s').visitor))
+              → (end : ShowFault E) × IsEnd why end × ItemsGo sees table course (on s).cursor (on s).visitor c (Err end) (on s').cursor (on s').visitor c'
+          by mid g q = cases q
+            where
+              next : Next
+              next = (course (answers_in answer_of g.items)).next
 
-        no_refusal : (rest : List (Item Content)) (further : CountedCourse) (why : TurnRefusal) → (further []).next ≡ refused why
-            → ReadsPass plain (uncounted further) rest (rest_of (on w.1).cursor) left → ⊥
-        no_refusal rest further why e r = elim (goes_on rest further (refused why) e r) as (λ _. ⊥) [ inl f ↦ absurd cc | inr g ↦ (let f : refused why ≡ take_next g.0.spec = g.2 in cc) ]
+              enough : length g.items < suc (length (rest_of (on s).cursor))
+              enough = omega (arith, g.meets.at.pays)
 
-        no_end : (rest : List (Item Content)) (further : CountedCourse) (spec : FieldSpec) → (further []).next ≡ take_next spec → plain_field spec (rest_of (on w.1).cursor) ≡ Err data_end
-            → ReadsPass plain (uncounted further) rest (rest_of (on w.1).cursor) left → ⊥
-        no_end rest further spec e short r = elim (goes_on rest further (take_next spec) e r) as
-            (λ _. ⊥) [
-              | inl f ↦ absurd cc
-              | inr g ↦ (let f : take_next spec ≡ take_next g.0.spec = g.2 in let same : spec
-                  ≡ g.0.spec = cc in let b : ◌≡◌ {A = Result (FieldRead Content) FieldFault} (Err data_end) (Ok (found g.0.content g.1)) =
-                  sym short ∙ ap (λ z. plain_field z (rest_of (on w.1).cursor)) same ∙ g.3 in cc)
-            ]
+              -- the pass does not stop
+              never : (stop : Stop) → EndsPass (reading plain (λ n. false)) next g.state (Some stop) → ⊥
+              never stop e =
+                  let is = pass_ends (reading plain (λ n. false)) next (uncounted course) (place_at 0 (rest_of (on s).cursor)) g.items g.state (suc (length (rest_of (on s).cursor))) (Some stop)
+                  g.passes enough e in
+                  let no : ◌≡◌ {A = Option Stop} None (Some stop) = sym none ∙ ap (λ (p : DataPass Content). p.stop) is in
+                  cc
 
-        field : (rest : List (Item Content)) (further : CountedCourse) (spec : FieldSpec) (e : ShowStop E) → (further []).next ≡ take_next spec → took w.1 spec (Err e) s'
-            → ReadsPass plain (uncounted further) rest (rest_of (on w.1).cursor) left → MayEnd (stops.Field e)
-        field rest further spec (stop.Visitor x) n h r = tt
-        field rest further spec stop.DataEnd n h r = absurd (no_end rest further spec n h.0 r)
+              ends_so : (spec : FieldSpec) (f : Step Place Content) (end : ShowFault E) (v : V) → next ≡ take_next spec → (reading plain (λ n. false)).step spec g.state ≡ Ok f
+                  → Made g.items (on s).visitor v
+                  → EndsAt sees v (item_call (view_of table spec f.content)) end (on s').visitor → ItemsGo sees table course (on s).cursor (on s).visitor c (Err end) (on s').cursor (on s').visitor c'
+              ends_so spec f end v n step made ends before rest turns now =
+                  let goes = pass_goes (reading plain (λ n. false)) next (uncounted course) (place_at 0 (rest_of (on s).cursor)) g.items g.state (suc (length (rest_of (on s).cursor))) spec f
+                  g.passes enough n step in
+                  subst (λ xs. Shows sees (on s).visitor (item_calls table before course xs ++ rest) turns (Err end) (on s').visitor c') (sym goes.1)
+                  ((made before (item spec f.content ∷ goes.0) rest).on turns (Err end) (on s').visitor c' (inl (
+                    ends,
+                    g.ticks ∙ ap (λ k. ticked k (course (answers_in answer_of g.items)).turns) now ∙ ticked_more before (course (answers_in answer_of g.items)).turns
+                        ∙ ap (λ a. ticked 0 (before + a.turns)) (sym (beyond_all course g.items)),
+                  )))
+
+              cases : ((stop : Stop) × EndsPass (reading plain (λ n. false)) next g.state (Some stop))
+                  ⊎ ((spec : FieldSpec) × (next ≡ take_next spec) × (end : ShowFault E) × IsEnd why end
+                  × ((f : Step Place Content) → (reading plain (λ n. false)).step spec g.state ≡ Ok f
+                  → (v : V) × Made g.items (on s).visitor v × EndsAt sees v (item_call (view_of table spec f.content)) end (on s').visitor))
+                  → (end : ShowFault E) × IsEnd why end × ItemsGo sees table course (on s).cursor (on s).visitor c (Err end) (on s').cursor (on s').visitor c'
+              cases (inl (stop, e)) = absurd (never stop e)
+              cases (inr (spec, n, end, is_end, ends)) = at_step ((reading plain (λ n. false)).step spec g.state) refl
+                where
+                  at_step : (r : Result (Step Place Content) Stop) → (reading plain (λ n. false)).step spec g.state ≡ r
+                      → (end : ShowFault E) × IsEnd why end × ItemsGo sees table course (on s).cursor (on s).visitor c (Err end) (on s').cursor (on s').visitor c'
+                  at_step (Err stop) e = absurd (never stop (subst (λ x. EndsPass (reading plain (λ n. false)) x g.state (Some stop)) (sym n) e))
+                  at_step (Ok f) e = let k = ends f e in (end, is_end, ends_so spec f end k.0 n e k.1 k.2)
 
 -- ---- Subsets that are shown one after another.
 
--- some subsets of the data were shown
-pub record SubsetsShown {S E : Type 0} (sees : S → Call → Result (Unit {0}) E → S → Type 0) (table : List Row) (course : CountedCourse) (all : List (List (Item Content))) (done : ℕ) (left : List Bool)
-    (s : S) (c : Cursor) (s' : S) (steps : ℕ) : Type 0 where
-  pub before : ℕ
-  pub more : List (List (Item Content))
-  pub whole : ReadsSubsets (uncounted course) more (rest_of c) left
-  pub count : done + length more ≡ length all
-  pub ticks : steps ≡ ticked 0 before
-  pub total : before + turns_in course more ≡ turns_in course all
-  pub shown : Sofar sees s (subset_calls table course 0 1 all) s' (subset_calls table course before (done + 1) more)
+module _ {V E : Type 0} (sees : V → Call → Result (Unit {0}) E → V → Type 0) (table : List Row) (course : CountedCourse) (n : ℕ) (bits : List Bool) where
+  -- the items of some passes
+  abbrev items_of : ℕ → List Bool → List (List (Item Content))
+  items_of left rest = items_by_pass (passes_apart (uncounted course) left rest)
 
--- the items of a subset were shown, after its own call
-pub record SubsetShown {S E : Type 0} (sees : S → Call → Result (Unit {0}) E → S → Type 0) (table : List Row) (course : CountedCourse) (number : ℕ) (c : Cursor) (s : S) (steps : ℕ) (c' : Cursor)
-    (s' : S)
-    (steps' : ℕ) : Type 0 where
-  pub shown : (before : ℕ) (items : List (Item Content)) (subsets : List (List (Item Content))) (left : List Bool) → ReadsPass plain (uncounted course) items (rest_of c) left → steps ≡ ticked 0 before
-      → Sofar sees s (subset_calls table course before number (items ∷ subsets)) s' (subset_calls table course (before + turns_after plain course items) (number + 1) subsets)
-  pub left_is : (items : List (Item Content)) (left : List Bool) → ReadsPass plain (uncounted course) items (rest_of c) left
-      → (rest_of c' ≡ left) × (steps' ≡ ticked steps (turns_after plain course items))
+  -- the calls of all n subsets, and their turns
+  abbrev all : List Timed
+  all = subset_calls table course 0 1 (items_of n bits)
 
--- a subset was shown up to a call that ended the showing
-pub record SubsetEnded {S E : Type 0} (sees : S → Call → Result (Unit {0}) E → S → Type 0) (table : List Row) (course : CountedCourse) (number : ℕ) (c : Cursor) (s : S) (steps : ℕ) (why : ShowFault E)
-    (s' : S) (steps' : ℕ) : Type 0 where
-  pub ended : (before : ℕ) (items : List (Item Content)) (subsets : List (List (Item Content))) (left : List Bool) (turns : ℕ) → ReadsPass plain (uncounted course) items (rest_of c) left
-      → steps ≡ ticked 0 before → Shows sees s (subset_calls table course before number (items ∷ subsets)) turns (Err why) s' steps'
+  abbrev all_turns : ℕ
+  all_turns = turns_in answer_of course (items_of n bits)
 
--- a subset was shown, or a call ended the showing
-abbrev pub SubsetGoes : {S E : Type 0} → (S → Call → Result (Unit {0}) E → S → Type 0) → List Row → CountedCourse → ℕ → Cursor → S → ℕ → Result (Unit {0}) (ShowFault E) → Cursor → S → ℕ → Type 0
-SubsetGoes sees table course index c s steps (Ok _) c' s' steps' = SubsetShown sees table course index c s steps c' s' steps'
-SubsetGoes sees table course index c s steps (Err why) c' s' steps' = SubsetEnded sees table course index c s steps why s' steps'
+  -- some of the subsets were shown
+  pub record SubsetsShown (done : ℕ) (s : V) (c : Cursor) (s' : V) (steps : ℕ) : Type 0 where
+    pub before : ℕ
+    pub none : stop_of (passes_apart (uncounted course) (n - done) (rest_of c)) ≡ None
+    pub ticks : steps ≡ ticked 0 before
+    pub total : before + turns_in answer_of course (items_of (n - done) (rest_of c)) ≡ all_turns
+    pub so_far : Sofar sees s all s' (subset_calls table course before (done + 1) (items_of (n - done) (rest_of c)))
 
-module _ {V E : Type 0} (sees : V → Call → Result (Unit {0}) E → V → Type 0) (table : List Row) (course : CountedCourse) where
-  -- a subset's call, and its items
-  pub subset_goes : (index : ℕ) (c c' : Cursor) (s s1 s' : V) (steps steps' : ℕ) (r : Result (Unit {0}) (ShowFault E)) → sees s (subset_call index) (Ok tt) s1
-      → ItemsGo sees table course c s1 steps r c' s' steps' → SubsetGoes sees table course index c s steps r c' s' steps'
-  subset_goes index c c' s s1 s' steps steps' (Ok u) h g = record {
-    shown = λ before items subsets left r e.
-        let suffix : List Timed = subset_calls table course (before + turns_after plain course items) (index + 1) subsets in
-        sofar_then sees s s1 s' _ (item_calls table before course items ++ suffix) suffix
-        (sofar_call sees s s1 (timed before (subset_call index)) (item_calls table before course items ++ suffix) h) (g.shown before items left suffix r);
-    left_is = g.left_is;
+  -- nothing was shown yet
+  pub none_shown : (s : V) (c : Cursor) (steps : ℕ) → c ≡ record { bits = bits; at = 0 } → steps ≡ 0 → stop_of (passes_apart (uncounted course) n bits) ≡ None → SubsetsShown 0 s c s steps
+  none_shown s c steps first z none = record {
+    before = 0;
+    none = ap stop_of whole ∙ none;
+    ticks = z ∙ ticked_none;
+    total = ap (λ ps. 0 + turns_in answer_of course (items_by_pass ps)) whole ∙ zero_plus all_turns;
+    so_far = subst (λ ps. Sofar sees s all s (subset_calls table course 0 (0 + 1) (items_by_pass ps))) (sym whole) (sofar_self sees s all);
   }
-  subset_goes index c c' s s1 s' steps steps' (Err why) h g = record {
-    ended = λ before items subsets left turns r e. inr (s1, h, g.ended before items left (subset_calls table course (before + turns_after plain course items) (index + 1) subsets) turns r e);
-  }
-
-  pub subset_refused : (index : ℕ) (c c' : Cursor) (s s' : V) (steps steps' : ℕ) (e : E) → sees s (subset_call index) (Err e) s' → steps' ≡ steps
-      → SubsetGoes sees table course index c s steps (Err (show_fault.Visitor e)) c' s' steps'
-  subset_refused index c c' s s' steps steps' e h same = record { ended = λ before items subsets left turns r now. inl (h, same ∙ now) }
-
-  -- the next subset is there
-  pub next_there : (all more : List (List (Item Content))) (done : ℕ) (bits left : List Bool) → ReadsSubsets (uncounted course) more bits left → done + length more ≡ length all → done < length all
-      → (items : List (Item Content)) × (mid : List Bool) × ReadsPass plain (uncounted course) items bits mid
-  next_there all [] done bits left h e lt = absurd (omega (arith, e, lt))
-  next_there all (items ∷ more) done bits left h e lt = (items, h.0, h.1)
-
-  -- one subset more
-  pub one_shown : (all : List (List (Item Content))) (done index : ℕ) (left : List Bool) (s s1 s2 : V) (c c' : Cursor) (steps steps' : ℕ) → index ≡ done + 1 → done < length all
-      → SubsetsShown sees table course all done left s c s1 steps → SubsetShown sees table course index c s1 steps c' s2 steps' → SubsetsShown sees table course all (done + 1) left s c' s2 steps'
-  one_shown all done index left s s1 s2 c c' steps steps' n lt h r = by h.more h.whole h.count h.total h.shown
     where
-      by : (more : List (List (Item Content))) → ReadsSubsets (uncounted course) more (rest_of c) left → done + length more ≡ length all → h.before + turns_in course more ≡ turns_in course all
-          → Sofar sees s (subset_calls table course 0 1 all) s1 (subset_calls table course h.before (done + 1) more) → SubsetsShown sees table course all (done + 1) left s c' s2 steps'
-      by [] whole count total so_far = absurd (omega (arith, count, lt))
-      by (items ∷ more) whole count total so_far =
-          let l = r.left_is items whole.0 whole.1 in
-          record {
-            before = h.before + turns_after plain course items;
-            more = more;
-            whole = subst (λ b. ReadsSubsets (uncounted course) more b left) (sym l.0) whole.2;
-            count = omega (arith, count);
-            ticks = l.1 ∙ ap (λ k. ticked k (turns_after plain course items)) h.ticks ∙ ticked_more h.before (turns_after plain course items);
-            total = omega (arith, total);
-            shown = sofar_then sees s s1 s2 (subset_calls table course 0 1 all) (subset_calls table course h.before (done + 1) (items ∷ more))
-                (subset_calls table course (h.before + turns_after plain course items) (done + 1 + 1) more) so_far
-                (subst (λ k. Sofar sees s1 (subset_calls table course h.before k (items ∷ more)) s2 (subset_calls table course (h.before + turns_after plain course items) (k + 1) more)) n
-                (r.shown h.before items more whole.0 whole.1 h.ticks));
-          }
+      whole : passes_apart (uncounted course) (n - 0) (rest_of c) ≡ passes_apart (uncounted course) n bits
+      whole = ap (λ k. passes_apart (uncounted course) k (rest_of c)) (minus_none n) ∙ ap (λ x. passes_apart (uncounted course) n (rest_of x)) first
+        where
+          minus_none : (k : ℕ) → k - 0 ≡ k
+          minus_none k = omega arith
 
-  pub all_subsets : (all : List (List (Item Content))) (done : ℕ) (left : List Bool) (s s1 : V) (c : Cursor) (steps : ℕ) → length all ≤ done
-      → SubsetsShown sees table course all done left s c s1 steps → Shows sees s (subset_calls table course 0 1 all) (turns_in course all) (Ok tt) s1 steps
-  all_subsets all done left s s1 c steps ge h = by h.more h.count h.total h.shown
-    where
-      by : (more : List (List (Item Content))) → done + length more ≡ length all → h.before + turns_in course more ≡ turns_in course all
-          → Sofar sees s (subset_calls table course 0 1 all) s1 (subset_calls table course h.before (done + 1) more)
-          → Shows sees s (subset_calls table course 0 1 all) (turns_in course all) (Ok tt) s1 steps
-      by [] count total so_far = so_far.on (turns_in course all) (Ok tt) s1 steps (refl, h.ticks ∙ ap (ticked 0) (omega (arith, total)))
-      by (items ∷ more) count total so_far = absurd (omega (arith, count, ge))
+      zero_plus : (k : ℕ) → 0 + k ≡ k
+      zero_plus k = omega arith
 
-  pub ended_so : (all : List (List (Item Content))) (done index : ℕ) (left : List Bool) (s s1 s2 : V) (c c' : Cursor) (steps steps' : ℕ) (why : ShowFault E) → index ≡ done + 1 → done < length all
-      → SubsetsShown sees table course all done left s c s1 steps → SubsetEnded sees table course index c s1 steps why s2 steps'
-      → Shows sees s (subset_calls table course 0 1 all) (turns_in course all) (Err why) s2 steps'
-  ended_so all done index left s s1 s2 c c' steps steps' why n lt h r = by h.more h.whole h.count h.shown
+      ticked_none : 0 ≡ ticked 0 0
+      ticked_none = grind (arith, common_steps)
+
+  module _ (done : ℕ) (s : V) (c : Cursor) (s1 : V) (steps : ℕ) (h : SubsetsShown done s c s1 steps) (lt : done < n) where
+    -- the pass of the next subset, its turns, and the subsets after it
+    abbrev coming : DataPass Content
+    coming = read_pass plain (λ n. false) (uncounted course) (rest_of c)
+
+    abbrev turns : ℕ
+    turns = (course (answers_in answer_of coming.items)).turns
+
+    abbrev later : List (List (Item Content))
+    later = items_of (n - (done + 1)) coming.state.left
+
+    next : (coming.stop ≡ None) × (passes_apart (uncounted course) (n - done) (rest_of c) ≡ coming ∷ passes_apart (uncounted course) (n - (done + 1)) coming.state.left)
+        × (stop_of (passes_apart (uncounted course) (n - (done + 1)) coming.state.left) ≡ None)
+    next = next_pass (uncounted course) (n - done) (n - (done + 1)) (rest_of c) (omega (arith, lt)) h.none
+
+    pub next_reads : coming.stop ≡ None
+    next_reads = next.0
+
+    so_far : Sofar sees s all s1 (subset_calls table course h.before (done + 1) (coming.items ∷ later))
+    so_far = subst (λ ps. Sofar sees s all s1 (subset_calls table course h.before (done + 1) (items_by_pass ps))) next.1 h.so_far
+
+    -- its own call
+    called : (s2 : V) → sees s1 (subset_call (done + 1)) (Ok tt) s2
+        → Sofar sees s all s2 (item_calls table h.before course coming.items ++ subset_calls table course (h.before + turns) (done + 1 + 1) later)
+    called s2 call = sofar_then sees s s1 s2 _ _ _ so_far (sofar_call sees s1 s2 (timed h.before (subset_call (done + 1))) _ call)
+
+    -- one subset more
+    pub one_shown : (s2 s3 : V) (c' : Cursor) (steps' : ℕ) → sees s1 (subset_call (done + 1)) (Ok tt) s2 → ItemsGo sees table course c s2 steps (Ok tt) c' s3 steps' → SubsetsShown (done + 1) s c' s3 steps'
+    one_shown s2 s3 c' steps' call g = record {
+      before = h.before + turns;
+      none = ap (λ l. stop_of (passes_apart (uncounted course) (n - (done + 1)) l)) g.left ∙ next.2;
+      ticks = g.ticks ∙ ap (λ k. ticked k turns) h.ticks ∙ ticked_more h.before turns;
+      total = ap (λ l. h.before + turns + turns_in answer_of course (items_of (n - (done + 1)) l)) g.left ∙ assoc h.before turns (turns_in answer_of course later)
+          ∙ ap (λ ps. h.before + turns_in answer_of course (items_by_pass ps)) (sym next.1) ∙ h.total;
+      so_far = subst (λ l. Sofar sees s all s3 (subset_calls table course (h.before + turns) (done + 1 + 1) (items_of (n - (done + 1)) l))) (sym g.left)
+          (sofar_then sees s s2 s3 _ _ _ (called s2 call) (g.shown h.before (subset_calls table course (h.before + turns) (done + 1 + 1) later)));
+    }
+      where
+        assoc : (a b c : ℕ) → a + b + c ≡ a + (b + c)
+        assoc a b c = omega arith
+
+    -- the showing ends in it
+    pub ended_so : (s2 s3 : V) (c' : Cursor) (steps' : ℕ) (why : ShowFault E) → sees s1 (subset_call (done + 1)) (Ok tt) s2 → ItemsGo sees table course c s2 steps (Err why) c' s3 steps'
+        → Shows sees s all all_turns (Err why) s3 steps'
+    ended_so s2 s3 c' steps' why call g = (called s2 call).on all_turns (Err why) s3 steps' (g h.before _ all_turns h.ticks)
+
+    -- or at its own call
+    pub refused_so : (s2 : V) (e : E) → sees s1 (subset_call (done + 1)) (Err e) s2 → Shows sees s all all_turns (Err (show_fault.Visitor e)) s2 steps
+    refused_so s2 e call = so_far.on all_turns (Err (show_fault.Visitor e)) s2 steps (inl (call, h.ticks))
+
+  pub all_subsets : (done : ℕ) (s s1 : V) (c : Cursor) (steps : ℕ) → SubsetsShown done s c s1 steps → n ≤ done → Shows sees s all all_turns (Ok tt) s1 steps
+  all_subsets done s s1 c steps h ge =
+      let none : passes_apart (uncounted course) (n - done) (rest_of c) ≡ [] = ap (λ k. passes_apart (uncounted course) k (rest_of c)) (none_left n done ge) in
+      let total : h.before + 0 ≡ all_turns = ap (λ ps. h.before + turns_in answer_of course (items_by_pass ps)) (sym none) ∙ h.total in
+      (subst (λ ps. Sofar sees s all s1 (subset_calls table course h.before (done + 1) (items_by_pass ps))) none h.so_far).on all_turns (Ok tt) s1 steps
+      (refl, h.ticks ∙ ap (ticked 0) (omega (arith, total)))
     where
-      by : (more : List (List (Item Content))) → ReadsSubsets (uncounted course) more (rest_of c) left → done + length more ≡ length all
-          → Sofar sees s (subset_calls table course 0 1 all) s1 (subset_calls table course h.before (done + 1) more)
-          → Shows sees s (subset_calls table course 0 1 all) (turns_in course all) (Err why) s2 steps'
-      by [] whole count so_far = absurd (omega (arith, count, lt))
-      by (items ∷ more) whole count so_far = so_far.on (turns_in course all) (Err why) s2 steps'
-          (subst (λ k. Shows sees s1 (subset_calls table course h.before k (items ∷ more)) (turns_in course all) (Err why) s2 steps') n
-          (r.ended h.before items more whole.0 (turns_in course all) whole.1 h.ticks))
+      none_left : (n done : ℕ) → n ≤ done → n - done ≡ 0
+      none_left n done h = omega (arith, h)
 
 -- ---- Plain numbers: those of elements, which stay below 2 ^ 63.
 
@@ -723,11 +471,12 @@ plain_for a p = subst (λ r. IsForRole r taken.Plain) (sym p.role) tt
 
 -- a reading of data that are not compressed was shown
 pub apart_shown : {V E : Type 0} (sees : V → Call → Result (Unit {0}) E → V → Type 0) (r : Read) (v v' : V) (result : Result (Unit {0}) (ShowFault E)) (steps : ℕ) → IsStoredReading r kept.Apart
-    → ((all : List (List (Item Content))) (left : List Bool) → ReadsSubsets (course_of r) all r.source.bits left → length all ≡ r.source.subsets
-    → Shows sees v (subset_calls r.table (counted_course_of r) 0 1 all) (turns_in (counted_course_of r) all) result v' steps)
+    → (let all = items_by_pass (passes_apart (course_of r) r.source.subsets r.source.bits) in
+    Shows sees v (subset_calls r.table (counted_course_of r) 0 1 all) (turns_in answer_of (counted_course_of r) all) result v' steps)
     → Shows sees v (calls_of r) (turns_shown r) result v' steps
-apart_shown sees r v v' result steps h shows = by (values_read r) h.reading h.keeps
+apart_shown sees r v v' result steps h shows = by r.source.compressed h.keeps
   where
-    by : (values : Values) → IsReading (course_of r) r.source values r.bits → KeepsValues kept.Apart r.source values → Shows sees v (calls_for r values) (turns_for r values) result v' steps
-    by (apart xs) g k = shows xs (drop r.bits r.source.bits) g.2.0 g.2.1
-    by (together xs) g k = absurd k
+    by : (b : Bool) → KeepsValues kept.Apart r.source (reading_in (course_of r) b r.source.subsets r.source.bits).values
+        → (let values = (reading_in (course_of r) b r.source.subsets r.source.bits).values in Shows sees v (calls_for r values) (turns_for r values) result v' steps)
+    by false k = shows
+    by true k = absurd k

@@ -3,14 +3,14 @@
 -- the faults at one item is our choice)
 -- Cited by public contracts.
 use Rattle.std.specs.Prelude.{ℕ, zero, suc, ◌+◌, ◌-◌, Bool, true, false, List, [], ◌∷◌, length, Result, Ok, Err, Option, Some, None, option_map, map, get_or, if◌then◌else◌, ◌≡◌, ◌<◌, ◌++◌, ◌%◌, ◌⊎◌, ◌==◌, is_none, is_some}
-use Rattle.bufr_walk.specs.Content.{Taken, FieldSpec, Content, FieldFault, FieldRead}
+use Rattle.bufr_walk.specs.Content.{Taken, FieldSpec, Content, FieldFault, FieldRead, answer_of, answer_first}
 use Rattle.bufr_walk.specs.Rules.{TurnRefusal}
 use Rattle.bufr_walk.specs.Course.{stop_by, Course, Next, take_next, at_end, astray, refused}
 use Rattle.bufr_walk.specs.Steps.{CountedCourse, uncounted, counted_item, ticked}
 use Rattle.bufr_walk.specs.declared.fault.WalkFault.TheVariants as walk_fault
 use Rattle.bufr_walk.specs.declared.fault.DataFault.TheVariants as data_fault
 use Rattle.bufr_walk.specs.declared.walker.WalkStop.TheVariants as stops
-use Rattle.bufr_walk.specs.Reading.{DataCoding, plain, packed, would_be_many, Data, Stop, wrong_of, WalkFault, fault_at, Item, Values, apart, together, Read, course_of, Timed, calls_for, turns_for, PackedValues, next_after, turns_after, items_at_once, ReadsItems}
+use Rattle.bufr_walk.specs.Reading.{DataCoding, plain, packed, would_be_many, Data, Stop, wrong_of, WalkFault, fault_at, Item, Values, apart, together, Read, course_of, Timed, calls_for, turns_for, PackedValues, answers_in, turns_in, items_at_once, ReadsItems}
 use Rattle.bufr_walk.specs.declared.spec.Role.TheVariants as role
 use Rattle.bufr_tables.specs.Prelude.{Row, Tree}
 
@@ -211,22 +211,16 @@ pub record ReadsTo {C : Type 0} (form : DataCoding C) (many : ℕ → Bool) (cou
   pub reads : ReadsItems form course p.items from.left p.state.left
   pub few : (j : ℕ) → j < length p.items → many (from.items + j) ≡ false
   pub count : p.state.items ≡ from.items + length p.items
-  pub ends : EndsPass (reading form many) (next_after form course p.items) p.state p.stop
+  pub ends : EndsPass (reading form many) (course (answers_in form.gives p.items)) p.state p.stop
 
 -- ---- The turns of passes.
-
--- the total number of turns of several passes, each up to what comes next after its items
-abbrev pub turns_in_all : {C : Type 0} → DataCoding C → CountedCourse → List (DataPass C) → ℕ
-turns_in_all form course [] = 0
-turns_in_all form course (p ∷ passes) =
-    turns_after form course p.items + turns_in_all form course passes
 
 -- the turns of the reading of data by a course
 abbrev pub turns_read_in : CountedCourse → (compressed : Bool) → (subsets : ℕ) → List Bool → ℕ
 turns_read_in course false n bits =
-    turns_in_all plain course (passes_apart (uncounted course) n bits)
+    turns_in answer_of course (map (λ p. p.items) (passes_apart (uncounted course) n bits))
 turns_read_in course true n bits =
-    turns_in_all (packed n) course (passes_together (uncounted course) n bits)
+    turns_in answer_first course (map (λ p. p.items) (passes_together (uncounted course) n bits))
 
 abbrev pub turns_read : CountedCourse → Data → ℕ
 turns_read course d = turns_read_in course d.compressed d.subsets d.bits
@@ -245,9 +239,10 @@ pub record RunsShort {C : Type 0} (form : DataCoding C) (wants : ℕ → Bool) (
   pub more : List (Item C)
   pub are : here.items ≡ items ++ more
   pub spec : FieldSpec
-  pub next : next_after form (uncounted course) items ≡ take_next spec
+  pub next : (course (answers_in form.gives items)).next ≡ take_next spec
   pub why : (wants (length items) ≡ true) ⊎ (spec.role ≡ role.Reference)
-  pub turns_are : turns ≡ turns_in_all form course done + turns_after form course items
+  pub turns_are : turns ≡ turns_in form.gives course (map (λ p. p.items) done)
+      + (course (answers_in form.gives items)).turns
 
 -- in one of the passes of a reading; compressed data want memory for each 64th item
 abbrev pub MayRunShort : CountedCourse → (compressed : Bool) → (subsets : ℕ) → List Bool

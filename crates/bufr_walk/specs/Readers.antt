@@ -1,10 +1,9 @@
 -- Only contracts need this file. The readers of data, compressed or not: one pass over them, fields
 -- shown at once, an item as the code reads it, and what a reading keeps.
-use Rattle.std.specs.Prelude.{ℕ, ◌≡◌, ◌≤◌, ◌+◌, Bool, List, drop, Result, Ok, Err, ◌++◌, ◌<◌, ◌*◌, ◌^◌, ◌%◌, ◌==◌, ◌&&◌, ◌||◌, true, false, [], ◌∷◌, length, take, ◌/◌, ◌-◌, map, get_or, is_some, Option}
+use Rattle.std.specs.Prelude.{ℕ, ◌≡◌, ◌≤◌, ◌+◌, Bool, List, drop, Result, Ok, Err, ◌++◌, ◌<◌, ◌*◌, ◌^◌, ◌%◌, ◌==◌, ◌&&◌, ◌||◌, true, false, [], ◌∷◌, length, take, ◌/◌, ◌-◌, map, get_or, is_some, Option, None}
 use Rattle.bufr_walk.specs.Content.{Taken, missing, ShownValue, Coding, step_of, increments, increased, FieldSpec, Content, answer_of, plain_field, found, data_end, FieldFault, FieldRead, packed_field, answer_first}
-use Rattle.bufr_walk.specs.Reading.{wrong_of, Item, plain, turns_after, ReadsPass, Read, course_of, max_values, items_at_once, Data, Values, apart, together, IsReading, ShowFault, Call, item_call, view_of, Timed, item_calls, Shows, View, PackedValues}
-use Rattle.bufr_walk.specs.Pass.{DataPass, Place, reading_of, values_read}
-use Rattle.bufr_walk.specs.Course.{Course}
+use Rattle.bufr_walk.specs.Reading.{wrong_of, Item, plain, answers_in, Read, course_of, max_values, items_at_once, Data, Values, apart, together, each_subset, ShowFault, Call, item_call, view_of, Timed, item_calls, Shows, View, PackedValues}
+use Rattle.bufr_walk.specs.Pass.{DataPass, Place, read_pass, reading_of, values_read}
 use Rattle.bufr_walk.specs.Steps.{CountedCourse, uncounted, ticked}
 use Rattle.std.proofs.Common.{ap}
 use Rattle.bufr_tables.specs.Prelude.{Row, Tree, is_character}
@@ -123,33 +122,25 @@ pub record Sofar {S E : Type 0} (sees : S → Call → Result (Unit {0}) E → S
   pub on : (turns : ℕ) (r : Result (Unit {0}) (ShowFault E)) (s' : S) (steps : ℕ)
       → Shows sees s1 rest turns r s' steps → Shows sees s calls turns r s' steps
 
--- the items of a subset were shown, whatever follows them
-pub record ItemsShown {S E : Type 0} (sees : S → Call → Result (Unit {0}) E → S → Type 0)
-    (table : List Row) (course : CountedCourse) (c : Cursor) (s : S) (steps : ℕ) (c' : Cursor)
-    (s' : S) (steps' : ℕ) : Type 0 where
-  pub shown : (before : ℕ) (items : List (Item Content)) (left : List Bool) (more : List Timed)
-      → ReadsPass plain (uncounted course) items (rest_of c) left
-      → Sofar sees s (item_calls table before course items ++ more) s' more
-  pub left_is : (items : List (Item Content)) (left : List Bool)
-      → ReadsPass plain (uncounted course) items (rest_of c) left
-      → (rest_of c' ≡ left) × (steps' ≡ ticked steps (turns_after plain course items))
+-- the items of a pass were shown, whatever follows them
+pub record IsAllShown {S E : Type 0} (sees : S → Call → Result (Unit {0}) E → S → Type 0)
+    (table : List Row) (course : CountedCourse) (s : S) (steps : ℕ) (p : DataPass Content)
+    (c' : Cursor) (s' : S) (steps' : ℕ) : Type 0 where
+  pub shown : (before : ℕ) (more : List Timed)
+      → Sofar sees s (item_calls table before course p.items ++ more) s' more
+  pub left : rest_of c' ≡ p.state.left
+  pub ticks : steps' ≡ ticked steps (course (answers_in answer_of p.items)).turns
 
--- the items of a subset were shown up to one that ended the showing
-pub record ItemsEnded {S E : Type 0} (sees : S → Call → Result (Unit {0}) E → S → Type 0)
-    (table : List Row) (course : CountedCourse) (c : Cursor) (s : S) (steps : ℕ) (why : ShowFault E)
-    (s' : S) (steps' : ℕ) : Type 0 where
-  pub ended : (before : ℕ) (items : List (Item Content)) (left : List Bool) (more : List Timed)
-      (turns : ℕ) → ReadsPass plain (uncounted course) items (rest_of c) left
-      → steps ≡ ticked 0 before
-      → Shows sees s (item_calls table before course items ++ more) turns (Err why) s' steps'
-
--- the items of a subset were shown, or one of them ended the showing
+-- the items of the next subset were shown, or one of them ended the showing
 abbrev pub ItemsGo : {S E : Type 0} → (S → Call → Result (Unit {0}) E → S → Type 0) → List Row
     → CountedCourse → Cursor → S → ℕ → Result (Unit {0}) (ShowFault E) → Cursor → S → ℕ → Type 0
 ItemsGo sees table course c s steps (Ok _) c' s' steps' =
-    ItemsShown sees table course c s steps c' s' steps'
+    IsAllShown sees table course s steps
+    (read_pass plain (λ items. false) (uncounted course) (rest_of c)) c' s' steps'
 ItemsGo sees table course c s steps (Err why) c' s' steps' =
-    ItemsEnded sees table course c s steps why s' steps'
+    let p = read_pass plain (λ items. false) (uncounted course) (rest_of c) in
+    (before : ℕ) (more : List Timed) (turns : ℕ) → steps ≡ ticked 0 before
+    → Shows sees s (item_calls table before course p.items ++ more) turns (Err why) s' steps'
 
 -- the reader: the bits, how many of them were read, the number of subsets, and the items read
 pub record PackedCursor : Type 0 where
@@ -318,19 +309,13 @@ abbrev pub PaysBits : Values → (used : ℕ) → Type 0
 PaysBits (apart subsets) used = items_in subsets ≤ used
 PaysBits (together items) used = Unit {0}
 
--- data were read, and each item of one subset took at least a bit
-abbrev pub IsReadAndPaid : Course → Data → (used : ℕ) → Type 0
-IsReadAndPaid course d used =
-    let values = (reading_of course d).values in
-    IsReading course d values used × PaysBits values used
-
--- a reading, and what is kept of it: each item that is kept took at least 7 bits
+-- A reading that did not stop, and what is kept of it: each item that is kept took at least 7 bits.
 pub record IsStoredReading (r : Read) (k : StoredItems) : Type 0 where
-  pub reading : IsReading (course_of r) r.source (values_read r) r.bits
+  pub none : (reading_of (course_of r) r.source).stop ≡ None
   pub keeps : KeepsValues k r.source (values_read r)
   pub few : 7 * held_of k ≤ r.bits
   pub pays : PaysBits (values_read r) r.bits
-  pub short : r.bits ≤ max_values
+  pub most : items_in (each_subset r.source.subsets (values_read r)) ≤ max_values
 
 -- ---- The index of the items of compressed data.
 

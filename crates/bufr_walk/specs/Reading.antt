@@ -3,7 +3,7 @@
 -- Cited by public contracts.
 use Rattle.std.specs.Prelude.{ℕ, zero, suc, ◌≡◌, ◌+◌, ◌*◌, ◌≤◌, Bool, true, false, List, [], ◌∷◌, length, drop, take, ◌<◌, Result, Ok, ◌⊎◌, nat_lt, Option, None, Err, codes, decimal, if◌then◌else◌, ◌++◌, option_map, map, get_or}
 use Rattle.bufr_walk.specs.Content.{Taken, FieldSpec, Content, answer_of, FieldFault, FieldRead, found, plain_field, data_end, increment, unequal_factor, packed_field, answer_first, ShownValue, shown, missing, shown_number, shown_text, shown_missing, shown_reference}
-use Rattle.bufr_walk.specs.Course.{Course, Next, take_next, at_end, next_item}
+use Rattle.bufr_walk.specs.Course.{Course, take_next, at_end, next_item}
 use Rattle.bufr_walk.specs.Steps.{CountedCourse, counted_item, ticked}
 use Rattle.bufr_walk.specs.declared.fault.DataFault.{DataFault}
 use Rattle.bufr_walk.specs.declared.fault.DataFault.TheVariants as data_fault
@@ -40,13 +40,13 @@ plain = record { field = plain_field; gives = answer_of }
 abbrev pub packed : ℕ → DataCoding (List Content)
 packed n = record { field = packed_field n; gives = answer_first }
 
--- the part of an item's content that affects the walk
-abbrev pub item_answer : {C : Type 0} → DataCoding C → Item C → Taken
-item_answer form i = form.gives i.spec i.content
+-- the answers of items: the part of their contents that affects the walk
+abbrev pub answers_in : {C : Type 0} → (FieldSpec → C → Taken) → List (Item C) → List Taken
+answers_in gives items = map (λ i. gives i.spec i.content) items
 
--- the course after one more item
-abbrev pub after : {C : Type 0} → DataCoding C → Course → Item C → Course
-after form course i answers = course (item_answer form i ∷ answers)
+-- a course after one more item, with turns or without
+abbrev pub after : {C N : Type 0} → DataCoding C → (List Taken → N) → Item C → List Taken → N
+after form course i answers = course (form.gives i.spec i.content ∷ answers)
 
 -- Each item is the content of the field that comes next, and is read where the item before it
 -- ended; `suffix` is the bits after the last one.
@@ -58,16 +58,11 @@ ReadsItems form course (i ∷ items) bits suffix =
     × (form.field i.spec bits ≡ Ok (found i.content mid))
     × ReadsItems form (after form course i) items mid suffix
 
--- what comes next after items
-abbrev pub next_after : {C : Type 0} → DataCoding C → Course → List (Item C) → Next
-next_after form course [] = course []
-next_after form course (i ∷ items) = next_after form (after form course i) items
-
 -- The items are those of one pass to the end of the template.
 abbrev pub ReadsPass : {C : Type 0} → DataCoding C → Course → List (Item C)
     → (bits suffix : List Bool) → Type 0
 ReadsPass form course items bits suffix =
-    ReadsItems form course items bits suffix × (next_after form course items ≡ at_end)
+    ReadsItems form course items bits suffix × (course (answers_in form.gives items) ≡ at_end)
 
 -- The subsets follow one another, each from the beginning of the template.
 -- rule: operators-end-with-subset, subsets-without-padding
@@ -238,19 +233,12 @@ course_of r = next_item r.table r.template
 abbrev pub counted_course_of : Read → CountedCourse
 counted_course_of r = counted_item r.table r.template
 
--- the course after one more item
-abbrev pub after_counted : {C : Type 0} → DataCoding C → CountedCourse → Item C → CountedCourse
-after_counted form course i answers = course (item_answer form i ∷ answers)
-
--- the number of turns of a pass with these items, up to what comes next after them
-abbrev pub turns_after : {C : Type 0} → DataCoding C → CountedCourse → List (Item C) → ℕ
-turns_after form course [] = (course []).turns
-turns_after form course (i ∷ items) = turns_after form (after_counted form course i) items
-
--- the turns of some whole subsets
-abbrev pub turns_in : CountedCourse → List (List (Item Content)) → ℕ
-turns_in course [] = 0
-turns_in course (items ∷ subsets) = turns_after plain course items + turns_in course subsets
+-- the turns of the passes that have these items, each up to what comes next after them
+abbrev pub turns_in : {C : Type 0} → (FieldSpec → C → Taken) → CountedCourse
+    → List (List (Item C)) → ℕ
+turns_in gives course [] = 0
+turns_in gives course (items ∷ more) =
+    (course (answers_in gives items)).turns + turns_in gives course more
 
 -- ---- The calls of a visitor that show a reading, in order, up to its first fault.
 
@@ -289,7 +277,7 @@ abbrev pub item_calls : List Row → (before : ℕ) → CountedCourse → List (
 item_calls table before course [] = []
 item_calls table before course (i ∷ items) =
     timed (before + (course []).turns) (item_call (view_of table i.spec i.content))
-    ∷ item_calls table before (after_counted plain course i) items
+    ∷ item_calls table before (after plain course i) items
 
 -- the calls for subsets, the first of which has this number, from 1
 abbrev pub subset_calls : List Row → CountedCourse → (before number : ℕ)
@@ -297,7 +285,8 @@ abbrev pub subset_calls : List Row → CountedCourse → (before number : ℕ)
 subset_calls table course before number [] = []
 subset_calls table course before number (items ∷ subsets) =
     timed before (subset_call number) ∷ item_calls table before course items
-    ++ subset_calls table course (before + turns_after plain course items) (number + 1) subsets
+    ++ subset_calls table course (before + (course (answers_in answer_of items)).turns) (number + 1)
+    subsets
 
 -- compressed data are shown without a walk, so in no turns
 abbrev pub without_turns : CountedCourse
@@ -338,7 +327,8 @@ calls_for r values =
 
 -- the turns of a showing
 abbrev pub turns_for : Read → Values → ℕ
-turns_for r values = turns_in (walk_shown r values) (each_subset r.source.subsets values)
+turns_for r values =
+    turns_in answer_of (walk_shown r values) (each_subset r.source.subsets values)
 
 -- 1 for a call of an item, 0 for one of a subset
 abbrev pub item_or_not : Call → ℕ

@@ -1,7 +1,7 @@
 //! Data that are not compressed: fields, reading, and showing.
-ghost use Rattle.std.specs.Prelude.{◌≡◌, ◌≤◌, ◌<◌, ◌+◌, ◌-◌, ◌*◌, ◌^◌, length, take, drop, if◌then◌else◌, ◌==◌, pos, neg_ℤ, false, List, IfOk, IfErr, ◌/◌, Bool, Result, Some, Ok, Err, MatchResult};
+ghost use Rattle.std.specs.Prelude.{◌≡◌, ◌≤◌, ◌<◌, ◌+◌, ◌-◌, ◌*◌, ◌^◌, length, take, drop, if◌then◌else◌, ◌==◌, pos, neg_ℤ, false, IfOk, IfErr, ◌/◌, Result, Some, None, Ok, Err, MatchResult};
 ghost use Rattle.bufr_bits.specs.Prelude.{number_of, bits_at, bits_of, are_all_ones, octets_of};
-ghost use Rattle.bufr_walk.specs.Prelude.{IsFor, answer_of, content_in, signed_by, octets_in, Content, shown, next_item, counted_item, bits_before, data_in, ReadsData, Item, plain, ReadsPass, ReadsSubsets, turns_in, IsReadAndPaid, rest_of, ItemsGo, item_call, view_of, subset_calls, seen_value, Shows, PlainTakes, past, shown_missing};
+ghost use Rattle.bufr_walk.specs.Prelude.{IsFor, answer_of, content_in, signed_by, octets_in, Content, shown, next_item, counted_item, bits_before, data_in, ReadsData, plain, read_pass, passes_apart, stop_of, items_by_pass, turns_in, PaysBits, reading_of, rest_of, ItemsGo, item_call, view_of, subset_calls, seen_value, Shows, PlainTakes, past, shown_missing};
 ghost use Rattle.bufr_tables.specs.Prelude.{places, row_of_entry};
 ghost use Rattle.std.proofs.Common.{arith, ap};
 ghost use Rattle.bufr_walk.specs.Readers.{ShowingTakes, refusal_keeps, stage, view};
@@ -251,8 +251,8 @@ pub(crate) fn read_plain(
     ensures same { cache.new ≡ cache.old }
     ensures reads { ReadsData (counted_item cache.old template.now)
         (data_in false subsets (octets_of bits.entry)) result steps.new }
-    ensures paid { IfOk result (λ used. IsReadAndPaid (next_item cache.old template.now)
-        (data_in false subsets (octets_of bits.entry)) used) }
+    ensures paid { IfOk result (λ used. PaysBits (reading_of (next_item cache.old template.now)
+        (data_in false subsets (octets_of bits.entry))).values used) }
     ensures accepted { IfOk result (λ used. steps.new ≤ places template.now * used) }
     ensures refused { IfErr result (λ why. steps.new
         ≤ places template.now * (bits_before why (length (bits_of (octets_of bits.entry))) + 1)) }
@@ -414,8 +414,8 @@ fn walk_showing<V: Visitor>(
     steps: &mut Steps,
 ) -> Result<(), ShowFault<V::Fault>>
     requires same { fields.old.table.now ≡ cache.old }
-    requires readable { (items : List (Item Content)) × (left : List Bool) × ReadsPass plain
-        (next_item cache.old template.now) items (rest_of fields.old.input.now) left }
+    requires readable { (read_pass plain (λ items. false) (next_item cache.old template.now)
+        (rest_of fields.old.input.now)).stop ≡ None }
     ensures same { cache.new ≡ cache.old }
     ensures input { fields.new.input.ghost_name ≡ fields.old.input.ghost_name }
     ensures visitor { fields.new.visitor.ghost_name ≡ fields.old.visitor.ghost_name }
@@ -441,8 +441,8 @@ fn show_items<V: Visitor>(
     visitor: &mut V,
     steps: &mut Steps,
 ) -> Result<(), ShowFault<V::Fault>>
-    requires { (items : List (Item Content)) × (left : List Bool)
-        × ReadsPass plain (next_item cache.old template.now) items (rest_of input.old) left }
+    requires { (read_pass plain (λ items. false) (next_item cache.old template.now)
+        (rest_of input.old)).stop ≡ None }
     ensures same { cache.new ≡ cache.old }
     ensures shown { ItemsGo V.sees cache.old (counted_item cache.old template.now) input.old
         visitor.old steps.old result input.new visitor.new steps.new }
@@ -473,18 +473,16 @@ pub(crate) fn show_plain<V: Visitor>(
     steps: &mut Steps,
 ) -> Result<(), ShowFault<V::Fault>>
     requires steps { steps.old ≡ 0 }
-    requires readable { (all : List (List (Item Content))) × (left : List Bool)
-        × ReadsSubsets (next_item cache.old given.now.template.now) all
-        (bits_of (octets_of given.now.bits)) left × (length all ≡ given.now.subsets) }
+    requires readable { stop_of (passes_apart (next_item cache.old given.now.template.now)
+        given.now.subsets (bits_of (octets_of given.now.bits))) ≡ None }
     ensures same { cache.new ≡ cache.old }
-    ensures shown { (all : List (List (Item Content))) (left : List Bool)
-        → ReadsSubsets (next_item cache.old given.now.template.now) all
-        (bits_of (octets_of given.now.bits)) left
-        → length all ≡ given.now.subsets
-        → Shows V.sees visitor.old
+    ensures shown { let all = items_by_pass (passes_apart
+        (next_item cache.old given.now.template.now) given.now.subsets
+        (bits_of (octets_of given.now.bits))) in
+        Shows V.sees visitor.old
         (subset_calls cache.old (counted_item cache.old given.now.template.now) 0 1 all)
-        (turns_in (counted_item cache.old given.now.template.now) all) result visitor.new
-        steps.new }
+        (turns_in answer_of (counted_item cache.old given.now.template.now) all) result
+        visitor.new steps.new }
 {
     let mut input = PlainIn::new(given.bits);
     'subsets: for done in 0..given.subsets {

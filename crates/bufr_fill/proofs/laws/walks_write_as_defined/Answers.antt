@@ -4,8 +4,8 @@ use Rattle.bufr_fill.proofs.laws.walks_write_as_defined.Goals as goal
 
 -- src/laws.rt:88:1
 pub returns-clause-plain : goal.returns-clause-plain
-returns-clause-plain c = walk_of_items
+returns-clause-plain c end course s items s' h = (walk_of_items end course s items s' h).1
 
 -- src/laws.rt:88:1
 pub returns-clause-packed : goal.returns-clause-packed
-returns-clause-packed c = walk_of_rows
+returns-clause-packed c end many course s items s' h = (walk_of_rows end many course s items s' h).1

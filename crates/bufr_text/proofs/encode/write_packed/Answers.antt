@@ -34,7 +34,8 @@ returns-in_err-end-in-Ok-clause-written c =
     let passed = err_from_is_err_and residual.result residual.ensures.1 in
     rw (passed.1 ∙ ap Err passed.2)
     (packed_over (places c.args.template.now) course ss c.in-Some.out c.args.steps.now c.walk_by.new.fields c.walk_by.new.steps c.in_err-end-in-Ok.field-0.0
-    _ at (some_before course ss c.in-Some.out c.args.steps.now (Ok tt) c.walk_by.new.fields c.walk_by.new.steps c.in-Ok.ensures.walked at after) c.requires.none
+    _ (template_adds c.args.cache.now c.args.template.now) at (some_before course ss c.in-Some.out c.args.steps.now (Ok tt) c.walk_by.new.fields c.walk_by.new.steps c.in-Ok.ensures.walked at after)
+    c.requires.none
     c.in-Ok.ensures.walked c.in_err-end-in-Ok.ensures refl c.in-Ok.ensures.accepted)
 
 pub returns-in-Err-clause-written : goal.returns-in-Err-clause-written

@@ -24,7 +24,8 @@ returns-in_err-end_subset-in-Ok-clause-written c =
     let passed = err_from_is_err_and residual.result residual.ensures.1 in
     rw (passed.1 ∙ ap Err passed.2)
     (stopped n course (subsets_of c.args.entries.now) c.subsets.done c.subsets.out c.subsets.steps c.subsets.invariant.1 some _ c.walk_by.new.steps
-    (subset_over n course c.subsets.out c.subsets.steps c.walk_by.new.fields c.walk_by.new.steps c.in_err-end_subset-in-Ok.field-0.0 _ (rw c.subsets.invariant.0 at c.in-Ok.ensures.walked) some
+    (subset_over n course c.subsets.out c.subsets.steps c.walk_by.new.fields c.walk_by.new.steps c.in_err-end_subset-in-Ok.field-0.0 _ (template_adds c.args.cache.now c.args.template.now)
+    (rw c.subsets.invariant.0 at c.in-Ok.ensures.walked) some
     c.in_err-end_subset-in-Ok.ensures.0 refl c.in-Ok.ensures.accepted))
 
 pub returns-in-Err-clause-written : goal.returns-in-Err-clause-written

@@ -2,7 +2,7 @@ use Rattle.std.proofs.Common.{◌≡◌}
 use Rattle.bufr_bits.specs.Prelude.{bits_of, octets_of}
 use Rattle.bufr_tables.specs.Prelude.{places}
 use Rattle.bufr_walk.specs.Prelude.{counted_item}
-use Rattle.bufr_walk.proofs.PlainLemmas.{SubsetsRead}
+use Rattle.bufr_walk.proofs.PlainReading.{SubsetsRead}
 use Rattle.bufr_walk.proofs.plain.read_plain.Given as goal
 
 abbrev pub invariant-subsets : goal.invariant-subsets

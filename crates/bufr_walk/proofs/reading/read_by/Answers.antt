@@ -2,7 +2,7 @@ use Rattle.std.proofs.Common.{◌≡◌, rules, ◌<◌, ◌≤◌, ◌^◌, ◌
 use Rattle.bufr_bits.specs.Prelude.{bits_of, octets_of}
 use Rattle.bufr_tables.specs.Prelude.{places}
 use Rattle.bufr_walk.specs.Prelude.{PackedCursor, data_in, ReadsData, bits_before, Data, counted_item}
-use Rattle.bufr_walk.proofs.PackedReading.{IsReadAndKept, none_read, whole_read, walk_stops, stopped_within, few_stopped, few_values, packed_held, packed_is, packed_data_same}
+use Rattle.bufr_walk.proofs.PackedReading.{IsReadAndKept, none_read, whole_read, walk_stops, stopped_within, few_stopped, packed_held, packed_is, packed_data_same}
 use Rattle.bufr_walk.proofs.PlainLemmas.{plain_held, plain_is, same_data}
 use Rattle.bufr_walk.proofs.reading.read_by.Goals as goal
 
@@ -12,7 +12,6 @@ invariant_of-result c =
     rw (c.if-subsets-eq0.true, c.new-then-subsets-eq0.ensures) (none_read (counted_item c.cache.inside.table.now c.args.template.now) (bits_of (octets_of c.payload-bits.result))) in
     packed_held c.cache.inside.table.now c.args.template.now c.subsets-subsets.result (octets_of c.payload-bits.result) 0 0 c.new-then-subsets-eq0.result zero
     (rw c.new-then-subsets-eq0.ensures (omega arith))
-    (subst (λ octets. length octets < 2 ^ 24) (sym c.payload-bits.ensures.value) c.payload-bits.ensures.short)
 
 pub returns-then-subsets-eq0-clause-reads : goal.returns-then-subsets-eq0-clause-reads
 returns-then-subsets-eq0-clause-reads c =
@@ -29,9 +28,9 @@ invariant_of-result-then-compressed c =
     let f = c.fields.inside in
     packed_held c.cache.inside.table.now c.args.template.now c.subsets-subsets.result (octets_of c.payload-bits.result) f.at c.walk_by.new.steps f.kept
     (whole_read c.subsets-subsets.result (counted_item c.cache.inside.table.now c.args.template.now) (bits_of (octets_of c.payload-bits.result)) c.new-fields.result c.new-fields.ensures
-    (omega (arith, c.if-subsets-eq0.false)) c.walk_by.new.fields c.new.result c.walk_by.new.steps (bits_of (octets_of f.bits)) f.at f.subsets f.kept c.fields.view_is c.new.ensures
-    (rw (← c.cache.view_is) at c.in-Ok.ensures.walked) c.fields.invariant.within c.fields.invariant.few c.fields.invariant.fit) c.fields.invariant.held
-    (subst (λ octets. length octets < 2 ^ 24) (sym c.payload-bits.ensures.value) c.payload-bits.ensures.short)
+    (omega (arith, c.if-subsets-eq0.false)) c.walk_by.new.fields c.new.result c.walk_by.new.steps c.new.ensures
+    (subst (λ (s : PackedCursor). s.at ≤ length s.bits) c.fields.view_is c.fields.invariant.within) (bits_of (octets_of f.bits)) f.at f.subsets f.kept c.fields.view_is
+    (rw (← c.cache.view_is) at c.in-Ok.ensures.walked) c.fields.invariant.few c.fields.invariant.fit) c.fields.invariant.held
 
 pub returns-then-compressed-clause-reads : goal.returns-then-compressed-clause-reads
 returns-then-compressed-clause-reads c =
@@ -40,8 +39,9 @@ returns-then-compressed-clause-reads c =
     c.walk_by.new.steps f.kept (packed_data_same c.args.message.now c.subsets-subsets.result (octets_of c.payload-bits.result) (sym c.compressed.ensures ∙ c.if-compressed.true)
     c.subsets-subsets.ensures c.payload-bits.ensures.value)
     (whole_read c.subsets-subsets.result (counted_item c.cache.inside.table.now c.args.template.now) (bits_of (octets_of c.payload-bits.result)) c.new-fields.result c.new-fields.ensures
-    (omega (arith, c.if-subsets-eq0.false)) c.walk_by.new.fields c.new.result c.walk_by.new.steps (bits_of (octets_of f.bits)) f.at f.subsets f.kept c.fields.view_is c.new.ensures
-    (rw (← c.cache.view_is) at c.in-Ok.ensures.walked) c.fields.invariant.within c.fields.invariant.few c.fields.invariant.fit))
+    (omega (arith, c.if-subsets-eq0.false)) c.walk_by.new.fields c.new.result c.walk_by.new.steps c.new.ensures
+    (subst (λ (s : PackedCursor). s.at ≤ length s.bits) c.fields.view_is c.fields.invariant.within) (bits_of (octets_of f.bits)) f.at f.subsets f.kept c.fields.view_is
+    (rw (← c.cache.view_is) at c.in-Ok.ensures.walked) c.fields.invariant.few c.fields.invariant.fit))
 
 pub returns-in-Err-clause-reads : goal.returns-in-Err-clause-reads
 returns-in-Err-clause-reads c =
@@ -51,10 +51,8 @@ returns-in-Err-clause-reads c =
     (packed_data_same c.args.message.now c.subsets-subsets.result (octets_of c.payload-bits.result) (sym c.compressed.ensures ∙ c.if-compressed.true) c.subsets-subsets.ensures
     c.payload-bits.ensures.value)
     (rw (c.fault_at.ensures) (walk_stops c.subsets-subsets.result (counted_item c.args.cache.now c.args.template.now) (bits_of (octets_of c.payload-bits.result)) c.new-fields.result
-    c.new-fields.ensures
-    (omega (arith, c.if-subsets-eq0.false)) c.walk_by.new.fields c.new.result c.walk_by.new.steps f.at c.in-Err.why c.new.ensures c.in-Err.ensures.walked
-    (subst (λ (s : PackedCursor). s.at ≤ length s.bits) v c.fields.invariant.within) (few_values c.walk_by.new.fields (bits_of (octets_of f.bits)) f.at f.subsets f.kept v c.fields.invariant.few)
-    (ap (λ (s : PackedCursor). s.at) v)))
+    c.new-fields.ensures (omega (arith, c.if-subsets-eq0.false)) c.walk_by.new.fields c.new.result c.walk_by.new.steps c.new.ensures
+    (subst (λ (s : PackedCursor). s.at ≤ length s.bits) v c.fields.invariant.within) c.in-Err.why c.in-Err.ensures.walked f.at (ap (λ (s : PackedCursor). s.at) v)))
 
 pub returns-in-Err-clause-refused : goal.returns-in-Err-clause-refused
 returns-in-Err-clause-refused c =
@@ -66,13 +64,14 @@ returns-in-Err-clause-refused c =
     c.payload-bits.ensures.value)
     (rw (c.fault_at.ensures) (few_stopped (places c.args.template.now) c.new.result c.walk_by.new.steps c.walk_by.new.fields.at f.at (length bits) c.new-fields.result bits c.subsets-subsets.result
     c.in-Err.why c.new-fields.ensures c.new.ensures c.in-Err.ensures.refused (ap (λ (s : PackedCursor). s.at) v)
-    (stopped_within (counted_item c.args.cache.now c.args.template.now) bits c.subsets-subsets.result c.new-fields.result c.walk_by.new.fields c.new.result c.walk_by.new.steps c.in-Err.why
-    c.new-fields.ensures c.in-Err.ensures.walked (subst (λ (s : PackedCursor). s.at ≤ length s.bits) v c.fields.invariant.within))))
+    (stopped_within c.subsets-subsets.result (counted_item c.args.cache.now c.args.template.now) bits c.new-fields.result c.new-fields.ensures (omega (arith, c.if-subsets-eq0.false))
+    c.walk_by.new.fields c.new.result c.walk_by.new.steps c.new.ensures (subst (λ (s : PackedCursor). s.at ≤ length s.bits) v c.fields.invariant.within) c.in-Err.why c.in-Err.ensures.walked)))
 
 pub invariant_of-result-2 : goal.invariant_of-result-2
 invariant_of-result-2 c =
-    plain_held c.cache.inside.table.now c.args.template.now c.subsets-subsets.result (octets_of c.payload-bits.result) c.in_ok-used.used
-    (subst (λ octets. length octets < 2 ^ 24) (sym c.payload-bits.ensures.value) c.payload-bits.ensures.short) (rw (← c.cache.view_is) at c.in_ok-used.ensures.paid)
+    plain_held c.cache.inside.table.now c.args.template.now c.subsets-subsets.result (octets_of c.payload-bits.result) c.in_ok-used.used c.read_plain.new.steps
+    (subst (λ octets. length octets < 2 ^ 24) (sym c.payload-bits.ensures.value) c.payload-bits.ensures.short) (rw (← c.cache.view_is) at c.in_ok-used.ensures.reads)
+    (rw (← c.cache.view_is) at c.in_ok-used.ensures.paid)
 
 pub returns-clause-reads : goal.returns-clause-reads
 returns-clause-reads c = rw (← c.cache.view_is) (

@@ -1,0 +1,300 @@
+-- Data that are not compressed: a walk for each subset, which makes its pass.
+use Rattle.std.proofs.Common.{◌≡◌, ℕ, ◌+◌, ◌-◌, ◌*◌, ◌<◌, ◌≤◌, List, ◌∷◌, ◌++◌, Bool, false, length, if◌then◌else◌, Option, Some, None, option_map, Ok, Err, suc, ◌⊎◌, inl, inr, refl, sym, ◌∙◌, ap, subst, arith, length-append, length-drop, append_assoc, []}
+use Rattle.std.proofs.lemmas.Grind.{common_steps}
+use Rattle.std.proofs.lemmas.List.{append-nil}
+use Rattle.std.specs.Prelude.{is_none, is_some}
+use Rattle.bufr_bits.specs.Prelude.{bits_of}
+use Rattle.bufr_walk.specs.Prelude.{FieldSpec, Taken, Content, answer_of, plain_field, Stop, WalkStop, plain, Item, answers_in, CountedCourse, uncounted, Next, take_next, at_end, ticked, Walked, Cursor, rest_of, PlainTakes, data_in, fault_at, bits_before, items_in, place_at, items_by_pass, PaysBits, Place, DataPass, reading_of, reading, EndsPass, read_pass, passes_apart, stop_of, left_after, ReadsData, turns_in}
+use Rattle.bufr_walk.specs.Pass.{read_field}
+use Rattle.bufr_walk.specs.declared.fault.DataFault.{DataFault}
+use Rattle.bufr_walk.specs.declared.fault.DataFault.TheVariants as wrong
+use Rattle.bufr_walk.specs.declared.spec.Role.TheVariants as role
+use Rattle.bufr_walk.specs.declared.walker.WalkStop.TheVariants as stops
+use Rattle.bufr_walk.proofs.CourseLemmas.{plain_forth}
+use Rattle.bufr_walk.proofs.WalkPass.{item, pass_ends, pass_begins, IsStep, Comes, whole_passes, stopped_passes}
+
+pub ticked_more : (a b : ℕ) → ticked (ticked 0 a) b ≡ ticked 0 (a + b)
+ticked_more a b = grind (arith, common_steps)
+
+-- ---- One subset.
+
+-- a walk from `first` on and its pass, after items that take at least a bit each
+pub record IsAt (first : Cursor) (items : List (Item Content)) (s : Cursor) (p : Place) : Type 0 where
+  pub place : p ≡ place_at (length items) (rest_of s)
+  pub same : s.bits ≡ first.bits
+  pub pays : length items + length (rest_of s) ≤ length (rest_of first)
+
+unfoldable pub plain_follows : (first : Cursor) (before : List (Item Content)) (s : Cursor) (spec : FieldSpec) (t : Taken) (s' : Cursor) (p : Place) → IsAt first before s p
+    → PlainTakes s spec (Ok t) s'
+    → IsStep PlainTakes (reading plain (λ n. false)) answer_of (IsAt first) before spec t s' p
+plain_follows first before s spec t s' p m h = let w = plain_forth spec (rest_of s) h.content (rest_of s') h.some h.field in record {
+  content = h.content;
+  state = place_at (length before + 1) (rest_of s');
+  step = ap (λ (q : Place). read_field plain spec q.items (plain_field spec q.left)) m.place ∙ ap (read_field plain spec (length before)) h.field
+      ∙ ap (λ r. Ok (record { content = h.content; returned = r; state = place_at (length before + 1) (rest_of s') })) (sym h.gives);
+  answer = h.gives;
+  meets = record {
+    place = ap (λ k. place_at k (rest_of s')) (sym (length-append before (item spec h.content ∷ [])));
+    same = ap (λ c. c.bits) h.next ∙ m.same;
+    pays = omega (arith, m.pays, length-append before (item spec h.content ∷ []), w.some, w.within, length-drop w.size (rest_of s), ap length w.left_is);
+  };
+}
+
+-- why a walk stopped: so does its pass, or memory ran out before a reference
+abbrev pub Fails : Cursor → List (Item Content) → Place → Next → WalkStop DataFault → Cursor → Type 0
+Fails first items p next why s' =
+    IsAt first items s' p × (EndsPass (reading plain (λ n. false)) next p (Some why) ⊎ ((spec : FieldSpec) × (next ≡ take_next spec) × (spec.role ≡ role.Reference) × (why ≡ stops.Memory)))
+
+pub plain_fails : (first : Cursor) (items : List (Item Content)) (s : Cursor) (p : Place) (spec : FieldSpec) (e : DataFault) (s' : Cursor) → IsAt first items s p → PlainTakes s spec (Err e) s'
+    → Fails first items p (take_next spec) (stops.Field e) s'
+plain_fails first items s p spec e s' m h = (
+  subst (λ x. IsAt first items x p) (sym h.2) m,
+  inl (ap (λ (q : Place). read_field plain spec q.items (plain_field spec q.left)) m.place ∙ ap (read_field plain spec (length items)) h.0 ∙ ap (λ x. Err (stops.Field x)) (sym h.1)),
+)
+
+module _ (course : CountedCourse) (s : Cursor) (c : ℕ) (s' : Cursor) (c' : ℕ) where
+  -- where a walk over a subset has come
+  abbrev pub Goes : Type 0
+  Goes = Comes PlainTakes (reading plain (λ n. false)) answer_of (IsAt s) course (place_at 0 (rest_of s)) c s' c'
+
+  at_first : IsAt s [] s (place_at 0 (rest_of s))
+  at_first = record { place = refl; same = refl; pays = omega arith }
+
+  -- its pass ends there
+  pass_is : (g : Goes) (stop : Option Stop) → EndsPass (reading plain (λ n. false)) (course (answers_in answer_of g.items)).next g.state stop
+      → read_pass plain (λ n. false) (uncounted course) (rest_of s) ≡ record { items = g.items; state = g.state; stop = stop }
+  pass_is g stop e =
+      pass_ends (reading plain (λ n. false)) (course (answers_in answer_of g.items)).next (uncounted course) (place_at 0 (rest_of s)) g.items g.state (suc (length (rest_of s))) stop g.passes
+      (omega (arith, g.meets.pays)) e
+
+  -- each item took a bit of those before
+  pays : (g : Goes) → s.at ≤ length s.bits → s'.at ≤ length s'.bits → s.at + length g.items ≤ s'.at
+  pays g before within = omega (arith, g.meets.pays, before, within, length-drop s.at s.bits, length-drop s'.at s'.bits, ap length g.meets.same)
+
+  pub ended : Walked PlainTakes course s c (Ok tt) s' c' → (g : Goes) × ((course (answers_in answer_of g.items)).next ≡ at_end)
+  ended w = whole_passes PlainTakes (reading plain (λ n. false)) answer_of (IsAt s) (plain_follows s) course s c s' c' (place_at 0 (rest_of s)) at_first w
+
+  pub stopped : (why : WalkStop DataFault) → Walked PlainTakes course s c (Err why) s' c' → (g : Goes) × Fails s g.items g.state (course (answers_in answer_of g.items)).next why s'
+  stopped why w =
+      let r = stopped_passes PlainTakes (reading plain (λ n. false)) answer_of (IsAt s) (plain_follows s) (Fails s) (plain_fails s) (λ items x p spec m h. (m, inr (spec, refl, h, refl)))
+      (λ items x p y m. (m, inl refl)) course s c why s' c' (place_at 0 (rest_of s)) at_first w in
+      (record { items = r.1.items; state = r.1.state; meets = r.2.0; ticks = r.1.ticks; passes = r.1.passes }, r.2)
+
+-- ---- Subsets that are read one after another.
+
+-- `count` subsets were read, in at most n turns a bit
+pub record SubsetsRead (n : ℕ) (course : CountedCourse) (bits : List Bool) (count : ℕ) (s : Cursor) (steps : ℕ) : Type 0 where
+  -- the passes that read them, and those that follow
+  pub passes : List (DataPass Content)
+  pub goes : (more : ℕ) → passes_apart (uncounted course) (count + more) bits ≡ passes ++ passes_apart (uncounted course) more (rest_of s)
+  pub count_is : length passes ≡ count
+  pub none : stop_of passes ≡ None
+  pub left : left_after bits passes ≡ rest_of s
+  pub ticks : steps ≡ ticked 0 (turns_in answer_of course (items_by_pass passes))
+  pub same : s.bits ≡ bits
+  pub within : s.at ≤ length bits
+  pub few : steps ≤ n * s.at
+  pub pays : items_in (items_by_pass passes) ≤ s.at
+
+-- passes one after another
+stop_append : (a b : List (DataPass Content)) → stop_of a ≡ None → stop_of (a ++ b) ≡ stop_of b
+stop_append [] b e = refl
+stop_append (p ∷ a) b e = by p.stop e (λ z. stop_append a b z)
+  where
+    by : (o : Option Stop) → (if is_some o then o else stop_of a) ≡ None → (stop_of a ≡ None → stop_of (a ++ b) ≡ stop_of b) → (if is_some o then o else stop_of (a ++ b)) ≡ stop_of b
+    by None e go = go e
+    by (Some why) e go = absurd cc
+
+left_append : (bits : List Bool) (a b : List (DataPass Content)) → left_after bits (a ++ b) ≡ left_after (left_after bits a) b
+left_append bits [] b = refl
+left_append bits (p ∷ a) b = left_append p.state.left a b
+
+turns_append : (course : CountedCourse) (a : List (DataPass Content)) (p : DataPass Content)
+    → turns_in answer_of course (items_by_pass (a ++ p ∷ [])) ≡ turns_in answer_of course (items_by_pass a) + (course (answers_in answer_of p.items)).turns
+turns_append course [] p = omega arith
+turns_append course (q ∷ a) p = omega (arith, turns_append course a p)
+
+items_append : (a : List (DataPass Content)) (p : DataPass Content) → items_in (items_by_pass (a ++ p ∷ [])) ≡ items_in (items_by_pass a) + length p.items
+items_append [] p = omega arith
+items_append (q ∷ a) p = omega (arith, items_append a p)
+
+-- nothing was read yet
+pub none_yet : (n : ℕ) (course : CountedCourse) (bits : List Bool) (s : Cursor) (steps : ℕ) → s ≡ record { bits = bits; at = 0 } → steps ≡ 0 → SubsetsRead n course bits 0 s steps
+none_yet n course bits s steps e z = record {
+  passes = [];
+  goes = λ more. ap (λ k. passes_apart (uncounted course) k bits) (zero_plus more) ∙ ap (passes_apart (uncounted course) more) (sym rest);
+  count_is = refl;
+  none = refl;
+  left = sym rest;
+  ticks = z ∙ ticked_none;
+  same = ap (λ x. x.bits) e;
+  within = omega (arith, ap (λ x. x.at) e);
+  few = omega (arith, z);
+  pays = omega arith;
+}
+  where
+    rest : rest_of s ≡ bits
+    rest = ap rest_of e
+
+    zero_plus : (n : ℕ) → 0 + n ≡ n
+    zero_plus n = omega arith
+
+    ticked_none : 0 ≡ ticked 0 0
+    ticked_none = grind (arith, common_steps)
+
+module _ (n : ℕ) (course : CountedCourse) (bits : List Bool) (i : ℕ) (s s' : Cursor) (c c' : ℕ) (h : SubsetsRead n course bits i s c) where
+  -- the turns up to where the next walk has come
+  ticks_of : (g : Goes course s c s' c') → c' ≡ ticked 0 (turns_in answer_of course (items_by_pass h.passes) + (course (answers_in answer_of g.items)).turns)
+  ticks_of g =
+      g.ticks ∙ ap (λ x. ticked x (course (answers_in answer_of g.items)).turns) h.ticks ∙ ticked_more (turns_in answer_of course (items_by_pass h.passes)) (course (answers_in answer_of g.items)).turns
+
+  -- the bits that are left
+  left_is : (g : Goes course s c s' c') (stop : Option Stop) → left_after bits (h.passes ++ record { items = g.items; state = g.state; stop = stop } ∷ []) ≡ rest_of s'
+  left_is g stop = left_append bits h.passes (record { items = g.items; state = g.state; stop = stop } ∷ []) ∙ ap (λ (p : Place). p.left) g.meets.place
+
+  paid : (g : Goes course s c s' c') → s'.at ≤ length s'.bits → s.at + length g.items ≤ s'.at
+  paid g within = pays course s c s' c' g (omega (arith, h.within, ap length h.same)) within
+
+  -- one subset more
+  pub one_more : Walked PlainTakes course s c (Ok tt) s' c' → c' ≤ c + n * (s'.at - s.at) → s'.at ≤ length s'.bits → SubsetsRead n course bits (i + 1) s' c'
+  one_more w few within =
+      let g = (ended course s c s' c' w).0 in
+      let pass : DataPass Content = record { items = g.items; state = g.state; stop = None } in
+      let is : read_pass plain (λ n. false) (uncounted course) (rest_of s) ≡ pass =
+      pass_is course s c s' c' g None (subst (λ x. EndsPass (reading plain (λ n. false)) x g.state None) (sym (ended course s c s' c' w).1) refl) in
+      record {
+        passes = h.passes ++ pass ∷ [];
+        goes = λ more. ap (λ k. passes_apart (uncounted course) k bits) (counted i more) ∙ h.goes (suc more)
+            ∙ ap (λ (q : DataPass Content). h.passes ++ (q ∷ (if is_none q.stop then passes_apart (uncounted course) more q.state.left else []))) is
+            ∙ ap (λ (l : List Bool). h.passes ++ (pass ∷ passes_apart (uncounted course) more l)) (ap (λ (p : Place). p.left) g.meets.place)
+            ∙ sym (append_assoc h.passes (pass ∷ []) (passes_apart (uncounted course) more (rest_of s')));
+        count_is = omega (arith, length-append h.passes (pass ∷ []), h.count_is);
+        none = stop_append h.passes (pass ∷ []) h.none;
+        left = left_is g None;
+        ticks = ticks_of g ∙ ap (ticked 0) (sym (turns_append course h.passes pass));
+        same = g.meets.same ∙ h.same;
+        within = omega (arith, within, ap length (g.meets.same ∙ h.same));
+        few = sums n s.at s'.at c c' h.few few (omega (arith, paid g within));
+        pays = omega (arith, items_append h.passes pass, h.pays, paid g within);
+      }
+    where
+      counted : (i more : ℕ) → i + 1 + more ≡ i + suc more
+      counted i more = omega arith
+
+      sums : (n a b c c' : ℕ) → c ≤ n * a → c' ≤ c + n * (b - a) → a ≤ b → c' ≤ n * b
+      sums n a b c c' h g f = let e : n * b ≡ n * a + n * (b - a) = split n a (b - a) b (omega (arith, f)) in omega (arith, e, h, g)
+        where
+          split : (n a d b : ℕ) → b ≡ a + d → n * b ≡ n * a + n * d
+          split n a d b e = ap (λ x. n * x) e ∙ grind arith
+
+  -- the turns up to a fault
+  pub few_stopped : (subset : ℕ) (why : WalkStop DataFault) → Walked PlainTakes course s c (Err why) s' c' → c' ≤ c + n * (s'.at - s.at + 1) → s'.at ≤ length s'.bits
+      → c' ≤ n * (bits_before (fault_at why subset s'.at) (length bits) + 1)
+  few_stopped subset why w few within =
+      let g = (stopped course s c s' c' why w).0 in
+      sums n s.at s'.at c c' (bits_before (fault_at why subset s'.at) (length bits)) h.few few (omega (arith, paid g within)) (at_spot why (omega (arith, within, ap length (g.meets.same ∙ h.same))))
+    where
+      split : (n a d b : ℕ) → b ≡ a + d → n * b ≡ n * a + n * d
+      split n a d b e = ap (λ x. n * x) e ∙ grind arith
+
+      sums : (n a b c c' k : ℕ) → c ≤ n * a → c' ≤ c + n * (b - a + 1) → a ≤ b → b ≤ k → c' ≤ n * (k + 1)
+      sums n a b c c' k h g f w =
+          let e : n * (k + 1) ≡ n * a + n * (k + 1 - a) = split n a (k + 1 - a) (k + 1) (omega (arith, f, w)) in
+          let d : n * (k + 1 - a) ≡ n * (b - a + 1) + n * (k - b) = split n (b - a + 1) (k - b) (k + 1 - a) (omega (arith, f, w)) in
+          omega (arith, e, d, h, g)
+
+      at_spot : (stop : Stop) → s'.at ≤ length bits → s'.at ≤ bits_before (fault_at stop subset s'.at) (length bits)
+      at_spot (stops.Width f) h = omega arith
+      at_spot (stops.Defining f) h = omega arith
+      at_spot (stops.Field (wrong.DataEnd f)) h = omega arith
+      at_spot (stops.Field (wrong.Increment f)) h = omega arith
+      at_spot (stops.Field (wrong.UnequalFactor f)) h = omega arith
+      at_spot (stops.Field (wrong.TooManyValues f)) h = omega arith
+      at_spot (stops.Field wrong.Memory) h = h
+      at_spot stops.Memory h = h
+
+-- ---- All subsets.
+
+here : (s : Cursor) (bits : List Bool) → s.bits ≡ bits → s.at ≤ length bits → s.at + length (rest_of s) ≡ length bits
+here s bits e h = omega (arith, length-drop s.at s.bits, ap length e, h)
+
+module _ (n : ℕ) (course : CountedCourse) (octets : List ℕ) (total i : ℕ) where
+  abbrev all_passes : List (DataPass Content)
+  all_passes = passes_apart (uncounted course) total (bits_of octets)
+
+  module _ (s : Cursor) (c : ℕ) (h : SubsetsRead n course (bits_of octets) i s c) (e : i ≡ total) where
+    are_all : all_passes ≡ h.passes
+    are_all = ap (λ k. passes_apart (uncounted course) k (bits_of octets)) (sym e ∙ plus_none i) ∙ h.goes 0 ∙ append-nil h.passes
+      where
+        plus_none : (a : ℕ) → a ≡ a + 0
+        plus_none a = omega arith
+
+    pub all_read : ReadsData course (data_in false total octets) (Ok s.at) c
+    all_read = (
+      ap stop_of are_all ∙ h.none,
+      ap (λ (ps : List (DataPass Content)). s.at + length (left_after (bits_of octets) ps)) are_all ∙ ap (λ l. s.at + length l) h.left ∙ here s (bits_of octets) h.same h.within,
+      h.ticks ∙ ap (λ ps. ticked 0 (turns_in answer_of course (items_by_pass ps))) (sym are_all),
+    )
+
+    pub all_paid : PaysBits (reading_of (uncounted course) (data_in false total octets)).values s.at
+    all_paid = subst (λ (ps : List (DataPass Content)). items_in (items_by_pass ps) ≤ s.at) (sym are_all) h.pays
+
+  -- a walk that stopped in one subset
+  pub stopped_there : (s s' : Cursor) (c c' : ℕ) (why : WalkStop DataFault) → SubsetsRead n course (bits_of octets) i s c → i < total → Walked PlainTakes course s c (Err why) s' c'
+      → s'.at ≤ length s'.bits → ReadsData course (data_in false total octets) (Err (fault_at why (i + 1) s'.at)) c'
+  stopped_there s s' c c' why h more w within = let r = stopped course s c s' c' why w in by r.0 r.1.1
+    where
+      bits : List Bool
+      bits = bits_of octets
+
+      Later : DataPass Content → List (DataPass Content)
+      Later p = if is_none p.stop then passes_apart (uncounted course) (total - (i + 1)) p.state.left else []
+
+      goes : all_passes ≡ h.passes ++ (read_pass plain (λ n. false) (uncounted course) (rest_of s) ∷ Later (read_pass plain (λ n. false) (uncounted course) (rest_of s)))
+      goes = ap (λ k. passes_apart (uncounted course) k (bits_of octets)) (others total i more) ∙ h.goes (suc (total - (i + 1)))
+        where
+          others : (total i : ℕ) → i < total → total ≡ i + suc (total - (i + 1))
+          others total i h = omega (arith, h)
+
+      place_is : (a b c : ℕ) → a + b ≡ c → c - b ≡ a
+      place_is a b c e = omega (arith, e)
+
+      by : (g : Goes course s c s' c') → EndsPass (reading plain (λ n. false)) (course (answers_in answer_of g.items)).next g.state (Some why)
+          ⊎ ((spec : FieldSpec) × ((course (answers_in answer_of g.items)).next ≡ take_next spec) × (spec.role ≡ role.Reference) × (why ≡ stops.Memory))
+          → ReadsData course (data_in false total octets) (Err (fault_at why (i + 1) s'.at)) c'
+      by g (inl e) =
+          let pass : DataPass Content = record { items = g.items; state = g.state; stop = Some why } in
+          let all : all_passes ≡ h.passes ++ pass ∷ [] = goes ∙ ap (λ (z : DataPass Content). h.passes ++ (z ∷ Later z)) (pass_is course s c s' c' g (Some why) e) in
+          let same : s'.bits ≡ bits_of octets = g.meets.same ∙ h.same in
+          let at : s'.at + length (rest_of s') ≡ length (bits_of octets) = here s' (bits_of octets) same (omega (arith, within, ap length same)) in
+          let count : length (h.passes ++ pass ∷ []) ≡ i + 1 = omega (arith, length-append h.passes (pass ∷ []), h.count_is) in
+          inl (
+            ap (λ (ps : List (DataPass Content)). option_map (λ w. fault_at w (length ps) (length (bits_of octets) - length (left_after (bits_of octets) ps))) (stop_of ps)) all
+                ∙ ap (λ o. option_map (λ w. fault_at w (length (h.passes ++ pass ∷ [])) (length (bits_of octets) - length (left_after (bits_of octets) (h.passes ++ pass ∷ [])))) o)
+                (stop_append h.passes (pass ∷ []) h.none)
+                ∙ ap (λ k. Some (fault_at why k (length (bits_of octets) - length (left_after (bits_of octets) (h.passes ++ pass ∷ []))))) count
+                ∙ ap (λ l. Some (fault_at why (i + 1) (length (bits_of octets) - length l))) (left_is n course (bits_of octets) i s s' c c' h g (Some why))
+                ∙ ap (λ b. Some (fault_at why (i + 1) b)) (place_is s'.at (length (rest_of s')) (length (bits_of octets)) at),
+            ticks_of n course (bits_of octets) i s s' c c' h g ∙ ap (ticked 0) (sym (ap (λ ps. turns_in answer_of course (items_by_pass ps)) all ∙ turns_append course h.passes pass)),
+          )
+      by g (inr q) =
+          let begins = pass_begins (reading plain (λ n. false)) (course (answers_in answer_of g.items)).next (uncounted course) (place_at 0 (rest_of s)) g.items g.state (suc (length (rest_of s)))
+          g.passes (omega (arith, g.meets.pays)) in
+          inr (
+            ap (λ w. fault_at w (i + 1) s'.at) q.3,
+            turns_in answer_of course (items_by_pass h.passes) + (course (answers_in answer_of g.items)).turns,
+            record {
+              done = h.passes;
+              here = read_pass plain (λ n. false) (uncounted course) (rest_of s);
+              later = Later (read_pass plain (λ n. false) (uncounted course) (rest_of s));
+              among = goes;
+              items = g.items;
+              more = begins.0;
+              are = begins.1;
+              spec = q.0;
+              next = q.1;
+              why = inr q.2;
+              turns_are = refl;
+            },
+            ticks_of n course (bits_of octets) i s s' c c' h g,
+          )

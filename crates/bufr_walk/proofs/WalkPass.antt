@@ -1,0 +1,143 @@
+-- A walk makes the pass whose step is how the walk takes a field.
+use Rattle.std.proofs.Common.{◌≡◌, ℕ, List, [], ◌∷◌, ◌++◌, Result, Ok, Err, Option, Some, None, zero, suc, ◌<◌, length, refl, sym, ◌∙◌, ap, subst, arith, append_assoc, append-nil}
+use Rattle.bufr_walk.specs.Prelude.{Taken, FieldSpec, TurnRefusal, WalkStop, Course, CountedCourse, uncounted, Next, take_next, at_end, refused, astray, TakenField, Takes, oks, answers_of, Walked, ticked, Item, answers_in, stop_by, StopsWalk}
+use Rattle.bufr_walk.specs.Pass.{Passing, Pass, Step, empty_pass, item_then, pass, pass_next, pass_field, EndsPass}
+use Rattle.bufr_walk.specs.declared.spec.Role.TheVariants as role
+use Rattle.bufr_walk.specs.declared.walker.WalkStop.TheVariants as stops
+use Rattle.bufr_walk.proofs.WalkLemmas.{stop_cases}
+
+-- an item from its parts
+abbrev pub item : {C : Type 0} → FieldSpec → C → Item C
+item spec content = record { spec = spec; content = content }
+
+-- a pass with more items before
+abbrev pub items_before : {T C E : Type 0} → List (Item C) → Pass T C E → Pass T C E
+items_before items q = record q { items = items ++ q.items }
+
+-- ---- The items of a pass up to what comes next.
+
+module _ {T C E : Type 0} (how : Passing T C E) where
+  -- a pass from p on begins with these items, and continues with what comes next
+  abbrev pub Passes : Next → Course → T → List (Item C) → T → Type 0
+  Passes next course p items state = (most : ℕ) → length items < most → (go : Step T C → Pass T C E) × (pass how most course p ≡ items_before items (pass_next how next state go))
+
+  -- at what ends a pass, nothing more is passed
+  pub at_last : (next : Next) (p : T) (stop : Option E) (go : Step T C → Pass T C E) → EndsPass how next p stop → pass_next how next p go ≡ empty_pass p stop
+  at_last (take_next spec) p None go h = absurd h
+  at_last (take_next spec) p (Some why) go h = ap (λ r. pass_field how spec p r go) h
+  at_last at_end p stop go h = ap (empty_pass p) (sym h)
+  at_last (refused why) p stop go h = ap (empty_pass p) (sym h)
+  at_last astray p stop go h = absurd h
+
+  pass_so : (items : List (Item C)) (state : T) (stop : Option E) → items_before items (empty_pass state stop) ≡ record { items = items; state = state; stop = stop }
+  pass_so items state stop = ap (λ (xs : List (Item C)). record { items = xs; state = state; stop = stop }) (append-nil items)
+
+  -- the pass ends after its items
+  pub pass_ends : (next : Next) (course : Course) (p : T) (items : List (Item C)) (state : T) (most : ℕ) (stop : Option E) → Passes next course p items state → length items < most
+      → EndsPass how next state stop
+      → pass how most course p ≡ record { items = items; state = state; stop = stop }
+  pass_ends next course p items state most stop h lt e =
+      let g = h most lt in g.1 ∙ ap (items_before items) (at_last next state stop g.0 e) ∙ pass_so items state stop
+
+  -- it begins with its items
+  pub pass_begins : (next : Next) (course : Course) (p : T) (items : List (Item C)) (state : T) (most : ℕ) → Passes next course p items state → length items < most
+      → (more : List (Item C)) × ((pass how most course p).items ≡ items ++ more)
+  pass_begins next course p items state most h lt =
+      let g = h most lt in ((pass_next how next state g.0).items, ap (λ (q : Pass T C E). q.items) g.1)
+
+  -- it continues with the next field
+  pub pass_goes : (next : Next) (course : Course) (p : T) (items : List (Item C)) (state : T) (most : ℕ) (spec : FieldSpec) (f : Step T C) → Passes next course p items state → length items < most
+      → next ≡ take_next spec → how.step spec state ≡ Ok f → (more : List (Item C)) × ((pass how most course p).items ≡ items ++ item spec f.content ∷ more)
+  pass_goes next course p items state most spec f h lt n step =
+      let g = h most lt in (
+        (g.0 f).items,
+        ap (λ (q : Pass T C E). q.items) g.1 ∙ ap (λ n. items ++ (pass_next how n state g.0).items) n ∙ ap (λ r. items ++ (pass_field how spec state r g.0).items) step,
+      )
+
+  pub passes_none : (course : Course) (p : T) → Passes (course []) course p [] p
+  passes_none course p zero lt = absurd (omega (arith, lt))
+  passes_none course p (suc most) lt = (λ f. pass how most (λ answers. course (f.returned ∷ answers)) f.state, refl)
+
+  pub passes_one : (next : Next) (course : Course) (p : T) (spec : FieldSpec) (c : C) (t : Taken) (mid : T) (items : List (Item C)) (state : T) → course [] ≡ take_next spec
+      → how.step spec p ≡ Ok (record { content = c; returned = t; state = mid }) → Passes next (λ answers. course (t ∷ answers)) mid items state → Passes next course p (item spec c ∷ items) state
+  passes_one next course p spec c t mid items state n step h zero lt = absurd (omega (arith, lt))
+  passes_one next course p spec c t mid items state n step h (suc most) lt =
+      let go : Step T C → Pass T C E = λ f. pass how most (λ answers. course (f.returned ∷ answers)) f.state in
+      let rest = h most (omega (arith, lt)) in
+      (rest.0, ap (λ x. pass_next how x p go) n ∙ ap (λ x. pass_field how spec p x go) step ∙ ap (item_then spec c) rest.1)
+
+-- ---- The pass of a walk.
+
+-- `Meets items s p`: the walk is at s and the pass at p, each after these items.
+module _ {S T C E F : Type 0} (takes : S → FieldSpec → Result Taken F → S → Type 0) (how : Passing T C E) (gives : FieldSpec → C → Taken) (Meets : List (Item C) → S → T → Type 0) where
+  -- a field that was taken is a step of the pass
+  pub record IsStep (before : List (Item C)) (spec : FieldSpec) (t : Taken) (s' : S) (p : T) : Type 0 where
+    pub content : C
+    pub state : T
+    pub step : how.step spec p ≡ Ok (record { content = content; returned = t; state = state })
+    pub answer : t ≡ gives spec content
+    pub meets : Meets (before ++ item spec content ∷ []) s' state
+
+  -- where a walk has come: the items so far, and the turns up to what comes next
+  pub record Comes (course : CountedCourse) (p : T) (steps : ℕ) (s' : S) (steps' : ℕ) : Type 0 where
+    pub items : List (Item C)
+    pub state : T
+    pub meets : Meets items s' state
+    pub ticks : steps' ≡ ticked steps (course (answers_in gives items)).turns
+    pub passes : Passes how (course (answers_in gives items)).next (uncounted course) p items state
+
+  module _ (follows : (before : List (Item C)) (s : S) (spec : FieldSpec) (t : Taken) (s' : S) (p : T) → Meets before s p → takes s spec (Ok t) s' → IsStep before spec t s' p) where
+    walk_passes : (before : List (Item C)) (course : Course) (s : S) (walked : List TakenField) (s' : S) (p : T) → Meets before s p → Takes (oks takes) course s walked s'
+        → (items : List (Item C)) × (state : T) × (answers_of walked ≡ answers_in gives items) × Meets (before ++ items) s' state × Passes how (course (answers_of walked)) course p items state
+    walk_passes before course s [] s' p m h =
+        ([], p, refl, subst (λ xs. Meets xs s' p) (sym (append-nil before)) (subst (λ x. Meets before x p) (sym h) m), λ most lt. passes_none how course p most lt)
+    walk_passes before course s (i ∷ walked) s' p m h =
+        let f = follows before s i.spec i.taken h.0 p m h.2 in
+        let x : Item C = item i.spec f.content in
+        let rest = walk_passes (before ++ x ∷ []) (λ answers. course (i.taken ∷ answers)) h.0 walked s' f.state f.meets h.3 in (
+          x ∷ rest.0,
+          rest.1,
+          ap (λ t. t ∷ answers_of walked) f.answer ∙ ap (λ ts. gives i.spec f.content ∷ ts) rest.2,
+          subst (λ xs. Meets xs s' rest.1) (append_assoc before (x ∷ []) rest.0) rest.3,
+          λ most lt. passes_one how (course (i.taken ∷ answers_of walked)) course p i.spec f.content i.taken f.state rest.0 rest.1 h.1 f.step rest.4 most lt,
+        )
+
+    -- where a walk takes no more
+    comes : (course : CountedCourse) (s : S) (steps : ℕ) (walked : List TakenField) (s' : S) (steps' : ℕ) (p : T) → Meets [] s p → Takes (oks takes) (uncounted course) s walked s'
+        → steps' ≡ ticked steps (course (answers_of walked)).turns
+        → (c : Comes course p steps s' steps') × ((course (answers_of walked)).next ≡ (course (answers_in gives c.items)).next)
+    comes course s steps walked s' steps' p m h ticks =
+        let r = walk_passes [] (uncounted course) s walked s' p m h in (
+          record {
+            items = r.0;
+            state = r.1;
+            meets = r.3;
+            ticks = ticks ∙ ap (λ ts. ticked steps (course ts).turns) r.2;
+            passes = subst (λ ts. Passes how (course ts).next (uncounted course) p r.0 r.1) r.2 r.4;
+          },
+          ap (λ ts. (course ts).next) r.2,
+        )
+
+    -- a walk to the end
+    pub whole_passes : (course : CountedCourse) (s : S) (steps : ℕ) (s' : S) (steps' : ℕ) (p : T) → Meets [] s p → Walked takes course s steps (Ok tt) s' steps'
+        → (c : Comes course p steps s' steps') × ((course (answers_in gives c.items)).next ≡ at_end)
+    whole_passes course s steps s' steps' p m w = let c = comes course s steps w.0 s' steps' p m w.1 w.3 in (c.0, sym c.1 ∙ w.2)
+
+    -- A walk that stops: `Fails` says what that is for a pass, after these items and at what comes next.
+    module _ (Fails : List (Item C) → T → Next → WalkStop F → S → Type 0)
+        (field : (items : List (Item C)) (s : S) (p : T) (spec : FieldSpec) (e : F) (s' : S) → Meets items s p → takes s spec (Err e) s' → Fails items p (take_next spec) (stops.Field e) s')
+        (short : (items : List (Item C)) (s : S) (p : T) (spec : FieldSpec) → Meets items s p → spec.role ≡ role.Reference → Fails items p (take_next spec) stops.Memory s)
+        (refuses : (items : List (Item C)) (s : S) (p : T) (why : TurnRefusal) → Meets items s p → Fails items p (refused why) (stop_by why) s) where
+      pub stopped_passes : (course : CountedCourse) (s : S) (steps : ℕ) (why : WalkStop F) (s' : S) (steps' : ℕ) (p : T) → Meets [] s p → Walked takes course s steps (Err why) s' steps'
+          → (mid : S) × (c : Comes course p steps mid steps') × Fails c.items c.state (course (answers_in gives c.items)).next why s'
+      stopped_passes course s steps why s' steps' p m w =
+          let c = comes course s steps w.0 w.1 steps' p m w.2 w.4 in
+          let items = c.0.items in
+          let q = c.0.state in (
+            w.1,
+            c.0,
+            stop_cases takes (λ next y. Fails items q next y s') w.1 s' (λ spec e h. field items w.1 q spec e s' c.0.meets h)
+                (λ spec h e. subst (λ x. Fails items q (take_next spec) stops.Memory x) (sym e) (short items w.1 q spec c.0.meets h))
+                (λ x e. subst (λ z. Fails items q (refused x) (stop_by x) z) (sym e) (refuses items w.1 q x c.0.meets)) (course (answers_in gives items)).next why
+                (subst (λ n. StopsWalk takes n w.1 why s') c.1 w.3),
+          )
