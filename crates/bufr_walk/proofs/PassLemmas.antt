@@ -1,14 +1,16 @@
 -- A pass over data reads each item where the one before ended.
-use Rattle.bufr_walk.proofs.WalkPass.{Passes, passes_none, passes_one, pass_ends}
+use Rattle.bufr_walk.proofs.WalkPass.{Passes, passes_none, passes_one, pass_ends, Comes}
 use Rattle.std.proofs.lemmas.Bool.{ltb-false, le-ltb}
 use Rattle.bufr_bits.specs.Prelude.{number_of}
 use Rattle.bufr_walk.proofs.PackedLemmas.{item_parts, neither}
-use Rattle.std.proofs.Common.{◌≡◌, ℕ, zero, suc, ◌+◌, ◌-◌, ◌<◌, ◌≤◌, Bool, true, false, List, ◌∷◌, length, Option, Some, None, Result, Ok, Err, ◌||◌, ◌*◌, nat_lt, take, refl, sym, ◌∙◌, ap, subst, arith, drop, length-drop, if◌then◌else◌, []}
+use Rattle.std.proofs.Common.{◌≡◌, ℕ, zero, suc, ◌+◌, ◌-◌, ◌<◌, ◌≤◌, Bool, true, false, List, ◌∷◌, length, Option, Some, None, Result, Ok, Err, ◌||◌, ◌*◌, nat_lt, take, refl, sym, ◌∙◌, ap, subst, arith, drop, length-drop, if◌then◌else◌, [], ◌⊎◌, ◌++◌}
 use Rattle.bufr_tables.specs.Prelude.{Row, Tree, IsLegal, Record, AreRows}
-use Rattle.bufr_walk.specs.Prelude.{packed_field, step_of, coding_of, contents_across, FieldSpec, Content, FieldFault, FieldRead, found, Course, Next, take_next, at_end, astray, refused, next_item, Item, DataCoding, plain, packed, answers_in, after, ReadsItems, ReadsPass, ReadsSubsets, IsPackedReading, Data, Values, apart, together, IsReading, Stop, would_be_many, max_values, wrong_of, stop_by, Taken}
+use Rattle.bufr_walk.specs.Prelude.{packed_field, step_of, coding_of, contents_across, FieldSpec, Content, FieldFault, FieldRead, found, Course, Next, take_next, at_end, astray, refused, next_item, Item, DataCoding, plain, packed, answers_in, after, ReadsItems, ReadsPass, ReadsSubsets, IsPackedReading, Data, Values, apart, together, IsReading, Stop, would_be_many, max_values, wrong_of, stop_by, Taken, CountedCourse, uncounted, turns_in, fault_at}
 use Rattle.bufr_walk.specs.declared.walker.WalkStop.TheVariants as stops
+use Rattle.bufr_walk.specs.declared.spec.Role.TheVariants as role
+use Rattle.bufr_walk.specs.declared.fault.WalkFault.TheVariants as fault
 use Rattle.bufr_walk.specs.declared.fault.DataFault.TheVariants as wrong
-use Rattle.bufr_walk.specs.Pass.{Pass, empty_pass, item_then, pass_field, pass_next, pass, Place, read_field, reading, read_pass, DataPass, passes_apart, passes_together, stop_of, left_after, DataReading, reading_in, reading_of, EndsPass, ReadsTo}
+use Rattle.bufr_walk.specs.Pass.{Pass, empty_pass, item_then, pass_field, pass_next, pass, Place, read_field, reading, read_pass, DataPass, passes_apart, passes_together, stop_of, left_after, DataReading, reading_in, reading_of, EndsPass, ReadsTo, RunsShort}
 use Rattle.bufr_walk.specs.Readers.{place_at, items_by_pass, first_items}
 use Rattle.std.proofs.lemmas.Grind.{common_steps}
 use Rattle.std.proofs.lemmas.List.{drop-drop}
@@ -167,6 +169,34 @@ next_pass course n left bits one h =
         → (p.stop ≡ None) × (stop_of (passes_apart course left p.state.left) ≡ None))
     by None e h = (e, h)
     by (Some why) e h = absurd cc
+
+-- ---- Why a walk that reads stops.
+
+module _ {C : Type 0} (form : DataCoding C) (many wants : ℕ → Bool) where
+  -- its pass stops for the same reason, or memory ran out before the next field
+  abbrev pub Stops : List (Item C) → Place → Next → Stop → Type 0
+  Stops items p next why = EndsPass (reading form many) next p (Some why)
+      ⊎ ((spec : FieldSpec) × (next ≡ take_next spec) × ((wants (length items) ≡ true) ⊎ (spec.role ≡ role.Reference)) × ((subset at : ℕ) → fault_at why subset at ≡ fault.Memory))
+
+  -- memory ran out in the pass that follows some others
+  pub runs_short : (course : CountedCourse) (bits : List Bool) (steps steps' : ℕ) (g : Comes (reading form many) form.gives course (place_at 0 bits) steps steps') → length g.items < suc (length bits)
+      → (done later : List (DataPass C)) (spec : FieldSpec) → (course (answers_in form.gives g.items)).next ≡ take_next spec → (wants (length g.items) ≡ true) ⊎ (spec.role ≡ role.Reference)
+      → RunsShort form wants course (done ++ read_pass form many (uncounted course) bits ∷ later) (turns_in form.gives course (items_by_pass done) + (course (answers_in form.gives g.items)).turns)
+  runs_short course bits steps steps' g enough done later spec n why =
+      let begins = g.begins (suc (length bits)) enough in
+      record {
+        done = done;
+        here = read_pass form many (uncounted course) bits;
+        later = later;
+        among = refl;
+        items = g.items;
+        more = begins.0;
+        are = begins.1;
+        spec = spec;
+        next = n;
+        why = why;
+        turns_are = refl;
+      }
 
 -- so few items that one more is not too many
 pub few_values : (n items j : ℕ) → items * n ≤ max_values → j < items → would_be_many n (0 + j) ≡ false
