@@ -214,7 +214,7 @@ no_room s a bits at n kept kept' e view same is full =
 
 -- ---- A walk over compressed data makes their one pass.
 
--- the walk and its pass, after items that take at least a bit each
+-- the states of the walk and of its pass, after items of at least one bit each
 pub record IsPackedAt (n : ℕ) (bits : List Bool) (xs : List (Item (List Content))) (s : PackedCursor) (p : Place) : Type 0 where
   pub place : p ≡ place_at (length xs) (remaining_bits s)
   pub items : s.items ≡ xs
@@ -255,7 +255,7 @@ packed_follows n bits before s spec t s' p m h = record {
   };
 }
 
--- why a walk stopped; memory is wanted for each 64th item
+-- Why a walk stopped. Memory is allocated for every 64th item.
 abbrev pub wants : ℕ → Bool
 wants items = items % items_at_once == 0
 

@@ -1,4 +1,4 @@
--- Data that are not compressed: a walk for each subset, which makes its pass.
+-- Data that are not compressed: one walk for each subset, which makes the pass of that subset.
 use Rattle.bufr_walk.proofs.PassLemmas.{Stops, runs_short}
 use Rattle.std.proofs.Common.{◌≡◌, ℕ, ◌+◌, ◌-◌, ◌*◌, ◌<◌, ◌≤◌, List, ◌∷◌, ◌++◌, Bool, false, length, if◌then◌else◌, Option, Some, None, option_map, Ok, Err, suc, inl, inr, refl, sym, ◌∙◌, ap, subst, arith, length-append, length-drop, append_assoc, []}
 use Rattle.std.proofs.lemmas.Grind.{common_steps}
@@ -22,7 +22,7 @@ ticked_more a b = grind (arith, common_steps)
 abbrev pub how : Passing Place Content Stop
 how = reading plain (λ n. false)
 
--- a walk from `first` on and its pass, after items that take at least a bit each
+-- the states of a walk that began at `first` and of its pass, after items of at least one bit each
 pub record IsAt (first : Cursor) (items : List (Item Content)) (s : Cursor) (p : Place) : Type 0 where
   pub place : p ≡ place_at (length items) (rest_of s)
   pub same : s.bits ≡ first.bits
@@ -63,7 +63,7 @@ plain_fails first items s p spec e s' m h = (
 )
 
 module _ (course : CountedCourse) (s : Cursor) (c : ℕ) (s' : Cursor) (c' : ℕ) where
-  -- where a walk over a subset has come
+  -- what a walk over a subset has done so far
   abbrev pub Goes : Type 0
   Goes = Comes how answer_of course (place_at 0 (rest_of s)) c c'
 

@@ -160,7 +160,7 @@ module _ {V E : Type 0} (sees : V → Call → Result (Unit {0}) E → V → Typ
     abbrev pub took : S → FieldSpec → Result Taken (ShowStop E) → S → Type 0
     took s spec r t = ShowingTakes sees (on s) spec r (on t)
 
-    -- a walk from `first` on and its pass, after items that were shown
+    -- the states of a walk that began at `first` and of its pass, after items that were shown
     pub record IsShownAt (first : S) (xs : List (Item Content)) (s : S) (p : Place) : Type 0 where
       pub at : IsAt (on first).cursor xs (on s).cursor p
       pub rows : (on s).table ≡ table

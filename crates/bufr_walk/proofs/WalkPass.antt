@@ -1,4 +1,4 @@
--- A walk makes the pass whose step is how the walk takes a field.
+-- If each field of a walk is taken as a step of a pass makes it, then the walk makes that pass.
 use Rattle.std.proofs.Common.{◌≡◌, ℕ, List, [], ◌∷◌, ◌++◌, Result, Ok, Err, Option, Some, None, zero, suc, ◌<◌, length, refl, sym, ◌∙◌, ap, subst, arith, append_assoc, append-nil}
 use Rattle.bufr_walk.specs.Prelude.{Taken, FieldSpec, TurnRefusal, WalkStop, Course, CountedCourse, uncounted, Next, take_next, at_end, refused, astray, TakenField, Takes, oks, answers_of, Walked, ticked, Item, answers_in, stop_by, StopsWalk}
 use Rattle.bufr_walk.specs.Pass.{Passing, Pass, Step, empty_pass, item_then, pass, pass_next, pass_field, EndsPass}
@@ -66,7 +66,7 @@ module _ {T C E : Type 0} (how : Passing T C E) where
       let rest = h most (omega (arith, lt)) in
       (rest.0, ap (λ x. pass_next how x p go) n ∙ ap (λ x. pass_field how spec p x go) step ∙ ap (item_then spec c) rest.1)
 
--- where a walk has come: the items of its pass so far, and the turns up to what comes next
+-- what a walk has done so far: the items of its pass, and the turns up to what comes next
 pub record Comes {T C E : Type 0} (how : Passing T C E) (gives : FieldSpec → C → Taken) (course : CountedCourse) (p : T) (steps steps' : ℕ) : Type 0 where
   pub items : List (Item C)
   pub state : T
@@ -80,7 +80,7 @@ pub record Comes {T C E : Type 0} (how : Passing T C E) (gives : FieldSpec → C
 
 -- ---- The pass of a walk.
 
--- `Meets items s p`: the walk is at s and the pass at p, each after these items.
+-- `Meets items s p`: after these items, the walk is in state s and the pass is in state p.
 module _ {S T C E F : Type 0} (takes : S → FieldSpec → Result Taken F → S → Type 0) (how : Passing T C E) (gives : FieldSpec → C → Taken) (Meets : List (Item C) → S → T → Type 0) where
   -- a field that was taken is a step of the pass
   pub record IsStep (before : List (Item C)) (spec : FieldSpec) (t : Taken) (s' : S) (p : T) : Type 0 where
@@ -130,7 +130,8 @@ module _ {S T C E F : Type 0} (takes : S → FieldSpec → Result Taken F → S 
           → (c : Comes how gives course p steps steps') × Meets c.items s' c.state × ((course (answers_in gives c.items)).next ≡ at_end)
       whole_passes w = let c = comes w.0 s' w.1 w.3 in (c.0, c.1, sym c.2 ∙ w.2)
 
-      -- A walk that stops: `Fails` says what that is for a pass, after these items and at what comes next.
+      -- A walk that stops. The caller chooses what `Fails` says of the items, the state of the pass,
+      -- what comes next, why the walk stopped, and the state of the walk.
       pub stopped_passes : (Fails : List (Item C) → T → Next → WalkStop F → S → Type 0)
           → ((items : List (Item C)) (s : S) (p : T) (spec : FieldSpec) (e : F) (s' : S) → Meets items s p → takes s spec (Err e) s' → Fails items p (take_next spec) (stops.Field e) s')
           → ((items : List (Item C)) (s : S) (p : T) (spec : FieldSpec) → Meets items s p → spec.role ≡ role.Reference → Fails items p (take_next spec) stops.Memory s)
