@@ -1,7 +1,8 @@
 -- A walk over compressed data reads them as the definition does, and keeps its items.
-use Rattle.bufr_walk.proofs.WalkPass.{Comes, IsStep, pass_begins, pass_ends, stopped_passes, whole_passes, item}
+use Rattle.bufr_walk.proofs.PassLemmas.{Stops, runs_short}
+use Rattle.bufr_walk.proofs.WalkPass.{Comes, IsStep, stopped_passes, whole_passes, item}
 use Rattle.std.proofs.lemmas.Grind.{common_steps}
-use Rattle.std.proofs.Common.{option_map, ◌≡◌, ℕ, ◌+◌, ◌*◌, ◌<◌, ◌≤◌, Bool, true, false, List, length, take, drop, Ok, Err, sym, ◌∙◌, ap, arith, suc, ◌++◌, ◌∷◌, [], refl, zero, Result, subst, ◌⊎◌, inl, inr, ◌-◌, Option, Some, None, ◌%◌, nat_lt, ◌||◌, ◌==◌, if◌then◌else◌, length-append}
+use Rattle.std.proofs.Common.{option_map, ◌≡◌, ℕ, ◌+◌, ◌*◌, ◌<◌, ◌≤◌, Bool, true, false, List, length, take, drop, Ok, Err, sym, ◌∙◌, ap, arith, suc, ◌++◌, ◌∷◌, [], refl, zero, Result, subst, inl, inr, ◌-◌, Option, Some, None, ◌%◌, nat_lt, ◌||◌, ◌==◌, if◌then◌else◌, length-append}
 use Rattle.std.proofs.lemmas.Bool.{le-ltb, lt-ltb}
 use Rattle.std.proofs.lemmas.List.{length-drop, drop-drop}
 use Rattle.bufr_bits.specs.Prelude.{number_of, ◌>>=◌, bits_of}
@@ -14,11 +15,9 @@ use Rattle.std.proofs.Math.Nat.{mul-le-mul_left}
 use Rattle.bufr_frame.specs.Prelude.{Sections}
 use Rattle.bufr_walk.proofs.PackedLemmas.{item_by}
 use Rattle.bufr_walk.specs.declared.fault.DataFault.TheVariants as wrong
-use Rattle.bufr_walk.specs.declared.spec.Role.TheVariants as role
 use Rattle.bufr_walk.specs.declared.walker.WalkStop.TheVariants as stops
-use Rattle.bufr_walk.specs.declared.fault.WalkFault.TheVariants as fault
 use Rattle.bufr_walk.specs.declared.reading.StoredItems.TheVariants as kept
-use Rattle.bufr_walk.specs.Pass.{DataPass, passes_together, stop_of, left_after, turns_read, reading_of, ReadsData, AnswersReading, EndsPass, reading, read_field, Place, Step, read_pass}
+use Rattle.bufr_walk.specs.Pass.{DataPass, passes_together, stop_of, left_after, turns_read, reading_of, ReadsData, AnswersReading, EndsPass, reading, read_field, Place, Step, read_pass, Passing, RunsShort}
 use Rattle.bufr_walk.specs.Readers.{place_at, items_by_pass, first_items}
 
 -- compressed data were read, each item is kept, and they are not too many
@@ -170,7 +169,7 @@ no_room s a bits at n kept kept' e view same is full =
 
 -- ---- A walk over compressed data makes their one pass.
 
--- the walk and its pass, after items that take at least a bit each
+-- the states of the walk and of its pass, after items of at least one bit each
 pub record IsPackedAt (n : ℕ) (bits : List Bool) (xs : List (Item (List Content))) (s : PackedCursor) (p : Place) : Type 0 where
   pub place : p ≡ place_at (length xs) (remaining_bits s)
   pub items : s.items ≡ xs
@@ -211,11 +210,12 @@ packed_follows n bits before s spec t s' p m h = record {
   };
 }
 
--- why a walk stopped: so does its pass, or memory ran out before a reference or for more items
+-- Why a walk stopped. Memory is allocated for every 64th item.
+abbrev pub wants : ℕ → Bool
+wants items = items % items_at_once == 0
+
 abbrev pub PackedFails : ℕ → List Bool → List (Item (List Content)) → Place → Next → WalkStop DataFault → PackedCursor → Type 0
-PackedFails n bits xs p next why s' =
-    IsPackedAt n bits xs s' p × (EndsPass (reading (packed n) (would_be_many n)) next p (Some why)
-    ⊎ ((spec : FieldSpec) × (next ≡ take_next spec) × (((length xs % items_at_once == 0) ≡ true) ⊎ (spec.role ≡ role.Reference)) × ((subset at : ℕ) → fault_at why subset at ≡ fault.Memory)))
+PackedFails n bits xs p next why s' = IsPackedAt n bits xs s' p × Stops (packed n) (would_be_many n) wants xs p next why
 
 pub packed_fails : (n : ℕ) (bits : List Bool) (xs : List (Item (List Content))) (s : PackedCursor) (p : Place) (spec : FieldSpec) (e : DataFault) (s' : PackedCursor) → IsPackedAt n bits xs s p
     → PackedTakes s spec (Err e) s' → PackedFails n bits xs p (take_next spec) (stops.Field e) s'
@@ -233,8 +233,7 @@ packed_fails n bits xs s p spec e s' m h = by e h
       inl (stepped n bits xs s spec p m true (lt-ltb max_values ((length xs + 1) * n) (subst (λ v. max_values < v) (values n bits xs s spec p m) h.1))
           ∙ ap (λ f. Err (stops.Field (wrong.TooManyValues f))) (sym h.0)),
     )
-    by wrong.Memory h =
-        (moved h.0, inr (spec, refl, inl (ap (λ k. k == 0) (ap (λ (ys : List (Item (List Content))). length ys % items_at_once) (sym m.items) ∙ h.1)), λ subset at. refl))
+    by wrong.Memory h = (moved h.0, inr (spec, refl, inl (ap (λ k. k == 0) (ap (λ (ys : List (Item (List Content))). length ys % items_at_once) (sym m.items) ∙ h.1)), λ subset at. refl))
     by (wrong.DataEnd fxy) h = unseen (wrong.DataEnd fxy) h.0 h.1 h.2
     by (wrong.Increment fxy) h = unseen (wrong.Increment fxy) h.0 h.1 h.2
     by (wrong.UnequalFactor fxy) h = unseen (wrong.UnequalFactor fxy) h.0 h.1 h.2
@@ -246,109 +245,91 @@ one_pass : (n : ℕ) (course : Course) (bits : List Bool) → 1 ≤ n → passes
 one_pass zero course bits some = absurd (omega (arith, some))
 one_pass (suc n) course bits some = refl
 
+none_more : (t : ℕ) → t ≡ t + 0
+none_more t = omega arith
+
 -- from the first bit on
 module _ (n : ℕ) (course : CountedCourse) (bits : List Bool) (s : PackedCursor) (first : s ≡ new_packed_in bits n) (some : 1 ≤ n) (s' : PackedCursor) (c c' : ℕ) (zero_first : c ≡ 0)
     (within : s'.at ≤ length s'.bits) where
+  abbrev how : Passing Place (List Content) Stop
+  how = reading (packed n) (would_be_many n)
+
   abbrev Goes : Type 0
-  Goes = Comes PackedTakes (reading (packed n) (would_be_many n)) answer_first (IsPackedAt n bits) course (place_at 0 bits) c s' c'
+  Goes = Comes how answer_first course (place_at 0 bits) c c'
 
   at_first : IsPackedAt n bits [] s (place_at 0 bits)
   at_first = subst (λ x. IsPackedAt n bits [] x (place_at 0 bits)) (sym first) (record { place = refl; items = refl; same = refl; subsets = refl; pays = omega arith })
 
-  abbrev next_of : Goes → Next
-  next_of g = (course (answers_in answer_first g.items)).next
+  module _ (g : Goes) (m : IsPackedAt n bits g.items s' g.state) where
+    enough : length g.items < suc (length bits)
+    enough = omega (arith, m.pays, within, ap length m.same)
 
-  enough : (g : Goes) → length g.items < suc (length bits)
-  enough g = omega (arith, g.meets.pays, within, ap length g.meets.same)
+    ticks : c' ≡ ticked 0 (course (answers_in answer_first g.items)).turns
+    ticks = g.ticks ∙ ap (λ b. ticked b (course (answers_in answer_first g.items)).turns) zero_first
 
-  passes_are : (g : Goes) (stop : Option Stop) → EndsPass (reading (packed n) (would_be_many n)) (next_of g) g.state stop
-      → passes_together (uncounted course) n bits ≡ record { items = g.items; state = g.state; stop = stop } ∷ []
-  passes_are g stop e =
-      one_pass n (uncounted course) bits some
-      ∙ ap (λ p. p ∷ [])
-      (pass_ends (reading (packed n) (would_be_many n)) (next_of g) (uncounted course) (place_at 0 bits) g.items g.state (suc (length bits)) stop g.passes (enough g) e)
+    left_is : s'.at + length g.state.left ≡ length bits
+    left_is = omega (arith, within, ap length m.same, ap (λ (p : Place). length p.left) m.place, length-drop s'.at s'.bits)
 
-  ticks : (g : Goes) → c' ≡ ticked 0 (course (answers_in answer_first g.items)).turns
-  ticks g = g.ticks ∙ ap (λ b. ticked b (course (answers_in answer_first g.items)).turns) zero_first
+    -- its pass ends there
+    module _ (stop : Option Stop) (e : EndsPass how (course (answers_in answer_first g.items)).next g.state stop) where
+      passes_are : passes_together (uncounted course) n bits ≡ record { items = g.items; state = g.state; stop = stop } ∷ []
+      passes_are = one_pass n (uncounted course) bits some ∙ ap (λ p. p ∷ []) (g.ends (suc (length bits)) stop enough e)
 
-  ticks_are : (g : Goes) (stop : Option Stop) → passes_together (uncounted course) n bits ≡ record { items = g.items; state = g.state; stop = stop } ∷ []
-      → c' ≡ ticked 0 (turns_read course (packed_data n bits))
-  ticks_are g stop is = ticks g ∙ ap (ticked 0) (none_more (course (answers_in answer_first g.items)).turns ∙ sym (ap (λ ps. turns_in answer_first course (items_by_pass ps)) is))
-    where
-      none_more : (t : ℕ) → t ≡ t + 0
-      none_more t = omega arith
-
-  left_is : (g : Goes) → s'.at + length g.state.left ≡ length bits
-  left_is g = omega (arith, within, ap length g.meets.same, ap (λ (p : Place). length p.left) g.meets.place, length-drop s'.at s'.bits)
+      ticks_are : c' ≡ ticked 0 (turns_read course (packed_data n bits))
+      ticks_are = ticks ∙ ap (ticked 0) (none_more (course (answers_in answer_first g.items)).turns ∙ sym (ap (λ ps. turns_in answer_first course (items_by_pass ps)) passes_are))
 
   -- an accepted walk, with the entries that were kept
   pub whole_read : (held : List Bool) (at m : ℕ) (entries : List IndexedItem) → packed_view held at m entries ≡ s' → Walked PackedTakes course s c (Ok tt) s' c'
       → length entries * m ≤ max_values → list_all (fits_at held m) entries ≡ true → IsReadAndKept course (packed_data n bits) entries at c'
   whole_read held at m entries view w few fit =
-      let r = whole_passes PackedTakes (reading (packed n) (would_be_many n)) answer_first (IsPackedAt n bits) (packed_follows n bits) course s c s' c' (place_at 0 bits) at_first w in
+      let r = whole_passes PackedTakes how answer_first (IsPackedAt n bits) (packed_follows n bits) course s c s' c' (place_at 0 bits) at_first w in
       let g = r.0 in
-      let is = passes_are g None (subst (λ x. EndsPass (reading (packed n) (would_be_many n)) x g.state None) (sym r.1) refl) in
-      let items : items_at s'.bits s'.subsets entries ≡ g.items = subst (λ x. items_at x.bits x.subsets entries ≡ x.items) view refl ∙ g.meets.items in (
-        (ap stop_of is, ap (λ ps. at + length (left_after bits ps)) is ∙ ap (λ k. k + length g.state.left) (ap (λ x. x.at) view) ∙ left_is g, ticks_are g None is),
+      let e = subst (λ x. EndsPass how x g.state None) (sym r.2) refl in
+      let is = passes_are g r.1 None e in
+      let items : items_at s'.bits s'.subsets entries ≡ g.items = subst (λ x. items_at x.bits x.subsets entries ≡ x.items) view refl ∙ r.1.items in (
+        (ap stop_of is, ap (λ ps. at + length (left_after bits ps)) is ∙ ap (λ k. k + length g.state.left) (ap (λ x. x.at) view) ∙ left_is g r.1, ticks_are g r.1 None e),
         (
-          ap (λ b. items_at b n entries) (sym g.meets.same) ∙ ap (λ k. items_at s'.bits k entries) (sym g.meets.subsets) ∙ items ∙ ap (λ ps. first_items (items_by_pass ps)) (sym is),
-          ap (λ b. list_all (fits_at b n) entries) (sym g.meets.same) ∙ ap (λ k. list_all (fits_at s'.bits k) entries) (sym g.meets.subsets)
+          ap (λ b. items_at b n entries) (sym r.1.same) ∙ ap (λ k. items_at s'.bits k entries) (sym r.1.subsets) ∙ items ∙ ap (λ ps. first_items (items_by_pass ps)) (sym is),
+          ap (λ b. list_all (fits_at b n) entries) (sym r.1.same) ∙ ap (λ k. list_all (fits_at s'.bits k) entries) (sym r.1.subsets)
               ∙ subst (λ x. list_all (fits_at x.bits x.subsets) entries ≡ true) view fit,
         ),
-        subst (λ k. length entries * k ≤ max_values) (ap (λ x. x.subsets) view ∙ g.meets.subsets) few,
+        subst (λ k. length entries * k ≤ max_values) (ap (λ x. x.subsets) view ∙ r.1.subsets) few,
       )
 
   module _ (why : WalkStop DataFault) (w : Walked PackedTakes course s c (Err why) s' c') where
-    stopped : (g : Goes) × PackedFails n bits g.items g.state (next_of g) why s'
-    stopped =
-        let r = stopped_passes PackedTakes (reading (packed n) (would_be_many n)) answer_first (IsPackedAt n bits) (packed_follows n bits) (PackedFails n bits) (packed_fails n bits)
-        (λ xs x p spec m h. (m, inr (spec, refl, inr h, λ subset at. refl))) (λ xs x p y m. (m, inl refl)) course s c why s' c' (place_at 0 bits) at_first w in
-        (record { items = r.1.items; state = r.1.state; meets = r.2.0; ticks = r.1.ticks; passes = r.1.passes }, r.2)
+    stopped : (g : Goes) × PackedFails n bits g.items g.state (course (answers_in answer_first g.items)).next why s'
+    stopped = stopped_passes PackedTakes how answer_first (IsPackedAt n bits) (packed_follows n bits) course s c s' c' (place_at 0 bits) at_first (PackedFails n bits) (packed_fails n bits)
+        (λ xs x p spec m h. (m, inr (spec, refl, inr h, λ subset at. refl))) (λ xs x p y m. (m, inl refl)) why w
 
     pub stopped_within : s'.at ≤ length bits
-    stopped_within = subst (λ b. s'.at ≤ length b) stopped.0.meets.same within
+    stopped_within = subst (λ b. s'.at ≤ length b) stopped.1.0.same within
 
     -- a refused walk
     pub walk_stops : (at : ℕ) → at ≡ s'.at → ReadsData course (packed_data n bits) (Err (fault_at why 0 at)) c'
-    walk_stops at here = by stopped.0 stopped.1.1
+    walk_stops at here = by stopped.0 stopped.1.0 stopped.1.1
       where
         place_is : (a b c : ℕ) → a + b ≡ c → c - b ≡ a
         place_is a b c e = omega (arith, e)
 
-        by : (g : Goes) → EndsPass (reading (packed n) (would_be_many n)) (next_of g) g.state (Some why)
-            ⊎ ((spec : FieldSpec) × (next_of g ≡ take_next spec) × (((length g.items % items_at_once == 0) ≡ true) ⊎ (spec.role ≡ role.Reference))
-            × ((subset at : ℕ) → fault_at why subset at ≡ fault.Memory))
+        zero_plus : (t : ℕ) → 0 + t ≡ t
+        zero_plus t = omega arith
+
+        by : (g : Goes) → IsPackedAt n bits g.items s' g.state → Stops (packed n) (would_be_many n) wants g.items g.state (course (answers_in answer_first g.items)).next why
             → ReadsData course (packed_data n bits) (Err (fault_at why 0 at)) c'
-        by g (inl e) =
-            let is = passes_are g (Some why) e in
-            inl (
-              ap (λ (ps : List (DataPass (List Content))). option_map (λ w. fault_at w 0 (length bits - length (left_after bits ps))) (stop_of ps)) is
-                  ∙ ap (λ b. Some (fault_at why 0 b)) (place_is s'.at (length g.state.left) (length bits) (left_is g) ∙ sym here),
-              ticks_are g (Some why) is,
-            )
-        by g (inr q) =
-            let begins = pass_begins (reading (packed n) (would_be_many n)) (next_of g) (uncounted course) (place_at 0 bits) g.items g.state (suc (length bits)) g.passes (enough g) in
+        by g m (inl e) = inl (
+          ap (λ (ps : List (DataPass (List Content))). option_map (λ w. fault_at w 0 (length bits - length (left_after bits ps))) (stop_of ps)) (passes_are g m (Some why) e)
+              ∙ ap (λ b. Some (fault_at why 0 b)) (place_is s'.at (length g.state.left) (length bits) (left_is g m) ∙ sym here),
+          ticks_are g m (Some why) e,
+        )
+        by g m (inr q) =
+            let turns = 0 + (course (answers_in answer_first g.items)).turns in
             inr (
               q.3 0 at,
-              (course (answers_in answer_first g.items)).turns,
-              record {
-                done = [];
-                here = read_pass (packed n) (would_be_many n) (uncounted course) bits;
-                later = [];
-                among = one_pass n (uncounted course) bits some;
-                items = g.items;
-                more = begins.0;
-                are = begins.1;
-                spec = q.0;
-                next = q.1;
-                why = q.2;
-                turns_are = zero_plus (course (answers_in answer_first g.items)).turns;
-              },
-              ticks g,
+              turns,
+              subst (λ ps. RunsShort (packed n) wants course ps turns) (sym (one_pass n (uncounted course) bits some))
+                  (runs_short (packed n) (would_be_many n) wants course bits c c' g (enough g m) [] [] q.0 q.1 q.2),
+              ticks g m ∙ ap (ticked 0) (sym (zero_plus (course (answers_in answer_first g.items)).turns)),
             )
-          where
-            zero_plus : (t : ℕ) → t ≡ 0 + t
-            zero_plus t = omega arith
 
 -- the bound of steps
 pub few_stopped : (k steps steps' at here all : ℕ) (s : PackedCursor) (bits : List Bool) (n : ℕ) (why : WalkStop DataFault) → s ≡ new_packed_in bits n → steps ≡ 0

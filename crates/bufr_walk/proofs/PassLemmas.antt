@@ -1,14 +1,14 @@
 -- A pass over data reads each item where the one before ended.
-use Rattle.bufr_walk.proofs.WalkPass.{Passes, passes_none, passes_one, pass_ends}
+use Rattle.bufr_walk.proofs.WalkPass.{Passes, passes_none, passes_one, pass_ends, Comes}
 use Rattle.std.proofs.lemmas.Bool.{ltb-false, le-ltb}
-use Rattle.bufr_bits.specs.Prelude.{number_of}
-use Rattle.bufr_walk.proofs.PackedLemmas.{item_parts, neither}
-use Rattle.std.proofs.Common.{◌≡◌, ℕ, zero, suc, ◌+◌, ◌-◌, ◌<◌, ◌≤◌, Bool, true, false, List, ◌∷◌, length, Option, Some, None, Result, Ok, Err, ◌||◌, ◌*◌, nat_lt, take, refl, sym, ◌∙◌, ap, subst, arith, drop, length-drop, if◌then◌else◌, []}
+use Rattle.std.proofs.Common.{◌≡◌, ℕ, zero, suc, ◌+◌, ◌<◌, ◌≤◌, Bool, true, false, List, ◌∷◌, length, Option, Some, None, Result, Ok, Err, ◌*◌, refl, sym, ◌∙◌, ap, subst, arith, drop, length-drop, if◌then◌else◌, [], ◌⊎◌, ◌++◌}
 use Rattle.bufr_tables.specs.Prelude.{Row, Tree, IsLegal, Record, AreRows}
-use Rattle.bufr_walk.specs.Prelude.{packed_field, step_of, coding_of, contents_across, FieldSpec, Content, FieldFault, FieldRead, found, Course, Next, take_next, at_end, astray, refused, next_item, Item, DataCoding, plain, packed, answers_in, after, ReadsItems, ReadsPass, ReadsSubsets, IsPackedReading, Data, Values, apart, together, IsReading, Stop, would_be_many, max_values, wrong_of, stop_by, Taken}
+use Rattle.bufr_walk.specs.Prelude.{FieldSpec, Content, FieldFault, FieldRead, found, Course, Next, take_next, at_end, astray, refused, next_item, Item, DataCoding, plain, packed, answers_in, after, ReadsItems, ReadsPass, ReadsSubsets, IsPackedReading, Data, Values, apart, together, IsReading, Stop, would_be_many, max_values, wrong_of, stop_by, Taken, CountedCourse, uncounted, turns_in, fault_at}
 use Rattle.bufr_walk.specs.declared.walker.WalkStop.TheVariants as stops
+use Rattle.bufr_walk.specs.declared.spec.Role.TheVariants as role
+use Rattle.bufr_walk.specs.declared.fault.WalkFault.TheVariants as fault
 use Rattle.bufr_walk.specs.declared.fault.DataFault.TheVariants as wrong
-use Rattle.bufr_walk.specs.Pass.{Pass, empty_pass, item_then, pass_field, pass_next, pass, Place, read_field, reading, read_pass, DataPass, passes_apart, passes_together, stop_of, left_after, DataReading, reading_in, reading_of, EndsPass, ReadsTo}
+use Rattle.bufr_walk.specs.Pass.{Pass, empty_pass, item_then, pass_field, pass_next, pass, Place, read_field, reading, read_pass, DataPass, passes_apart, passes_together, stop_of, left_after, DataReading, reading_in, reading_of, EndsPass, ReadsTo, RunsShort}
 use Rattle.bufr_walk.specs.Readers.{place_at, items_by_pass, first_items}
 use Rattle.std.proofs.lemmas.Grind.{common_steps}
 use Rattle.std.proofs.lemmas.List.{drop-drop}
@@ -168,6 +168,34 @@ next_pass course n left bits one h =
     by None e h = (e, h)
     by (Some why) e h = absurd cc
 
+-- ---- Why a walk that reads stops.
+
+module _ {C : Type 0} (form : DataCoding C) (many wants : ℕ → Bool) where
+  -- its pass stops for the same reason, or memory ran out before the next field
+  abbrev pub Stops : List (Item C) → Place → Next → Stop → Type 0
+  Stops items p next why = EndsPass (reading form many) next p (Some why)
+      ⊎ ((spec : FieldSpec) × (next ≡ take_next spec) × ((wants (length items) ≡ true) ⊎ (spec.role ≡ role.Reference)) × ((subset at : ℕ) → fault_at why subset at ≡ fault.Memory))
+
+  -- memory ran out in the pass that follows some others
+  pub runs_short : (course : CountedCourse) (bits : List Bool) (steps steps' : ℕ) (g : Comes (reading form many) form.gives course (place_at 0 bits) steps steps') → length g.items < suc (length bits)
+      → (done later : List (DataPass C)) (spec : FieldSpec) → (course (answers_in form.gives g.items)).next ≡ take_next spec → (wants (length g.items) ≡ true) ⊎ (spec.role ≡ role.Reference)
+      → RunsShort form wants course (done ++ read_pass form many (uncounted course) bits ∷ later) (turns_in form.gives course (items_by_pass done) + (course (answers_in form.gives g.items)).turns)
+  runs_short course bits steps steps' g enough done later spec n why =
+      let begins = g.begins (suc (length bits)) enough in
+      record {
+        done = done;
+        here = read_pass form many (uncounted course) bits;
+        later = later;
+        among = refl;
+        items = g.items;
+        more = begins.0;
+        are = begins.1;
+        spec = spec;
+        next = n;
+        why = why;
+        turns_are = refl;
+      }
+
 -- so few items that one more is not too many
 pub few_values : (n items j : ℕ) → items * n ≤ max_values → j < items → would_be_many n (0 + j) ≡ false
 few_values n items j h lt = grind (arith, common_steps, le-ltb)
@@ -183,46 +211,6 @@ few_all n (suc k) h = let few : (k + 1) * n ≤ max_values = ltb-false max_value
 
     one_on : (k : ℕ) → k + 1 ≡ suc k
     one_on k = omega arith
-
--- ---- all subsets together
-
-packed_less : (n : ℕ) (spec : FieldSpec) (bits : List Bool) (cs : List Content) (mid : List Bool) → packed_field n spec bits ≡ Ok (found cs mid) → suc (length mid) ≤ length bits
-packed_less n spec bits cs mid e =
-    let k = number_of (take 6 (drop spec.width bits)) in
-    let base = take spec.width bits in
-    let suffix = drop (spec.width + 6) bits in
-    let used = n * step_of (coding_of spec) k in
-    let t = item_parts spec.role (nat_lt (length bits) (spec.width + 6) || nat_lt (length suffix) used) (contents_across (coding_of spec) k n base suffix) (drop used suffix) cs mid e in
-    let ends = neither (nat_lt (length bits) (spec.width + 6)) (nat_lt (length suffix) used) t.0 in
-    less spec.width used (length bits) (length suffix) (length mid) (ltb-false (length bits) (spec.width + 6) ends.0) (length-drop (spec.width + 6) bits)
-    (ap length (sym t.3) ∙ length-drop used suffix)
-  where
-    less : (w used bits suffix mid : ℕ) → w + 6 ≤ bits → suffix ≡ bits - (w + 6) → mid ≡ suffix - used → suc mid ≤ bits
-    less w used bits suffix mid h g f = omega (arith, h, g, f)
-
-pub packed_fits : (n : ℕ) (course : Course) (items : List (Item (List Content))) (bits left : List Bool) → ReadsItems (packed n) course items bits left → length items ≤ length bits
-packed_fits n course [] bits left h = omega arith
-packed_fits n course (x ∷ xs) bits left h = omega (arith, packed_less n x.spec bits x.content h.0 h.2, packed_fits n (after (packed n) course x) xs h.0 left h.3)
-
--- one pass, or none where there is no subset
-abbrev together_passes : (n : ℕ) → Course → List (Item (List Content)) → List Bool → List (DataPass (List Content))
-together_passes zero course xs left = []
-together_passes (suc n) course xs left = passed (0 + length xs) xs left None ∷ []
-
-together_is : (n : ℕ) (course : Course) (xs : List (Item (List Content))) (bits left : List Bool) → IsPackedReading n course xs bits left
-    → passes_together course n bits ≡ together_passes n course xs left
-together_is zero course xs bits left h = refl
-together_is (suc n) course xs bits left h =
-    ap (λ (p : DataPass (List Content)). p ∷ []) (pass_is (packed (suc n)) (would_be_many (suc n)) (suc (length bits)) course 0 bits xs left None
-    (record { reads = h.0.0; few = λ j lt. few_values (suc n) (length xs) j h.1 lt; count = refl; ends = ended (packed (suc n)) (would_be_many (suc n)) _ _ h.0.1 })
-    (omega (arith, packed_fits (suc n) course xs bits left h.0.0)))
-
-pub together_read : (n : ℕ) (course : Course) (xs : List (Item (List Content))) (bits left : List Bool) → IsPackedReading n course xs bits left
-    → (stop_of (passes_together course n bits) ≡ None) × (first_items (items_by_pass (passes_together course n bits)) ≡ xs) × (left_after bits (passes_together course n bits) ≡ left)
-together_read zero course xs bits left h = (refl, sym h.0, h.1)
-together_read (suc n) course xs bits left h =
-    let e = together_is (suc n) course xs bits left h in
-    (ap stop_of e, ap (λ ps. first_items (items_by_pass ps)) e, ap (left_after bits) e)
 
 -- ---- The reading of a legal template's data, both ways.
 
@@ -249,6 +237,16 @@ module _ (course : Course) (sane : (m : ℕ) → IsSane m course) where
       pass_is plain (λ items. false) (suc (length bits)) course 0 bits x left None (record { reads = h.0; few = λ j lt. refl; count = refl; ends = ended plain (λ items. false) _ _ h.1 })
       (omega (arith, fits plain plain_forth (length x) course x bits left (sane (length x)) (omega arith) h.0))
 
+  -- one pass for all subsets, or none where there is no subset
+  together_read : (n : ℕ) (xs : List (Item (List Content))) (bits left : List Bool) → IsPackedReading n course xs bits left
+      → (stop_of (passes_together course n bits) ≡ None) × (first_items (items_by_pass (passes_together course n bits)) ≡ xs) × (left_after bits (passes_together course n bits) ≡ left)
+  together_read zero xs bits left h = (refl, sym h.0, h.1)
+  together_read (suc n) xs bits left h =
+      let e = pass_is (packed (suc n)) (would_be_many (suc n)) (suc (length bits)) course 0 bits xs left None
+      (record { reads = h.0.0; few = λ j lt. few_values (suc n) (length xs) j h.1 lt; count = refl; ends = ended (packed (suc n)) (would_be_many (suc n)) _ _ h.0.1 })
+      (omega (arith, fits (packed (suc n)) (packed_forth n) (length xs) course xs bits left (sane (length xs)) (omega arith) h.0.0)) in
+      (ap (λ (p : DataPass (List Content)). stop_of (p ∷ [])) e, ap (λ (p : DataPass (List Content)). p.items) e, ap (λ (p : DataPass (List Content)). p.state.left) e)
+
   -- the items that a reading has
   pub record IsRead (d : Data) (r : DataReading) (v : Values) (used : ℕ) : Type 0 where
     pub none : r.stop ≡ None
@@ -273,7 +271,7 @@ module _ (course : Course) (sane : (m : ℕ) → IsSane m course) where
       let s = subsets_are xs d.subsets d.bits (drop used d.bits) h.2.0 h.2.1 in
       subst (λ b. IsRead d (reading_in course b d.subsets d.bits) (apart xs) used) (sym h.0) (record { none = s.0; items = ap apart s.1; left = s.2 })
   reading_is d (together xs) used h =
-      let s = together_read d.subsets course xs d.bits (drop used d.bits) h.2 in
+      let s = together_read d.subsets xs d.bits (drop used d.bits) h.2 in
       subst (λ b. IsRead d (reading_in course b d.subsets d.bits) (together xs) used) (sym h.0) (record { none = s.0; items = ap together s.1; left = s.2 })
 
   -- passes that are not stopped read the subsets

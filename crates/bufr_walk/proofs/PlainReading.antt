@@ -1,36 +1,47 @@
--- Data that are not compressed: a walk for each subset, which makes its pass.
-use Rattle.std.proofs.Common.{◌≡◌, ℕ, ◌+◌, ◌-◌, ◌*◌, ◌<◌, ◌≤◌, List, ◌∷◌, ◌++◌, Bool, false, length, if◌then◌else◌, Option, Some, None, option_map, Ok, Err, suc, ◌⊎◌, inl, inr, refl, sym, ◌∙◌, ap, subst, arith, length-append, length-drop, append_assoc, []}
+-- Data that are not compressed: one walk for each subset, which makes the pass of that subset.
+use Rattle.bufr_walk.proofs.PassLemmas.{Stops, runs_short}
+use Rattle.std.proofs.Common.{◌≡◌, ℕ, ◌+◌, ◌-◌, ◌*◌, ◌<◌, ◌≤◌, List, ◌∷◌, ◌++◌, Bool, false, length, if◌then◌else◌, Option, Some, None, option_map, Ok, Err, suc, inl, inr, refl, sym, ◌∙◌, ap, subst, arith, length-append, length-drop, append_assoc, []}
 use Rattle.std.proofs.lemmas.Grind.{common_steps}
 use Rattle.std.proofs.lemmas.List.{append-nil}
 use Rattle.std.specs.Prelude.{is_none, is_some}
 use Rattle.bufr_bits.specs.Prelude.{bits_of}
-use Rattle.bufr_walk.specs.Prelude.{FieldSpec, Taken, Content, answer_of, plain_field, Stop, WalkStop, plain, Item, answers_in, CountedCourse, uncounted, Next, take_next, at_end, ticked, Walked, Cursor, rest_of, PlainTakes, data_in, fault_at, bits_before, items_in, place_at, items_by_pass, PaysBits, Place, DataPass, reading_of, reading, EndsPass, read_pass, passes_apart, stop_of, left_after, ReadsData, turns_in}
-use Rattle.bufr_walk.specs.Pass.{read_field}
+use Rattle.bufr_walk.specs.Prelude.{FieldSpec, Taken, Content, answer_of, plain_field, Stop, WalkStop, plain, Item, answers_in, CountedCourse, uncounted, Next, take_next, at_end, ticked, Walked, Cursor, rest_of, PlainTakes, data_in, fault_at, bits_before, items_in, place_at, items_by_pass, PaysBits, Place, DataPass, reading_of, reading, EndsPass, read_pass, passes_apart, stop_of, left_after, ReadsData, turns_in, WalkFault}
+use Rattle.bufr_walk.specs.Pass.{read_field, Passing, RunsShort}
 use Rattle.bufr_walk.specs.declared.fault.DataFault.{DataFault}
 use Rattle.bufr_walk.specs.declared.fault.DataFault.TheVariants as wrong
-use Rattle.bufr_walk.specs.declared.spec.Role.TheVariants as role
 use Rattle.bufr_walk.specs.declared.walker.WalkStop.TheVariants as stops
 use Rattle.bufr_walk.proofs.CourseLemmas.{plain_forth}
-use Rattle.bufr_walk.proofs.WalkPass.{item, pass_ends, pass_begins, IsStep, Comes, whole_passes, stopped_passes}
+use Rattle.bufr_walk.proofs.WalkPass.{item, IsStep, Comes, whole_passes, stopped_passes}
 
 pub ticked_more : (a b : ℕ) → ticked (ticked 0 a) b ≡ ticked 0 (a + b)
 ticked_more a b = grind (arith, common_steps)
 
 -- ---- One subset.
 
--- a walk from `first` on and its pass, after items that take at least a bit each
+-- how the pass of a subset reads
+abbrev pub how : Passing Place Content Stop
+how = reading plain (λ n. false)
+
+-- the states of a walk that began at `first` and of its pass, after items of at least one bit each
 pub record IsAt (first : Cursor) (items : List (Item Content)) (s : Cursor) (p : Place) : Type 0 where
   pub place : p ≡ place_at (length items) (rest_of s)
   pub same : s.bits ≡ first.bits
   pub pays : length items + length (rest_of s) ≤ length (rest_of first)
 
+pub at_first : (s : Cursor) → IsAt s [] s (place_at 0 (rest_of s))
+at_first s = record { place = refl; same = refl; pays = omega arith }
+
+-- the step at a field
+pub step_there : (first : Cursor) (items : List (Item Content)) (s : Cursor) (spec : FieldSpec) (p : Place) → IsAt first items s p
+    → how.step spec p ≡ read_field plain spec (length items) (plain_field spec (rest_of s))
+step_there first items s spec p m = ap (λ (q : Place). read_field plain spec q.items (plain_field spec q.left)) m.place
+
 unfoldable pub plain_follows : (first : Cursor) (before : List (Item Content)) (s : Cursor) (spec : FieldSpec) (t : Taken) (s' : Cursor) (p : Place) → IsAt first before s p
-    → PlainTakes s spec (Ok t) s'
-    → IsStep PlainTakes (reading plain (λ n. false)) answer_of (IsAt first) before spec t s' p
+    → PlainTakes s spec (Ok t) s' → IsStep PlainTakes how answer_of (IsAt first) before spec t s' p
 plain_follows first before s spec t s' p m h = let w = plain_forth spec (rest_of s) h.content (rest_of s') h.some h.field in record {
   content = h.content;
   state = place_at (length before + 1) (rest_of s');
-  step = ap (λ (q : Place). read_field plain spec q.items (plain_field spec q.left)) m.place ∙ ap (read_field plain spec (length before)) h.field
+  step = step_there first before s spec p m ∙ ap (read_field plain spec (length before)) h.field
       ∙ ap (λ r. Ok (record { content = h.content; returned = r; state = place_at (length before + 1) (rest_of s') })) (sym h.gives);
   answer = h.gives;
   meets = record {
@@ -40,45 +51,28 @@ plain_follows first before s spec t s' p m h = let w = plain_forth spec (rest_of
   };
 }
 
--- why a walk stopped: so does its pass, or memory ran out before a reference
+-- why a walk stopped
 abbrev pub Fails : Cursor → List (Item Content) → Place → Next → WalkStop DataFault → Cursor → Type 0
-Fails first items p next why s' =
-    IsAt first items s' p × (EndsPass (reading plain (λ n. false)) next p (Some why) ⊎ ((spec : FieldSpec) × (next ≡ take_next spec) × (spec.role ≡ role.Reference) × (why ≡ stops.Memory)))
+Fails first items p next why s' = IsAt first items s' p × Stops plain (λ n. false) (λ n. false) items p next why
 
 pub plain_fails : (first : Cursor) (items : List (Item Content)) (s : Cursor) (p : Place) (spec : FieldSpec) (e : DataFault) (s' : Cursor) → IsAt first items s p → PlainTakes s spec (Err e) s'
     → Fails first items p (take_next spec) (stops.Field e) s'
 plain_fails first items s p spec e s' m h = (
   subst (λ x. IsAt first items x p) (sym h.2) m,
-  inl (ap (λ (q : Place). read_field plain spec q.items (plain_field spec q.left)) m.place ∙ ap (read_field plain spec (length items)) h.0 ∙ ap (λ x. Err (stops.Field x)) (sym h.1)),
+  inl (step_there first items s spec p m ∙ ap (read_field plain spec (length items)) h.0 ∙ ap (λ x. Err (stops.Field x)) (sym h.1)),
 )
 
 module _ (course : CountedCourse) (s : Cursor) (c : ℕ) (s' : Cursor) (c' : ℕ) where
-  -- where a walk over a subset has come
+  -- what a walk over a subset has done so far
   abbrev pub Goes : Type 0
-  Goes = Comes PlainTakes (reading plain (λ n. false)) answer_of (IsAt s) course (place_at 0 (rest_of s)) c s' c'
+  Goes = Comes how answer_of course (place_at 0 (rest_of s)) c c'
 
-  at_first : IsAt s [] s (place_at 0 (rest_of s))
-  at_first = record { place = refl; same = refl; pays = omega arith }
+  ended : Walked PlainTakes course s c (Ok tt) s' c' → (g : Goes) × IsAt s g.items s' g.state × ((course (answers_in answer_of g.items)).next ≡ at_end)
+  ended = whole_passes PlainTakes how answer_of (IsAt s) (plain_follows s) course s c s' c' (place_at 0 (rest_of s)) (at_first s)
 
-  -- its pass ends there
-  pass_is : (g : Goes) (stop : Option Stop) → EndsPass (reading plain (λ n. false)) (course (answers_in answer_of g.items)).next g.state stop
-      → read_pass plain (λ n. false) (uncounted course) (rest_of s) ≡ record { items = g.items; state = g.state; stop = stop }
-  pass_is g stop e =
-      pass_ends (reading plain (λ n. false)) (course (answers_in answer_of g.items)).next (uncounted course) (place_at 0 (rest_of s)) g.items g.state (suc (length (rest_of s))) stop g.passes
-      (omega (arith, g.meets.pays)) e
-
-  -- each item took a bit of those before
-  pays : (g : Goes) → s.at ≤ length s.bits → s'.at ≤ length s'.bits → s.at + length g.items ≤ s'.at
-  pays g before within = omega (arith, g.meets.pays, before, within, length-drop s.at s.bits, length-drop s'.at s'.bits, ap length g.meets.same)
-
-  pub ended : Walked PlainTakes course s c (Ok tt) s' c' → (g : Goes) × ((course (answers_in answer_of g.items)).next ≡ at_end)
-  ended w = whole_passes PlainTakes (reading plain (λ n. false)) answer_of (IsAt s) (plain_follows s) course s c s' c' (place_at 0 (rest_of s)) at_first w
-
-  pub stopped : (why : WalkStop DataFault) → Walked PlainTakes course s c (Err why) s' c' → (g : Goes) × Fails s g.items g.state (course (answers_in answer_of g.items)).next why s'
-  stopped why w =
-      let r = stopped_passes PlainTakes (reading plain (λ n. false)) answer_of (IsAt s) (plain_follows s) (Fails s) (plain_fails s) (λ items x p spec m h. (m, inr (spec, refl, h, refl)))
-      (λ items x p y m. (m, inl refl)) course s c why s' c' (place_at 0 (rest_of s)) at_first w in
-      (record { items = r.1.items; state = r.1.state; meets = r.2.0; ticks = r.1.ticks; passes = r.1.passes }, r.2)
+  stopped : (why : WalkStop DataFault) → Walked PlainTakes course s c (Err why) s' c' → (g : Goes) × Fails s g.items g.state (course (answers_in answer_of g.items)).next why s'
+  stopped = stopped_passes PlainTakes how answer_of (IsAt s) (plain_follows s) course s c s' c' (place_at 0 (rest_of s)) (at_first s) (Fails s) (plain_fails s)
+      (λ items x p spec m h. (m, inr (spec, refl, inr h, λ subset at. refl))) (λ items x p y m. (m, inl refl))
 
 -- ---- Subsets that are read one after another.
 
@@ -142,40 +136,55 @@ none_yet n course bits s steps e z = record {
     ticked_none : 0 ≡ ticked 0 0
     ticked_none = grind (arith, common_steps)
 
-module _ (n : ℕ) (course : CountedCourse) (bits : List Bool) (i : ℕ) (s s' : Cursor) (c c' : ℕ) (h : SubsetsRead n course bits i s c) where
-  -- the turns up to where the next walk has come
-  ticks_of : (g : Goes course s c s' c') → c' ≡ ticked 0 (turns_in answer_of course (items_by_pass h.passes) + (course (answers_in answer_of g.items)).turns)
-  ticks_of g =
-      g.ticks ∙ ap (λ x. ticked x (course (answers_in answer_of g.items)).turns) h.ticks ∙ ticked_more (turns_in answer_of course (items_by_pass h.passes)) (course (answers_in answer_of g.items)).turns
+split : (n a d b : ℕ) → b ≡ a + d → n * b ≡ n * a + n * d
+split n a d b e = ap (λ x. n * x) e ∙ grind arith
 
-  -- the bits that are left
-  left_is : (g : Goes course s c s' c') (stop : Option Stop) → left_after bits (h.passes ++ record { items = g.items; state = g.state; stop = stop } ∷ []) ≡ rest_of s'
-  left_is g stop = left_append bits h.passes (record { items = g.items; state = g.state; stop = stop } ∷ []) ∙ ap (λ (p : Place). p.left) g.meets.place
+module _ (n : ℕ) (course : CountedCourse) (bits : List Bool) (i : ℕ) (s s' : Cursor) (c c' : ℕ) (h : SubsetsRead n course bits i s c) (within : s'.at ≤ length s'.bits) where
+  module _ (g : Goes course s c s' c') (m : IsAt s g.items s' g.state) where
+    -- the bits are the same, and each item took one
+    same : s'.bits ≡ bits
+    same = m.same ∙ h.same
 
-  paid : (g : Goes course s c s' c') → s'.at ≤ length s'.bits → s.at + length g.items ≤ s'.at
-  paid g within = pays course s c s' c' g (omega (arith, h.within, ap length h.same)) within
+    paid : s.at + length g.items ≤ s'.at
+    paid = omega (arith, m.pays, h.within, within, length-drop s.at s.bits, length-drop s'.at s'.bits, ap length m.same, ap length h.same)
+
+    enough : length g.items < suc (length (rest_of s))
+    enough = omega (arith, m.pays)
+
+    -- the turns up to where the walk has come
+    ticks_are : c' ≡ ticked 0 (turns_in answer_of course (items_by_pass h.passes) + (course (answers_in answer_of g.items)).turns)
+    ticks_are = g.ticks ∙ ap (λ x. ticked x (course (answers_in answer_of g.items)).turns) h.ticks
+        ∙ ticked_more (turns_in answer_of course (items_by_pass h.passes)) (course (answers_in answer_of g.items)).turns
+
+    -- the pass of the walk, where this ends it
+    abbrev pass : Option Stop → DataPass Content
+    pass stop = record { items = g.items; state = g.state; stop = stop }
+
+    left_is : (stop : Option Stop) → left_after bits (h.passes ++ pass stop ∷ []) ≡ rest_of s'
+    left_is stop = left_append bits h.passes (pass stop ∷ []) ∙ ap (λ (p : Place). p.left) m.place
 
   -- one subset more
-  pub one_more : Walked PlainTakes course s c (Ok tt) s' c' → c' ≤ c + n * (s'.at - s.at) → s'.at ≤ length s'.bits → SubsetsRead n course bits (i + 1) s' c'
-  one_more w few within =
-      let g = (ended course s c s' c' w).0 in
+  pub one_more : Walked PlainTakes course s c (Ok tt) s' c' → c' ≤ c + n * (s'.at - s.at) → SubsetsRead n course bits (i + 1) s' c'
+  one_more w few =
+      let e = ended course s c s' c' w in
+      let g = e.0 in
       let pass : DataPass Content = record { items = g.items; state = g.state; stop = None } in
       let is : read_pass plain (λ n. false) (uncounted course) (rest_of s) ≡ pass =
-      pass_is course s c s' c' g None (subst (λ x. EndsPass (reading plain (λ n. false)) x g.state None) (sym (ended course s c s' c' w).1) refl) in
+      g.ends (suc (length (rest_of s))) None (enough g e.1) (subst (λ x. EndsPass how x g.state None) (sym e.2) refl) in
       record {
         passes = h.passes ++ pass ∷ [];
         goes = λ more. ap (λ k. passes_apart (uncounted course) k bits) (counted i more) ∙ h.goes (suc more)
             ∙ ap (λ (q : DataPass Content). h.passes ++ (q ∷ (if is_none q.stop then passes_apart (uncounted course) more q.state.left else []))) is
-            ∙ ap (λ (l : List Bool). h.passes ++ (pass ∷ passes_apart (uncounted course) more l)) (ap (λ (p : Place). p.left) g.meets.place)
+            ∙ ap (λ (p : Place). h.passes ++ (pass ∷ passes_apart (uncounted course) more p.left)) e.1.place
             ∙ sym (append_assoc h.passes (pass ∷ []) (passes_apart (uncounted course) more (rest_of s')));
         count_is = omega (arith, length-append h.passes (pass ∷ []), h.count_is);
         none = stop_append h.passes (pass ∷ []) h.none;
-        left = left_is g None;
-        ticks = ticks_of g ∙ ap (ticked 0) (sym (turns_append course h.passes pass));
-        same = g.meets.same ∙ h.same;
-        within = omega (arith, within, ap length (g.meets.same ∙ h.same));
-        few = sums n s.at s'.at c c' h.few few (omega (arith, paid g within));
-        pays = omega (arith, items_append h.passes pass, h.pays, paid g within);
+        left = left_is g e.1 None;
+        ticks = ticks_are g e.1 ∙ ap (ticked 0) (sym (turns_append course h.passes pass));
+        same = same g e.1;
+        within = omega (arith, within, ap length (same g e.1));
+        few = sums n s.at s'.at c c' h.few few (omega (arith, paid g e.1));
+        pays = omega (arith, items_append h.passes pass, h.pays, paid g e.1);
       }
     where
       counted : (i more : ℕ) → i + 1 + more ≡ i + suc more
@@ -183,20 +192,14 @@ module _ (n : ℕ) (course : CountedCourse) (bits : List Bool) (i : ℕ) (s s' :
 
       sums : (n a b c c' : ℕ) → c ≤ n * a → c' ≤ c + n * (b - a) → a ≤ b → c' ≤ n * b
       sums n a b c c' h g f = let e : n * b ≡ n * a + n * (b - a) = split n a (b - a) b (omega (arith, f)) in omega (arith, e, h, g)
-        where
-          split : (n a d b : ℕ) → b ≡ a + d → n * b ≡ n * a + n * d
-          split n a d b e = ap (λ x. n * x) e ∙ grind arith
 
   -- the turns up to a fault
-  pub few_stopped : (subset : ℕ) (why : WalkStop DataFault) → Walked PlainTakes course s c (Err why) s' c' → c' ≤ c + n * (s'.at - s.at + 1) → s'.at ≤ length s'.bits
+  pub few_stopped : (subset : ℕ) (why : WalkStop DataFault) → Walked PlainTakes course s c (Err why) s' c' → c' ≤ c + n * (s'.at - s.at + 1)
       → c' ≤ n * (bits_before (fault_at why subset s'.at) (length bits) + 1)
-  few_stopped subset why w few within =
-      let g = (stopped course s c s' c' why w).0 in
-      sums n s.at s'.at c c' (bits_before (fault_at why subset s'.at) (length bits)) h.few few (omega (arith, paid g within)) (at_spot why (omega (arith, within, ap length (g.meets.same ∙ h.same))))
+  few_stopped subset why w few =
+      let e = stopped course s c s' c' why w in
+      sums n s.at s'.at c c' (bits_before (fault_at why subset s'.at) (length bits)) h.few few (omega (arith, paid e.0 e.1.0)) (at_spot why (omega (arith, within, ap length (same e.0 e.1.0))))
     where
-      split : (n a d b : ℕ) → b ≡ a + d → n * b ≡ n * a + n * d
-      split n a d b e = ap (λ x. n * x) e ∙ grind arith
-
       sums : (n a b c c' k : ℕ) → c ≤ n * a → c' ≤ c + n * (b - a + 1) → a ≤ b → b ≤ k → c' ≤ n * (k + 1)
       sums n a b c c' k h g f w =
           let e : n * (k + 1) ≡ n * a + n * (k + 1 - a) = split n a (k + 1 - a) (k + 1) (omega (arith, f, w)) in
@@ -219,11 +222,11 @@ here : (s : Cursor) (bits : List Bool) → s.bits ≡ bits → s.at ≤ length b
 here s bits e h = omega (arith, length-drop s.at s.bits, ap length e, h)
 
 module _ (n : ℕ) (course : CountedCourse) (octets : List ℕ) (total i : ℕ) where
-  abbrev all_passes : List (DataPass Content)
-  all_passes = passes_apart (uncounted course) total (bits_of octets)
+  abbrev all : List (DataPass Content)
+  all = passes_apart (uncounted course) total (bits_of octets)
 
   module _ (s : Cursor) (c : ℕ) (h : SubsetsRead n course (bits_of octets) i s c) (e : i ≡ total) where
-    are_all : all_passes ≡ h.passes
+    are_all : all ≡ h.passes
     are_all = ap (λ k. passes_apart (uncounted course) k (bits_of octets)) (sym e ∙ plus_none i) ∙ h.goes 0 ∙ append-nil h.passes
       where
         plus_none : (a : ℕ) → a ≡ a + 0
@@ -233,16 +236,16 @@ module _ (n : ℕ) (course : CountedCourse) (octets : List ℕ) (total i : ℕ) 
     all_read = (
       ap stop_of are_all ∙ h.none,
       ap (λ (ps : List (DataPass Content)). s.at + length (left_after (bits_of octets) ps)) are_all ∙ ap (λ l. s.at + length l) h.left ∙ here s (bits_of octets) h.same h.within,
-      h.ticks ∙ ap (λ ps. ticked 0 (turns_in answer_of course (items_by_pass ps))) (sym are_all),
+      h.ticks ∙ ap (λ (ps : List (DataPass Content)). ticked 0 (turns_in answer_of course (items_by_pass ps))) (sym are_all),
     )
 
     pub all_paid : PaysBits (reading_of (uncounted course) (data_in false total octets)).values s.at
     all_paid = subst (λ (ps : List (DataPass Content)). items_in (items_by_pass ps) ≤ s.at) (sym are_all) h.pays
 
   -- a walk that stopped in one subset
-  pub stopped_there : (s s' : Cursor) (c c' : ℕ) (why : WalkStop DataFault) → SubsetsRead n course (bits_of octets) i s c → i < total → Walked PlainTakes course s c (Err why) s' c'
-      → s'.at ≤ length s'.bits → ReadsData course (data_in false total octets) (Err (fault_at why (i + 1) s'.at)) c'
-  stopped_there s s' c c' why h more w within = let r = stopped course s c s' c' why w in by r.0 r.1.1
+  pub stopped_there : (s s' : Cursor) (c c' : ℕ) (why : WalkStop DataFault) → SubsetsRead n course (bits_of octets) i s c → s'.at ≤ length s'.bits → i < total
+      → Walked PlainTakes course s c (Err why) s' c' → ReadsData course (data_in false total octets) (Err (fault_at why (i + 1) s'.at)) c'
+  stopped_there s s' c c' why h within more w = let e = stopped course s c s' c' why w in by e.0 e.1.0 e.1.1
     where
       bits : List Bool
       bits = bits_of octets
@@ -250,7 +253,7 @@ module _ (n : ℕ) (course : CountedCourse) (octets : List ℕ) (total i : ℕ) 
       Later : DataPass Content → List (DataPass Content)
       Later p = if is_none p.stop then passes_apart (uncounted course) (total - (i + 1)) p.state.left else []
 
-      goes : all_passes ≡ h.passes ++ (read_pass plain (λ n. false) (uncounted course) (rest_of s) ∷ Later (read_pass plain (λ n. false) (uncounted course) (rest_of s)))
+      goes : all ≡ h.passes ++ (read_pass plain (λ n. false) (uncounted course) (rest_of s) ∷ Later (read_pass plain (λ n. false) (uncounted course) (rest_of s)))
       goes = ap (λ k. passes_apart (uncounted course) k (bits_of octets)) (others total i more) ∙ h.goes (suc (total - (i + 1)))
         where
           others : (total i : ℕ) → i < total → total ≡ i + suc (total - (i + 1))
@@ -259,42 +262,32 @@ module _ (n : ℕ) (course : CountedCourse) (octets : List ℕ) (total i : ℕ) 
       place_is : (a b c : ℕ) → a + b ≡ c → c - b ≡ a
       place_is a b c e = omega (arith, e)
 
-      by : (g : Goes course s c s' c') → EndsPass (reading plain (λ n. false)) (course (answers_in answer_of g.items)).next g.state (Some why)
-          ⊎ ((spec : FieldSpec) × ((course (answers_in answer_of g.items)).next ≡ take_next spec) × (spec.role ≡ role.Reference) × (why ≡ stops.Memory))
+      by : (g : Goes course s c s' c') → IsAt s g.items s' g.state → Stops plain (λ n. false) (λ n. false) g.items g.state (course (answers_in answer_of g.items)).next why
           → ReadsData course (data_in false total octets) (Err (fault_at why (i + 1) s'.at)) c'
-      by g (inl e) =
+      by g m (inl e) =
           let pass : DataPass Content = record { items = g.items; state = g.state; stop = Some why } in
-          let all : all_passes ≡ h.passes ++ pass ∷ [] = goes ∙ ap (λ (z : DataPass Content). h.passes ++ (z ∷ Later z)) (pass_is course s c s' c' g (Some why) e) in
-          let same : s'.bits ≡ bits_of octets = g.meets.same ∙ h.same in
+          let is : all ≡ h.passes ++ pass ∷ [] = goes ∙ ap (λ (z : DataPass Content). h.passes ++ (z ∷ Later z))
+          (g.ends (suc (length (rest_of s))) (Some why) (enough n course (bits_of octets) i s s' c c' h within g m) e) in
+          let same : s'.bits ≡ bits_of octets = m.same ∙ h.same in
           let at : s'.at + length (rest_of s') ≡ length (bits_of octets) = here s' (bits_of octets) same (omega (arith, within, ap length same)) in
           let count : length (h.passes ++ pass ∷ []) ≡ i + 1 = omega (arith, length-append h.passes (pass ∷ []), h.count_is) in
+          let fault : Option Stop → ℕ → List Bool → Option WalkFault = λ o k l. option_map (λ w. fault_at w k (length (bits_of octets) - length l)) o in
           inl (
-            ap (λ (ps : List (DataPass Content)). option_map (λ w. fault_at w (length ps) (length (bits_of octets) - length (left_after (bits_of octets) ps))) (stop_of ps)) all
-                ∙ ap (λ o. option_map (λ w. fault_at w (length (h.passes ++ pass ∷ [])) (length (bits_of octets) - length (left_after (bits_of octets) (h.passes ++ pass ∷ [])))) o)
-                (stop_append h.passes (pass ∷ []) h.none)
-                ∙ ap (λ k. Some (fault_at why k (length (bits_of octets) - length (left_after (bits_of octets) (h.passes ++ pass ∷ []))))) count
-                ∙ ap (λ l. Some (fault_at why (i + 1) (length (bits_of octets) - length l))) (left_is n course (bits_of octets) i s s' c c' h g (Some why))
+            ap (λ (ps : List (DataPass Content)). fault (stop_of ps) (length ps) (left_after (bits_of octets) ps)) is
+                ∙ ap (λ o. fault o (length (h.passes ++ pass ∷ [])) (left_after (bits_of octets) (h.passes ++ pass ∷ []))) (stop_append h.passes (pass ∷ []) h.none)
+                ∙ ap (λ k. fault (Some why) k (left_after (bits_of octets) (h.passes ++ pass ∷ []))) count
+                ∙ ap (fault (Some why) (i + 1)) (left_is n course (bits_of octets) i s s' c c' h within g m (Some why))
                 ∙ ap (λ b. Some (fault_at why (i + 1) b)) (place_is s'.at (length (rest_of s')) (length (bits_of octets)) at),
-            ticks_of n course (bits_of octets) i s s' c c' h g ∙ ap (ticked 0) (sym (ap (λ ps. turns_in answer_of course (items_by_pass ps)) all ∙ turns_append course h.passes pass)),
+            ticks_are n course (bits_of octets) i s s' c c' h within g m
+                ∙ ap (ticked 0) (sym (ap (λ (ps : List (DataPass Content)). turns_in answer_of course (items_by_pass ps)) is ∙ turns_append course h.passes pass)),
           )
-      by g (inr q) =
-          let begins = pass_begins (reading plain (λ n. false)) (course (answers_in answer_of g.items)).next (uncounted course) (place_at 0 (rest_of s)) g.items g.state (suc (length (rest_of s)))
-          g.passes (omega (arith, g.meets.pays)) in
+      by g m (inr q) =
+          let turns = turns_in answer_of course (items_by_pass h.passes) + (course (answers_in answer_of g.items)).turns in
           inr (
-            ap (λ w. fault_at w (i + 1) s'.at) q.3,
-            turns_in answer_of course (items_by_pass h.passes) + (course (answers_in answer_of g.items)).turns,
-            record {
-              done = h.passes;
-              here = read_pass plain (λ n. false) (uncounted course) (rest_of s);
-              later = Later (read_pass plain (λ n. false) (uncounted course) (rest_of s));
-              among = goes;
-              items = g.items;
-              more = begins.0;
-              are = begins.1;
-              spec = q.0;
-              next = q.1;
-              why = inr q.2;
-              turns_are = refl;
-            },
-            ticks_of n course (bits_of octets) i s s' c c' h g,
+            q.3 (i + 1) s'.at,
+            turns,
+            subst (λ ps. RunsShort plain (λ n. false) course ps turns) (sym goes)
+                (runs_short plain (λ n. false) (λ n. false) course (rest_of s) c c' g (enough n course (bits_of octets) i s s' c c' h within g m) h.passes
+                (Later (read_pass plain (λ n. false) (uncounted course) (rest_of s))) q.0 q.1 q.2),
+            ticks_are n course (bits_of octets) i s s' c c' h within g m,
           )

@@ -1,8 +1,8 @@
 -- The items and subsets that a walk with a visitor shows.
 use Rattle.std.proofs.Math.Path.{fun_ext}
 use Rattle.bufr_walk.proofs.PassLemmas.{next_pass}
-use Rattle.bufr_walk.proofs.PlainReading.{IsAt, plain_follows, ticked_more}
-use Rattle.bufr_walk.proofs.WalkPass.{Comes, IsStep, item, stopped_passes, whole_passes, pass_ends, pass_goes}
+use Rattle.bufr_walk.proofs.PlainReading.{IsAt, plain_follows, ticked_more, how, at_first, step_there}
+use Rattle.bufr_walk.proofs.WalkPass.{Comes, IsStep, item, stopped_passes, whole_passes}
 use Rattle.std.proofs.lemmas.Grind.{common_steps}
 use Rattle.std.proofs.Common.{suc, None, Option, append_assoc, ◌≡◌, ℕ, ◌+◌, ◌^◌, ◌<◌, ◌≤◌, false, Bool, List, ◌∷◌, ◌++◌, length, drop, Some, refl, sym, ◌∙◌, ap, subst, arith, ◌/◌, ◌&&◌, true, ◌⊎◌, inl, inr, take, Result, Ok, Err, ℤ, pos, ◌+ℤ◌, nat_lt, if◌then◌else◌, nat_le, not, unsigned_abs, ◌-◌, []}
 use Rattle.std.proofs.lemmas.Bool.{ltb-true}
@@ -20,7 +20,7 @@ use Rattle.bufr_walk.specs.declared.walker.WalkStop.TheVariants as stops
 use Rattle.bufr_walk.specs.declared.fault.DataFault.TheVariants as wrong
 use Rattle.bufr_walk.specs.declared.spec.Taken.TheVariants as taken
 use Rattle.std.proofs.lemmas.List.{map-append, append-nil}
-use Rattle.bufr_walk.specs.Pass.{DataPass, read_pass, passes_apart, stop_of, calls_of, turns_shown, EndsPass, reading, Place, Step, read_field, reading_in}
+use Rattle.bufr_walk.specs.Pass.{DataPass, read_pass, passes_apart, stop_of, calls_of, turns_shown, EndsPass, Place, Step, read_field, reading_in}
 use Rattle.bufr_walk.specs.Readers.{items_by_pass, place_at}
 use Rattle.bufr_walk.specs.declared.reading.StoredItems.TheVariants as kept
 
@@ -160,7 +160,7 @@ module _ {V E : Type 0} (sees : V → Call → Result (Unit {0}) E → V → Typ
     abbrev pub took : S → FieldSpec → Result Taken (ShowStop E) → S → Type 0
     took s spec r t = ShowingTakes sees (on s) spec r (on t)
 
-    -- a walk from `first` on and its pass, after items that were shown
+    -- the states of a walk that began at `first` and of its pass, after items that were shown
     pub record IsShownAt (first : S) (xs : List (Item Content)) (s : S) (p : Place) : Type 0 where
       pub at : IsAt (on first).cursor xs (on s).cursor p
       pub rows : (on s).table ≡ table
@@ -168,7 +168,7 @@ module _ {V E : Type 0} (sees : V → Call → Result (Unit {0}) E → V → Typ
       pub made : Made xs (on first).visitor (on s).visitor
 
     show_follows : (first : S) (before : List (Item Content)) (s : S) (spec : FieldSpec) (t : Taken) (s' : S) (p : Place) → IsShownAt first before s p → took s spec (Ok t) s'
-        → IsStep took (reading plain (λ n. false)) answer_of (IsShownAt first) before spec t s' p
+        → IsStep took how answer_of (IsShownAt first) before spec t s' p
     unfolding plain_follows
     show_follows first before s spec t s' p m h =
         let f = plain_follows (on first).cursor before (on s).cursor spec t (on s').cursor p m.at h.is_taken in
@@ -186,26 +186,35 @@ module _ {V E : Type 0} (sees : V → Call → Result (Unit {0}) E → V → Typ
           };
         }
 
-    -- why a walk stopped: its pass stops too, or the call of the next item ended the showing
+    -- the call of the next item ends the showing, after those of its items
+    abbrev EndsShowing : S → List (Item Content) → Place → Next → WalkStop (ShowStop E) → S → Type 0
+    EndsShowing first xs p next why s' = (spec : FieldSpec) × (next ≡ take_next spec) × (end : ShowFault E) × IsEnd why end
+        × ((f : Step Place Content) → how.step spec p ≡ Ok f → (v : V) × Made xs (on first).visitor v × EndsAt sees v (item_call (view_of table spec f.content)) end (on s').visitor)
+
+    -- why a walk stopped: its pass stops too, or a call ended the showing
     abbrev ShowFails : S → List (Item Content) → Place → Next → WalkStop (ShowStop E) → S → Type 0
-    ShowFails first xs p next why s' = ((on s').names ≡ (on first).names) × (((stop : Stop) × EndsPass (reading plain (λ n. false)) next p (Some stop))
-        ⊎ ((spec : FieldSpec) × (next ≡ take_next spec) × (end : ShowFault E) × IsEnd why end
-        × ((f : Step Place Content) → (reading plain (λ n. false)).step spec p ≡ Ok f
-        → (mid : V) × Made xs (on first).visitor mid × EndsAt sees mid (item_call (view_of table spec f.content)) end (on s').visitor)))
+    ShowFails first xs p next why s' = (length xs < suc (length (rest_of (on first).cursor))) × ((on s').names ≡ (on first).names)
+        × (((stop : Stop) × EndsPass how next p (Some stop)) ⊎ EndsShowing first xs p next why s')
+
+    enough : (first : S) (xs : List (Item Content)) (s : S) (p : Place) → IsShownAt first xs s p → length xs < suc (length (rest_of (on first).cursor))
+    enough first xs s p m = omega (arith, m.at.pays)
 
     -- the content that the step at a field reads
-    content_here : (first : S) (xs : List (Item Content)) (s : S) (p : Place) (spec : FieldSpec) (f : Step Place Content) → IsShownAt first xs s p
-        → (reading plain (λ n. false)).step spec p ≡ Ok f → content_in spec (take spec.width (rest_of (on s).cursor)) ≡ f.content
+    content_here : (first : S) (xs : List (Item Content)) (s : S) (p : Place) (spec : FieldSpec) (f : Step Place Content) → IsShownAt first xs s p → how.step spec p ≡ Ok f
+        → content_in spec (take spec.width (rest_of (on s).cursor)) ≡ f.content
     content_here first xs s p spec f m h =
-        step_content spec (rest_of (on s).cursor) (length xs) f (sym (ap (λ (q : Place). read_field plain spec q.items (plain_field spec q.left)) m.at.place) ∙ h)
+        step_content spec (rest_of (on s).cursor) (length xs) f (sym (step_there (on first).cursor xs (on s).cursor spec p m.at) ∙ h)
 
     show_fails : (first : S) (xs : List (Item Content)) (s : S) (p : Place) (spec : FieldSpec) (e : ShowStop E) (s' : S) → IsShownAt first xs s p → took s spec (Err e) s'
         → ShowFails first xs p (take_next spec) (stops.Field e) s'
     show_fails first xs s p spec stop.DataEnd s' m h = (
+      enough first xs s p m,
       ap (λ x. x.names) h.1 ∙ m.names,
-      inl (stops.Field (wrong.DataEnd spec.fxy), ap (λ (q : Place). read_field plain spec q.items (plain_field spec q.left)) m.at.place ∙ ap (read_field plain spec (length xs)) h.0),
+      inl
+          (stops.Field (wrong.DataEnd spec.fxy), step_there (on first).cursor xs (on s).cursor spec p m.at ∙ ap (read_field plain spec (length xs)) h.0),
     )
     show_fails first xs s p spec (stop.Visitor e) s' m h = (
+      enough first xs s p m,
       h.names ∙ m.names,
       inr (
         spec,
@@ -225,6 +234,7 @@ module _ {V E : Type 0} (sees : V → Call → Result (Unit {0}) E → V → Typ
     show_short : (first : S) (xs : List (Item Content)) (s : S) (p : Place) (spec : FieldSpec) → IsShownAt first xs s p → spec.role ≡ role.Reference
         → ShowFails first xs p (take_next spec) stops.Memory s
     show_short first xs s p spec m h = (
+      enough first xs s p m,
       m.names,
       inr (
         spec,
@@ -240,85 +250,74 @@ module _ {V E : Type 0} (sees : V → Call → Result (Unit {0}) E → V → Typ
     )
 
     module _ (s : S) (c : ℕ) (s' : S) (c' : ℕ) (rows : (on s).table ≡ table) where
+      abbrev first_place : Place
+      first_place = place_at 0 (rest_of (on s).cursor)
+
+      abbrev fuel : ℕ
+      fuel = suc (length (rest_of (on s).cursor))
+
       abbrev pass : DataPass Content
       pass = read_pass plain (λ n. false) (uncounted course) (rest_of (on s).cursor)
 
-      at_first : IsShownAt s [] s (place_at 0 (rest_of (on s).cursor))
-      at_first = record { at = record { place = refl; same = refl; pays = omega arith }; rows = rows; names = refl; made = made_none (on s).visitor }
+      abbrev Goes : Type 0
+      Goes = Comes how answer_of course first_place c c'
+
+      -- the items were shown, or one of them ended the showing
+      abbrev Shown : Result (Unit {0}) (ShowFault E) → Type 0
+      Shown r = ItemsGo sees table course (on s).cursor (on s).visitor c r (on s').cursor (on s').visitor c'
+
+      starts : IsShownAt s [] s first_place
+      starts = record { at = at_first (on s).cursor; rows = rows; names = refl; made = made_none (on s).visitor }
 
       -- a walk that ended
-      pub all_shown : Walked took course s c (Ok tt) s' c'
-          → ((on s').names ≡ (on s).names) × ItemsGo sees table course (on s).cursor (on s).visitor c (Ok tt) (on s').cursor (on s').visitor c'
+      pub all_shown : Walked took course s c (Ok tt) s' c' → ((on s').names ≡ (on s).names) × Shown (Ok tt)
       all_shown w =
-          let r = whole_passes took (reading plain (λ n. false)) answer_of (IsShownAt s) (show_follows s) course s c s' c' (place_at 0 (rest_of (on s).cursor)) at_first w in
+          let r = whole_passes took how answer_of (IsShownAt s) (show_follows s) course s c s' c' first_place starts w in
           let g = r.0 in
-          let is : pass ≡ record { items = g.items; state = g.state; stop = None } =
-          pass_ends (reading plain (λ n. false)) (course (answers_in answer_of g.items)).next (uncounted course) (place_at 0 (rest_of (on s).cursor)) g.items g.state
-          (suc (length (rest_of (on s).cursor))) None g.passes (omega (arith, g.meets.at.pays)) (subst (λ x. EndsPass (reading plain (λ n. false)) x g.state None) (sym r.1) refl) in (
-            g.meets.names,
+          let is : pass ≡ record { items = g.items; state = g.state; stop = None } = g.ends fuel None (omega (arith, r.1.at.pays)) (subst (λ x. EndsPass how x g.state None) (sym r.2) refl) in (
+            r.1.names,
             subst (λ (p : DataPass Content). IsAllShown sees table course (on s).visitor c p (on s').cursor (on s').visitor c') (sym is) (record {
-              shown = λ before more.
-                  subst (λ xs. Sofar sees (on s).visitor (item_calls table before course xs ++ more) (on s').visitor more) (append-nil g.items) (g.meets.made before [] more);
-              left = sym (ap (λ (q : Place). q.left) g.meets.at.place);
+              shown = λ before more. subst (λ xs. Sofar sees (on s).visitor (item_calls table before course xs ++ more) (on s').visitor more) (append-nil g.items) (r.1.made before [] more);
+              left = sym (ap (λ (q : Place). q.left) r.1.at.place);
               ticks = g.ticks;
             }),
           )
 
       -- a walk over data that were read before, and that stopped
-      pub all_ended : (why : WalkStop (ShowStop E)) → pass.stop ≡ None → Walked took course s c (Err why) s' c'
-          → ((on s').names ≡ (on s).names) × (end : ShowFault E) × IsEnd why end × ItemsGo sees table course (on s).cursor (on s).visitor c (Err end) (on s').cursor (on s').visitor c'
-      all_ended why none w =
-          let r = stopped_passes took (reading plain (λ n. false)) answer_of (IsShownAt s) (show_follows s) (ShowFails s) (show_fails s) (show_short s)
-          (λ xs x p y m. (m.names, inl (stop_by y, refl))) course s c why s' c' (place_at 0 (rest_of (on s).cursor)) at_first w in
-          let k = by r.0 r.1 r.2.1 in (r.2.0, k.0, k.1, k.2)
-        where
-          by : (mid : S) (g : Comes took (reading plain (λ n. false)) answer_of (IsShownAt s) course (place_at 0 (rest_of (on s).cursor)) c mid c')
-              → ((stop : Stop) × EndsPass (reading plain (λ n. false)) (course (answers_in answer_of g.items)).next g.state (Some stop))
-              ⊎ ((spec : FieldSpec) × ((course (answers_in answer_of g.items)).next ≡ take_next spec) × (end : ShowFault E) × IsEnd why end
-              × ((f : Step Place Content) → (reading plain (λ n. false)).step spec g.state ≡ Ok f
-              → (v : V) × Made g.items (on s).visitor v × EndsAt sees v (item_call (view_of table spec f.content)) end (on s').visitor))
-              → (end : ShowFault E) × IsEnd why end × ItemsGo sees table course (on s).cursor (on s).visitor c (Err end) (on s').cursor (on s').visitor c'
-          by mid g q = cases q
-            where
-              next : Next
-              next = (course (answers_in answer_of g.items)).next
+      module _ (why : WalkStop (ShowStop E)) (none : pass.stop ≡ None) where
+        -- the pass does not stop
+        never : (g : Goes) (stop : Stop) → length g.items < fuel → EndsPass how (course (answers_in answer_of g.items)).next g.state (Some stop) → ⊥
+        never g stop enough e =
+            let no : ◌≡◌ {A = Option Stop} None (Some stop) = sym none ∙ ap (λ (p : DataPass Content). p.stop) (g.ends fuel (Some stop) enough e) in cc
 
-              enough : length g.items < suc (length (rest_of (on s).cursor))
-              enough = omega (arith, g.meets.at.pays)
+        ends_so : (g : Goes) (spec : FieldSpec) (f : Step Place Content) (end : ShowFault E) (v : V) → length g.items < fuel → (course (answers_in answer_of g.items)).next ≡ take_next spec
+            → how.step spec g.state ≡ Ok f → Made g.items (on s).visitor v → EndsAt sees v (item_call (view_of table spec f.content)) end (on s').visitor → Shown (Err end)
+        ends_so g spec f end v enough n step made ends before rest turns now =
+            let goes = g.goes fuel spec f enough n step in
+            subst (λ xs. Shows sees (on s).visitor (item_calls table before course xs ++ rest) turns (Err end) (on s').visitor c') (sym goes.1)
+            ((made before (item spec f.content ∷ goes.0) rest).on turns (Err end) (on s').visitor c' (inl (
+              ends,
+              g.ticks ∙ ap (λ k. ticked k (course (answers_in answer_of g.items)).turns) now ∙ ticked_more before (course (answers_in answer_of g.items)).turns
+                  ∙ ap (λ a. ticked 0 (before + a.turns)) (sym (beyond_all course g.items)),
+            )))
 
-              -- the pass does not stop
-              never : (stop : Stop) → EndsPass (reading plain (λ n. false)) next g.state (Some stop) → ⊥
-              never stop e =
-                  let is = pass_ends (reading plain (λ n. false)) next (uncounted course) (place_at 0 (rest_of (on s).cursor)) g.items g.state (suc (length (rest_of (on s).cursor))) (Some stop)
-                  g.passes enough e in
-                  let no : ◌≡◌ {A = Option Stop} None (Some stop) = sym none ∙ ap (λ (p : DataPass Content). p.stop) is in
-                  cc
+        at_call : (g : Goes) (spec : FieldSpec) (end : ShowFault E) (r : Result (Step Place Content) Stop) → length g.items < fuel → (course (answers_in answer_of g.items)).next ≡ take_next spec
+            → ((f : Step Place Content) → how.step spec g.state ≡ Ok f → (v : V) × Made g.items (on s).visitor v × EndsAt sees v (item_call (view_of table spec f.content)) end (on s').visitor)
+            → how.step spec g.state ≡ r → Shown (Err end)
+        at_call g spec end (Err stop) enough n ends e = absurd (never g stop enough (subst (λ x. EndsPass how x g.state (Some stop)) (sym n) e))
+        at_call g spec end (Ok f) enough n ends e = let k = ends f e in ends_so g spec f end k.0 enough n e k.1 k.2
 
-              ends_so : (spec : FieldSpec) (f : Step Place Content) (end : ShowFault E) (v : V) → next ≡ take_next spec → (reading plain (λ n. false)).step spec g.state ≡ Ok f
-                  → Made g.items (on s).visitor v
-                  → EndsAt sees v (item_call (view_of table spec f.content)) end (on s').visitor → ItemsGo sees table course (on s).cursor (on s).visitor c (Err end) (on s').cursor (on s').visitor c'
-              ends_so spec f end v n step made ends before rest turns now =
-                  let goes = pass_goes (reading plain (λ n. false)) next (uncounted course) (place_at 0 (rest_of (on s).cursor)) g.items g.state (suc (length (rest_of (on s).cursor))) spec f
-                  g.passes enough n step in
-                  subst (λ xs. Shows sees (on s).visitor (item_calls table before course xs ++ rest) turns (Err end) (on s').visitor c') (sym goes.1)
-                  ((made before (item spec f.content ∷ goes.0) rest).on turns (Err end) (on s').visitor c' (inl (
-                    ends,
-                    g.ticks ∙ ap (λ k. ticked k (course (answers_in answer_of g.items)).turns) now ∙ ticked_more before (course (answers_in answer_of g.items)).turns
-                        ∙ ap (λ a. ticked 0 (before + a.turns)) (sym (beyond_all course g.items)),
-                  )))
+        cases : (g : Goes) → length g.items < fuel → ((stop : Stop) × EndsPass how (course (answers_in answer_of g.items)).next g.state (Some stop))
+            ⊎ EndsShowing s g.items g.state (course (answers_in answer_of g.items)).next why s' → (end : ShowFault E) × IsEnd why end × Shown (Err end)
+        cases g enough (inl e) = absurd (never g e.0 enough e.1)
+        cases g enough (inr q) = (q.2, q.3, at_call g q.0 q.2 (how.step q.0 g.state) enough q.1 q.4 refl)
 
-              cases : ((stop : Stop) × EndsPass (reading plain (λ n. false)) next g.state (Some stop))
-                  ⊎ ((spec : FieldSpec) × (next ≡ take_next spec) × (end : ShowFault E) × IsEnd why end
-                  × ((f : Step Place Content) → (reading plain (λ n. false)).step spec g.state ≡ Ok f
-                  → (v : V) × Made g.items (on s).visitor v × EndsAt sees v (item_call (view_of table spec f.content)) end (on s').visitor))
-                  → (end : ShowFault E) × IsEnd why end × ItemsGo sees table course (on s).cursor (on s).visitor c (Err end) (on s').cursor (on s').visitor c'
-              cases (inl (stop, e)) = absurd (never stop e)
-              cases (inr (spec, n, end, is_end, ends)) = at_step ((reading plain (λ n. false)).step spec g.state) refl
-                where
-                  at_step : (r : Result (Step Place Content) Stop) → (reading plain (λ n. false)).step spec g.state ≡ r
-                      → (end : ShowFault E) × IsEnd why end × ItemsGo sees table course (on s).cursor (on s).visitor c (Err end) (on s').cursor (on s').visitor c'
-                  at_step (Err stop) e = absurd (never stop (subst (λ x. EndsPass (reading plain (λ n. false)) x g.state (Some stop)) (sym n) e))
-                  at_step (Ok f) e = let k = ends f e in (end, is_end, ends_so spec f end k.0 n e k.1 k.2)
+        pub all_ended : Walked took course s c (Err why) s' c' → ((on s').names ≡ (on s).names) × (end : ShowFault E) × IsEnd why end × Shown (Err end)
+        all_ended w =
+            let r = stopped_passes took how answer_of (IsShownAt s) (show_follows s) course s c s' c' first_place starts (ShowFails s) (show_fails s) (show_short s)
+            (λ xs x p y m. (enough s xs x p m, m.names, inl (stop_by y, refl))) why w in
+            let k = cases r.0 r.1.0 r.1.2 in
+            (r.1.1, k.0, k.1, k.2)
 
 -- ---- Subsets that are shown one after another.
 
@@ -391,7 +390,8 @@ module _ {V E : Type 0} (sees : V → Call → Result (Unit {0}) E → V → Typ
     called s2 call = sofar_then sees s s1 s2 _ _ _ so_far (sofar_call sees s1 s2 (timed h.before (subset_call (done + 1))) _ call)
 
     -- one subset more
-    pub one_shown : (s2 s3 : V) (c' : Cursor) (steps' : ℕ) → sees s1 (subset_call (done + 1)) (Ok tt) s2 → ItemsGo sees table course c s2 steps (Ok tt) c' s3 steps' → SubsetsShown (done + 1) s c' s3 steps'
+    pub one_shown : (s2 s3 : V) (c' : Cursor) (steps' : ℕ) → sees s1 (subset_call (done + 1)) (Ok tt) s2 → ItemsGo sees table course c s2 steps (Ok tt) c' s3 steps'
+        → SubsetsShown (done + 1) s c' s3 steps'
     one_shown s2 s3 c' steps' call g = record {
       before = h.before + turns;
       none = ap (λ l. stop_of (passes_apart (uncounted course) (n - (done + 1)) l)) g.left ∙ next.2;

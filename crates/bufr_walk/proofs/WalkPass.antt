@@ -1,4 +1,4 @@
--- A walk makes the pass whose step is how the walk takes a field.
+-- If each field of a walk is taken as a step of a pass makes it, then the walk makes that pass.
 use Rattle.std.proofs.Common.{◌≡◌, ℕ, List, [], ◌∷◌, ◌++◌, Result, Ok, Err, Option, Some, None, zero, suc, ◌<◌, length, refl, sym, ◌∙◌, ap, subst, arith, append_assoc, append-nil}
 use Rattle.bufr_walk.specs.Prelude.{Taken, FieldSpec, TurnRefusal, WalkStop, Course, CountedCourse, uncounted, Next, take_next, at_end, refused, astray, TakenField, Takes, oks, answers_of, Walked, ticked, Item, answers_in, stop_by, StopsWalk}
 use Rattle.bufr_walk.specs.Pass.{Passing, Pass, Step, empty_pass, item_then, pass, pass_next, pass_field, EndsPass}
@@ -66,9 +66,21 @@ module _ {T C E : Type 0} (how : Passing T C E) where
       let rest = h most (omega (arith, lt)) in
       (rest.0, ap (λ x. pass_next how x p go) n ∙ ap (λ x. pass_field how spec p x go) step ∙ ap (item_then spec c) rest.1)
 
+-- what a walk has done so far: the items of its pass, and the turns up to what comes next
+pub record Comes {T C E : Type 0} (how : Passing T C E) (gives : FieldSpec → C → Taken) (course : CountedCourse) (p : T) (steps steps' : ℕ) : Type 0 where
+  pub items : List (Item C)
+  pub state : T
+  pub ticks : steps' ≡ ticked steps (course (answers_in gives items)).turns
+  -- the pass ends there, or continues with the next field
+  pub ends : (most : ℕ) (stop : Option E) → length items < most → EndsPass how (course (answers_in gives items)).next state stop
+      → pass how most (uncounted course) p ≡ record { items = items; state = state; stop = stop }
+  pub begins : (most : ℕ) → length items < most → (more : List (Item C)) × ((pass how most (uncounted course) p).items ≡ items ++ more)
+  pub goes : (most : ℕ) (spec : FieldSpec) (f : Step T C) → length items < most → (course (answers_in gives items)).next ≡ take_next spec → how.step spec state ≡ Ok f
+      → (more : List (Item C)) × ((pass how most (uncounted course) p).items ≡ items ++ item spec f.content ∷ more)
+
 -- ---- The pass of a walk.
 
--- `Meets items s p`: the walk is at s and the pass at p, each after these items.
+-- `Meets items s p`: after these items, the walk is in state s and the pass is in state p.
 module _ {S T C E F : Type 0} (takes : S → FieldSpec → Result Taken F → S → Type 0) (how : Passing T C E) (gives : FieldSpec → C → Taken) (Meets : List (Item C) → S → T → Type 0) where
   -- a field that was taken is a step of the pass
   pub record IsStep (before : List (Item C)) (spec : FieldSpec) (t : Taken) (s' : S) (p : T) : Type 0 where
@@ -78,19 +90,11 @@ module _ {S T C E F : Type 0} (takes : S → FieldSpec → Result Taken F → S 
     pub answer : t ≡ gives spec content
     pub meets : Meets (before ++ item spec content ∷ []) s' state
 
-  -- where a walk has come: the items so far, and the turns up to what comes next
-  pub record Comes (course : CountedCourse) (p : T) (steps : ℕ) (s' : S) (steps' : ℕ) : Type 0 where
-    pub items : List (Item C)
-    pub state : T
-    pub meets : Meets items s' state
-    pub ticks : steps' ≡ ticked steps (course (answers_in gives items)).turns
-    pub passes : Passes how (course (answers_in gives items)).next (uncounted course) p items state
-
   module _ (follows : (before : List (Item C)) (s : S) (spec : FieldSpec) (t : Taken) (s' : S) (p : T) → Meets before s p → takes s spec (Ok t) s' → IsStep before spec t s' p) where
     walk_passes : (before : List (Item C)) (course : Course) (s : S) (walked : List TakenField) (s' : S) (p : T) → Meets before s p → Takes (oks takes) course s walked s'
         → (items : List (Item C)) × (state : T) × (answers_of walked ≡ answers_in gives items) × Meets (before ++ items) s' state × Passes how (course (answers_of walked)) course p items state
     walk_passes before course s [] s' p m h =
-        ([], p, refl, subst (λ xs. Meets xs s' p) (sym (append-nil before)) (subst (λ x. Meets before x p) (sym h) m), λ most lt. passes_none how course p most lt)
+        ([], p, refl, subst (λ xs. Meets xs s' p) (sym (append-nil before)) (subst (λ x. Meets before x p) (sym h) m), passes_none how course p)
     walk_passes before course s (i ∷ walked) s' p m h =
         let f = follows before s i.spec i.taken h.0 p m h.2 in
         let x : Item C = item i.spec f.content in
@@ -99,45 +103,48 @@ module _ {S T C E F : Type 0} (takes : S → FieldSpec → Result Taken F → S 
           rest.1,
           ap (λ t. t ∷ answers_of walked) f.answer ∙ ap (λ ts. gives i.spec f.content ∷ ts) rest.2,
           subst (λ xs. Meets xs s' rest.1) (append_assoc before (x ∷ []) rest.0) rest.3,
-          λ most lt. passes_one how (course (i.taken ∷ answers_of walked)) course p i.spec f.content i.taken f.state rest.0 rest.1 h.1 f.step rest.4 most lt,
+          passes_one how (course (i.taken ∷ answers_of walked)) course p i.spec f.content i.taken f.state rest.0 rest.1 h.1 f.step rest.4,
         )
 
-    -- where a walk takes no more
-    comes : (course : CountedCourse) (s : S) (steps : ℕ) (walked : List TakenField) (s' : S) (steps' : ℕ) (p : T) → Meets [] s p → Takes (oks takes) (uncounted course) s walked s'
-        → steps' ≡ ticked steps (course (answers_of walked)).turns
-        → (c : Comes course p steps s' steps') × ((course (answers_of walked)).next ≡ (course (answers_in gives c.items)).next)
-    comes course s steps walked s' steps' p m h ticks =
-        let r = walk_passes [] (uncounted course) s walked s' p m h in (
-          record {
-            items = r.0;
-            state = r.1;
-            meets = r.3;
-            ticks = ticks ∙ ap (λ ts. ticked steps (course ts).turns) r.2;
-            passes = subst (λ ts. Passes how (course ts).next (uncounted course) p r.0 r.1) r.2 r.4;
-          },
-          ap (λ ts. (course ts).next) r.2,
-        )
+    module _ (course : CountedCourse) (s : S) (steps : ℕ) (s' : S) (steps' : ℕ) (p : T) (first : Meets [] s p) where
+      comes : (walked : List TakenField) (mid : S) → Takes (oks takes) (uncounted course) s walked mid → steps' ≡ ticked steps (course (answers_of walked)).turns
+          → (c : Comes how gives course p steps steps') × Meets c.items mid c.state × ((course (answers_of walked)).next ≡ (course (answers_in gives c.items)).next)
+      comes walked mid h ticks =
+          let r = walk_passes [] (uncounted course) s walked mid p first h in
+          let next : Next = (course (answers_in gives r.0)).next in
+          let passes : Passes how next (uncounted course) p r.0 r.1 = subst (λ ts. Passes how (course ts).next (uncounted course) p r.0 r.1) r.2 r.4 in (
+            record {
+              items = r.0;
+              state = r.1;
+              ticks = ticks ∙ ap (λ ts. ticked steps (course ts).turns) r.2;
+              ends = λ most stop. pass_ends how next (uncounted course) p r.0 r.1 most stop passes;
+              begins = λ most. pass_begins how next (uncounted course) p r.0 r.1 most passes;
+              goes = λ most spec f. pass_goes how next (uncounted course) p r.0 r.1 most spec f passes;
+            },
+            r.3,
+            ap (λ ts. (course ts).next) r.2,
+          )
 
-    -- a walk to the end
-    pub whole_passes : (course : CountedCourse) (s : S) (steps : ℕ) (s' : S) (steps' : ℕ) (p : T) → Meets [] s p → Walked takes course s steps (Ok tt) s' steps'
-        → (c : Comes course p steps s' steps') × ((course (answers_in gives c.items)).next ≡ at_end)
-    whole_passes course s steps s' steps' p m w = let c = comes course s steps w.0 s' steps' p m w.1 w.3 in (c.0, sym c.1 ∙ w.2)
+      -- a walk to the end
+      pub whole_passes : Walked takes course s steps (Ok tt) s' steps'
+          → (c : Comes how gives course p steps steps') × Meets c.items s' c.state × ((course (answers_in gives c.items)).next ≡ at_end)
+      whole_passes w = let c = comes w.0 s' w.1 w.3 in (c.0, c.1, sym c.2 ∙ w.2)
 
-    -- A walk that stops: `Fails` says what that is for a pass, after these items and at what comes next.
-    module _ (Fails : List (Item C) → T → Next → WalkStop F → S → Type 0)
-        (field : (items : List (Item C)) (s : S) (p : T) (spec : FieldSpec) (e : F) (s' : S) → Meets items s p → takes s spec (Err e) s' → Fails items p (take_next spec) (stops.Field e) s')
-        (short : (items : List (Item C)) (s : S) (p : T) (spec : FieldSpec) → Meets items s p → spec.role ≡ role.Reference → Fails items p (take_next spec) stops.Memory s)
-        (refuses : (items : List (Item C)) (s : S) (p : T) (why : TurnRefusal) → Meets items s p → Fails items p (refused why) (stop_by why) s) where
-      pub stopped_passes : (course : CountedCourse) (s : S) (steps : ℕ) (why : WalkStop F) (s' : S) (steps' : ℕ) (p : T) → Meets [] s p → Walked takes course s steps (Err why) s' steps'
-          → (mid : S) × (c : Comes course p steps mid steps') × Fails c.items c.state (course (answers_in gives c.items)).next why s'
-      stopped_passes course s steps why s' steps' p m w =
-          let c = comes course s steps w.0 w.1 steps' p m w.2 w.4 in
+      -- A walk that stops. The caller chooses what `Fails` says of the items, the state of the pass,
+      -- what comes next, why the walk stopped, and the state of the walk.
+      pub stopped_passes : (Fails : List (Item C) → T → Next → WalkStop F → S → Type 0)
+          → ((items : List (Item C)) (s : S) (p : T) (spec : FieldSpec) (e : F) (s' : S) → Meets items s p → takes s spec (Err e) s' → Fails items p (take_next spec) (stops.Field e) s')
+          → ((items : List (Item C)) (s : S) (p : T) (spec : FieldSpec) → Meets items s p → spec.role ≡ role.Reference → Fails items p (take_next spec) stops.Memory s)
+          → ((items : List (Item C)) (s : S) (p : T) (why : TurnRefusal) → Meets items s p → Fails items p (refused why) (stop_by why) s)
+          → (why : WalkStop F) → Walked takes course s steps (Err why) s' steps'
+          → (c : Comes how gives course p steps steps') × Fails c.items c.state (course (answers_in gives c.items)).next why s'
+      stopped_passes Fails field short refuses why w =
+          let c = comes w.0 w.1 w.2 w.4 in
           let items = c.0.items in
           let q = c.0.state in (
-            w.1,
             c.0,
-            stop_cases takes (λ next y. Fails items q next y s') w.1 s' (λ spec e h. field items w.1 q spec e s' c.0.meets h)
-                (λ spec h e. subst (λ x. Fails items q (take_next spec) stops.Memory x) (sym e) (short items w.1 q spec c.0.meets h))
-                (λ x e. subst (λ z. Fails items q (refused x) (stop_by x) z) (sym e) (refuses items w.1 q x c.0.meets)) (course (answers_in gives items)).next why
-                (subst (λ n. StopsWalk takes n w.1 why s') c.1 w.3),
+            stop_cases takes (λ next y. Fails items q next y s') w.1 s' (λ spec e h. field items w.1 q spec e s' c.1 h)
+                (λ spec h e. subst (Fails items q (take_next spec) stops.Memory) (sym e) (short items w.1 q spec c.1 h))
+                (λ x e. subst (Fails items q (refused x) (stop_by x)) (sym e) (refuses items w.1 q x c.1)) (course (answers_in gives items)).next why
+                (subst (λ n. StopsWalk takes n w.1 why s') c.2 w.3),
           )

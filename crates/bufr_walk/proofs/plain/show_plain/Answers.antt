@@ -14,7 +14,8 @@ subsets-init g c = (
 
 pub show_items-requires : goal.show_items-requires
 show_items-requires g c =
-    rw c.subsets.invariant.0 (next_reads g.V.Visitor.sees c.args.cache.now (counted_item c.args.cache.now c.args.given.now.template.now) c.args.given.now.subsets (bits_of (octets_of c.args.given.now.bits))
+    rw c.subsets.invariant.0 (next_reads g.V.Visitor.sees c.args.cache.now (counted_item c.args.cache.now c.args.given.now.template.now) c.args.given.now.subsets
+    (bits_of (octets_of c.args.given.now.bits))
     c.subsets.done c.args.visitor.now c.subsets.input c.subsets.visitor c.subsets.steps c.subsets.invariant.1 c.subsets-test.true)
 
 pub subsets-preserved : goal.subsets-preserved
