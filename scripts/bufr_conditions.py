@@ -58,11 +58,12 @@ class Conditions:
         self.is_left_out = re.compile(self.pattern_of_left_out().encode())
 
     def add(self, word: str) -> None:
-        found = re.fullmatch(r"([a-z]+)(!?)=(.*)", word) if isinstance(word, str) else None
+        found = re.fullmatch(r"([^!=]+)(!?)=(.*)", word) if isinstance(word, str) else None
+        if isinstance(word, str) and re.match("[0-3][0-9]{5}", word):
+            reason = "conditions select messages by their header, so they cannot contain descriptors"
+            raise ValueError(f"{word!r} is not a condition: {reason}")
         if not found:
-            advice = "; a condition selects messages by their header, so it cannot contain a descriptor"
-            has_descriptor = isinstance(word, str) and re.match("[0-3][0-9]{5}", word)
-            raise ValueError(f"{word!r} is not a condition: expected KEY=VALUE or KEY!=VALUE{advice if has_descriptor else ''}")
+            raise ValueError(f"{word!r} is not a condition: expected KEY=VALUE or KEY!=VALUE")
         key, negated, text = found.groups()
         if key not in KEYS:
             advice = f"; use {FIELDS[key]}" if key in FIELDS else ""

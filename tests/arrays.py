@@ -496,6 +496,7 @@ class Sources(WithFolder):
         never, list_of = "can never match; write it in the form", "where must be a list of conditions such as .'category=0'., not "
         for where, error, told in [
             (["categori=0"], ValueError, "unknown key 'categori'"),
+            (["Category=0"], ValueError, "^unknown key 'Category' in 'Category=0'; the keys are offset "),
             ("category=0", ValueError, f"{list_of}'category=0'$"),
             (None, TypeError, f"{list_of}None$"),
             ([("category", 0)], ValueError, r"^.'category', 0. is not a condition: expected KEY=VALUE or KEY!=VALUE$"),
@@ -508,8 +509,8 @@ class Sources(WithFolder):
             (["year=2023"], ValueError, "unknown key 'year' in 'year=2023'; use time, as in time=2023-03; the keys are offset "),
             (["subcentre!=0"], ValueError, "unknown key 'subcentre' in 'subcentre!=0'; use centre, as in centre=98/0; the"),
             (["masterversion=39"], ValueError, "use tables, as in tables=0/39/0; the keys"),
-            (["012101=280"], ValueError, "^'012101=280' is not a condition: expected .*; a condition selects messages by their header"),
-            (["012101>280"], ValueError, "^'012101>280' is not a condition: expected .*; a condition selects messages by their header"),
+            (["012101=280"], ValueError, "^'012101=280' is not a condition: conditions select messages by their header"),
+            (["012101>280"], ValueError, "^'012101>280' is not a condition: conditions select messages by their header"),
         ]:
             for call in (bufr.rows, bufr_text.rows):
                 if where is not None or call is bufr.rows:
