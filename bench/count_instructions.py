@@ -1,12 +1,18 @@
 #!/usr/bin/env python3
-"""Counts the program's instructions on small streams, and refuses more than 1.1 times those of instructions.csv.
+"""Counts instructions and simulated cache misses on small streams, and compares them with instructions.csv.
 
-    bench/count_instructions.py [PROGRAM]             crates/bufr/out/bufr by default
-    bench/count_instructions.py --update [PROGRAM]    writes the file anew
+    bench/count_instructions.py [PROGRAM]             fails if a count is too high
+    bench/count_instructions.py --update [PROGRAM]    writes the file
 
-An item is a line of an element, a message of `ls`, or a stray word. Of these the instructions are less those of the
-same command without input; of "no input" they are those of the whole run. valgrind counts them. Without it nothing is
-counted, and the script prints so.
+PROGRAM is crates/bufr/out/bufr by default. valgrind counts; if it is not installed, the script prints so and counts
+nothing. It simulates caches of fixed sizes, so the counts are the same on every machine.
+
+The counts are per item: a line of an element, a message of `ls`, or a stray word. The counts of the same command
+without input are subtracted first. "no input" has these counts themselves.
+
+The script fails if a count is more than 1.1 times that in the file. Before cache misses are compared, 1 is added to both
+counts, because small counts vary. Misses of the instruction cache and of branch prediction are printed only: they
+depend on how the code happens to be laid out.
 """
 import concurrent.futures
 import csv
@@ -22,8 +28,19 @@ import generate
 from lib import TABLES, finish, program
 
 FILE = pathlib.Path(__file__).parent / "instructions.csv"
-COLUMNS = ["command", "stream", "instructions"]
+# what is counted, and callgrind's events that it adds up
+COUNTED = {
+    "instructions": ["Ir"],
+    "L1 misses": ["D1mr", "D1mw"],
+    "L2 misses": ["DLmr", "DLmw"],
+    "I1 misses": ["I1mr"],
+    "branch misses": ["Bcm", "Bim"],
+}
+# the counts in the file, and what is added to both counts before they are compared
+RECORDED = {"instructions": 0, "L1 misses": 1, "L2 misses": 1}
 MOST = 1.1
+# a first-level cache of 32 KiB for instructions, one for data, and a second-level cache of 1 MiB
+CACHES = ["--I1=32768,8,64", "--D1=32768,8,64", "--LL=1048576,16,64"]
 WORDS = b"BUFR\x10\0\0\x04" * 2_000
 STREAMS = {
     "no input": b"",
@@ -40,21 +57,23 @@ def run(words: list, given: bytes) -> bytes:
     return subprocess.run(words, input=given, capture_output=True).stdout
 
 
-def instructions(words: list, given: bytes) -> int:
-    """The instructions of a run, or the end of the script where valgrind counts none."""
+def counted(words: list, given: bytes) -> list:
+    """The counts of a run. Ends the script if valgrind counts nothing."""
     with tempfile.NamedTemporaryFile("r") as log, tempfile.TemporaryFile() as stream:
         stream.write(given)
         stream.seek(0)
         callgrind = ["valgrind", "--tool=callgrind", "--callgrind-out-file=/dev/null", f"--log-file={log.name}"]
-        done = subprocess.run([*callgrind, *words], stdin=stream, capture_output=True)
-        found = re.search(r"Collected : (\d+)", log.read())
+        simulated = ["--cache-sim=yes", "--branch-sim=yes", *CACHES]
+        done = subprocess.run([*callgrind, *simulated, *words], stdin=stream, capture_output=True)
+        found = re.search(r"Events +: (.*)\n.*Collected : (.*)", log.read())
     if not found or done.returncode not in (0, 1):
         sys.exit(f"count_instructions: status {done.returncode} of {' '.join(words)}: {done.stderr[-500:]!r}")
-    return int(found[1])
+    events = dict(zip(found[1].split(), map(int, found[2].split())))
+    return [sum(events[it] for it in added) for added in COUNTED.values()]
 
 
 def counts() -> dict:
-    """The instructions an item by command and stream, and those of a run without input."""
+    """The counts per item by command and stream, and those of a run without input."""
     ls, dump, encode = ([program(), "ls"], [program(), "dump", *TABLES], [program(), "encode", *TABLES])
     texts = {name: run(dump, stream) for name, stream in STREAMS.items()}
     items = {name: len(re.findall(rb"^(?:R )?[0-9]{6} ", text, re.M)) for name, text in texts.items()}
@@ -63,11 +82,23 @@ def counts() -> dict:
     runs |= {("encode", name): (encode, text, items[name]) for name, text in texts.items()}
     runs |= {("ls", "stray words"): (ls, WORDS, 2_000), ("dump", "stray words"): (dump, WORDS, 2_000)}
     with concurrent.futures.ThreadPoolExecutor(os.cpu_count()) as pool:
-        whole = dict(zip(runs, pool.map(lambda it: instructions(it[0], it[1]), runs.values())))
-    return {
-        (command, name): number if name == "no input" else (number - whole[command, "no input"]) / runs[command, name][2]
-        for (command, name), number in whole.items()
-    }
+        whole = dict(zip(runs, pool.map(lambda it: counted(it[0], it[1]), runs.values())))
+    made = {}
+    for (command, name), numbers in whole.items():
+        if name != "no input":
+            start, items = whole[command, "no input"], runs[command, name][2]
+            numbers = [(number - less) / items for number, less in zip(numbers, start)]
+        made[command, name] = dict(zip(COUNTED, numbers))
+    return made
+
+
+def recorded() -> dict:
+    """The counts in the file, by command and stream."""
+    with FILE.open(encoding="utf-8", newline="") as file:
+        rows = csv.DictReader(file)
+        if rows.fieldnames != ["command", "stream", *RECORDED]:
+            sys.exit(f"count_instructions: {FILE.name} has the columns {rows.fieldnames}; write it with --update")
+        return {(row["command"], row["stream"]): {name: float(row[name]) for name in RECORDED} for row in rows}
 
 
 def main() -> None:
@@ -76,22 +107,26 @@ def main() -> None:
     if not shutil.which("valgrind"):
         print("count_instructions: skipped, valgrind is not there")
         return
-    counted = counts()
+    most = {} if update else recorded()
+    now = counts()
     if update:
         with FILE.open("w", encoding="utf-8", newline="") as file:
             writer = csv.writer(file, lineterminator="\n")
-            writer.writerows([COLUMNS, *((*key, f"{number:.1f}") for key, number in counted.items())])
+            writer.writerow(["command", "stream", *RECORDED])
+            writer.writerows([*key, *(f"{numbers[name]:.2f}" for name in RECORDED)] for key, numbers in now.items())
         return
-    with FILE.open(encoding="utf-8", newline="") as file:
-        most = {(row["command"], row["stream"]): float(row["instructions"]) for row in csv.DictReader(file)}
-    ratios = {key: number / most[key] for key, number in counted.items() if key in most}
-    print(f"count_instructions: {min(ratios.values()):.2f} to {max(ratios.values()):.2f} times those of {FILE.name}")
-    wrongs = [f"{' of '.join(key)} is in one of the script and {FILE.name} alone" for key in counted.keys() ^ most.keys()]
-    wrongs += [
-        f"{' of '.join(key)}: {counted[key]:.1f} instructions, {ratio:.2f} times those of {FILE.name}"
-        for key, ratio in ratios.items()
-        if ratio > MOST
-    ]
+    print(f"{'':31}" + "".join(f"{name:>15}" for name in COUNTED))
+    for (command, stream), numbers in now.items():
+        print(f"{command:6} {stream:24}" + "".join(f"{number:15,.2f}" for number in numbers.values()))
+    wrongs = [f"{' of '.join(key)} is in one of the script and {FILE.name} alone" for key in now.keys() ^ most.keys()]
+    for name, added in RECORDED.items():
+        ratios = {key: (now[key][name] + added) / (most[key][name] + added) for key in now if key in most}
+        print(f"count_instructions: {min(ratios.values()):.2f} to {max(ratios.values()):.2f} times the {name} of {FILE.name}")
+        wrongs += [
+            f"{' of '.join(key)}: {now[key][name]:.2f} {name}, {ratio:.2f} times the {most[key][name]:.2f} of {FILE.name}"
+            for key, ratio in ratios.items()
+            if ratio > MOST
+        ]
     finish(wrongs)
 
 

@@ -16,6 +16,9 @@ sys.path.insert(0, str(pathlib.Path(__file__).resolve().parent.parent / "tests")
 from lib import TABLES, Bits, asking, message, words
 
 
+STATION = b"%d STATION"
+
+
 class Kind(NamedTuple):
     """What the messages of a stream are like."""
 
@@ -25,6 +28,8 @@ class Kind(NamedTuple):
     is_packed: bool = False
     missing: float = 0  # the share of the items that no subset of a message has
     alike: float = 0  # the share of those that all have with the same value
+    text: bytes = STATION  # the pattern of the strings
+    times: int = 100  # how often measure.py repeats the stream
 
 
 class Item(NamedTuple):
@@ -80,6 +85,7 @@ def has_operator(descriptor: str) -> bool:
 
 # five elements that every version of WMO's Table B has
 FIVE = "012101 010004 011001 011002 020003"
+TEXTS = "106005 001015 001019 001011 001063 001096 025061"
 # the elements that get new references, and the lists of one sequence each
 FORTY = " ".join([element for element in ELEMENTS if element.startswith("012")][:40])
 SEQUENCES = [it for it in MEMBERS if not has_operator(it) and 20 <= len(items_of(it)) <= 200]
@@ -98,21 +104,26 @@ KINDS = {
     "mostly_alike": Kind(["312071"], 128, 1, True, missing=0.31, alike=0.41),
     "all_missing": Kind([f"001015 005001 006001 {FIVE}"], 1_000, missing=1),
     "compressed_all_missing": Kind([f"108005 001015 005001 006001 {FIVE}"], 640, 1, True, missing=1),
-    "texts": Kind(["106005 001015 001019 001011 001063 001096 025061"], 300),
+    "compressed_wide": Kind([f"105025 {FIVE} 012101 010004"], 5_000, 1, True, times=5),
+    "compressed_narrow": Kind(["012101 010004"], 20_000, 1, True),
+    "one_item": Kind(["012101"], 20_000),
+    "texts": Kind([TEXTS], 300),
+    "escapes": Kind([TEXTS], 300, text=b"\\\xC4\"" * 10 + b"%d"),
     "new_references": Kind([f"203016 {FORTY} 203255 140004 {FORTY}"], 1, 40),
+    "references_in_subsets": Kind([f"203016 012101 010004 011001 011002 203255 {FIVE}"], 2_000),
     "twelve_lists": Kind([f"3070{y}" for y in (71, 73, 76, 78, 79, 80, 81, 82, 83, 86, 87, 90)], 2, 36, missing=0.05),
     "lists_in_turn": Kind([turned(turn) for turn in range(14)], 1, 140),
     "hundred_lists": Kind(SEQUENCES[:100], 2, 300, missing=0.05),
 }
 
 
-def value(item: Item, place: int, subset: int):
+def value(item: Item, place: int, subset: int, text: bytes = STATION):
     """A value that changes a little from subset to subset; each 50th is missing."""
     number = 7 * subset + 13 * place
     if item.fixed is not None or (subset + place) % 50 == 0:
         return item.fixed
     if item.is_text:
-        return (b"%d STATION" % number)[: item.width // 8].rstrip()
+        return (text % number)[: item.width // 8].rstrip()
     return ((1 << item.width - 1) + number % 60) % ((1 << item.width) - 1)
 
 
@@ -123,7 +134,7 @@ def column(kind: Kind, item: Item, place: int, subsets: range) -> list:
         return [None] * kind.subsets
     if share < kind.missing + kind.alike:
         return [value(item, place, subsets[0])] * kind.subsets
-    return [value(item, place, subset) for subset in subsets]
+    return [value(item, place, subset, kind.text) for subset in subsets]
 
 
 def stream(kind: Kind) -> bytes:
@@ -241,15 +252,16 @@ def streams():
         "dump_packed_reports": lambda: repeated(packed_reports(200), 1_000),
         "dump_plain": lambda: repeated(plain(1000, 100), 10),
         "dump_packed": lambda: repeated(packed(1000, 100), 10),
-        **{f"dump_{name}": lambda kind=kind: repeated(stream(kind), 100) for name, kind in KINDS.items()},
+        **{f"dump_{name}": lambda kind=kind: repeated(stream(kind), kind.times) for name, kind in KINDS.items()},
     }
 
 
-def write_streams(folder: pathlib.Path) -> None:
+def write_streams(folder: pathlib.Path, chosen: list | None = None) -> None:
+    """Writes the streams that are chosen, or all of them."""
     folder.mkdir(parents=True, exist_ok=True)
     for name, pieces in streams().items():
         path = folder / f"{name}.bufr"
-        if path.exists():
+        if path.exists() or chosen and name not in chosen:
             continue
         with path.open("wb") as out:
             for piece in pieces():

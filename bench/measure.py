@@ -1,7 +1,9 @@
 #!/usr/bin/env python3
 """Times `bufr ls`, `bufr dump` and `bufr encode` on generated streams, then `bufr dump` on hostile shapes.
 
-    bench/measure.py [PROGRAM [FOLDER]]
+    bench/measure.py [PROGRAM [FOLDER [STREAM...]]]
+
+If you name streams of STREAMS, it prints only their rows of the tables of `ls`, `dump` and `encode`.
 
 Beside them run a lister, a dumper and an encoder written by hand, and the tools of ecCodes where they are installed.
 PROGRAM is crates/bufr/out/bufr by default, FOLDER holds the streams, bench/out by default. It prints tables in
@@ -44,8 +46,13 @@ STREAMS = {
     "dump_mostly_alike": "compressed messages in which three quarters of the items are the same in every subset",
     "dump_all_missing": "messages with all items missing",
     "dump_compressed_all_missing": "compressed messages with all items missing",
+    "dump_compressed_wide": "5 compressed messages, each with 5,000 subsets of 127 items",
+    "dump_compressed_narrow": "100 compressed messages, each with 20,000 subsets of 2 items",
+    "dump_one_item": "100 messages, each with 20,000 subsets of one item",
     "dump_texts": "messages that contain only strings",
+    "dump_escapes": "messages that contain only strings of escaped bytes",
     "dump_new_references": "messages that redefine reference values with 2 03",
+    "dump_references_in_subsets": "messages in which each of 2,000 subsets redefines reference values with 2 03",
     "dump_twelve_lists": "messages with 12 alternating descriptor lists",
     "dump_lists_in_turn": "messages with 14 alternating descriptor lists",
     "dump_hundred_lists": "messages with 100 alternating descriptor lists",
@@ -119,20 +126,24 @@ class Measuring:
         columns = ["stream", "MB read", "MB written", f"`bufr {command}`", "MB a second", "by hand", "ratio", *others, "KiB"]
         print("\n| " + " | ".join(columns) + " |\n" + "|---" * len(columns) + "|")
 
-    def listings(self) -> None:
+    def listings(self, chosen: list) -> None:
         self.head("ls", ("`cat`",))
         for stream in LISTED:
-            self.row("ls", stream, self.folder / f"{stream}.bufr", (["cat"],))
+            if stream in chosen:
+                self.row("ls", stream, self.folder / f"{stream}.bufr", (["cat"],))
 
-    def dumps(self) -> None:
+    def dumps(self, chosen: list) -> None:
         self.head("dump")
         for stream in [*DUMPED, "hostile", "noise"]:
-            self.row("dump", stream, self.folder / f"{stream}.bufr")
+            if stream in chosen:
+                self.row("dump", stream, self.folder / f"{stream}.bufr")
 
-    def encodes(self) -> None:
+    def encodes(self, chosen: list) -> None:
         """Encodes the dumps; what is built has to be the stream again."""
         self.head("encode")
         for stream in DUMPED:
+            if stream not in chosen:
+                continue
             path, text = self.folder / f"{stream}.bufr", self.folder / f"{stream}.txt"
             with text.open("wb") as out:
                 subprocess.run([*self.ours["dump"], str(path)], stdout=out, check=True)
@@ -179,13 +190,19 @@ def main() -> None:
     for tool in ["rustc", "time"]:
         if shutil.which(tool) is None:
             sys.exit(f"{tool} is not there")
-    generate.write_streams(folder)
+    chosen = sys.argv[3:] or list(STREAMS)
+    for name in chosen:
+        if name not in STREAMS:
+            sys.exit(f"{name} is not a stream: the streams are {', '.join(STREAMS)}")
+    generate.write_streams(folder, chosen)
     measuring = Measuring(program, folder)
     start = least([*measuring.ours["dump"], os.devnull], [*measuring.by_hand["dump"], os.devnull])
     print(f"On {time.strftime('%d %B %Y')}. Start-up of a dump: {1000 * start[0]:.1f} ms, by hand {1000 * start[1]:.1f}.")
-    measuring.listings()
-    measuring.dumps()
-    measuring.encodes()
+    measuring.listings(chosen)
+    measuring.dumps(chosen)
+    measuring.encodes(chosen)
+    if sys.argv[3:]:
+        return
     measuring.summary()
     print()
     hostile_shapes.table(program)
