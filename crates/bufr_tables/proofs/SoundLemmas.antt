@@ -3,7 +3,7 @@ use Rattle.std.proofs.lemmas.Grind.{common_steps}
 use Rattle.std.proofs.lemmas.Bool.Decides.{nat_tests}
 use Rattle.std.proofs.Common.{◌≡◌, ◌≢◌, ℕ, zero, suc, ◌+◌, ◌<◌, ◌≤◌, ◌==◌, Bool, true, false, not, ◌&&◌, ◌||◌, List, [], ◌∷◌, length, take, Option, Some, None, Result, Ok, Err, refl, sym, ◌∙◌, ap, subst, arith, inl, inr, ◌++◌, drop, append_assoc, IfOk, nat_le, nat_lt, ok_or, slice_index, if◌then◌else◌}
 use Rattle.std.proofs.lemmas.Bool.{ne_eqb, eqb-true}
-use Rattle.bufr_tables.specs.Prelude.{TemplateFault, f_of, x_of, y_of, is_legal_operator, gives_width, Tree, bare, element, operator, fixed, delayed, join, size, depth, consumes, Tables, Expansion, ExpandedPart, part, ◌>>=◌, unless, with_places, is_factor, begins_with_element, element_part, operator_part, body_of, fixed_part, delayed_part, group_part, sequence_part, part_of, level, inner_of, tree_of, max_open, IsKnownAfter, IsKnown, IsLegal, is_element_first, EveryGroupConsumes, IsSound, leaves, ListsLeaves, says_nothing, says_itself, says_replication, says_sequence, IsAnswer, Cell, cells_of, trees_of_cells, AreCellsOf, IsTemplate, BuilderModel, growth, places_so_far, push_tree, PushesTree, IsFaultOrMemory}
+use Rattle.bufr_tables.specs.Prelude.{TemplateFault, f_of, x_of, y_of, is_legal_operator, gives_width, Tree, bare, element, operator, fixed, delayed, join, size, depth, consumes, Tables, Expansion, ExpandedPart, part, ◌>>=◌, unless, with_places, is_factor, begins_with_element, element_part, operator_part, body_of, fixed_part, delayed_part, group_part, sequence_part, part_of, level, inner_of, tree_of, max_open, IsKnownAfter, IsKnown, IsLegal, is_element_first, EveryGroupConsumes, IsSound, leaves, ListsLeaves, says_nothing, says_itself, says_replication, says_sequence, Cell, cells_of, trees_of_cells, AreCellsOf, IsTemplate, BuilderModel, growth, places_so_far, push_tree, PushesTree, IsFaultOrMemory}
 use Rattle.bufr_tables.proofs.ExpansionLemmas.{depth-join, part-element, cells-tail, length-cells, raised_flattened, kept_raised, part-group, part-operator, part-sequence}
 use Rattle.std.proofs.lemmas.List.{append-nil, take-append-drop}
 use Rattle.bufr_tables.specs.declared.fault.TemplateFault.TheVariants as fault
@@ -446,26 +446,10 @@ tree_says tables list tree h =
     subst (λ t. ListsLeaves tables.members list (leaves t)) (tree_is one.middle tree full.then_is)
     (level_says tables (inner_of tables max_open) (inner_says tables max_open) false 0 1 list one.middle one.first_is)
 
--- ---- What an answer that is kept says.
-
 -- no descriptors have the same fault by all tables
-pub nothing-answered : (tables : Tables) → IsAnswer tables [] (Err (fault.EmptyGroup 0))
+pub nothing-answered : (tables : Tables) → tree_of tables [] ≡ Err (fault.EmptyGroup 0)
 unfolding tree_of level
-nothing-answered tables = record { is_defined = refl; within = tt; reported = λ e. cc }
-
--- what a template says that is an answer
-pub record IsFineAnswer (tables : Tables) (list : List ℕ) (answer : Result Tree TemplateFault) : Type 0 where
-  pub says : IfOk answer (λ template. ListsLeaves tables.members list (leaves template))
-  pub fine : IfOk answer (IsFineWhole tables.known)
-
-pub answer_fine : (tables : Tables) (list : List ℕ) (answer : Result Tree TemplateFault) → tree_of tables list ≡ answer → IsFineAnswer tables list answer
-answer_fine tables list (Ok tree) h = record { says = tree_says tables list tree h; fine = tree_fine tables list tree h }
-answer_fine tables list (Err why) h = record { says = tt; fine = tt }
-
--- a fact of every tree that is fine
-pub of_fine : {known : ℕ → Bool} {P : Tree → Type 0} → ((tree : Tree) → IsFineWhole known tree → P tree) → (answer : Result Tree TemplateFault) → IfOk answer (IsFineWhole known) → IfOk answer P
-of_fine f (Ok tree) fine = f tree fine
-of_fine f (Err why) fine = tt
+nothing-answered tables = refl
 
 -- ---- The expansion of a whole list.
 

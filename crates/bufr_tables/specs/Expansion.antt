@@ -237,18 +237,3 @@ IsKnownAfter known width_given (delayed factor body rest) =
 -- Table B has each factor and element of the template, except for elements after 2 06 Y.
 abbrev pub IsKnown : (known : ℕ → Bool) → Tree → Type 0
 IsKnown known tree = IsKnownAfter known false tree
-
--- ---- Templates that are asked for again: by which tables, and the list that is kept.
-
--- Table B and Table D, and the list of descriptors that was expanded last by them
-pub record ListByTables : Type 0 where
-  pub table_b : List Row
-  pub table_d : List Sequence
-  pub list : List ℕ
-
--- an answer is what a list means; no template is too long, and no fault is want of memory
-pub record IsAnswer (tables : Tables) (list : List ℕ)
-    (answer : Result Tree TemplateFault) : Type 0 where
-  pub is_defined : tree_of tables list ≡ answer
-  pub within : IfOk answer (λ template. places template ≤ 65535)
-  pub reported : IfErr answer (λ why. why ≢ Memory)

@@ -9,7 +9,7 @@ pub use Rattle.bufr_tables.specs.TableD.{IsFirstCycle, Leads, one, more, ReadsTa
 unfoldable pub use Rattle.bufr_tables.specs.TableD.{with_record_d, added, member_of}
 pub use Rattle.bufr_tables.specs.Cells.{first_tree, cells_of, factor_first, prepend_cell, read_cells, trees_of_cells, AreCellsOf, IsTemplate, tree_code}
 pub use Rattle.bufr_tables.specs.Growing.{builder_model}
-pub use Rattle.bufr_tables.specs.Expansion.{Tables, Expansion, part, ExpandedPart, unless, with_places, body_of, sequence_part, element_part, group_part, operator_part, is_factor, begins_with_element, fixed_part, delayed_part, max_open, IsKnownAfter, IsKnown, IsLegal, is_element_first, EveryGroupConsumes, IsSound, leaves, ListsLeaves, says_nothing, says_itself, says_replication, says_sequence, IsAnswer, ListByTables, tables_of}
+pub use Rattle.bufr_tables.specs.Expansion.{Tables, Expansion, part, ExpandedPart, unless, with_places, body_of, sequence_part, element_part, group_part, operator_part, is_factor, begins_with_element, fixed_part, delayed_part, max_open, IsKnownAfter, IsKnown, IsLegal, is_element_first, EveryGroupConsumes, IsSound, leaves, ListsLeaves, says_nothing, says_itself, says_replication, says_sequence, tables_of}
 unfoldable pub use Rattle.bufr_tables.specs.Expansion.{part_of, level, inner_of, tree_of}
 pub use Rattle.bufr_tables.specs.Growth.{own_places, group_of, first_cell, factor_cells, BuilderModel, growth, places_so_far, push_tree, with_open_group, with_closed_group, PushesTree, PushesPart, IsFaultOrMemory, PushesTreeUnlessMemory, GivesPart, GivesGrowth, OpensGroup, tables_in}
 pub use Rattle.bufr_tables.specs.Tree.{Tree, bare, element, operator, fixed, delayed, join, depth, consumes, is_inserted_text, gives_width, size, places, is_legal_operator, has_legal_operand}

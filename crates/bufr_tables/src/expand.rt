@@ -1,16 +1,117 @@
 //! The expansion of descriptors, depth first, from left to right, and the cells that it builds.
 //! Few descriptors are looked at for each place, so a hostile list is refused soon.
-ghost use Rattle.std.specs.Prelude.{◌≡◌, ◌+◌, ◌*◌, max, vec_capacity, ◌<◌, ◌≤◌, ◌++◌, ◌∷◌, [], length, Ok, Err, MatchResult, OnOk, OnErr, IfErr, IfOk};
+ghost use Rattle.std.specs.Prelude.{◌≡◌, ◌≢◌, is_some, ◌+◌, ◌*◌, max, vec_capacity, ◌<◌, ◌≤◌, ◌++◌, ◌∷◌, [], length, Ok, Err, MatchResult, OnOk, OnErr, IfErr, IfOk};
 ghost use Rattle.bufr_tables.specs.Fxy.{x_of};
-ghost use Rattle.bufr_tables.specs.Expansion.{begins_with_element as element_begins, part_of, group_part, with_places};
+ghost use Rattle.bufr_tables.specs.TableB.{entry_of};
+ghost use Rattle.bufr_tables.specs.TableD.{members_of};
+ghost use Rattle.bufr_tables.specs.Tree.{places as places_of, depth as depth_of};
+ghost use Rattle.bufr_tables.specs.Expansion.{leaves, ListsLeaves, IsKnown, IsLegal, IsSound, tree_of, tables_of, begins_with_element as element_begins, part_of, group_part, with_places};
 ghost use Rattle.bufr_tables.specs.Growth.{places_so_far, PushesTreeUnlessMemory, GivesPart, factor_cells, first_cell, own_places, tables_in, inner_in, list_in, group_in};
 
 use crate::fault::TemplateFault;
 use crate::fxy::Fxy;
 use crate::table_b::TableB;
 use crate::table_d::TableD;
-use crate::template::Cell;
+use crate::template::{Cell, Template};
 use std::alloc::Global;
+
+/// The most groups and sequences that may be open together.
+const MAX_OPEN: u32 = 32;
+
+/// The least room for cells that is made at the beginning: most templates fit in it.
+const MIN_ROOM: usize = 128;
+
+impl Template {
+    /// Expands a list of descriptors, depth first, from left to right, and flattens the tree to
+    /// cells.
+    ///
+    /// At most 32 groups and sequences are open together, and a template takes at most 65,535
+    /// places ([`Template::places`] counts them). A list that would expand to more is refused after
+    /// that many.
+    ///
+    /// ```
+    /// let descriptors = [Fxy::from_word(0x0101)]; // 0 01 001
+    /// let template = Template::build(alloc, &descriptors, &table_b, &table_d)?;
+    /// assert_eq!(rt; template.places(), 2); // the element, and the end
+    /// ```
+    ///
+    /// # Errors
+    ///
+    /// The first fault that is met:
+    ///
+    /// - at a replication 1 X Y: [`TemplateFault::GroupShape`] where X is 0;
+    ///   [`TemplateFault::NoFactor`] where Y is 0 and no factor follows (0 31 000, 0 31 001 or
+    ///   0 31 002); [`TemplateFault::UnknownElement`] with the factor where Table B lacks it;
+    ///   [`TemplateFault::GroupShape`] where fewer than X descriptors are left in the same list,
+    ///   the factor not among them; then [`TemplateFault::Depth`], [`TemplateFault::TemplateSize`],
+    ///   the faults of its body, and [`TemplateFault::EmptyGroup`] where no node of the body takes
+    ///   bits of the data;
+    /// - at a sequence: [`TemplateFault::UnknownSequence`] where Table D lacks it, then
+    ///   [`TemplateFault::Depth`], then the faults of its members;
+    /// - at an element: [`TemplateFault::UnknownElement`] where Table B lacks it, unless 2 06 Y
+    ///   is before it; then [`TemplateFault::TemplateSize`];
+    /// - at an operator: [`TemplateFault::Operator`] where it, or its operand, is none that a
+    ///   template may hold; [`TemplateFault::LocalShape`] where 2 06 Y is not followed by an
+    ///   element in the same list; then [`TemplateFault::TemplateSize`];
+    /// - at the end: [`TemplateFault::EmptyGroup`] with the first descriptor (000000 where there is
+    ///   none) where no node takes bits.
+    ///
+    /// [`TemplateFault::Memory`] where memory runs out, at any growth.
+    // rule: groups-take-bits
+    pub fn build(
+        alloc: Global,
+        descriptors: &[Fxy],
+        table_b: &TableB,
+        table_d: &TableD,
+    ) -> Result<Template, TemplateFault>
+        ensures tree { IfOk result
+            (λ template.
+            tree_of (tables_of table_b.now table_d.now) descriptors.now ≡ Ok template) }
+        ensures fault { IfErr result
+            (λ why. why ≢ TemplateFault.Memory
+            → tree_of (tables_of table_b.now table_d.now) descriptors.now ≡ Err why) }
+
+        // No element, operator or factor of the list is lost, added or moved.
+        ensures leaves { IfOk result
+            (λ template. ListsLeaves (members_of table_d.now) descriptors.now (leaves template)) }
+
+        // What the walk over a template relies on.
+        ensures known { IfOk result
+            (λ template. IsKnown (λ fxy. is_some (entry_of table_b.now fxy)) template) }
+        ensures sound { IfOk result IsSound }
+        ensures legal { IfOk result IsLegal }
+        ensures within { IfOk result (λ template. places_of template ≤ 65535) }
+        ensures shallow { IfOk result (λ template. depth_of template ≤ 32) }
+    {
+        let expander = Expander {
+            table_b,
+            table_d,
+            room: MAX_OPEN,
+        };
+        let room = descriptors.len().saturating_add(1).max(MIN_ROOM);
+        let room = room.min(MAX_PLACES as usize);
+        let cells = Vec::with_capacity(alloc, room).map_err(|_| TemplateFault::Memory)?;
+        let mut growing = TemplateBuilder {
+            cells,
+            open_groups: 0,
+            depth: 0,
+            consumes: false,
+        };
+        expander.list(descriptors, &mut growing)?;
+        if !growing.consumes {
+            let first = descriptors.first().copied().unwrap_or(Fxy::from_word(0));
+            return Err(TemplateFault::EmptyGroup(first));
+        }
+        let TemplateBuilder {
+            mut cells,
+            open_groups: _,
+            depth,
+            consumes: _,
+        } = growing;
+        push_cell(&mut cells, Cell::Finish)?;
+        Ok(Template { cells, depth })
+    }
+}
 
 /// What expands lists: the two tables, and how many groups and sequences more may be open.
 #[derive(Clone, Copy)]

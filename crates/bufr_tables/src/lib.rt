@@ -18,4 +18,4 @@ pub use fault::{TableFault, TemplateFault};
 pub use fxy::Fxy;
 pub use table_b::{Entry, Kind, TableB};
 pub use table_d::TableD;
-pub use template::{Cell, SelectedTemplate, Template};
+pub use template::{Cell, Template};
