@@ -9,8 +9,6 @@ use Rattle.bufr_frame.specs.Prelude.{max_octets, StreamEvent, FrameAt, StrayAt, 
 use Rattle.bufr_frame.specs.declared.fault.SectionFault.{SectionFault}
 use Rattle.bufr_frame.proofs.ScanLemmas.{IsSmall, framed_octets, frames-within, small-frames, scan_from-nil}
 use Rattle.bufr_walk.specs.Prelude.{Values, View, next_item, data_of, reading_of, fault_at, Stop}
-use Rattle.bufr_walk.proofs.PassLemmas.{legal_sane, reading_is, reads_so}
-use Rattle.bufr_walk.proofs.CourseLemmas.{IsSane}
 use Rattle.bufr_text.specs.Prelude.{between, lines_of, parse_lines, Document, ParseResult, Complete, Refused, documents_of, dump_lines, dump_text_of, IsOctet, IsAccepted, HasSameReading, dump_items, IsReadAs, encoding_in, IsProper, AreProper, split_of}
 use Rattle.bufr_text.specs.declared.fault.DocumentFault.{DocumentFault}
 use Rattle.bufr_text.proofs.FormLemmas.{canonical_encoded}
@@ -25,6 +23,7 @@ use Rattle.bufr_cli.proofs.DumpLemmas.{data-of, data_or_report, data_piece, piec
 use Rattle.std.proofs.lemmas.List.{length-map}
 use Rattle.bufr_text.specs.declared.encode.Form.{Form}
 use Rattle.bufr_text.proofs.NormalLemmas.{dump_is_normal, encoded_again_same, encoded_read}
+use Rattle.bufr_fill.proofs.ReadsLemmas.{reads_as}
 
 -- the numbers of a slice of octets
 pub octets-all : (s : List ℕ) → ((i : ℕ) → slice_index s i < 256) → AllByRecursion IsOctet s
@@ -97,17 +96,12 @@ abbrev IsFault : Piece → Type 0
 IsFault p = (text : List ℕ) × (p ≡ OnErrors text)
 
 module _ (records : List Record) (b : List Row) (d : List Sequence) (rows : AreRows records b) where
-  -- what comes next in a template that descriptors make
-  sane : (s : Sections) (template : Tree) → tree_of (tables_of b d) s.descriptors ≡ Ok template → (m : ℕ) → IsSane m (next_item b template)
-  sane s template expands = legal_sane records b template rows (tree_fine (tables_of b d) s.descriptors template expands).legal
-
   -- the piece of an accepted message is its dump text, wherever it is
   pub accepted-piece : (m : List ℕ) (s : Sections) (template : Tree) (values : Values) (used offset : ℕ) → IsAccepted b d m s template values used
       → dump_piece b d (FrameAt offset m) ≡ OnOutput (dump_text_of s (dump_items b s.subsets values))
   accepted-piece m s template values used offset a =
-      let is = reading_is (next_item b template) (sane s template a.expands) (data_of s) values used a.read in
-      ap (λ parsed. text_or_fault offset (dump_or_report b d parsed)) a.sections ∙ data-of b d offset s template a.expands ∙ read-piece b offset s template is.none
-      ∙ ap (λ v. OnOutput (dump_text_of s (dump_items b s.subsets v))) is.items
+      ap (λ parsed. text_or_fault offset (dump_or_report b d parsed)) a.sections ∙ data-of b d offset s template a.expands ∙ read-piece b offset s template a.read.none
+      ∙ ap (λ v. OnOutput (dump_text_of s (dump_items b s.subsets v))) a.read.values_are
 
   module _ (offset : ℕ) (m : List ℕ) (small : AllByRecursion IsOctet m × (length m ≤ max_octets)) where
     data-kind : (s : Sections) (template : Tree) → sections_of m ≡ Ok s → tree_of (tables_of b d) s.descriptors ≡ Ok template
@@ -116,7 +110,7 @@ module _ (records : List Record) (b : List Row) (d : List Sequence) (rows : AreR
       where
         by : (o : Option Stop) → (reading_of (next_item b template) (data_of s)).stop ≡ o → IsFault (data_piece b offset s template) ⊎ IsDumped b d (FrameAt offset m) (data_piece b offset s template)
         by None none =
-            let reads = reads_so (next_item b template) (sane s template expands) (data_of s) none in
+            let reads = reads_as b template (table_read records b rows) (tree_fine (tables_of b d) s.descriptors template expands).legal (data_of s) none in
             inr (record {
               offset = offset;
               octets = m;

@@ -5,15 +5,17 @@ use Rattle.bufr_fill.proofs.FieldLemmas.{same_ok}
 use Rattle.bufr_fill.proofs.EntryLemmas.{length-cells}
 use Rattle.std.proofs.lemmas.Bool.{ltb-false}
 use Rattle.std.specs.List.{AllByRecursion}
-use Rattle.bufr_tables.specs.Prelude.{IsLegal, Record, Row, AreRows, Tree}
-use Rattle.bufr_walk.specs.Prelude.{FieldSpec, IsSpec, Content, bits_for, FieldFault, found, content_at, Course, Next, take_next, at_end, astray, refused, next_item, max_values, Item, DataCoding, plain, packed, ReadsPass, items_of_subset, subsets_from, would_be_many}
-use Rattle.bufr_fill.specs.Prelude.{packing_fault, Draft, Subset, ItemFault, DraftFault, at_line, too_many_values, content_of, plain_filler, RowCell, ItemRow, cells_at, rows, most_items, map_err, content_here, contents_here, pack_across, packed_filler, plain_data, packed_data, first_line, ◌>>=◌, WrittenItem, written_item, Filler, fill, with_bits_before, packing, Fits, AllFit, HasOctets, AllHaveOctets, IsSaid, IsReadBack, IsPackedReadBack, AreDrafts, AreSaid}
+use Rattle.bufr_tables.specs.Prelude.{IsLegal, Row, Tree}
+use Rattle.bufr_walk.specs.Prelude.{FieldSpec, IsSpec, Content, bits_for, FieldFault, found, content_at, Course, Next, take_next, at_end, astray, refused, next_item, max_values, Item, DataCoding, plain, packed, ReadsPass, ReadsSubsets, apart, together, items_of_subset, subsets_from, would_be_many}
+use Rattle.bufr_fill.specs.Prelude.{packing_fault, Draft, Subset, ItemFault, DraftFault, at_line, too_many_values, content_of, plain_filler, RowCell, ItemRow, cells_at, rows, most_items, map_err, content_here, contents_here, pack_across, packed_filler, plain_data, packed_data, first_line, ◌>>=◌, WrittenItem, written_item, Filler, fill, with_bits_before, packing, Fits, AllFit, HasOctets, AllHaveOctets, IsSaid, IsReadBack, data_bits, AreDrafts, AreSaid}
 use Rattle.bufr_fill.proofs.FillSteps.{filled, bits_with, fill_at}
-use Rattle.bufr_walk.proofs.NextField.{table_read, IsGoodCourse, next_field}
+use Rattle.bufr_walk.proofs.NextField.{AreRead, IsGoodCourse, next_field}
 use Rattle.bufr_walk.specs.Prelude.{IsWithin}
 use Rattle.bufr_fill.proofs.GoodReads.{draft_fits, answer_within}
 use Rattle.bufr_fill.proofs.PackedLaws.{fitting_again}
 use Rattle.bufr_fill.proofs.PlainLaws.{plain_again}
+use Rattle.bufr_fill.proofs.ReadsLemmas.{plain_reads, packed_reads}
+use Rattle.std.proofs.lemmas.Slice.Zip.{AllZip-long}
 use Rattle.std.specs.Result.{result_map_both}
 
 -- ---- one item after another
@@ -86,11 +88,17 @@ plain_one end_line spec d w good text e = by_content (content_of spec d) refl e
         let is : written_item c (bits_for spec.width c) ≡ w = same_ok (written_item c (bits_for spec.width c)) w q in
         subst (λ v. IsOneBack plain IsSaid spec d v) is (record { said = p; within = answer_within spec.role spec c good good.role fits; read = plain_again spec good c fits })
 
+-- the bits read as the contents of the drafts, item by item
+record IsPlainBack (course : Course) (drafts : List Subset) (bits : List Bool) : Type 0 where
+  subsets : List (List (Item Content))
+  said : AreSaid subsets drafts
+  read : (more : List Bool) → ReadsSubsets course subsets (bits ++ more) more
+
 module _ (course : Course) (good : IsGoodCourse course) where
   plain_join : (s : Subset) (ss : List Subset) (out : List Bool) → AllByRecursion (λ (d : Draft). HasOctets d.form) s.items
-      → ((rest : List Bool) → plain_data course ss ≡ Ok rest → IsReadBack course ss rest)
+      → ((rest : List Bool) → plain_data course ss ≡ Ok rest → IsPlainBack course ss rest)
       → (a b : Result (List Bool) DraftFault) → fill (plain_filler s.end_line) course s.items ≡ a → plain_data course ss ≡ b → (a >>= λ x. b >>= λ y. Ok (x ++ y)) ≡ Ok out
-      → IsReadBack course (s ∷ ss) out
+      → IsPlainBack course (s ∷ ss) out
   plain_join s ss out text others (Err why) b p q e = cc
   plain_join s ss out text others (Ok x) (Err why) p q e = cc
   plain_join s ss out text others (Ok x) (Ok y) p q e =
@@ -105,7 +113,7 @@ module _ (course : Course) (good : IsGoodCourse course) where
             (y ++ more, subst (λ bits. ReadsPass plain course first.items bits (y ++ more)) turned (first.read (y ++ more)), rest.read more);
       }
 
-  pub plain_back : (ss : List Subset) (out : List Bool) → AllHaveOctets ss → plain_data course ss ≡ Ok out → IsReadBack course ss out
+  plain_back : (ss : List Subset) (out : List Bool) → AllHaveOctets ss → plain_data course ss ≡ Ok out → IsPlainBack course ss out
   plain_back [] out text e = record { subsets = []; said = tt; read = λ more. ap (λ x. x ++ more) (sym (same_ok [] out e)) }
   plain_back (s ∷ ss) out text e = plain_join s ss out text.0 (λ rest q. plain_back ss rest text.1 q) (fill (plain_filler s.end_line) course s.items) (plain_data course ss) refl refl
       e
@@ -266,24 +274,31 @@ few_rows n (suc count) from ss (i ∷ items) few h =
     let q : from + 1 + length items ≡ from + length (i ∷ items) = omega arith in
     subst (λ k. k * n ≤ max_values) q (few_rows n count (from + 1) ss items h.0.1 h.1)
 
-pub packed_back : (course : Course) → IsGoodCourse course → (ss : List Subset) (out : List Bool) → AllHaveOctets ss → packed_data course ss ≡ Ok out → IsPackedReadBack course ss out
-packed_back course good [] out text e = record { items = []; said = tt; read = λ more. (refl, ap (λ x. x ++ more) (sym (same_ok [] out e))) }
-packed_back course good (s ∷ ss) out text e =
+packed_back : (table : List Row) (template : Tree) (read : AreRead table) (legal : IsLegal template) (ss : List Subset) (out : List Bool) → AllHaveOctets ss
+    → packed_data (next_item table template) ss ≡ Ok out → IsReadBack (next_item table template) true ss out
+packed_back table template read legal [] out text e =
+    record { values = together []; said = tt; read = λ more. packed_reads table template read legal [] 0 out more (refl, ap (λ x. x ++ more) (sym (same_ok [] out e))) }
+packed_back table template read legal (s ∷ ss) out text e =
     let n = length (s ∷ ss) in
     let most = most_items (s ∷ ss) in
-    let b = back (packed n) (packed_filler s.end_line (would_be_many n most)) (IsSaidAcross n) (IsRowOf n) (λ spec cs. refl) (packed_one n (omega arith)) course (rows most 0 (s ∷ ss)) out good
+    let b = back (packed n) (packed_filler s.end_line (would_be_many n most)) (IsSaidAcross n) (IsRowOf n) (λ spec cs. refl) (packed_one n (omega arith)) (next_item table template)
+    (rows most 0 (s ∷ ss)) out (next_field table template read legal)
     (rows_octets n most 0 (s ∷ ss) refl text) e in
     let zero_more : 0 + length b.items ≡ length b.items = omega arith in
     record {
-      items = b.items;
+      values = together b.items;
       said = all_subsets 0 most (s ∷ ss) b.items (rows_said n b.items (rows most 0 (s ∷ ss)) b.said) (omega arith);
-      read = λ more. (b.read more, subst (λ k. k * n ≤ max_values) zero_more (few_rows n most 0 (s ∷ ss) b.items (omega arith) b.said));
+      read = λ more. packed_reads table template read legal b.items n out more
+          (b.read more, subst (λ k. k * n ≤ max_values) zero_more (few_rows n most 0 (s ∷ ss) b.items (omega arith) b.said));
     }
 
-pub plain_template_back : (records : List Record) (table : List Row) (template : Tree) (drafts : List Subset) (bits : List Bool) → AreRows records table → IsLegal template → AllHaveOctets drafts
-    → plain_data (next_item table template) drafts ≡ Ok bits → IsReadBack (next_item table template) drafts bits
-plain_template_back records table template drafts bits rows legal text e = plain_back (next_item table template) (next_field table template (table_read records table rows) legal) drafts bits text e
-
-pub packed_template_back : (records : List Record) (table : List Row) (template : Tree) (drafts : List Subset) (bits : List Bool) → AreRows records table → IsLegal template → AllHaveOctets drafts
-    → packed_data (next_item table template) drafts ≡ Ok bits → IsPackedReadBack (next_item table template) drafts bits
-packed_template_back records table template drafts bits rows legal text e = packed_back (next_item table template) (next_field table template (table_read records table rows) legal) drafts bits text e
+pub read_back : (table : List Row) (template : Tree) → AreRead table → IsLegal template → (compressed : Bool) (drafts : List Subset) (bits : List Bool) → AllHaveOctets drafts
+    → data_bits compressed (next_item table template) drafts ≡ Ok bits → IsReadBack (next_item table template) compressed drafts bits
+read_back table template read legal true drafts bits text e = packed_back table template read legal drafts bits text e
+read_back table template read legal false drafts bits text e =
+    let b = plain_back (next_item table template) (next_field table template read legal) drafts bits text e in
+    record {
+      values = apart b.subsets;
+      said = b.said;
+      read = λ more. plain_reads table template read legal b.subsets (length drafts) bits more (b.read more, sym (AllZip-long _ b.subsets drafts b.said));
+    }

@@ -5,7 +5,8 @@ use Rattle.std.specs.List.{list_all, AllByRecursion, AllZip}
 use Rattle.std.proofs.lemmas.Bool.{le-ltb}
 use Rattle.std.proofs.lemmas.List.{length-append}
 use Rattle.bufr_walk.specs.Prelude.{FieldSpec, IsSpec, Content, found, bits_for, answer_by_role, answer_of, FieldFault, plain_field, missing, unequal_factor, packed_field, answer_first, max_values, Item, packed, plain, after, ReadsPass, ReadsSubsets, IsPackedReading, content_at, Course, take_next, at_end, subsets_from, items_of_subset, would_be_many}
-use Rattle.bufr_fill.specs.Prelude.{ItemFault, Taken, Role, packing, same, packed_bits, packed_unlike, written_item, fill, with_bits_before, plain_filler, RowCell, ItemRow, map_err, content_here, contents_here, pack_across, packed_filler, first_line, unlike_line, ◌>>=◌, plain_data, item_row, cells_at, rows, most_items, packing_fault, packed_data, Fits, AllFit, IsWrittenApart, IsDumped, AreDrafts, AreDumped, IsSaid, AreSaid, IsUnlike, IsTogetherOrNot, Draft, Subset, at_line, too_many_values, content_of}
+use Rattle.bufr_walk.specs.Prelude.{together as values_together}
+use Rattle.bufr_fill.specs.Prelude.{ItemFault, Taken, Role, packing, same, packed_bits, packed_unlike, written_item, fill, with_bits_before, plain_filler, RowCell, ItemRow, map_err, content_here, contents_here, pack_across, packed_filler, first_line, unlike_line, ◌>>=◌, plain_data, item_row, cells_at, rows, most_items, packing_fault, packed_data, Fits, AllFit, IsDumped, AreDrafts, AreDumped, IsSaid, AreSaid, IsUnlike, IsTogetherOrNot, HasReading, Draft, Subset, at_line, too_many_values, content_of}
 use Rattle.bufr_fill.proofs.FillSteps.{filled, fill_more, fill_end, plain_both}
 use Rattle.bufr_fill.proofs.PlainLaws.{IsSaidRow, item_bits, join, IsRewritten, draft_again, same_draft, AllSpecs, plain_again, EachSpecs, width_least, plain_read, content_length}
 use Rattle.bufr_fill.proofs.PackedLaws.{packed_again, packed_count, fitting_again}
@@ -187,7 +188,7 @@ all_follow n j zero course items bits suffix h specs r = tt
 all_follow n j (suc left) course items bits suffix h specs r =
     (follows_packed n j course items bits suffix (omega (arith, h)) specs r, all_follow n (suc j) left course items bits suffix (omega (arith, h)) specs r)
 
-length-subsets_from : (n j : ℕ) (items : List (Item (List Content))) → length (subsets_from n j items) ≡ n
+pub length-subsets_from : (n j : ℕ) (items : List (Item (List Content))) → length (subsets_from n j items) ≡ n
 length-subsets_from zero j items = refl
 length-subsets_from (suc n) j items = ap suc (length-subsets_from n (suc j) items)
 
@@ -199,15 +200,6 @@ pub follow_reading : (n : ℕ) (course : Course) (items : List (Item (List Conte
     → AllFollow course (subsets_from n 0 items)
 follow_reading zero course items bits suffix specs r = tt
 follow_reading (suc n) course items bits suffix specs r = all_follow (suc n) 0 (suc n) course items bits suffix (omega arith) specs r.0
-
--- compressed data are written subset after subset
-pub apart : (n : ℕ) (course : Course) (items : List (Item (List Content))) (drafts : List Subset) (bits suffix : List Bool) → AllSpecs items → AreDumped (subsets_from n 0 items) drafts
-    → IsPackedReading n course items bits suffix → IsWrittenApart n course items drafts
-apart n course items drafts bits suffix specs dumped r =
-    let subsets = subsets_from n 0 items in
-    let follow = follow_reading n course items bits suffix specs r in
-    let w = plain_subsets course subsets drafts follow (subsets_said course subsets drafts follow dumped) in
-    record { out = subset_bits subsets; is = w.is; again = λ more. (w.again more, length-subsets_from n 0 items) }
 
 -- ---- Items that were read subset after subset are written together so that they are read again.
 -- Otherwise their factors differ, or no increments can write their contents.
@@ -520,10 +512,13 @@ said_from (items ∷ subsets) (s ∷ ss) h =
 said_from subsets ss h = absurd h
 
 -- data that were read subset after subset are written together, where their contents can be
-pub together : (course : Course) (subsets : List (List (Item Content))) (drafts : List Subset) (bits suffix : List Bool) → length bits ≤ max_values → EachSpecs subsets → AreDumped subsets drafts
+pub together : (course : Course)
+    → ((items : List (Item (List Content))) (n : ℕ) (out more : List Bool) → IsPackedReading n course items (out ++ more) more
+    → HasReading course (record { compressed = true; subsets = n; bits = out ++ more }) (values_together items) (length out))
+    → (subsets : List (List (Item Content))) (drafts : List Subset) (bits suffix : List Bool) → length bits ≤ max_values → EachSpecs subsets → AreDumped subsets drafts
     → ReadsSubsets course subsets bits suffix → IsTogetherOrNot course subsets drafts
-together course [] [] bits suffix few specs dumped r = inl (record { items = []; same = refl; out = []; is = refl; again = λ more. (refl, refl) })
-together course (items ∷ subsets) (s ∷ ss) bits suffix few specs dumped r =
+together course reads [] [] bits suffix few specs dumped r = inl ([], refl, record { out = []; is = refl; again = λ more. reads [] 0 [] more (refl, refl) })
+together course reads (items ∷ subsets) (s ∷ ss) bits suffix few specs dumped r =
     by (from_index s.end_line many course items subsets (s ∷ ss) 0 all.follow at.0 (omega (arith, all.short, all.least, few)))
   where
     many : Bool
@@ -540,11 +535,13 @@ together course (items ∷ subsets) (s ∷ ss) bits suffix few specs dumped r =
 
     by : Either (suc (length subsets)) course (items ∷ subsets) (rows (longest_left (items ∷ subsets)) 0 (s ∷ ss)) s.end_line many → IsTogetherOrNot course (items ∷ subsets) (s ∷ ss)
     by (inr x) = inr (x.line, x.why, data_are ∙ x.is, x.unlike)
-    by (inl x) = inl (record {
-      items = x.items;
-      same = parts_subsets 0 x.items (items ∷ subsets) x.parts;
-      out = x.out;
-      is = data_are ∙ x.fills;
-      again = λ more. (x.again more, omega (arith, x.few, all.short, all.least, few));
-    })
-together course subsets ss bits suffix few specs dumped r = absurd dumped
+    by (inl x) = inl (
+      x.items,
+      parts_subsets 0 x.items (items ∷ subsets) x.parts,
+      record {
+        out = x.out;
+        is = data_are ∙ x.fills;
+        again = λ more. reads x.items (suc (length subsets)) x.out more (x.again more, omega (arith, x.few, all.short, all.least, few));
+      },
+    )
+together course reads subsets ss bits suffix few specs dumped r = absurd dumped

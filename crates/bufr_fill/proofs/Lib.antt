@@ -17,3 +17,4 @@ pub mod EntryLemmas
 pub mod RowLemmas
 pub mod BackLaws
 pub mod PackedWalks
+pub mod ReadsLemmas

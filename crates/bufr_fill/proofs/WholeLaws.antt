@@ -1,18 +1,19 @@
 -- The round trip of all data.
 use Rattle.std.proofs.lemmas.Slice.Zip.{AllZip-long}
-use Rattle.std.proofs.Common.{◌≡◌, ℕ, zero, suc, ◌+◌, ◌*◌, ◌<◌, ◌≤◌, List, [], ◌∷◌, length, drop, Some, refl, sym, ◌∙◌, ap, subst, arith, Bool, ◌++◌, Ok, slice_get, flat_map}
+use Rattle.std.proofs.Common.{◌≡◌, ℕ, zero, suc, ◌+◌, ◌*◌, ◌<◌, ◌≤◌, List, [], ◌∷◌, length, drop, Some, refl, sym, ◌∙◌, ap, subst, arith, Bool, false, ◌++◌, Ok, length-drop, slice_get, flat_map}
 use Rattle.bufr_fill.proofs.EntryLemmas.{length-cells}
 use Rattle.std.proofs.Math.Nat.{mul-le-mul_right}
-use Rattle.bufr_walk.specs.Prelude.{Content, max_values, Item, packed, ReadsSubsets, ReadsItems, after, IsPackedReading, content_at, Course, next_item, items_of_subset, subsets_from, would_be_many}
-use Rattle.bufr_fill.specs.Prelude.{IsAlike, Draft, Subset, cells_at, rows, most_items, plain_data, packed_filler, ◌>>=◌, map_err, content_here, contents_here, packed_data, AreDrafts, AreDumped, IsWrittenAgain, IsPackedAgain, IsWrittenApart, IsTogetherOrNot, IsSaid, AreSaid, AllAlike, AllHaveOctets, at_line}
-use Rattle.bufr_fill.proofs.PlainLaws.{IsSaidRow, HaveContents, AllSpecs, EachSpecs, rewritten}
+use Rattle.bufr_walk.specs.Prelude.{Content, max_values, Item, packed, ReadsItems, after, IsPackedReading, IsReading, Data, Values, apart, together, each_subset, content_at, Course, next_item, items_of_subset, subsets_from, would_be_many}
+use Rattle.bufr_fill.specs.Prelude.{IsAlike, Draft, Subset, cells_at, rows, most_items, packed_filler, ◌>>=◌, map_err, content_here, contents_here, packed_data, AreDrafts, AreDumped, HasReading, IsWritten, IsWrittenAgain, IsTogetherOrNot, data_bits, IsSaid, AreSaid, AllAlike, AllHaveOctets, at_line}
+use Rattle.bufr_fill.proofs.PlainLaws.{IsSaidRow, HaveContents, AllSpecs, rewritten}
 use Rattle.std.specs.List.{AllZip}
-use Rattle.bufr_tables.specs.Prelude.{Row, AreRows, Tree, IsLegal, Record}
-use Rattle.bufr_walk.proofs.NextField.{AreRead, table_read, next_field}
+use Rattle.bufr_tables.specs.Prelude.{Row, Tree, IsLegal}
+use Rattle.bufr_walk.proofs.NextField.{AreRead, next_field}
 use Rattle.bufr_fill.proofs.GoodReads.{plain_specs, packed_specs}
 use Rattle.bufr_fill.proofs.PackedLaws.{packed_count}
-use Rattle.bufr_fill.proofs.FormLaws.{subset_count, packed_rewritten, together, apart, all_followed, AllFollow, follow_reading, plain_subsets, subsets_said, subset_bits, row_bits}
-use Rattle.bufr_fill.proofs.BackLaws.{plain_template_back, packed_template_back}
+use Rattle.bufr_fill.proofs.FormLaws.{subset_count, packed_rewritten, together as all_together, AreAllFollowed, all_followed, AllFollow, follow_reading, plain_subsets, subsets_said, subset_bits, row_bits, length-subsets_from}
+use Rattle.bufr_fill.proofs.BackLaws.{read_back}
+use Rattle.bufr_fill.proofs.ReadsLemmas.{items_of, plain_reads, packed_reads}
 use Rattle.bufr_walk.proofs.PackedReading.{length-items_of}
 
 -- ---- The drafts of compressed data, subset after subset, have the rows of the items.
@@ -86,13 +87,6 @@ all_rows_said n items s ss have said few =
     subst (λ k. AreDrafts IsSaidRow items (rows k 0 (s ∷ ss))) (sym l)
     (rows_said items (s ∷ ss) items 0 (subst (λ k. HaveContents k items) same have) h refl (omega (arith, subst (λ k. length items * k ≤ max_values) same few)))
 
-pub plain_again : (course : Course) (subsets : List (List (Item Content))) (drafts : List Subset) (bits suffix : List Bool) → EachSpecs subsets → AreDumped subsets drafts
-    → ReadsSubsets course subsets bits suffix → IsWrittenAgain course subsets drafts bits suffix
-plain_again course subsets drafts bits suffix specs dumped h =
-    let all = all_followed course subsets bits suffix specs h in
-    let w = plain_subsets course subsets drafts all.follow (subsets_said course subsets drafts all.follow dumped) in
-    record { out = subset_bits subsets; is = w.is; again = w.again; short = all.short }
-
 have_contents : (n : ℕ) (course : Course) (items : List (Item (List Content))) (bits suffix : List Bool) → AllSpecs items → ReadsItems (packed n) course items bits suffix → HaveContents n items
 have_contents n course [] bits suffix specs h = tt
 have_contents n course (i ∷ items) bits suffix specs h = (packed_count n i.spec specs.0 i.content bits h.0 h.2, have_contents n (after (packed n) course i) items h.0 suffix specs.1 h.3)
@@ -115,88 +109,104 @@ packed_rows (suc n) course items (s ∷ ss) bits suffix specs said h =
     (rows (most_items (s ∷ ss)) 0 (s ∷ ss)) bits suffix specs (all_rows_said (suc n) items s ss (have_contents (suc n) course items bits suffix specs h.0.0) said h.1) h.0 in
     record { is = r.fills; again = λ more. ((r.again more, h.0.1), h.1); short = r.short }
 
--- the same over a template: nothing is required of the specifications
-pub plain_template_again : (table : List Row) (tree : Tree) (subsets : List (List (Item Content))) (drafts : List Subset) (bits suffix : List Bool) → AreRead table → IsLegal tree
-    → AreDumped subsets drafts → ReadsSubsets (next_item table tree) subsets bits suffix → IsWrittenAgain (next_item table tree) subsets drafts bits suffix
-plain_template_again table tree subsets drafts bits suffix rows legal dumped h =
-    plain_again (next_item table tree) subsets drafts bits suffix (plain_specs (next_item table tree) subsets bits suffix (next_field table tree rows legal) h) dumped h
+-- the bits that are written of values
+abbrev pub bits_again : Values → List Bool
+bits_again (apart subsets) = subset_bits subsets
+bits_again (together items) = flat_map row_bits items
+
+-- ---- The same over a template: nothing is required of the specifications.
 
 pub reads_specs : (n : ℕ) (table : List Row) (tree : Tree) (items : List (Item (List Content))) (bits suffix : List Bool) → AreRead table → IsLegal tree
     → IsPackedReading n (next_item table tree) items bits suffix → AllSpecs items
 reads_specs zero table tree items bits suffix rows legal h = subst AllSpecs (sym h.0) tt
 reads_specs (suc n) table tree items bits suffix rows legal h = packed_specs (suc n) (next_item table tree) items bits suffix (next_field table tree rows legal) h.0.0
 
-pub packed_template_again : (n : ℕ) (table : List Row) (tree : Tree) (items : List (Item (List Content))) (drafts : List Subset) (bits suffix : List Bool) → AreRead table → IsLegal tree
-    → AreDumped (subsets_from n 0 items) drafts → IsPackedReading n (next_item table tree) items bits suffix → IsPackedAgain n (next_item table tree) items drafts bits suffix
-packed_template_again n table tree items drafts bits suffix rows legal dumped h =
-    let course = next_item table tree in
-    let specs = reads_specs n table tree items bits suffix rows legal h in
-    let w = packed_rows n course items drafts bits suffix specs
-    (subsets_said course (subsets_from n 0 items) drafts (follow_reading n course items bits suffix specs h) dumped) h in
-    record { out = flat_map row_bits items; is = w.is; again = w.again; short = w.short }
+module _ (table : List Row) (template : Tree) (rows : AreRead table) (legal : IsLegal template) (d : Data) where
+  -- what is known of items that were read: subset after subset, or together
+  plain_all : (subsets : List (List (Item Content))) (used : ℕ) → IsReading (next_item table template) d (apart subsets) used
+      → AreAllFollowed (next_item table template) subsets d.bits (drop used d.bits)
+  plain_all subsets used r =
+      all_followed (next_item table template) subsets d.bits (drop used d.bits)
+      (plain_specs (next_item table template) subsets d.bits (drop used d.bits) (next_field table template rows legal) r.2.0) r.2.0
 
--- nothing is required of the specifications
-pub template_apart : (n : ℕ) (table : List Row) (template : Tree) (items : List (Item (List Content))) (drafts : List Subset) (bits suffix : List Bool) → AreRead table → IsLegal template
-    → AreDumped (subsets_from n 0 items) drafts → IsPackedReading n (next_item table template) items bits suffix
-    → IsWrittenApart n (next_item table template) items drafts
-template_apart n table template items drafts bits suffix rows legal dumped h =
-    apart n (next_item table template) items drafts bits suffix (reads_specs n table template items bits suffix rows legal h) dumped h
+  packed_specs_of : (items : List (Item (List Content))) (used : ℕ) → IsReading (next_item table template) d (together items) used → AllSpecs items
+  packed_specs_of items used r = reads_specs d.subsets table template items d.bits (drop used d.bits) rows legal r.2
 
-pub template_together : (table : List Row) (template : Tree) (subsets : List (List (Item Content))) (drafts : List Subset) (bits suffix : List Bool) → length bits ≤ max_values → AreRead table
-    → IsLegal template → AreDumped subsets drafts → ReadsSubsets (next_item table template) subsets bits suffix
-    → IsTogetherOrNot (next_item table template) subsets drafts
-template_together table template subsets drafts bits suffix few rows legal dumped h =
-    together (next_item table template) subsets drafts bits suffix few (plain_specs (next_item table template) subsets bits suffix (next_field table template rows legal) h) dumped h
+  pub follows : (values : Values) (used : ℕ) → HasReading (next_item table template) d values used → AllFollow (next_item table template) (each_subset d.subsets values)
+  follows (apart subsets) used h = (plain_all subsets used (items_of table template rows legal d (apart subsets) used h)).follow
+  follows (together items) used h =
+      let r = items_of table template rows legal d (together items) used h in
+      follow_reading d.subsets (next_item table template) items d.bits (drop used d.bits) (packed_specs_of items used r) r.2
 
--- ---- The round trip of data, and the other form, over the tables of records.
+  -- drafts that say what was read are written so that they are read again
+  pub said_again : (values : Values) (used : ℕ) (drafts : List Subset) → HasReading (next_item table template) d values used → AreSaid (each_subset d.subsets values) drafts
+      → (w : IsWrittenAgain (next_item table template) d values used drafts) × (w.0.out ≡ bits_again values)
+  said_again (apart subsets) used drafts h said =
+      let r = items_of table template rows legal d (apart subsets) used h in
+      let all = plain_all subsets used r in
+      let w = plain_subsets (next_item table template) subsets drafts all.follow said in (
+        (
+          record {
+            out = subset_bits subsets;
+            is = ap (λ b. data_bits b (next_item table template) drafts) r.0 ∙ w.is;
+            again = λ more. subst (λ b. HasReading (next_item table template) (record { compressed = b; subsets = d.subsets; bits = subset_bits subsets ++ more }) (apart subsets)
+                (length (subset_bits subsets)))
+                (sym r.0)
+                (plain_reads table template rows legal subsets d.subsets (subset_bits subsets) more (w.again more, r.2.1));
+          },
+          omega (arith, all.short, r.1, length-drop used d.bits),
+        ),
+        refl,
+      )
+  said_again (together items) used drafts h said =
+      let r = items_of table template rows legal d (together items) used h in
+      let w = packed_rows d.subsets (next_item table template) items drafts d.bits (drop used d.bits) (packed_specs_of items used r) said r.2 in (
+        (
+          record {
+            out = flat_map row_bits items;
+            is = ap (λ b. data_bits b (next_item table template) drafts) r.0 ∙ w.is;
+            again = λ more. subst (λ b. HasReading (next_item table template) (record { compressed = b; subsets = d.subsets; bits = flat_map row_bits items ++ more }) (together items)
+                (length (flat_map row_bits items)))
+                (sym r.0)
+                (packed_reads table template rows legal items d.subsets (flat_map row_bits items) more (w.again more));
+          },
+          omega (arith, w.short, r.1, length-drop used d.bits),
+        ),
+        refl,
+      )
 
-module _ (records : List Record) (table : List Row) (template : Tree) (rows : AreRows records table) (legal : IsLegal template) where
-  pub plain_round_trip : (subsets : List (List (Item Content))) (drafts : List Subset) (bits suffix : List Bool) → AreDumped subsets drafts
-      → ReadsSubsets (next_item table template) subsets bits suffix → IsWrittenAgain (next_item table template) subsets drafts bits suffix
-  plain_round_trip subsets drafts bits suffix dumped h = plain_template_again table template subsets drafts bits suffix (table_read records table rows) legal dumped h
+  pub written_again : (values : Values) (used : ℕ) (drafts : List Subset) → HasReading (next_item table template) d values used → AreDumped (each_subset d.subsets values) drafts
+      → IsWrittenAgain (next_item table template) d values used drafts
+  written_again values used drafts h dumped = (said_again values used drafts h (subsets_said (next_item table template) (each_subset d.subsets values) drafts (follows values used h) dumped)).0
 
-  pub packed_round_trip : (n : ℕ) (items : List (Item (List Content))) (drafts : List Subset) (bits suffix : List Bool) → AreDumped (subsets_from n 0 items) drafts
-      → IsPackedReading n (next_item table template) items bits suffix → IsPackedAgain n (next_item table template) items drafts bits suffix
-  packed_round_trip n items drafts bits suffix dumped h = packed_template_again n table template items drafts bits suffix (table_read records table rows) legal dumped h
+  -- the contents of drafts determine the bits that are written
+  pub said_alike : (values : Values) (used : ℕ) (drafts others : List Subset) → HasReading (next_item table template) d values used → AreSaid (each_subset d.subsets values) drafts
+      → AreSaid (each_subset d.subsets values) others → data_bits d.compressed (next_item table template) drafts ≡ data_bits d.compressed (next_item table template) others
+  said_alike values used drafts others h said also =
+      let a = said_again values used drafts h said in
+      let b = said_again values used others h also in
+      a.0.0.is ∙ ap Ok (a.1 ∙ sym b.1) ∙ sym b.0.0.is
 
-  pub written_apart : (n : ℕ) (items : List (Item (List Content))) (drafts : List Subset) (bits suffix : List Bool) → AreDumped (subsets_from n 0 items) drafts
-      → IsPackedReading n (next_item table template) items bits suffix → IsWrittenApart n (next_item table template) items drafts
-  written_apart n items drafts bits suffix dumped h = template_apart n table template items drafts bits suffix (table_read records table rows) legal dumped h
+  -- compressed data are written subset after subset
+  pub written_apart : (items : List (Item (List Content))) (used : ℕ) (drafts : List Subset) → HasReading (next_item table template) d (together items) used
+      → AreDumped (subsets_from d.subsets 0 items) drafts → IsWritten (next_item table template) false d.subsets (apart (subsets_from d.subsets 0 items)) drafts
+  written_apart items used drafts h dumped =
+      let subsets = subsets_from d.subsets 0 items in
+      let follow = follows (together items) used h in
+      let w = plain_subsets (next_item table template) subsets drafts follow (subsets_said (next_item table template) subsets drafts follow dumped) in
+      record {
+        out = subset_bits subsets;
+        is = w.is;
+        again = λ more. plain_reads table template rows legal subsets d.subsets (subset_bits subsets) more (w.again more, length-subsets_from d.subsets 0 items);
+      }
 
-  pub written_together : (subsets : List (List (Item Content))) (drafts : List Subset) (bits suffix : List Bool) → length bits ≤ max_values → AreDumped subsets drafts
-      → ReadsSubsets (next_item table template) subsets bits suffix → IsTogetherOrNot (next_item table template) subsets drafts
-  written_together subsets drafts bits suffix few dumped h = template_together table template subsets drafts bits suffix few (table_read records table rows) legal dumped h
-
--- ---- The contents of drafts determine the bits that are written.
-
-pub plain_said_alike : (records : List Record) (table : List Row) (template : Tree) (subsets : List (List (Item Content))) (drafts others : List Subset) (bits suffix : List Bool)
-    → AreRows records table → IsLegal template → ReadsSubsets (next_item table template) subsets bits suffix → AreSaid subsets drafts → AreSaid subsets others
-    → plain_data (next_item table template) drafts ≡ plain_data (next_item table template) others
-plain_said_alike records table template subsets drafts others bits suffix rows legal read said also =
-    let course = next_item table template in
-    let follow = (all_followed course subsets bits suffix (plain_specs course subsets bits suffix (next_field table template (table_read records table rows) legal) read) read).follow in
-    (plain_subsets course subsets drafts follow said).is ∙ sym (plain_subsets course subsets others follow also).is
-
-pub packed_said_alike : (n : ℕ) (records : List Record) (table : List Row) (template : Tree) (items : List (Item (List Content))) (drafts others : List Subset) (bits suffix : List Bool)
-    → AreRows records table → IsLegal template → IsPackedReading n (next_item table template) items bits suffix → AreSaid (subsets_from n 0 items) drafts → AreSaid (subsets_from n 0 items) others
-    → packed_data (next_item table template) drafts ≡ packed_data (next_item table template) others
-packed_said_alike n records table template items drafts others bits suffix rows legal read said also =
-    let course = next_item table template in
-    let specs = reads_specs n table template items bits suffix (table_read records table rows) legal read in
-    (packed_rows n course items drafts bits suffix specs said read).is ∙ sym (packed_rows n course items others bits suffix specs also read).is
-
--- ---- over a template
-
-module _ (records : List Record) (table : List Row) (template : Tree) (rows : AreRows records table) (legal : IsLegal template) where
-  pub plain_follows : (subsets : List (List (Item Content))) (bits suffix : List Bool) → ReadsSubsets (next_item table template) subsets bits suffix → AllFollow (next_item table template) subsets
-  plain_follows subsets bits suffix read =
-      let course = next_item table template in
-      (all_followed course subsets bits suffix (plain_specs course subsets bits suffix (next_field table template (table_read records table rows) legal) read) read).follow
-
-  pub packed_follows : (n : ℕ) (items : List (Item (List Content))) (bits suffix : List Bool) → IsPackedReading n (next_item table template) items bits suffix
-      → AllFollow (next_item table template) (subsets_from n 0 items)
-  packed_follows n items bits suffix read = follow_reading n (next_item table template) items bits suffix (reads_specs n table template items bits suffix (table_read records table rows) legal read)
-      read
+  -- other data are written together, where they can be
+  pub written_together : (subsets : List (List (Item Content))) (used : ℕ) (drafts : List Subset) → length d.bits ≤ max_values → HasReading (next_item table template) d (apart subsets) used
+      → AreDumped subsets drafts → IsTogetherOrNot (next_item table template) subsets drafts
+  written_together subsets used drafts few h dumped =
+      let r = items_of table template rows legal d (apart subsets) used h in
+      all_together (next_item table template) (packed_reads table template rows legal) subsets drafts d.bits (drop used d.bits) few
+      (plain_specs (next_item table template) subsets d.bits (drop used d.bits) (next_field table template rows legal) r.2.0) dumped r.2.0
 
 -- ---- Drafts with the same contents are written to the same bits.
 
@@ -214,15 +224,10 @@ subsets_alike (items ∷ subsets) (s ∷ ss) [] a h = absurd a
 subsets_alike (items ∷ subsets) (s ∷ ss) (t ∷ ts) a h = (items_alike items s.items t.items a.0 h.0, subsets_alike subsets ss ts a.1 h.1)
 subsets_alike subsets ss ts a h = absurd h
 
-module _ (records : List Record) (table : List Row) (template : Tree) (rows : AreRows records table) (legal : IsLegal template) (drafts others : List Subset) (bits : List Bool)
-    (texts : AllHaveOctets drafts) (alike : AllAlike drafts others) where
-  pub plain_alike : plain_data (next_item table template) drafts ≡ Ok bits → plain_data (next_item table template) others ≡ Ok bits
-  plain_alike e =
-      let w = plain_template_back records table template drafts bits rows legal texts e in
-      sym (plain_said_alike records table template w.subsets drafts others (bits ++ []) [] rows legal (w.read []) w.said (subsets_alike w.subsets drafts others alike w.said)) ∙ e
-
-  pub packed_alike : packed_data (next_item table template) drafts ≡ Ok bits → packed_data (next_item table template) others ≡ Ok bits
-  packed_alike e =
-      let w = packed_template_back records table template drafts bits rows legal texts e in
-      sym (packed_said_alike (length drafts) records table template w.items drafts others (bits ++ []) [] rows legal (w.read []) w.said
-      (subsets_alike (subsets_from (length drafts) 0 w.items) drafts others alike w.said)) ∙ e
+pub written_alike : (table : List Row) (template : Tree) → AreRead table → IsLegal template → (compressed : Bool) (drafts others : List Subset) (bits : List Bool) → AllHaveOctets drafts
+    → AllAlike drafts others → data_bits compressed (next_item table template) drafts ≡ Ok bits → data_bits compressed (next_item table template) others ≡ Ok bits
+written_alike table template rows legal compressed drafts others bits texts alike e =
+    let w = read_back table template rows legal compressed drafts bits texts e in
+    sym (said_alike table template rows legal (record { compressed = compressed; subsets = length drafts; bits = bits ++ [] }) w.values (length bits) drafts others (w.read []) w.said
+    (subsets_alike (each_subset (length drafts) w.values) drafts others alike w.said))
+    ∙ e

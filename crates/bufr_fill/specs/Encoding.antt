@@ -1,7 +1,7 @@
 -- The data bits of a document: how its items are written, plain or compressed. (WMO-No. 306, Volume
 -- I.2, FM 94: section 4; the order of the faults, the base and the least k are our choices)
 -- Cited by public contracts.
-use Rattle.std.specs.Prelude.{Bool, List, [], ◌∷◌, ◌++◌, Result, Ok, Err, ℕ, zero, suc, ◌+◌, ◌-◌, ◌==◌, ◌&&◌, nat_lt, nat_le, min, not, true, if◌then◌else◌, take, replicate, length, Option, Some, None, unwrap_or, ◌≡◌, ◌≤◌, drop, max, map, slice_get}
+use Rattle.std.specs.Prelude.{Bool, List, [], ◌∷◌, ◌++◌, Result, Ok, Err, ℕ, zero, suc, ◌+◌, ◌-◌, ◌==◌, ◌&&◌, nat_lt, nat_le, min, not, true, false, if◌then◌else◌, take, replicate, length, Option, Some, None, unwrap_or, ◌≡◌, ◌≤◌, drop, max, map, slice_get}
 pub use Rattle.bufr_walk.specs.declared.spec.Taken.{Taken}
 use Rattle.bufr_walk.specs.Prelude.{Coding, numbers, texts, coding_of, step_of, same, FieldSpec, Content, number, text, bits_for, FieldFault, increment, unequal_factor, found, answer_of, packed_field, answer_first, Course, Item, Step, Passing, Pass, pass, would_be_many}
 use Rattle.std.specs.List.{list_all, flat_map}
@@ -312,3 +312,8 @@ packed_data course (s ∷ subsets) =
     let most = most_items (s ∷ subsets) in
     let filler = packed_filler s.end_line (would_be_many (length (s ∷ subsets)) most) in
     fill filler course (rows most 0 (s ∷ subsets))
+
+-- the data bits of the subsets of a document, or the first fault
+abbrev pub data_bits : (compressed : Bool) → Course → List Subset → Result (List Bool) DraftFault
+data_bits true course subsets = packed_data course subsets
+data_bits false course subsets = plain_data course subsets

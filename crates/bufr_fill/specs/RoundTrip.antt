@@ -1,12 +1,12 @@
 -- Only contracts need this file. What is written of a reading, of its other form, or of any drafts
 -- is read back the same. (WMO-No. 306, Volume I.2, FM 94: section 4)
-use Rattle.std.specs.Prelude.{ℕ, ◌≡◌, ◌<◌, ◌-◌, ◌/◌, ◌^◌, ◌==◌, Bool, true, false, List, length, nat_abs, ◌+◌, ◌≤◌, ◌++◌, Ok, ◌⊎◌, Err}
+use Rattle.std.specs.Prelude.{ℕ, ◌≡◌, ◌<◌, ◌-◌, ◌/◌, ◌^◌, ◌==◌, Bool, true, false, List, length, nat_abs, ◌+◌, ◌≤◌, ◌++◌, Ok, ◌⊎◌, Err, drop, None}
 use Rattle.std.specs.List.{list_all, AllByRecursion, AllZip}
 use Rattle.bufr_walk.specs.declared.spec.Role.TheVariants as role
-use Rattle.bufr_walk.specs.Prelude.{FieldSpec, Content, number, text, missing, reference, Course, next_item, TakenField, answers_of, answers_in, subsets_from, Item, IsPackedReading, ReadsSubsets, IsPlainReading}
+use Rattle.bufr_walk.specs.Prelude.{FieldSpec, Content, number, text, missing, reference, Course, next_item, TakenField, answers_of, answers_in, subsets_from, Item, Data, Values, together, each_subset, reading_of}
 use Rattle.bufr_fill.specs.Draft.{at_line, Role, raw_limit, draft_value_of, content_of, Draft, Subset, DraftValue, number_token, text_form, missing_form, reference_token, ItemFault}
 use Rattle.bufr_fill.specs.declared.fault.ItemFault.TheVariants as item_fault
-use Rattle.bufr_fill.specs.Encoding.{Kind, plain_data, packed_data, Filler, WrittenItem, fill_pass, bits_written, with_items}
+use Rattle.bufr_fill.specs.Encoding.{Kind, packed_data, data_bits, Filler, WrittenItem, fill_pass, bits_written, with_items}
 use Rattle.bufr_tables.specs.Prelude.{IsLegal, Record, Row, AreRows, Tree}
 use Rattle.bufr_tables.specs.declared.table_b.Kind.TheVariants as kind
 
@@ -63,21 +63,25 @@ AreDrafts of_item items ds = AllZip of_item items ds
 abbrev pub AreDumped : List (List (Item Content)) → List Subset → Type 0
 AreDumped = AllZip (λ (items : List (Item Content)) (s : Subset). AreDrafts IsDumped items s.items)
 
--- items are written again from the drafts of their dump; the bits read the same, and are no more
-pub record IsWrittenAgain (course : Course) (subsets : List (List (Item Content)))
-    (drafts : List Subset) (bits suffix : List Bool) : Type 0 where
-  pub out : List Bool
-  pub is : plain_data course drafts ≡ Ok out
-  pub again : (more : List Bool) → ReadsSubsets course subsets (out ++ more) more
-  pub short : length out + length suffix ≤ length bits
+-- data are read without a stop: they have these values, which take the first `used` bits
+pub record HasReading (course : Course) (d : Data) (values : Values) (used : ℕ) : Type 0 where
+  pub none : (reading_of course d).stop ≡ None
+  pub values_are : (reading_of course d).values ≡ values
+  pub left : (reading_of course d).left ≡ drop used d.bits
+  pub within : used ≤ length d.bits
 
--- compressed items are written again from the drafts of their dump, in no more bits
-pub record IsPackedAgain (n : ℕ) (course : Course) (items : List (Item (List Content)))
-    (drafts : List Subset) (bits suffix : List Bool) : Type 0 where
+-- the drafts of n subsets are written as bits that read as these values, whatever follows them
+pub record IsWritten (course : Course) (compressed : Bool) (n : ℕ) (values : Values)
+    (drafts : List Subset) : Type 0 where
   pub out : List Bool
-  pub is : packed_data course drafts ≡ Ok out
-  pub again : (more : List Bool) → IsPackedReading n course items (out ++ more) more
-  pub short : length out + length suffix ≤ length bits
+  pub is : data_bits compressed course drafts ≡ Ok out
+  pub again : (more : List Bool) → HasReading course
+      (record { compressed = compressed; subsets = n; bits = out ++ more }) values (length out)
+
+-- values are written again from the drafts of their dump, in no more bits than they took
+abbrev pub IsWrittenAgain : Course → Data → Values → (used : ℕ) → List Subset → Type 0
+IsWrittenAgain course d values used drafts =
+    (w : IsWritten course d.compressed d.subsets values drafts) × (length w.out ≤ used)
 
 -- the faults of contents that compressed data cannot have
 abbrev pub IsUnlike : ItemFault → Type 0
@@ -85,27 +89,11 @@ IsUnlike item_fault.UnequalFactor = Unit {0}
 IsUnlike item_fault.Increment = Unit {0}
 IsUnlike _ = ⊥
 
--- the items of n compressed subsets are written subset after subset, and are read from the bits
-pub record IsWrittenApart (n : ℕ) (course : Course) (items : List (Item (List Content)))
-    (drafts : List Subset) : Type 0 where
-  pub out : List Bool
-  pub is : plain_data course drafts ≡ Ok out
-  pub again : (more : List Bool)
-      → IsPlainReading n course (subsets_from n 0 items) (out ++ more) more
-
--- the items of subsets that are not compressed are written together, and read from the bits
-pub record IsWrittenTogether (course : Course) (subsets : List (List (Item Content)))
-    (drafts : List Subset) : Type 0 where
-  pub items : List (Item (List Content))
-  pub same : subsets_from (length subsets) 0 items ≡ subsets
-  pub out : List Bool
-  pub is : packed_data course drafts ≡ Ok out
-  pub again : (more : List Bool) → IsPackedReading (length subsets) course items (out ++ more) more
-
--- the items are written together, or cannot be
+-- the items of subsets are written together, and are read from the bits; or they cannot be
 abbrev pub IsTogetherOrNot : Course → List (List (Item Content)) → List Subset → Type 0
 IsTogetherOrNot course subsets drafts =
-    IsWrittenTogether course subsets drafts
+    ((items : List (Item (List Content))) × (subsets_from (length subsets) 0 items ≡ subsets)
+    × IsWritten course true (length subsets) (together items) drafts)
     ⊎ ((line : ℕ) × (why : ItemFault) × (packed_data course drafts ≡ Err (at_line line why))
     × IsUnlike why)
 
@@ -132,18 +120,13 @@ abbrev pub AreSaid : List (List (Item Content)) → List Subset → Type 0
 AreSaid = AllZip (λ (items : List (Item Content)) (s : Subset). AreDrafts IsSaid items s.items)
 
 -- the bits read as the contents of the drafts, whatever follows them
-pub record IsReadBack (course : Course) (drafts : List Subset) (bits : List Bool) : Type 0 where
-  pub subsets : List (List (Item Content))
-  pub said : AreSaid subsets drafts
-  pub read : (suffix : List Bool) → ReadsSubsets course subsets (bits ++ suffix) suffix
-
--- the bits of compressed data read as the contents of the drafts, whatever follows them
-pub record IsPackedReadBack (course : Course) (drafts : List Subset)
+pub record IsReadBack (course : Course) (compressed : Bool) (drafts : List Subset)
     (bits : List Bool) : Type 0 where
-  pub items : List (Item (List Content))
-  pub said : AreSaid (subsets_from (length drafts) 0 items) drafts
-  pub read : (suffix : List Bool)
-      → IsPackedReading (length drafts) course items (bits ++ suffix) suffix
+  pub values : Values
+  pub said : AreSaid (each_subset (length drafts) values) drafts
+  pub read : (suffix : List Bool) → HasReading course
+      (record { compressed = compressed; subsets = length drafts; bits = bits ++ suffix }) values
+      (length bits)
 
 -- ---- Drafts with the same contents, however they are spelled. (own)
 

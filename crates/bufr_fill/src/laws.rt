@@ -1,21 +1,16 @@
 //! Laws on writing. A walk writes what the definition makes of the items. The items of a dump are
 //! written to bits that read the same, and are no more than were read. Each item of compressed data
 //! has the least `k`.
-ghost use Rattle.std.specs.Prelude.{◌≡◌, ◌≤◌, ℕ, List, [], Bool, length, Ok, Err};
-ghost use Rattle.bufr_walk.specs.Prelude.{FieldSpec, IsSpec, Content, found, packed_field, Course, at_end, TakenField, Takes, oks, answers_of, max_values, Item, ReadsSubsets, IsPackedReading, subsets_from};
-ghost use Rattle.bufr_fill.specs.Prelude.{AllAlike, OfTemplates, WritesDrafts, AllFit, AllHaveOctets, AreSaid, IsReadBack, IsPackedReadBack, IsWrittenApart, IsTogetherOrNot, AreDumped, IsWrittenAgain, IsPackedAgain, plain_filler, fill, cells_at, packed_filler, packed_data, plain_data, HasLeastK, packing, DraftEntry, Subset, DraftFault, PackedOutModel, new_packed_out, PackedFills, all_at_end, rows_left, IsFaultHere, PlainOutModel, PlainFills, IsFaultNext, items_left, end_left};
+ghost use Rattle.std.specs.Prelude.{◌≡◌, ◌≤◌, ℕ, List, [], Bool, false, length, Ok, Err};
+ghost use Rattle.bufr_walk.specs.Prelude.{FieldSpec, IsSpec, Content, found, packed_field, Course, at_end, TakenField, Takes, oks, answers_of, max_values, Item, Data, Values, apart, together, each_subset, subsets_from};
+ghost use Rattle.bufr_fill.specs.Prelude.{AllAlike, OfTemplates, WritesDrafts, AllFit, AllHaveOctets, AreSaid, HasReading, IsReadBack, IsWritten, IsTogetherOrNot, AreDumped, IsWrittenAgain, plain_filler, fill, cells_at, packed_filler, packed_data, data_bits, HasLeastK, packing, DraftEntry, Subset, DraftFault, PackedOutModel, new_packed_out, PackedFills, all_at_end, rows_left, IsFaultHere, PlainOutModel, PlainFills, IsFaultNext, items_left, end_left};
 
 /// Law: what was read is written again, from the items of its dump, compressed or not. The bits
 /// have the same reading, and are no more. (WMO-No. 306, Volume I.2, FM 94: section 4)
 pub fn data_round_trip()
-    ensures plain { OfTemplates (λ course. (subsets : List (List (Item Content)))
-        (drafts : List Subset) (bits suffix : List Bool) → AreDumped subsets drafts
-        → ReadsSubsets course subsets bits suffix
-        → IsWrittenAgain course subsets drafts bits suffix) }
-    ensures packed { OfTemplates (λ course. (n : ℕ) (items : List (Item (List Content)))
-        (drafts : List Subset) (bits suffix : List Bool)
-        → AreDumped (subsets_from n 0 items) drafts → IsPackedReading n course items bits suffix
-        → IsPackedAgain n course items drafts bits suffix) }
+    ensures { OfTemplates (λ course. (d : Data) (values : Values) (used : ℕ) (drafts : List Subset)
+        → HasReading course d values used → AreDumped (each_subset d.subsets values) drafts
+        → IsWrittenAgain course d values used drafts) }
 {}
 
 /// Law: an item of compressed data is packed with the least `k` of all that its contents can be
@@ -34,38 +29,28 @@ pub fn items_are_packed_with_the_least_k()
 /// Law: the data that are written of any drafts, in either form, read as the contents of the
 /// drafts, whatever bits follow. (WMO-No. 306, Volume I.2, FM 94: section 4)
 pub fn written_data_are_read()
-    ensures plain { OfTemplates (λ course. (drafts : List Subset) (bits : List Bool) → AllHaveOctets
-        drafts → plain_data course drafts ≡ Ok bits → IsReadBack course drafts bits) }
-    ensures packed { OfTemplates (λ course. (drafts : List Subset) (bits : List Bool)
-        → AllHaveOctets drafts → packed_data course drafts ≡ Ok bits
-        → IsPackedReadBack course drafts bits) }
+    ensures { OfTemplates (λ course. (compressed : Bool) (drafts : List Subset) (bits : List Bool)
+        → AllHaveOctets drafts → data_bits compressed course drafts ≡ Ok bits
+        → IsReadBack course compressed drafts bits) }
 {}
 
 /// Law: the drafts of the items of a reading are written, in the form that was read, to bits that
 /// the items determine. Other drafts with the same contents are written to the same bits.
 pub fn data_are_fixed_by_what_is_said()
-    ensures plain { OfTemplates (λ course. (subsets : List (List (Item Content)))
-        (drafts others : List Subset) (bits suffix : List Bool)
-        → ReadsSubsets course subsets bits suffix
-        → AreSaid subsets drafts → AreSaid subsets others
-        → plain_data course drafts ≡ plain_data course others) }
-    ensures packed { OfTemplates (λ course. (n : ℕ) (items : List (Item (List Content)))
-        (drafts others : List Subset) (bits suffix : List Bool)
-        → IsPackedReading n course items bits suffix
-        → AreSaid (subsets_from n 0 items) drafts
-        → AreSaid (subsets_from n 0 items) others
-        → packed_data course drafts ≡ packed_data course others) }
+    ensures { OfTemplates (λ course. (d : Data) (values : Values) (used : ℕ)
+        (drafts others : List Subset) → HasReading course d values used
+        → AreSaid (each_subset d.subsets values) drafts
+        → AreSaid (each_subset d.subsets values) others
+        → data_bits d.compressed course drafts ≡ data_bits d.compressed course others) }
 {}
 
 /// Law: drafts with the same contents at every field are written to the same bits, in either form,
 /// where the first can be written.
 pub fn alike_drafts_have_the_same_data()
-    ensures plain { OfTemplates (λ course. (drafts others : List Subset) (bits : List Bool)
-        → AllHaveOctets drafts → AllAlike drafts others
-        → plain_data course drafts ≡ Ok bits → plain_data course others ≡ Ok bits) }
-    ensures packed { OfTemplates (λ course. (drafts others : List Subset) (bits : List Bool)
-        → AllHaveOctets drafts → AllAlike drafts others
-        → packed_data course drafts ≡ Ok bits → packed_data course others ≡ Ok bits) }
+    ensures { OfTemplates (λ course. (compressed : Bool) (drafts others : List Subset)
+        (bits : List Bool) → AllHaveOctets drafts → AllAlike drafts others
+        → data_bits compressed course drafts ≡ Ok bits
+        → data_bits compressed course others ≡ Ok bits) }
 {}
 
 /// Law: what was read of compressed data is written subset after subset, from the items of its
@@ -73,13 +58,13 @@ pub fn alike_drafts_have_the_same_data()
 /// factors differ, or no increments can write their contents; there is no other fault. The items
 /// of each subset are read from the bits. (WMO-No. 306, Volume I.2, FM 94: section 4, compression)
 pub fn data_are_written_in_the_other_form()
-    ensures apart { OfTemplates (λ course. (n : ℕ) (items : List (Item (List Content)))
-        (drafts : List Subset) (bits suffix : List Bool)
-        → AreDumped (subsets_from n 0 items) drafts → IsPackedReading n course items bits suffix
-        → IsWrittenApart n course items drafts) }
-    ensures together { OfTemplates (λ course. (subsets : List (List (Item Content)))
-        (drafts : List Subset) (bits suffix : List Bool) → length bits ≤ max_values
-        → AreDumped subsets drafts → ReadsSubsets course subsets bits suffix
+    ensures apart { OfTemplates (λ course. (d : Data) (items : List (Item (List Content)))
+        (used : ℕ) (drafts : List Subset) → HasReading course d (together items) used
+        → AreDumped (subsets_from d.subsets 0 items) drafts
+        → IsWritten course false d.subsets (apart (subsets_from d.subsets 0 items)) drafts) }
+    ensures together { OfTemplates (λ course. (d : Data) (subsets : List (List (Item Content)))
+        (used : ℕ) (drafts : List Subset) → length d.bits ≤ max_values
+        → HasReading course d (apart subsets) used → AreDumped subsets drafts
         → IsTogetherOrNot course subsets drafts) }
 {}
 

@@ -74,7 +74,7 @@ block_accepted = record {
   few = omega arith;
   sections = refl;
   expands = refl;
-  read = (refl, omega arith, ((drop 7 (bits_of (0x14 ∷ [])), ((drop 7 (bits_of (0x14 ∷ [])), refl, refl, refl), refl), refl), refl));
+  read = record { none = refl; values_are = refl; left = refl; within = omega arith };
 }
 
 -- rule: canonical
@@ -109,7 +109,7 @@ bit_after_accepted = record {
   few = omega arith;
   sections = refl;
   expands = refl;
-  read = (refl, omega arith, ((drop 7 (bits_of (0x15 ∷ [])), ((drop 7 (bits_of (0x15 ∷ [])), refl, refl, refl), refl), refl), refl));
+  read = record { none = refl; values_are = refl; left = refl; within = omega arith };
 }
 
 -- rule: canonical
@@ -140,7 +140,7 @@ temperatures_accepted = record {
   few = omega arith;
   sections = refl;
   expands = refl;
-  read = (refl, omega arith, ((([], refl, refl, refl), refl), omega arith));
+  read = record { none = refl; values_are = refl; left = refl; within = omega arith };
 }
 
 temperatures_canonical : IsCanonical two_temperatures their_sections temperatures 24
@@ -214,7 +214,7 @@ edition_3_accepted = record {
   few = omega arith;
   sections = refl;
   expands = refl;
-  read = (refl, omega arith, ((drop 7 (bits_of (0x14 ∷ 1 ∷ [])), ((drop 7 (bits_of (0x14 ∷ 1 ∷ [])), refl, refl, refl), refl), refl), refl));
+  read = record { none = refl; values_are = refl; left = refl; within = omega arith };
 }
 
 edition_3_plain : IsPlain (edition_3 0 0)

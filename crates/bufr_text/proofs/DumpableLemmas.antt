@@ -1,11 +1,11 @@
 -- A message that is accepted can be dumped.
-use Rattle.std.proofs.Common.{◌≡◌, ℕ, suc, ◌<◌, ◌≤◌, ◌^◌, Bool, true, false, ℤ, pos, negsuc, List, [], ◌∷◌, map, Option, Some, None, refl, subst, arith, zero, Ok, ◌+◌, ◌-◌, length, take, drop, sym, ◌∙◌, ap, nat_abs, pow_mono, if◌then◌else◌, unsigned_abs, slice_index, slice_range, unwrap_or}
+use Rattle.std.proofs.Common.{◌≡◌, ℕ, suc, ◌<◌, ◌≤◌, ◌^◌, Bool, true, false, ℤ, pos, negsuc, List, [], ◌∷◌, map, Option, Some, None, refl, subst, arith, zero, Ok, ◌+◌, ◌-◌, length, take, drop, sym, ◌∙◌, nat_abs, pow_mono, if◌then◌else◌, unsigned_abs, slice_index, slice_range, unwrap_or}
 use Rattle.std.specs.List.{AllByRecursion}
 use Rattle.std.proofs.lemmas.Bool.Decides.{nat_tests}
 use Rattle.bufr_tables.specs.declared.table_b.Kind.{Kind}
 use Rattle.bufr_tables.specs.Prelude.{Row, entry_of, IsLegal, Tree, Sequence}
 use Rattle.bufr_walk.proofs.NextField.{AreRead, row_found, next_field}
-use Rattle.bufr_walk.specs.Prelude.{FieldSpec, IsSpec, HasWidth, HasRole, Content, number, text, missing, reference, shown, found, packed_field, Course, next_item, view_of, content_at, data_of, Item, plain, packed, ReadsItems, ReadsSubsets, IsPackedReading, IsReading, Values, apart, together, after, subsets_from, items_of_subset}
+use Rattle.bufr_walk.specs.Prelude.{FieldSpec, IsSpec, HasWidth, HasRole, Content, number, text, missing, reference, shown, found, packed_field, Course, next_item, view_of, content_at, data_of, Item, plain, packed, ReadsItems, ReadsSubsets, IsPackedReading, IsReading, Values, apart, together, after, subsets_from, items_of_subset, each_subset}
 use Rattle.bufr_text.specs.Prelude.{IsDescriptorWord, IsOctet, IsValue, IsComment, IsItem, IsDumpable, IsAccepted, items_shown, dump_items}
 use Rattle.std.proofs.lemmas.List.{length-map}
 use Rattle.bufr_bits.specs.Prelude.{bits_of}
@@ -20,6 +20,7 @@ use Rattle.bufr_fill.proofs.PackedLaws.{packed_again}
 use Rattle.bufr_tables.specs.declared.table_b.Kind.TheVariants as kind
 use Rattle.bufr_walk.specs.declared.spec.Role.TheVariants as role
 use Rattle.std.proofs.lemmas.Grind.{common_steps}
+use Rattle.bufr_fill.proofs.ReadsLemmas.{each_count, items_of}
 
 -- ---- the sections
 
@@ -164,16 +165,11 @@ module _ (table : List Row) (all : AreRead table) where
   packed_fit zero course items bits suffix fields h = tt
   packed_fit (suc n) course items bits suffix fields h = together_fit (suc n) 0 items (λ j. packed_items_fit (suc n) j course items bits suffix (fields (suc n) h.0.0) h.0.0)
 
-together_count : (table : List Row) (left j : ℕ) (items : List (Item (List Content))) → length (map (items_shown table) (subsets_from left j items)) ≡ left
-together_count table zero j items = refl
-together_count table (suc left) j items = ap suc (together_count table left (suc j) items)
-
 -- ---- the message
 
-counted : (table : List Row) (template : Tree) (s : Sections) (values : Values) (used : ℕ) → IsReading (next_item table template) (data_of s) values used
-    → length (dump_items table s.subsets values) ≡ s.subsets
-counted table template s (apart subsets) used h = length-map subsets (items_shown table) ∙ h.2.1
-counted table template s (together items) used h = together_count table s.subsets 0 items
+counted : (table : List Row) (n : ℕ) (values : Values) → length (dump_items table n values) ≡ length (each_subset n values)
+counted table n (apart subsets) = length-map subsets (items_shown table)
+counted table n (together items) = length-map (subsets_from n 0 items) (items_shown table)
 
 all_fit : (table : List Row) (template : Tree) (s : Sections) (values : Values) (used : ℕ) → AreRead table → IsLegal template → IsReading (next_item table template) (data_of s) values used
     → AllByRecursion (λ items. AllByRecursion IsItem items) (dump_items table s.subsets values)
@@ -196,6 +192,6 @@ dumpable table sequences m s template values used all legal a =
       section2 = given.section2;
       descriptors = given.descriptors;
       few = given.few;
-      counted = counted table template s values used a.read;
-      items = all_fit table template s values used all legal a.read;
+      counted = counted table s.subsets values ∙ each_count table template all legal (data_of s) values used a.read;
+      items = all_fit table template s values used all legal (items_of table template all legal (data_of s) values used a.read);
     }

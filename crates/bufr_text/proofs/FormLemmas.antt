@@ -5,20 +5,20 @@ use Rattle.std.proofs.lemmas.Bool.Decides.{nat_tests}
 use Rattle.std.proofs.lemmas.List.{take-append-drop}
 use Rattle.bufr_bits.specs.Prelude.{bits_of}
 use Rattle.bufr_tables.specs.Prelude.{Row, AreRows, Sequence, Tree, IsLegal, tables_of, Record}
-use Rattle.bufr_walk.specs.Prelude.{FieldSpec, IsSpec, Content, content_in, bits_for, found, plain_field, Course, next_item, Item, plain, ReadsItems, ReadsSubsets, IsPackedReading, after, apart, together, Values, IsReading, max_values, data_of, View, subsets_from, each_subset}
-use Rattle.bufr_fill.specs.Prelude.{IsMinusZero, rows, at_line, subsets_of, DraftEntry, IsUnlike, IsTogetherOrNot}
+use Rattle.bufr_walk.specs.Prelude.{FieldSpec, IsSpec, Content, content_in, bits_for, found, plain_field, Course, next_item, Item, plain, ReadsItems, ReadsSubsets, after, apart, together, Values, IsReading, max_values, data_of, View, subsets_from, each_subset}
+use Rattle.bufr_fill.specs.Prelude.{IsMinusZero, rows, at_line, subsets_of, DraftEntry, IsUnlike, IsTogetherOrNot, HasReading}
 use Rattle.bufr_fill.specs.declared.fault.ItemFault.{ItemFault}
 use Rattle.bufr_fill.proofs.PlainLaws.{AllSpecs, EachSpecs, same_bits, item_bits}
 use Rattle.bufr_frame.specs.Prelude.{with_even_length, message_octets, message_size, max_octets, MessageParts, parts_of, sections_from, Sections, sections_of}
 use Rattle.bufr_frame.proofs.AgainLemmas.{not-too-long, written-again}
 use Rattle.bufr_frame.proofs.LayoutLemmas.{even-least, message_size_is, written-even, length-evened}
 use Rattle.bufr_walk.proofs.NextField.{AreRead, table_read, next_field}
-use Rattle.bufr_fill.proofs.WholeLaws.{packed_rows, reads_specs, template_apart, template_together}
+use Rattle.bufr_fill.proofs.WholeLaws.{bits_again, follows, said_again, written_apart, written_together}
 use Rattle.bufr_fill.proofs.GoodReads.{plain_specs}
-use Rattle.bufr_fill.proofs.FormLaws.{all_followed, plain_subsets, subsets_said, subset_bits, bits_or_none, row_bits, follow_reading}
+use Rattle.bufr_fill.proofs.FormLaws.{subsets_said, subset_bits, bits_or_none, row_bits}
 use Rattle.bufr_text.specs.Prelude.{header_in, subset_entries, document_of, lines_before, items_shown, IsAccepted, dump_items, HaveNoMinusZero, ArePacked, AreWritten, IsCanonical, IsEncodedAgain, HasReadingIn, IsForForm, IsFormed, IsFaultIn, EncodesForm, EncodesAgain, HasSameReading, data_bits, octets_of_bits, encoding_of, map_err, parts_as, compressed_as, message_of, encoding_in, IsDocumentRefusal, compressed_by, form_of_flag, Document, DocumentFault, Form, document_fault}
 use Rattle.bufr_text.proofs.DumpableLemmas.{sections_given}
-use Rattle.bufr_text.proofs.RoundTripLemmas.{all_apart, encoded_to, parts_back, parts_with, size_least, fills_as, bit_back, section2_back, enough, suffix, encoded_again, as_written, data_refused, parts_of_document, plain_reading, packed_reading, filled, is_message}
+use Rattle.bufr_text.proofs.RoundTripLemmas.{all_apart, encoded_to, parts_back, parts_with, size_least, fills_as, bit_back, section2_back, enough, suffix, encoded_again, as_written, data_refused, parts_of_document, filled, is_message, reads_octets, all_dumped}
 use Rattle.std.specs.Global.{Global}
 use Rattle.bufr_bits.proofs.BitLemmas.{length-bits_of}
 use Rattle.bufr_tables.proofs.SoundLemmas.{tree_fine}
@@ -27,6 +27,7 @@ use Rattle.bufr_fill.specs.declared.fault.DraftFault.{DraftFault}
 use Rattle.bufr_text.specs.declared.fault.DocumentFault.TheVariants as fault
 use Rattle.bufr_text.specs.declared.encode.Form.TheVariants as form
 use Rattle.std.proofs.lemmas.Grind.{common_steps}
+use Rattle.bufr_fill.proofs.ReadsLemmas.{items_of}
 
 -- ---- A canonical message is encoded to the same octets.
 
@@ -87,38 +88,26 @@ record AreFilled (r : Result (List Bool) DraftFault) (bits suffix : List Bool) :
   fills : r ≡ Ok out
   splits : bits ≡ out ++ suffix
 
-data_filled : (table : List Row) (template : Tree) (s : Sections) (values : Values) (used at : ℕ) → AreRead table → IsLegal template
-    → IsReading (next_item table template) (data_of s) values used → AreWritten values (bits_of s.payload) (drop used (bits_of s.payload))
-    → AreFilled (data_bits s.compressed (next_item table template) (subsets_of (subset_entries at (dump_items table s.subsets values)))) (bits_of s.payload) (drop used (bits_of s.payload))
-data_filled table template s (apart subsets) used at rows legal read writes =
+bits_split : (table : List Row) (template : Tree) (s : Sections) (values : Values) (used : ℕ) → AreRead table → IsLegal template → IsReading (next_item table template) (data_of s) values used
+    → AreWritten values (bits_of s.payload) (drop used (bits_of s.payload)) → bits_of s.payload ≡ bits_again values ++ drop used (bits_of s.payload)
+bits_split table template s (apart subsets) used rows legal read writes =
     let course = next_item table template in
     let bits = bits_of s.payload in
-    let drafts = subsets_of (subset_entries at (map (items_shown table) subsets)) in
-    let specs = plain_specs course subsets bits (drop used bits) (next_field table template rows legal) read.2.0 in
-    let follow = (all_followed course subsets bits (drop used bits) specs read.2.0).follow in
-    let w = plain_subsets course subsets drafts follow (subsets_said course subsets drafts follow (all_apart table at subsets)) in
-    record {
-      out = subset_bits subsets;
-      fills = fills_as s.compressed false course drafts (subset_bits subsets) read.0 w.is;
-      splits = subsets_split course subsets bits (drop used bits) specs read.2.0 writes;
-    }
-data_filled table template s (together items) used at rows legal read writes =
-    let course = next_item table template in
-    let bits = bits_of s.payload in
-    let subsets = subsets_from s.subsets 0 items in
-    let drafts = subsets_of (subset_entries at (map (items_shown table) subsets)) in
-    let specs = reads_specs s.subsets table template items bits (drop used bits) rows legal read.2 in
-    let said = subsets_said course subsets drafts (follow_reading s.subsets course items bits (drop used bits) specs read.2) (all_apart table at subsets) in
-    let w = packed_rows s.subsets course items drafts bits (drop used bits) specs said read.2 in
-    record {
-      out = flat_map row_bits items;
-      fills = fills_as s.compressed true course drafts (flat_map row_bits items) read.0 w.is;
-      splits = rows_split items bits (drop used bits) writes;
-    }
+    subsets_split course subsets bits (drop used bits) (plain_specs course subsets bits (drop used bits) (next_field table template rows legal) read.2.0) read.2.0 writes
+bits_split table template s (together items) used rows legal read writes = rows_split items (bits_of s.payload) (drop used (bits_of s.payload)) writes
 
-within_data : (table : List Row) (template : Tree) (s : Sections) (values : Values) (used : ℕ) → IsReading (next_item table template) (data_of s) values used → used ≤ length (bits_of s.payload)
-within_data table template s (apart subsets) used h = h.1
-within_data table template s (together items) used h = h.1
+data_filled : (table : List Row) (template : Tree) (s : Sections) (values : Values) (used at : ℕ) → AreRead table → IsLegal template
+    → HasReading (next_item table template) (data_of s) values used → AreWritten values (bits_of s.payload) (drop used (bits_of s.payload))
+    → AreFilled (data_bits s.compressed (next_item table template) (subsets_of (subset_entries at (dump_items table s.subsets values)))) (bits_of s.payload) (drop used (bits_of s.payload))
+data_filled table template s values used at rows legal read writes =
+    let drafts = subsets_of (subset_entries at (dump_items table s.subsets values)) in
+    let said = subsets_said (next_item table template) (each_subset s.subsets values) drafts (follows table template rows legal (data_of s) values used read) (all_dumped table at s.subsets values) in
+    let w = said_again table template rows legal (data_of s) values used drafts read said in
+    record {
+      out = bits_again values;
+      fills = w.0.0.is ∙ ap Ok w.1;
+      splits = bits_split table template s values used rows legal (items_of table template rows legal (data_of s) values used read) writes;
+    }
 
 prefix_is : (bits out : List Bool) (used : ℕ) → used ≤ length bits → bits ≡ out ++ drop used bits → out ≡ take used bits
 prefix_is bits out used h1 h2 = grind (arith, nat_tests, common_steps)
@@ -135,7 +124,7 @@ canonical_encoded table sequences m s template values used at rows legal a c =
     let edition = s.head.edition in
     let made = octets_of_bits f.out in
     let payload : s.payload ≡ with_even_length edition 4 made = c.least
-    ∙ ap (λ (b : List Bool). with_even_length edition 4 (octets_of_bits b)) (sym (prefix_is bits f.out used (within_data table template s values used a.read) f.splits)) in
+    ∙ ap (λ (b : List Bool). with_even_length edition 4 (octets_of_bits b)) (sym (prefix_is bits f.out used a.read.within f.splits)) in
     let same : parts_of_document d made ≡ parts_with s made = parts_back at s items made in
     let short : length made ≤ length s.payload = omega (arith, ap length payload, length-evened edition 4 made, even-least edition (4 + length made)) in
     let most : message_size edition (parts_with s made) ≤ max_octets = size_least s made max_octets short (not-too-long m s a.sections a.few) in
@@ -156,7 +145,7 @@ record IsFilled (b : Bool) (table : List Row) (template : Tree) (s : Sections) (
   out : List Bool
   fills : data_bits b (next_item table template) (subsets_of entries) ≡ Ok out
   read : (octets : List ℕ) (more : List Bool) → bits_of octets ≡ out ++ more
-      → IsReading (next_item table template) (record { compressed = b; subsets = s.subsets; bits = bits_of octets }) found (length out)
+      → HasReading (next_item table template) (record { compressed = b; subsets = s.subsets; bits = bits_of octets }) found (length out)
   each : each_subset s.subsets found ≡ each_subset s.subsets values
 
 record IsUnfilled (table : List Row) (template : Tree) (entries : List DraftEntry) : Type 0 where
@@ -167,7 +156,7 @@ record IsUnfilled (table : List Row) (template : Tree) (entries : List DraftEntr
 
 module _ (table : List Row) (template : Tree) (s : Sections) (used at : ℕ) (rows : AreRead table) (legal : IsLegal template) where
   -- in the form that the message has
-  in_own_form : (b : Bool) (values : Values) → s.compressed ≡ b → IsReading (next_item table template) (data_of s) values used
+  in_own_form : (b : Bool) (values : Values) → s.compressed ≡ b → HasReading (next_item table template) (data_of s) values used
       → IsFilled b table template s values (subset_entries at (dump_items table s.subsets values))
   in_own_form b values own read =
       let f = filled table template s values used at rows legal read in
@@ -179,38 +168,33 @@ module _ (table : List Row) (template : Tree) (s : Sections) (used at : ℕ) (ro
         each = refl;
       })
 
-  filled_plainly : (values : Values) → IsReading (next_item table template) (data_of s) values used → IsFilled false table template s values (subset_entries at (dump_items table s.subsets values))
-  filled_plainly (apart subsets) read = in_own_form false (apart subsets) read.0 read
+  filled_plainly : (values : Values) → HasReading (next_item table template) (data_of s) values used → IsFilled false table template s values (subset_entries at (dump_items table s.subsets values))
+  filled_plainly (apart subsets) read = in_own_form false (apart subsets) (items_of table template rows legal (data_of s) (apart subsets) used read).0 read
   filled_plainly (together items) read =
-      let entries = subset_entries at (map (items_shown table) (subsets_from s.subsets 0 items)) in
-      let dumped = all_apart table at (subsets_from s.subsets 0 items) in
-      let w = template_apart s.subsets table template items (subsets_of entries) (bits_of s.payload) (drop used (bits_of s.payload)) rows legal dumped read.2 in
-      record {
-        found = apart (subsets_from s.subsets 0 items);
-        out = w.out;
-        fills = w.is;
-        read = plain_reading (next_item table template) (subsets_from s.subsets 0 items) s.subsets w.out w.again;
-        each = refl;
-      }
+      let subsets = subsets_from s.subsets 0 items in
+      let w = written_apart table template rows legal (data_of s) items used (subsets_of (subset_entries at (map (items_shown table) subsets))) read (all_apart table at subsets) in
+      record { found = apart subsets; out = w.out; fills = w.is; read = reads_octets (next_item table template) false s.subsets (apart subsets) w.out w.again; each = refl }
 
-  packedly : (values : Values) → length (bits_of s.payload) ≤ max_values → IsReading (next_item table template) (data_of s) values used
+  packedly : (values : Values) → length (bits_of s.payload) ≤ max_values → HasReading (next_item table template) (data_of s) values used
       → IsFilled true table template s values (subset_entries at (dump_items table s.subsets values)) ⊎ IsUnfilled table template (subset_entries at (dump_items table s.subsets values))
-  packedly (together items) few read = inl (in_own_form true (together items) read.0 read)
-  packedly (apart subsets) few read = by (template_together table template subsets (subsets_of entries) (bits_of s.payload) (drop used (bits_of s.payload)) few rows legal (all_apart table at subsets)
-      read.2.0)
+  packedly (together items) few read = inl (in_own_form true (together items) (items_of table template rows legal (data_of s) (together items) used read).0 read)
+  packedly (apart subsets) few read = by (written_together table template rows legal (data_of s) subsets used (subsets_of entries) few read (all_apart table at subsets))
     where
       entries : List DraftEntry
       entries = subset_entries at (map (items_shown table) subsets)
 
+      count : length subsets ≡ s.subsets
+      count = (items_of table template rows legal (data_of s) (apart subsets) used read).2.1
+
       by : IsTogetherOrNot (next_item table template) subsets (subsets_of entries) → IsFilled true table template s (apart subsets) entries ⊎ IsUnfilled table template entries
       by (inr x) = inr (record { line = x.0; why = x.1; is = x.2; unlike = x.3 })
       by (inl x) = inl (record {
-        found = together x.items;
-        out = x.out;
-        fills = x.is;
-        read = packed_reading (next_item table template) x.items s.subsets x.out
-            (λ more. subst (λ n. IsPackedReading n (next_item table template) x.items (x.out ++ more) more) read.2.1 (x.again more));
-        each = ap (λ n. subsets_from n 0 x.items) (sym read.2.1) ∙ x.same;
+        found = together x.0;
+        out = x.2.out;
+        fills = x.2.is;
+        read = reads_octets (next_item table template) true s.subsets (together x.0) x.2.out
+            (λ more. subst (λ n. HasReading (next_item table template) (record { compressed = true; subsets = n; bits = x.2.out ++ more }) (together x.0) (length x.2.out)) count (x.2.again more));
+        each = ap (λ n. subsets_from n 0 x.0) (sym count) ∙ x.1;
       })
 
 -- ---- the message

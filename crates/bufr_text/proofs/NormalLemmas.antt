@@ -7,26 +7,27 @@ use Rattle.bufr_tables.specs.declared.fault.TemplateFault.{TemplateFault}
 use Rattle.bufr_tables.specs.Prelude.{tree_of, IsLegal, tables_of, Record, Row, AreRows, Sequence, Tree}
 use Rattle.bufr_tables.proofs.SoundLemmas.{tree_fine}
 use Rattle.bufr_frame.specs.Prelude.{with_even_length, message_octets, message_size, max_octets, sections_from, MessageParts, parts_of}
-use Rattle.bufr_walk.specs.Prelude.{Content, FieldSpec, next_item, Course, Values, apart, together, Item, IsReading, plain, after, data_of, view_of, View, subsets_from, each_subset}
-use Rattle.bufr_fill.specs.Prelude.{Subset, subsets_of, Draft, AllHaveOctets, AreSaid, IsSaid, AreDrafts, content_of}
+use Rattle.bufr_walk.specs.Prelude.{Content, FieldSpec, next_item, Course, Values, Item, plain, after, data_of, view_of, View, each_subset}
+use Rattle.bufr_fill.specs.Prelude.{Subset, subsets_of, Draft, AreSaid, IsSaid, AreDrafts, content_of, HasReading}
 use Rattle.bufr_fill.specs.declared.fault.DraftFault.{DraftFault}
-use Rattle.bufr_fill.proofs.BackLaws.{plain_template_back, packed_template_back}
+use Rattle.bufr_fill.proofs.BackLaws.{read_back}
 use Rattle.bufr_fill.proofs.FieldLemmas.{same_ok}
-use Rattle.bufr_text.specs.Prelude.{header_in, mosts, Form, Document, Complete, documents_of, section2_in, ◌>>=◌, map_err, data_bits, octets_of_bits, parts_as, compressed_as, message_of, encoding_in, DocumentFault, encoding_of, header_lines, local1_line, section2_line, descriptors_line, head_lines, item_text, subset_line, subset_lines, text_of_lines, dump_text_of, subset_entries, lines_before, document_of, IsProper, header_as, normal_head, normal_line, draft_answer, line_and, normal_items, normal_subsets, normal, AreValuesOf, IsReadAs, runs_of, items_shown, dump_items, document_fault}
+use Rattle.bufr_text.specs.Prelude.{header_in, mosts, Form, Document, Complete, documents_of, section2_in, ◌>>=◌, map_err, data_bits, octets_of_bits, parts_as, compressed_as, message_of, encoding_in, DocumentFault, encoding_of, header_lines, local1_line, section2_line, descriptors_line, head_lines, item_text, subset_line, subset_lines, text_of_lines, dump_text_of, lines_before, document_of, IsProper, header_as, normal_head, normal_line, draft_answer, line_and, normal_items, normal_subsets, normal, AreValuesOf, IsReadAs, runs_of, items_shown, dump_items, document_fault}
 use Rattle.bufr_text.proofs.DumpableLemmas.{dumpable, optional_octets}
 use Rattle.bufr_walk.proofs.NextField.{table_read}
-use Rattle.bufr_text.proofs.RoundTripLemmas.{same_form, all_apart, bit_back, parts_back, parts_with, parts_of_document, plain_reading, packed_reading, is_message}
+use Rattle.bufr_text.proofs.RoundTripLemmas.{same_form, bit_back, parts_back, parts_with, parts_of_document, is_message, reads_octets, all_dumped}
 use Rattle.bufr_text.proofs.HeaderLemmas.{headed-fits, subsets-few, header-widest}
 use Rattle.bufr_frame.specs.declared.section1.Head.{Head}
 use Rattle.bufr_fill.proofs.PlainLaws.{normal_dumped, said_fxy}
-use Rattle.bufr_fill.proofs.FormLaws.{Follows, AllFollow, subset_count, subsets_said}
-use Rattle.bufr_fill.proofs.WholeLaws.{plain_follows, packed_follows, plain_said_alike, packed_said_alike}
+use Rattle.bufr_fill.proofs.FormLaws.{Follows, AllFollow, subsets_said}
+use Rattle.bufr_fill.proofs.WholeLaws.{follows, said_alike}
 use Rattle.bufr_text.specs.declared.fault.DocumentFault.TheVariants as fault
 use Rattle.bufr_text.specs.declared.encode.Form.TheVariants.{AsWritten, Plain, Compressed}
 use Rattle.bufr_text.proofs.DumpTextLemmas.{one-document}
 use Rattle.bufr_walk.specs.Reading as reading
 use Rattle.std.proofs.lemmas.Grind.{common_steps}
 use Rattle.std.specs.Int.{from_bool}
+use Rattle.bufr_fill.proofs.ReadsLemmas.{each_count}
 
 -- ---- The message of a document that was encoded is accepted, and says what the document says.
 
@@ -34,23 +35,6 @@ pub said_length : (subsets : List (List (Item Content))) (drafts : List Subset) 
 said_length [] [] h = refl
 said_length (items ∷ subsets) (s ∷ ss) h = ap suc (said_length subsets ss h.1)
 said_length subsets ss h = absurd h
-
-module _ (records : List Record) (table : List Row) (template : Tree) (rows : AreRows records table) (legal : IsLegal template) (drafts : List Subset) (out : List Bool)
-    (texts : AllHaveOctets drafts) where
-  -- the bits of the data, whatever is after them, have a reading that says what the drafts say
-  record IsFilled (compressed : Bool) : Type 0 where
-    values : Values
-    said : AreValuesOf values drafts
-    read : (octets : List ℕ) (more : List Bool) → bits_of octets ≡ out ++ more
-        → IsReading (next_item table template) (record { compressed = compressed; subsets = length drafts; bits = bits_of octets }) values (length out)
-
-  filled : (compressed : Bool) → data_bits compressed (next_item table template) drafts ≡ Ok out → IsFilled compressed
-  filled true e =
-      let w = packed_template_back records table template drafts out rows legal texts e in
-      record { values = together w.items; said = w.said; read = packed_reading (next_item table template) w.items (length drafts) out w.read }
-  filled false e =
-      let w = plain_template_back records table template drafts out rows legal texts e in
-      record { values = apart w.subsets; said = w.said; read = plain_reading (next_item table template) w.subsets (length drafts) out (λ more. (w.read more, said_length w.subsets drafts w.said)) }
 
 module _ (form : Form) (records : List Record) (table : List Row) (sequences : List Sequence) (rows : AreRows records table) (d : Document) (proper : IsProper d) (octets : List ℕ) where
   abbrev data_in : Tree → Result (List Bool) DraftFault
@@ -64,7 +48,7 @@ module _ (form : Form) (records : List Record) (table : List Row) (sequences : L
       let payload = octets_of_bits bits in
       let parts = parts_as (compressed_as form d) d payload in
       let legal = (tree_fine (tables_of table sequences) d.descriptors template expands).legal in
-      let f = filled records table template rows legal (subsets_of d.entries) bits proper.texts (compressed_as form d) fills in
+      let f = read_back table template (table_read records table rows) legal (compressed_as form d) (subsets_of d.entries) bits proper.texts fills in
       let w = is_message head parts bits (headed-fits d proper.headed) proper.local1 (optional_octets (header_in d).optional d.section2 proper.section2) proper.descriptors
       (subsets-few d proper.headed) refl few in
       record {
@@ -77,8 +61,9 @@ module _ (form : Form) (records : List Record) (table : List Row) (sequences : L
           few = omega (arith, few, w.long);
           sections = w.are;
           expands = expands;
-          read = subst (λ n. IsReading (next_item table template) (record { compressed = compressed_as form d; subsets = n; bits = bits_of (with_even_length head.edition 4 payload) }) f.values
-              (length bits)) proper.counted (f.read (with_even_length head.edition 4 payload) w.tail w.bits);
+          read = subst (λ n. HasReading (next_item table template) (record { compressed = compressed_as form d; subsets = n; bits = bits_of (with_even_length head.edition 4 payload) }) f.values
+              (length bits)) proper.counted
+              (reads_octets (next_item table template) (compressed_as form d) (length (subsets_of d.entries)) f.values bits f.read (with_even_length head.edition 4 payload) w.tail w.bits);
         };
         framed = w.framed;
         head = refl;
@@ -236,17 +221,16 @@ module _ (form : Form) (records : List Record) (table : List Row) (sequences : L
   abbrev shown_items : List (List View)
   shown_items = dump_items table h.sections.subsets h.values
 
-  -- each subset of a reading follows the template, and says what the drafts say
-  follow : (values : Values) (used : ℕ) → IsReading course (data_of h.sections) values used → AllFollow course (each_subset h.sections.subsets values)
-  follow (apart subsets) used read = plain_follows records table h.template rows legal subsets bits (drop used bits) read.2.0
-  follow (together items) used read = packed_follows records table h.template rows legal h.sections.subsets items bits (drop used bits) read.2
+  -- each subset of the reading follows the template
+  follow : AllFollow course (each_subset h.sections.subsets h.values)
+  follow = follows table h.template (table_read records table rows) legal (data_of h.sections) h.values h.used h.accepted.read
 
   says : (values : Values) (drafts : List Subset) → length drafts ≡ h.sections.subsets → AreValuesOf values drafts → AreSaid (each_subset h.sections.subsets values) drafts
   says values drafts count said = subst (λ n. AreSaid (each_subset n values) drafts) count said
 
   lines_of_items : (drafts : List Subset) → length drafts ≡ h.sections.subsets → AreValuesOf h.values drafts → subset_lines 1 shown_items ≡ normal_subsets table course 1 drafts
   lines_of_items drafts count said =
-      sym (subsets_are table course 1 (each_subset h.sections.subsets h.values) drafts (follow h.values h.used h.accepted.read) (says h.values drafts count said))
+      sym (subsets_are table course 1 (each_subset h.sections.subsets h.values) drafts follow (says h.values drafts count said))
 
   pub dump_is_normal : IsProper d → dump_text_of h.sections shown_items ≡ normal form table h.template d
   dump_is_normal proper =
@@ -262,45 +246,17 @@ module _ (form : Form) (records : List Record) (table : List Row) (sequences : L
     abbrev drafts_again : List Subset
     drafts_again = subsets_of again.entries
 
-    -- the drafts of the dump
-    record AreAgain (values : Values) (drafts : List Subset) : Type 0 where
-      count : length drafts ≡ h.sections.subsets
-      said : AreValuesOf values drafts
-      alike : (others : List Subset) → length others ≡ h.sections.subsets → AreValuesOf values others → data_bits h.sections.compressed course others ≡ data_bits h.sections.compressed course drafts
+    -- they say what was read
+    again_said : AreSaid (each_subset h.sections.subsets h.values) drafts_again
+    again_said = subsets_said course (each_subset h.sections.subsets h.values) drafts_again follow (all_dumped table (at + lines_before h.sections) h.sections.subsets h.values)
 
-    by_flag : (b c : Bool) (xs ys : List Subset) → b ≡ c → data_bits c course xs ≡ data_bits c course ys → data_bits b course xs ≡ data_bits b course ys
-    by_flag b c xs ys e g = subst (λ x. data_bits x course xs ≡ data_bits x course ys) (sym e) g
-
-    are_again : (values : Values) (used at : ℕ) → IsReading course (data_of h.sections) values used
-        → AreAgain values (subsets_of (subset_entries at (dump_items table h.sections.subsets values)))
-    are_again (apart subsets) used at read =
-        let drafts = subsets_of (subset_entries at (map (items_shown table) subsets)) in
-        let dumped = all_apart table at subsets in
-        let said = subsets_said course subsets drafts (plain_follows records table h.template rows legal subsets bits (drop used bits) read.2.0) dumped in
-        record {
-          count = sym (said_length subsets drafts said) ∙ read.2.1;
-          said = said;
-          alike = λ others count is. by_flag h.sections.compressed false others drafts read.0
-              (plain_said_alike records table h.template subsets others drafts bits (drop used bits) rows legal read.2.0 is said);
-        }
-    are_again (together items) used at read =
-        let drafts = subsets_of (subset_entries at (map (items_shown table) (subsets_from h.sections.subsets 0 items))) in
-        let each = subsets_from h.sections.subsets 0 items in
-        let said = subsets_said course each drafts (packed_follows records table h.template rows legal h.sections.subsets items bits (drop used bits) read.2) (all_apart table at each) in
-        let count = subset_count _ h.sections.subsets items drafts said in
-        record {
-          count = count;
-          said = subst (λ n. AreSaid (subsets_from n 0 items) drafts) (sym count) said;
-          alike = λ others count is. by_flag h.sections.compressed true others drafts read.0
-              (packed_said_alike h.sections.subsets records table h.template items others drafts bits (drop used bits) rows legal read.2 (says (together items) others count is) said);
-        }
-
-    drafts_are : AreAgain h.values drafts_again
-    drafts_are = are_again h.values h.used (at + lines_before h.sections) h.accepted.read
+    again_count : length drafts_again ≡ h.sections.subsets
+    again_count = sym (said_length (each_subset h.sections.subsets h.values) drafts_again again_said)
+        ∙ each_count table h.template (table_read records table rows) legal (data_of h.sections) h.values h.used h.accepted.read
 
     -- its text is its own in one spelling
     pub normal_again : normal AsWritten table h.template again ≡ dump_text_of h.sections shown_items
-    normal_again = sym (ap (λ ls. text_of_lines (head_lines h.sections ++ (ls ++ codes "end" ∷ []))) (lines_of_items drafts_again drafts_are.count drafts_are.said))
+    normal_again = sym (ap (λ ls. text_of_lines (head_lines h.sections ++ (ls ++ codes "end" ∷ []))) (lines_of_items drafts_again again_count (subst (λ n. AreSaid (each_subset n h.values) drafts_again) (sym again_count) again_said)))
 
     -- what is made of the bits of the data
     abbrev message_with : (line : ℕ) → Head → (List ℕ → MessageParts) → Result (List Bool) DraftFault → Result (List ℕ) DocumentFault
@@ -327,7 +283,8 @@ module _ (form : Form) (records : List Record) (table : List Row) (sequences : L
     data_are : IsProper d → data_bits (compressed_as form d) course (subsets_of d.entries) ≡ data_bits (header_in again).compressed course drafts_again
     data_are proper =
         ap (λ b. data_bits b course (subsets_of d.entries)) (sym h.compressed)
-        ∙ drafts_are.alike (subsets_of d.entries) (proper.counted ∙ sym h.subsets) h.said
+        ∙ said_alike table h.template (table_read records table rows) legal (data_of h.sections) h.values h.used (subsets_of d.entries) drafts_again h.accepted.read
+        (says h.values (subsets_of d.entries) (proper.counted ∙ sym h.subsets) h.said) again_said
         ∙ ap (λ b. data_bits b course drafts_again) (sym (bit_back h.sections.compressed))
 
     encoded_from : encoding_in form table sequences d ≡ message_with d.line (header_in d).head parts_said (data_bits (compressed_as form d) course (subsets_of d.entries))

@@ -4,19 +4,19 @@ use Rattle.std.specs.List.{AllByRecursion}
 use Rattle.std.proofs.lemmas.Bool.Decides.{nat_tests}
 use Rattle.bufr_tables.specs.Prelude.{Row, IsLegal, tree_of, tables_of, Tree, Sequence, places}
 use Rattle.bufr_walk.proofs.NextField.{AreRead}
-use Rattle.bufr_walk.specs.Prelude.{FieldSpec, Content, shown, Course, next_item, data_of, Item, IsPackedReading, IsReading, Values, apart, together, View, subsets_from, IsPlainReading, counted_item}
+use Rattle.bufr_walk.specs.Prelude.{FieldSpec, Content, shown, Course, next_item, data_of, Item, Values, apart, together, View, subsets_from, counted_item, each_subset}
 use Rattle.bufr_text.specs.Prelude.{header_in, IsDescriptorWord, items_shown, IsOctet, dump_value_of, item_entries, subset_entries, document_of, dump_text_of, lines_before, IsAccepted, dump_items, extra_octets, SaySame, HasSameReading, IsEncodedAgain, Document, ◌>>=◌, map_err, data_bits, octets_of_bits, message_of, encoding_in, encoding_of, compressed_as, parts_as, AreOctetsOf, IsData, IsDocumentRefusal, Form, WritesForm, DocumentFault, document_fault}
 use Rattle.std.proofs.lemmas.List.{take_at, drop_at, length-replicate}
 use Rattle.bufr_bits.specs.Prelude.{bits_of, padding}
-use Rattle.bufr_frame.specs.Prelude.{three_octets, octets_of_words, u24_at, Sections, sections_of, edition_of, section3_begins, section4_begins, IsFitting, MessageParts, even_size, with_even_length, message_octets, message_size, max_octets, section0_octets, section1_octets, section2_octets, section3_octets, section4_octets, data_flags, head_octets, max_extra_octets, parts_in, parts_of, sections_from, min_section_1, FrameAt, has_word_at, stated_length, classify, stream_event, candidate_len, scan_from}
+use Rattle.bufr_frame.specs.Prelude.{three_octets, octets_of_words, u24_at, Sections, sections_of, edition_of, section3_begins, section4_begins, IsFitting, MessageParts, with_even_length, message_octets, message_size, max_octets, section0_octets, section1_octets, section2_octets, section3_octets, section4_octets, data_flags, head_octets, max_extra_octets, parts_in, parts_of, sections_from, min_section_1, FrameAt, has_word_at, stated_length, classify, stream_event, candidate_len, scan_from}
 use Rattle.bufr_frame.proofs.AgainLemmas.{sections-ended, edition-cases, head-small, least-when-even, no-longer, not-too-long, fitting-writable}
-use Rattle.bufr_fill.specs.Prelude.{IsDumped, AreDrafts, AreDumped, Draft, draft, DraftEntry, Ends, Subset, subset, prepend_to_subset, subsets_of}
+use Rattle.bufr_fill.specs.Prelude.{IsDumped, AreDrafts, AreDumped, Draft, draft, DraftEntry, Ends, Subset, subset, prepend_to_subset, subsets_of, HasReading}
 use Rattle.bufr_fill.proofs.FieldLemmas.{octet_bits_again, octets_in-are, length-octets_in}
 use Rattle.bufr_frame.specs.declared.section1.Head.{Head}
 use Rattle.bufr_frame.proofs.LayoutLemmas.{three-number, message_size_is, read-back, evened-bits, size-least}
 use Rattle.bufr_frame.proofs.ScanLemmas.{scan_from-here}
 use Rattle.bufr_bits.proofs.BitLemmas.{length-bits_of}
-use Rattle.bufr_fill.proofs.WholeLaws.{plain_template_again, packed_template_again}
+use Rattle.bufr_fill.proofs.WholeLaws.{written_again}
 use Rattle.bufr_text.specs.declared.encode.Form.TheVariants.{AsWritten}
 use Rattle.bufr_tables.specs.declared.fault.TemplateFault.{TemplateFault}
 use Rattle.bufr_text.specs.declared.fault.DocumentFault.TheVariants as fault
@@ -251,7 +251,7 @@ pub record IsFilled (table : List Row) (template : Tree) (s : Sections) (values 
   pub fills : data_bits s.compressed (next_item table template) (subsets_of entries) ≡ Ok out
   pub short : length out ≤ length (bits_of s.payload)
   pub read : (octets : List ℕ) (tail : List Bool) → bits_of octets ≡ out ++ tail
-      → IsReading (next_item table template) (record { compressed = s.compressed; subsets = s.subsets; bits = bits_of octets }) values (length out)
+      → HasReading (next_item table template) (record { compressed = s.compressed; subsets = s.subsets; bits = bits_of octets }) values (length out)
 
 pub enough : (out octets : List Bool) (bits : List Bool) → bits ≡ out ++ octets → length out ≤ length bits
 enough out octets bits e = omega (arith, ap length e, length-append out octets)
@@ -263,38 +263,26 @@ pub fills_as : (b c : Bool) (course : Course) (drafts : List Subset) (out : List
 fills_as b c course drafts out e h = ap (λ x. data_bits x course drafts) e ∙ h
 
 -- how the bits that are written are read
-pub plain_reading : (course : Course) (subsets : List (List (reading.Item Content))) (n : ℕ) (out : List Bool) → ((more : List Bool) → IsPlainReading n course subsets (out ++ more) more)
-    → (octets : List ℕ) (more : List Bool) → bits_of octets ≡ out ++ more
-    → IsReading course (record { compressed = false; subsets = n; bits = bits_of octets }) (apart subsets) (length out)
-plain_reading course subsets n out h1 octets more h2 = grind (arith, nat_tests, common_steps)
+pub reads_octets : (course : Course) (compressed : Bool) (n : ℕ) (values : Values) (out : List Bool)
+    → ((more : List Bool) → HasReading course (record { compressed = compressed; subsets = n; bits = out ++ more }) values (length out))
+    → (octets : List ℕ) (more : List Bool) → bits_of octets ≡ out ++ more → HasReading course (record { compressed = compressed; subsets = n; bits = bits_of octets }) values (length out)
+reads_octets course compressed n values out again octets more e =
+    subst (λ bits. HasReading course (record { compressed = compressed; subsets = n; bits = bits }) values (length out)) (sym e) (again more)
 
-pub packed_reading : (course : Course) (items : List (reading.Item (List Content))) (n : ℕ) (out : List Bool) → ((more : List Bool) → IsPackedReading n course items (out ++ more) more)
-    → (octets : List ℕ) (more : List Bool) → bits_of octets ≡ out ++ more
-    → IsReading course (record { compressed = true; subsets = n; bits = bits_of octets }) (together items) (length out)
-packed_reading course items n out h1 octets more h2 = grind (arith, nat_tests, common_steps)
+-- the drafts of a dump are those of its items
+pub all_dumped : (table : List Row) (at n : ℕ) (values : Values) → AreDumped (each_subset n values) (subsets_of (subset_entries at (dump_items table n values)))
+all_dumped table at n (apart subsets) = all_apart table at subsets
+all_dumped table at n (together items) = all_apart table at (subsets_from n 0 items)
 
 pub filled : (table : List Row) (template : Tree) (s : Sections) (values : Values) (used at : ℕ) → AreRead table → IsLegal template
-    → IsReading (next_item table template) (data_of s) values used → IsFilled table template s values (subset_entries at (dump_items table s.subsets values))
-filled table template s (apart subsets) used at rows legal read =
-    let course = next_item table template in
-    let entries = subset_entries at (map (items_shown table) subsets) in
-    let w = plain_template_again table template subsets (subsets_of entries) (bits_of s.payload) (drop used (bits_of s.payload)) rows legal (all_apart table at subsets) read.2.0 in
+    → HasReading (next_item table template) (data_of s) values used → IsFilled table template s values (subset_entries at (dump_items table s.subsets values))
+filled table template s values used at rows legal read =
+    let w = written_again table template rows legal (data_of s) values used (subsets_of (subset_entries at (dump_items table s.subsets values))) read (all_dumped table at s.subsets values) in
     record {
-      out = w.out;
-      fills = fills_as s.compressed false course (subsets_of entries) w.out read.0 w.is;
-      short = omega (arith, w.short);
-      read = λ octets tail e. let r = plain_reading course subsets s.subsets w.out (λ more. (w.again more, read.2.1)) octets tail e in (read.0, r.1, r.2);
-    }
-filled table template s (together items) used at rows legal read =
-    let course = next_item table template in
-    let entries = subset_entries at (map (items_shown table) (subsets_from s.subsets 0 items)) in
-    let dumped = all_apart table at (subsets_from s.subsets 0 items) in
-    let w = packed_template_again s.subsets table template items (subsets_of entries) (bits_of s.payload) (drop used (bits_of s.payload)) rows legal dumped read.2 in
-    record {
-      out = w.out;
-      fills = fills_as s.compressed true course (subsets_of entries) w.out read.0 w.is;
-      short = omega (arith, w.short);
-      read = λ octets tail e. let r = packed_reading course items s.subsets w.out w.again octets tail e in (read.0, r.1, r.2);
+      out = w.0.out;
+      fills = w.0.is;
+      short = omega (arith, w.1, read.within);
+      read = reads_octets (next_item table template) s.compressed s.subsets values w.0.out w.0.again;
     }
 
 -- ---- the message

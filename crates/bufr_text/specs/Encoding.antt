@@ -8,8 +8,9 @@ use Rattle.bufr_tables.specs.declared.fault.TemplateFault.{TemplateFault}
 use Rattle.bufr_tables.specs.Prelude.{tree_of, tables_of, template_report, Row, Sequence, Tree, places}
 use Rattle.bufr_frame.specs.declared.section1.Head.{Head}
 use Rattle.bufr_frame.specs.Prelude.{MessageParts, message_octets, message_size, max_octets}
-use Rattle.bufr_walk.specs.Prelude.{octets_in, Course, next_item, CountedCourse, uncounted, counted_item, ticked}
-use Rattle.bufr_fill.specs.Prelude.{plain_data, packed_data, Writing, writing_of, Subset, subsets_of, item_report, walk_refused, at_line}
+use Rattle.bufr_walk.specs.Prelude.{octets_in, next_item, CountedCourse, uncounted, counted_item, ticked}
+pub use Rattle.bufr_fill.specs.Encoding.{data_bits}
+use Rattle.bufr_fill.specs.Prelude.{Writing, writing_of, Subset, subsets_of, item_report, walk_refused, at_line}
 use Rattle.bufr_text.specs.declared.encode.Form.TheVariants.{AsWritten}
 use Rattle.bufr_text.specs.Documents.{header_in, Document, section2_in}
 use Rattle.bufr_text.specs.declared.fault.DocumentFault.{DocumentFault}
@@ -58,11 +59,6 @@ line_of_fault (document.Item line why) = Some line
 line_of_fault (document.Template line why) = Some line
 line_of_fault (document.TooLong line) = Some line
 line_of_fault document.Memory = None
-
--- the data bits of the subsets of a document, or the first fault
-abbrev pub data_bits : (compressed : Bool) → Course → List Subset → Result (List Bool) DraftFault
-data_bits true course subsets = packed_data course subsets
-data_bits false course subsets = plain_data course subsets
 
 -- bits as octets, with zero bits after them up to a whole octet
 -- rule: writes-section-4

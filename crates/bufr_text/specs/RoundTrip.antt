@@ -4,14 +4,14 @@ use Rattle.std.specs.Prelude.{◌≡◌, ℕ, ◌+◌, ◌%◌, ◌≤◌, ◌==
 use Rattle.std.specs.List.{AllByRecursion}
 use Rattle.bufr_tables.specs.Prelude.{tree_of, tables_of, Row, Sequence, Tree}
 use Rattle.bufr_frame.specs.Prelude.{max_octets, with_even_length, u24_at, section3_begins, section4_begins, Sections, sections_of, edition_of, IsPlain, FrameAt, scan_from}
-use Rattle.bufr_walk.specs.Prelude.{next_item, data_of, Values, IsReading, Item, apart, together, Content, each_subset}
+use Rattle.bufr_walk.specs.Prelude.{next_item, data_of, Values, Item, apart, together, Content, each_subset}
 use Rattle.bufr_text.specs.declared.encode.Form.{Form}
 use Rattle.bufr_text.specs.declared.encode.Form.TheVariants.{AsWritten}
 use Rattle.bufr_text.specs.Documents.{header_in, Document, section2_in}
 use Rattle.bufr_text.specs.Dump.{dump_items, IsOctet}
 use Rattle.bufr_text.specs.Encoding.{compressed_by, encoding_of, octets_of_bits, compressed_as}
 use Rattle.std.specs.Global.{Global}
-use Rattle.bufr_fill.specs.Prelude.{IsUnlike, AreSaid, IsMinusZero, packing, Subset, subsets_of}
+use Rattle.bufr_fill.specs.Prelude.{IsUnlike, AreSaid, HasReading, IsMinusZero, packing, Subset, subsets_of}
 use Rattle.bufr_text.specs.declared.fault.DocumentFault.{DocumentFault}
 use Rattle.bufr_text.specs.declared.fault.DocumentFault.TheVariants as document
 use Rattle.bufr_bits.specs.Prelude.{bits_of}
@@ -25,7 +25,7 @@ pub record IsAccepted (table : List Row) (sequences : List Sequence) (m : List �
   pub few : length m ≤ max_octets
   pub sections : sections_of m ≡ Ok s
   pub expands : tree_of (tables_of table sequences) s.descriptors ≡ Ok template
-  pub read : IsReading (next_item table template) (data_of s) values used
+  pub read : HasReading (next_item table template) (data_of s) values used
 
 -- the sections of two messages say the same; the lengths, the bits of the data, and the flag of
 -- compression, which is that of a form, may differ
@@ -60,7 +60,7 @@ pub record HasSameReading (table : List Row) (m : List ℕ) (s : Sections) (temp
   pub are : sections_of written ≡ Ok sections
   pub same : SaySame AsWritten s sections
   pub used : ℕ
-  pub read : IsReading (next_item table template) (data_of sections) values used
+  pub read : HasReading (next_item table template) (data_of sections) values used
 
 -- a document is encoded to a message with the same reading
 pub record IsEncodedAgain (table : List Row) (sequences : List Sequence) (m : List ℕ) (s : Sections)
@@ -92,7 +92,7 @@ pub record HasReadingIn (form : Form) (table : List Row) (s : Sections) (templat
   pub same : SaySame form s sections
   pub found : Values
   pub used : ℕ
-  pub read : IsReading (next_item table template) (data_of sections) found used
+  pub read : HasReading (next_item table template) (data_of sections) found used
   -- each subset has the same items: what was asked of the data, and what was found
   pub each : each_subset s.subsets found ≡ each_subset s.subsets values
   -- so its dump text has the same items

@@ -134,12 +134,6 @@ Takes {S} takes course s (i ∷ items) s' =
     (mid : S) × (course [] ≡ take_next i.spec) × takes s i.spec i.taken mid
     × Takes takes (λ answers. course (i.taken ∷ answers)) mid items s'
 
--- a course after some fields, with turns or without
-abbrev pub course_after : {N : Type 0} → (List Taken → N) → List TakenField → List Taken → N
-course_after course [] answers = course answers
-course_after course (i ∷ items) answers =
-    course_after (λ more. course (i.taken ∷ more)) items answers
-
 -- ---- A whole walk over fields: what it takes, in order, and how it ends.
 
 -- a field that was taken

@@ -1,6 +1,6 @@
 -- Passes on the names that proofs and other crates cite. Declares nothing.
 pub use Rattle.bufr_walk.specs.Rules.{TableField, TurnRefusal, operator_width, AreOperands, IsOperatorKey, OperatorModel, IsKey, is_defining, element_spec, factor_spec, factor_by, factor_field, spec_by_kind, new_reference_spec, numeric_spec, coded_spec, text_spec, text_width, local_width_spec, listed_by, unsigned_field, begin, IsFieldKey, descriptor_of, key_word, spec_of, Redefined, current_reference, with_reference, known_by, after_operator, after_field, inserted_spec, if_valid_width, defined_field, operator_model, scale_change_of, with_references, with_operator}
-pub use Rattle.bufr_walk.specs.Course.{WalkStop, Course, Turns, finish, operator_turn, Rest, unroll, passes, pass_end, Next, take_next, refused, at_end, astray, ahead, asked, operated, counts_of, TakenField, Takes, oks, answers_of, StopsWalk, counts_in, open_end, group, element_turn, turns_of, TakesField, stop_by, course_after, factor_turn}
+pub use Rattle.bufr_walk.specs.Course.{WalkStop, Course, Turns, finish, operator_turn, Rest, unroll, passes, pass_end, Next, take_next, refused, at_end, astray, ahead, asked, operated, counts_of, TakenField, Takes, oks, answers_of, StopsWalk, counts_in, open_end, group, element_turn, turns_of, TakesField, stop_by, factor_turn}
 pub use Rattle.bufr_walk.specs.Steps.{NextTurn, CountedCourse, uncounted, counted_item, turns_ahead, turns_asked, turns_operated, Walked, ticked}
 unfoldable pub use Rattle.bufr_walk.specs.Course.{next_item}
 pub use Rattle.bufr_walk.specs.Content.{increments, ones, answer_first, packed_field, FieldSpec, IsSpec, IsField, IsWithin, AreWithin, HasRole, is_reference, Content, number, missing, content_in, answer_of, answer_by_role, FieldFault, increment, unequal_factor, FieldRead, data_end, shown_number, shown_text, shown_missing, shown_reference, HasWidth, HasMissing, number_field, ShownValue, shown, found, text, octets_in, signed_by, plain_field, IsFor, IsForRole, is_plain_number, is_plain, IsPlainNumber, reference, count_in, bits_for, sign_bit, reference_in, Kind, Taken, Role, Coding, numbers, texts, references, coding_by, coding_of, step_of, sum_within, increased, all_there, contents_across, same, if_equal, content_by}

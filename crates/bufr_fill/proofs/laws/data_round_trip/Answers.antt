@@ -1,8 +1,6 @@
-use Rattle.bufr_fill.proofs.WholeLaws.{packed_round_trip, plain_round_trip}
+use Rattle.bufr_walk.proofs.NextField.{table_read}
+use Rattle.bufr_fill.proofs.WholeLaws.{written_again}
 use Rattle.bufr_fill.proofs.laws.data_round_trip.Goals as goal
 
-pub returns-clause-plain : goal.returns-clause-plain
-returns-clause-plain c = plain_round_trip
-
-pub returns-clause-packed : goal.returns-clause-packed
-returns-clause-packed c = packed_round_trip
+pub returns : goal.returns
+returns c = λ records table template rows legal. written_again table template (table_read records table rows) legal
