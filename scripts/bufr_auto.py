@@ -367,7 +367,7 @@ class Run:
 
     @staticmethod
     def words_of(piece: Bytes) -> bytes:
-        """Returns the descriptor list of a piece: the bytes in section 3 of a message, or the lines of a document."""
+        """Returns the descriptors of a piece: two bytes each in a message, or the `descriptors` lines of a document."""
         raise NotImplementedError
 
     @staticmethod
@@ -402,7 +402,10 @@ class Run:
             self.read, self.at = b"", 0
 
     def take_fault(self) -> None:
-        """Reads the next fault line, and sets `place` and `told` (the fault text). If there is none, `place` is `NOWHERE`."""
+        """Reads the next fault line and sets `told` to its text and `place` to its offset or line number.
+
+        If there is no such line, `place` is `NOWHERE`.
+        """
         for line in self.errors:
             word, _, self.told = line.partition(b": ")
             if word.startswith(self.PLACE) and word[len(self.PLACE) :].isdigit():

@@ -1050,7 +1050,10 @@ def _octets(stream: IO[bytes], place: Listed) -> bytes:
 
 
 def looks(begin: bytes) -> str:
-    """Returns the end of the note for a file without messages, such as `: it is empty`, or "" if the format is unknown."""
+    """Returns how the note for a file without messages ends: for example, `: it is empty`.
+
+    The result is empty if the file's format is unknown.
+    """
     import bufr_guard
 
     return bufr_guard.bare(None, begin[:256]).decode(errors="replace").rstrip().partition("contains no messages")[2]
