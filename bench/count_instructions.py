@@ -10,9 +10,9 @@ nothing. It simulates caches of fixed sizes, so the counts are the same on every
 The counts are per item: a line of an element, a message of `ls`, or a stray word. The counts of the same command
 without input are subtracted first. "no input" has these counts themselves.
 
-The script fails if a count is more than 1.1 times that in the file. Before cache misses are compared, 1 is added to both
-counts, because small counts vary. Misses of the instruction cache and of branch prediction are printed only: they
-depend on how the code happens to be laid out.
+The script fails if a count is more than 1.1 times that in the file. Only misses of reads count there, because a program
+hardly waits for writes. Before they are compared, 1 is added to both counts, because small counts vary. Misses of
+writes, of the instruction cache and of branch prediction are printed only; the last two depend on how the code is laid out.
 """
 import concurrent.futures
 import csv
@@ -31,8 +31,9 @@ FILE = pathlib.Path(__file__).parent / "instructions.csv"
 # what is counted, and callgrind's events that it adds up
 COUNTED = {
     "instructions": ["Ir"],
-    "L1 misses": ["D1mr", "D1mw"],
-    "L2 misses": ["DLmr", "DLmw"],
+    "L1 misses": ["D1mr"],
+    "L2 misses": ["DLmr"],
+    "write misses": ["D1mw"],
     "I1 misses": ["I1mr"],
     "branch misses": ["Bcm", "Bim"],
 }
