@@ -31,7 +31,7 @@ module _ {D C E : Type 0} (filler : Filler D C E) where
     bits_with (Ok w) = let p = fill_pass filler (λ answers. course (filler.gives spec w.content ∷ answers)) ds in before w.bits (bits_written p.items) p.stop
 
     -- a pass at a field
-    pub pass_more : (r : Result (WrittenItem C) E) → course [] ≡ take_next spec → filler.fills spec d ≡ r → fill_pass filler course (d ∷ ds) ≡ pass_with course d ds spec r
+    pass_more : (r : Result (WrittenItem C) E) → course [] ≡ take_next spec → filler.fills spec d ≡ r → fill_pass filler course (d ∷ ds) ≡ pass_with course d ds spec r
     pass_more r next e = ap (pass_at course (d ∷ ds)) next ∙ ap (pass_with course d ds spec) e
 
     -- drafts are written as the first of them, and then the rest

@@ -48,9 +48,9 @@ pub record Stays (first s : PackedOutModel) : Type 0 where
 pub walk_of_rows : (end : ℕ) (many : Bool) (course : Course) (s : PackedOutModel) (walked : List TakenField) (s' : PackedOutModel) → Takes (oks PackedFills) course s walked s'
     → Stays s s' × WritesDrafts (packed_filler end many) course walked s.bits s'.bits (rows_left s) (rows_left s')
 walk_of_rows end many course first walked last h =
-    walk_writes (packed_filler end many) rows_left (λ (p : PackedOutModel). p.bits) (oks PackedFills) (Stays first) fills course first walked last (record { subsets = refl; within = omega arith }) h
+    walk_writes (packed_filler end many) rows_left (λ (p : PackedOutModel). p.bits) PackedFills (Stays first) fills first course walked last (record { subsets = refl; within = omega arith }) h
   where
-    fills : (s : PackedOutModel) (spec : FieldSpec) (t : Taken) (s' : PackedOutModel) → oks PackedFills s spec t s' → Stays first s
+    fills : (s : PackedOutModel) (spec : FieldSpec) (t : Taken) (s' : PackedOutModel) → PackedFills s spec (Ok t) s' → Stays first s
         → HasFilled (packed_filler end many) (rows_left s) s.bits spec t (rows_left s') s'.bits × Stays first s'
     fills s spec t s' h k =
         let near = within s s' spec t h in (

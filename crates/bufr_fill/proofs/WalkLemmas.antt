@@ -1,12 +1,12 @@
 -- A walk over drafts writes as the definition does.
-use Rattle.bufr_walk.specs.Prelude.{FieldSpec, bits_for, answer_of, Course, take_next, Next, at_end, astray, refused, TakenField, Takes, answers_of, answers_in, oks}
-use Rattle.bufr_walk.specs.Pass.{empty_pass, item_then, EndsPass}
-use Rattle.bufr_walk.proofs.WalkPass.{at_last}
-use Rattle.bufr_fill.specs.Prelude.{Taken, WrittenItem, Filler, filling, fill_pass, with_items, bits_written, fill, bits_of_pass, WritesDrafts, written_item, plain_filler, DraftEntry, Holds, Ends, DraftFault, at_line, item_too_many, PlainOutModel, PlainFills, IsFaultNext, items_left, end_left, map_err, ◌>>=◌, subsets_of}
-use Rattle.bufr_fill.proofs.FillSteps.{pass_more}
+use Rattle.bufr_walk.specs.Prelude.{FieldSpec, bits_for, answer_of, Course, take_next, Next, at_end, astray, refused, TakenField, Takes, answers_of, oks, Item, pass}
+use Rattle.bufr_walk.specs.Pass.{empty_pass, EndsPass}
+use Rattle.bufr_walk.proofs.WalkPass.{at_last, IsStep, walk_passes}
+use Rattle.bufr_fill.specs.Prelude.{Taken, WrittenItem, Filler, write_first, filling, fill_pass, with_items, bits_written, fill, bits_of_pass, WritesDrafts, written_item, plain_filler, DraftEntry, Holds, Ends, DraftFault, at_line, item_too_many, PlainOutModel, PlainFills, IsFaultNext, items_left, end_left, map_err, ◌>>=◌, subsets_of}
 use Rattle.bufr_fill.proofs.EntryLemmas.{length-prepended}
-use Rattle.std.proofs.Common.{Option, Some, refl, sym, ◌∙◌, ap, subst, append_assoc, ℕ, length, arith, ◌≡◌, Bool, List, [], ◌∷◌, ◌++◌, Ok, Err}
+use Rattle.std.proofs.Common.{Option, Some, refl, sym, ◌∙◌, ap, subst, append_assoc, ℕ, ◌+◌, suc, length, length-append, arith, ◌≡◌, Bool, List, [], ◌∷◌, ◌++◌, Result, Ok, Err}
 use Rattle.std.proofs.lemmas.List.{append-nil}
+use Rattle.std.proofs.lemmas.List.Concat.{flat_map-append}
 
 -- ---- A walk over drafts writes as the definition does.
 
@@ -19,28 +19,54 @@ pub record HasFilled {D C E : Type 0} (filler : Filler D C E) (left : List D) (o
   pub gives : t ≡ filler.gives spec item.content
   pub bits : out' ≡ out ++ item.bits
 
-module _ {D C E S : Type 0} (filler : Filler D C E) (left : S → List D) (out : S → List Bool) (takes : S → FieldSpec → Taken → S → Type 0) (Keeps : S → Type 0)
-    (fills : (s : S) (spec : FieldSpec) (t : Taken) (s' : S) → takes s spec t s' → Keeps s → HasFilled filler (left s) (out s) spec t (left s') (out s') × Keeps s') where
-  pub walk_writes : (course : Course) (s : S) (walked : List TakenField) (s' : S) → Keeps s → Takes takes course s walked s'
-      → Keeps s' × WritesDrafts filler course walked (out s) (out s') (left s) (left s')
-  walk_writes course s [] s' k h = (
-    subst Keeps (sym h) k,
-    record { items = []; bits = ap out h ∙ sym (append-nil (out s)); answers = refl; is = ap (λ x. fill_pass filler course (left x)) (sym h) },
-  )
-  walk_writes course s (i ∷ walked) s' k h =
-      let f = fills s i.spec i.taken h.0 h.2 k in
-      let rest = walk_writes (λ answers. course (i.taken ∷ answers)) h.0 walked s' f.1 h.3 in
-      let same = sym f.0.gives in (
-        rest.0,
+module _ {D C E F S : Type 0} (filler : Filler D C E) (left : S → List D) (out : S → List Bool) (takes : S → FieldSpec → Result Taken F → S → Type 0) (Keeps : S → Type 0)
+    (fills : (s : S) (spec : FieldSpec) (t : Taken) (s' : S) → takes s spec (Ok t) s' → Keeps s → HasFilled filler (left s) (out s) spec t (left s') (out s') × Keeps s') where
+  abbrev gives : FieldSpec → WrittenItem C → Taken
+  gives spec w = filler.gives spec w.content
+
+  module _ (first : S) where
+    -- where a walk is after some items: these drafts are left, and the bits of the items are written
+    record Meets (items : List (Item (WrittenItem C))) (s : S) (drafts : List D) : Type 0 where
+      here : left s ≡ drafts
+      bits : out s ≡ out first ++ bits_written items
+      count : length (left first) ≡ length items + length drafts
+      keeps : Keeps s
+
+    meets_next : (items : List (Item (WrittenItem C))) (s : S) (spec : FieldSpec) (t : Taken) (s' : S) (drafts : List D) → Meets items s drafts → takes s spec (Ok t) s'
+        → IsStep takes (filling filler) gives Meets items spec t s' drafts
+    meets_next items s spec t s' drafts m h =
+        let f = fills s spec t s' h m.keeps in
+        let there : drafts ≡ f.0.draft ∷ left s' = sym m.here ∙ f.0.here in
+        let x : Item (WrittenItem C) = record { spec = spec; content = f.0.item } in
         record {
-          items = record { spec = i.spec; content = f.0.item } ∷ rest.1.items;
-          bits = rest.1.bits ∙ ap (λ x. x ++ bits_written rest.1.items) f.0.bits ∙ append_assoc (out s) f.0.item.bits (bits_written rest.1.items);
-          answers = ap (λ t. t ∷ answers_in (λ spec w. filler.gives spec w.content) rest.1.items) same ∙ ap (λ a. i.taken ∷ a) rest.1.answers;
-          is = ap (fill_pass filler course) f.0.here ∙ pass_more filler course f.0.draft (left h.0) i.spec (Ok f.0.item) h.1 f.0.fills
-              ∙ ap (λ t. item_then i.spec f.0.item (fill_pass filler (λ answers. course (t ∷ answers)) (left h.0))) same
-              ∙ ap (item_then i.spec f.0.item) rest.1.is;
-        },
-      )
+          content = f.0.item;
+          state = left s';
+          step = ap (write_first filler spec) there ∙ ap (λ r. r >>= λ w. Ok (record { content = w; returned = gives spec w; state = left s' })) f.0.fills
+              ∙ ap (λ t. Ok (record { content = f.0.item; returned = t; state = left s' })) (sym f.0.gives);
+          answer = f.0.gives;
+          meets = record {
+            here = refl;
+            bits = f.0.bits ∙ ap (λ b. b ++ f.0.item.bits) m.bits ∙ append_assoc (out first) (bits_written items) f.0.item.bits
+                ∙ ap (λ b. out first ++ b) (sym (flat_map-append (λ (i : Item (WrittenItem C)). i.content.bits) items (x ∷ []) ∙ ap (λ b. bits_written items ++ b) (append-nil f.0.item.bits)));
+            count = omega (arith, m.count, ap length there, length-append items (x ∷ []));
+            keeps = f.1;
+          };
+        }
+
+    pub walk_writes : (course : Course) (walked : List TakenField) (s' : S) → Keeps first → Takes (oks takes) course first walked s'
+        → Keeps s' × WritesDrafts filler course walked (out first) (out s') (left first) (left s')
+    walk_writes course walked s' k h =
+        let start : Meets [] first (left first) = record { here = refl; bits = sym (append-nil (out first)); count = omega arith; keeps = k } in
+        let r = walk_passes takes (filling filler) gives Meets meets_next [] course first walked s' (left first) start h in (
+          r.3.keeps,
+          record {
+            items = r.0;
+            bits = r.3.bits;
+            answers = sym r.2;
+            is = r.4 (suc (length (left first))) (suc (length (left s'))) (omega (arith, r.3.count, ap length r.3.here))
+                ∙ ap (λ ds. with_items r.0 (pass (filling filler) (suc (length (left s'))) (λ more. course (answers_of walked ++ more)) ds)) (sym r.3.here);
+          },
+        )
 
 module _ {D C E : Type 0} (filler : Filler D C E) where
   pub fill_ends : (course : Course) (ds : List D) (stop : Option E) → EndsPass (filling filler) (course []) ds stop → fill_pass filler course ds ≡ empty_pass ds stop
@@ -73,11 +99,11 @@ pub record Keeps (s s' : PlainOutModel) : Type 0 where
 pub walk_of_items : (end : ℕ) (course : Course) (s : PlainOutModel) (walked : List TakenField) (s' : PlainOutModel) → Takes (oks PlainFills) course s walked s'
     → Keeps s s' × WritesDrafts (plain_filler end) course walked s.bits s'.bits (items_left s.left) (items_left s'.left)
 walk_of_items end course first walked last h =
-    walk_writes (plain_filler end) (λ (p : PlainOutModel). items_left p.left) (λ (p : PlainOutModel). p.bits) (oks PlainFills) (Keeps first) fills course first walked last
+    walk_writes (plain_filler end) (λ (p : PlainOutModel). items_left p.left) (λ (p : PlainOutModel). p.bits) PlainFills (Keeps first) fills first course walked last
     (record { suffix = refl; end = refl; count = refl })
     h
   where
-    fills : (s : PlainOutModel) (spec : FieldSpec) (t : Taken) (s' : PlainOutModel) → oks PlainFills s spec t s' → Keeps first s
+    fills : (s : PlainOutModel) (spec : FieldSpec) (t : Taken) (s' : PlainOutModel) → PlainFills s spec (Ok t) s' → Keeps first s
         → HasFilled (plain_filler end) (items_left s.left) s.bits spec t (items_left s'.left) s'.bits × Keeps first s'
     fills s spec t s' h k = (
       record {

@@ -29,16 +29,16 @@ module _ {C : Type 0} (form : DataCoding C) (many : ℕ → Bool) where
   -- items that are read are those of the pass, up to what comes next
   reads_pass : (course : Course) (from : ℕ) (bits : List Bool) (items : List (Item C)) (left : List Bool) → ReadsItems form course items bits left
       → ((j : ℕ) → j < length items → many (from + j) ≡ false)
-      → Passes (reading form many) (course (answers_in form.gives items)) course (place_at from bits) items (place_at (from + length items) left)
+      → Passes (reading form many) (answers_in form.gives items) course (place_at from bits) items (place_at (from + length items) left)
   reads_pass course from bits [] left h few =
-      subst (λ p. Passes (reading form many) (course []) course (place_at from bits) [] p) (ap (place_at from) h ∙ ap (λ k. place_at k left) (sym (none_more from)))
+      subst (λ p. Passes (reading form many) [] course (place_at from bits) [] p) (ap (place_at from) h ∙ ap (λ k. place_at k left) (sym (none_more from)))
       (passes_none (reading form many) course (place_at from bits))
   reads_pass course from bits (x ∷ xs) left h few =
-      passes_one (reading form many) (course (answers_in form.gives (x ∷ xs))) course (place_at from bits) x.spec x.content (form.gives x.spec x.content) (place_at (from + 1) h.0) xs
+      passes_one (reading form many) (answers_in form.gives xs) course (place_at from bits) x.spec x.content (form.gives x.spec x.content) (place_at (from + 1) h.0) xs
       (place_at (from + length (x ∷ xs)) left) h.1
       (ap (λ b. if b then Err (stops.Field (wrong.TooManyValues x.spec.fxy)) else read_field form x.spec from (form.field x.spec bits)) (ap many (sym (none_more from)) ∙ few 0 (omega arith))
       ∙ ap (read_field form x.spec from) h.2)
-      (subst (λ k. Passes (reading form many) (course (answers_in form.gives (x ∷ xs))) (after form course x) (place_at (from + 1) h.0) xs (place_at k left)) (one_more from (length xs))
+      (subst (λ k. Passes (reading form many) (answers_in form.gives xs) (after form course x) (place_at (from + 1) h.0) xs (place_at k left)) (one_more from (length xs))
       (reads_pass (after form course x) (from + 1) h.0 xs left h.3 (λ j l. ap many (one_more from j) ∙ few (suc j) (omega (arith, l)))))
 
   -- a pass with these items and this end is what the function gives
@@ -46,8 +46,8 @@ module _ {C : Type 0} (form : DataCoding C) (many : ℕ → Bool) where
       → ReadsTo form many course (place_at from bits) (passed (from + length items) items left o) → length items < most
       → pass (reading form many) most course (place_at from bits) ≡ passed (from + length items) items left o
   pass_is most course from bits items left o h lt =
-      pass_ends (reading form many) (course (answers_in form.gives items)) course (place_at from bits) items (place_at (from + length items) left) most o
-      (reads_pass course from bits items left h.reads h.few) lt h.ends
+      pass_ends (reading form many) (answers_in form.gives items) course (place_at from bits) items (place_at (from + length items) left) most (reads_pass course from bits items left h.reads h.few) lt
+      o h.ends
 
 -- ---- A pass reads each item where the one before ended.
 

@@ -1,5 +1,5 @@
 -- If each field of a walk is taken as a step of a pass makes it, then the walk makes that pass.
-use Rattle.std.proofs.Common.{◌≡◌, ℕ, List, [], ◌∷◌, ◌++◌, Result, Ok, Err, Option, Some, None, zero, suc, ◌<◌, length, refl, sym, ◌∙◌, ap, subst, arith, append_assoc, append-nil}
+use Rattle.std.proofs.Common.{◌≡◌, ℕ, List, [], ◌∷◌, ◌++◌, Result, Ok, Err, Option, Some, None, zero, suc, ◌+◌, ◌-◌, ◌<◌, length, refl, sym, ◌∙◌, ap, subst, arith, append_assoc, append-nil}
 use Rattle.bufr_walk.specs.Prelude.{Taken, FieldSpec, TurnRefusal, WalkStop, Course, CountedCourse, uncounted, Next, take_next, at_end, refused, astray, TakenField, Takes, oks, answers_of, Walked, ticked, Item, answers_in, stop_by, StopsWalk}
 use Rattle.bufr_walk.specs.Pass.{Passing, Pass, Step, empty_pass, item_then, pass, pass_next, pass_field, EndsPass}
 use Rattle.bufr_walk.specs.declared.spec.Role.TheVariants as role
@@ -17,9 +17,10 @@ items_before items q = record q { items = items ++ q.items }
 -- ---- The items of a pass up to what comes next.
 
 module _ {T C E : Type 0} (how : Passing T C E) where
-  -- a pass from p on begins with these items, and continues with what comes next
-  abbrev pub Passes : Next → Course → T → List (Item C) → T → Type 0
-  Passes next course p items state = (most : ℕ) → length items < most → (go : Step T C → Pass T C E) × (pass how most course p ≡ items_before items (pass_next how next state go))
+  -- a pass from p on begins with these items, and goes on from a state, along the course after these answers
+  abbrev pub Passes : List Taken → Course → T → List (Item C) → T → Type 0
+  Passes answers course p items state =
+      (most left : ℕ) → most ≡ length items + left → pass how most course p ≡ items_before items (pass how left (λ more. course (answers ++ more)) state)
 
   -- at what ends a pass, nothing more is passed
   pub at_last : (next : Next) (p : T) (stop : Option E) (go : Step T C → Pass T C E) → EndsPass how next p stop → pass_next how next p go ≡ empty_pass p stop
@@ -29,42 +30,40 @@ module _ {T C E : Type 0} (how : Passing T C E) where
   at_last (refused why) p stop go h = ap (empty_pass p) (sym h)
   at_last astray p stop go h = absurd h
 
-  pass_so : (items : List (Item C)) (state : T) (stop : Option E) → items_before items (empty_pass state stop) ≡ record { items = items; state = state; stop = stop }
-  pass_so items state stop = ap (λ (xs : List (Item C)). record { items = xs; state = state; stop = stop }) (append-nil items)
+  module _ (answers : List Taken) (course : Course) (p : T) (items : List (Item C)) (state : T) (most : ℕ) (h : Passes answers course p items state) (lt : length items < most) where
+    goes_on : (go : Step T C → Pass T C E) × (pass how most course p ≡ items_before items (pass_next how (course answers) state go))
+    goes_on =
+        let left : ℕ = most - (length items + 1) in
+        let go : Step T C → Pass T C E = λ f. pass how left (λ more. course (answers ++ f.returned ∷ more)) f.state in
+        (go, h most (suc left) (omega (arith, lt)) ∙ ap (λ a. items_before items (pass_next how (course a) state go)) (append-nil answers))
 
-  -- the pass ends after its items
-  pub pass_ends : (next : Next) (course : Course) (p : T) (items : List (Item C)) (state : T) (most : ℕ) (stop : Option E) → Passes next course p items state → length items < most
-      → EndsPass how next state stop
-      → pass how most course p ≡ record { items = items; state = state; stop = stop }
-  pass_ends next course p items state most stop h lt e =
-      let g = h most lt in g.1 ∙ ap (items_before items) (at_last next state stop g.0 e) ∙ pass_so items state stop
+    -- the pass ends after its items
+    pub pass_ends : (stop : Option E) → EndsPass how (course answers) state stop → pass how most course p ≡ record { items = items; state = state; stop = stop }
+    pass_ends stop e =
+        goes_on.1 ∙ ap (items_before items) (at_last (course answers) state stop goes_on.0 e)
+        ∙ ap (λ (xs : List (Item C)). record { items = xs; state = state; stop = stop }) (append-nil items)
 
-  -- it begins with its items
-  pub pass_begins : (next : Next) (course : Course) (p : T) (items : List (Item C)) (state : T) (most : ℕ) → Passes next course p items state → length items < most
-      → (more : List (Item C)) × ((pass how most course p).items ≡ items ++ more)
-  pass_begins next course p items state most h lt =
-      let g = h most lt in ((pass_next how next state g.0).items, ap (λ (q : Pass T C E). q.items) g.1)
+    -- it begins with its items
+    pub pass_begins : (more : List (Item C)) × ((pass how most course p).items ≡ items ++ more)
+    pass_begins = ((pass_next how (course answers) state goes_on.0).items, ap (λ (q : Pass T C E). q.items) goes_on.1)
 
-  -- it continues with the next field
-  pub pass_goes : (next : Next) (course : Course) (p : T) (items : List (Item C)) (state : T) (most : ℕ) (spec : FieldSpec) (f : Step T C) → Passes next course p items state → length items < most
-      → next ≡ take_next spec → how.step spec state ≡ Ok f → (more : List (Item C)) × ((pass how most course p).items ≡ items ++ item spec f.content ∷ more)
-  pass_goes next course p items state most spec f h lt n step =
-      let g = h most lt in (
-        (g.0 f).items,
-        ap (λ (q : Pass T C E). q.items) g.1 ∙ ap (λ n. items ++ (pass_next how n state g.0).items) n ∙ ap (λ r. items ++ (pass_field how spec state r g.0).items) step,
-      )
+    -- it continues with the next field
+    pub pass_goes : (spec : FieldSpec) (f : Step T C) → course answers ≡ take_next spec → how.step spec state ≡ Ok f
+        → (more : List (Item C)) × ((pass how most course p).items ≡ items ++ item spec f.content ∷ more)
+    pass_goes spec f n step = (
+      (goes_on.0 f).items,
+      ap (λ (q : Pass T C E). q.items) goes_on.1 ∙ ap (λ n. items ++ (pass_next how n state goes_on.0).items) n ∙ ap (λ r. items ++ (pass_field how spec state r goes_on.0).items) step,
+    )
 
-  pub passes_none : (course : Course) (p : T) → Passes (course []) course p [] p
-  passes_none course p zero lt = absurd (omega (arith, lt))
-  passes_none course p (suc most) lt = (λ f. pass how most (λ answers. course (f.returned ∷ answers)) f.state, refl)
+  pub passes_none : (course : Course) (p : T) → Passes [] course p [] p
+  passes_none course p most left e = let same : most ≡ left = omega (arith, e) in ap (λ n. pass how n course p) same
 
-  pub passes_one : (next : Next) (course : Course) (p : T) (spec : FieldSpec) (c : C) (t : Taken) (mid : T) (items : List (Item C)) (state : T) → course [] ≡ take_next spec
-      → how.step spec p ≡ Ok (record { content = c; returned = t; state = mid }) → Passes next (λ answers. course (t ∷ answers)) mid items state → Passes next course p (item spec c ∷ items) state
-  passes_one next course p spec c t mid items state n step h zero lt = absurd (omega (arith, lt))
-  passes_one next course p spec c t mid items state n step h (suc most) lt =
-      let go : Step T C → Pass T C E = λ f. pass how most (λ answers. course (f.returned ∷ answers)) f.state in
-      let rest = h most (omega (arith, lt)) in
-      (rest.0, ap (λ x. pass_next how x p go) n ∙ ap (λ x. pass_field how spec p x go) step ∙ ap (item_then spec c) rest.1)
+  pub passes_one : (answers : List Taken) (course : Course) (p : T) (spec : FieldSpec) (c : C) (t : Taken) (mid : T) (items : List (Item C)) (state : T) → course [] ≡ take_next spec
+      → how.step spec p ≡ Ok (record { content = c; returned = t; state = mid }) → Passes answers (λ more. course (t ∷ more)) mid items state → Passes (t ∷ answers) course p (item spec c ∷ items) state
+  passes_one answers course p spec c t mid items state n step h zero left e = absurd (omega (arith, e))
+  passes_one answers course p spec c t mid items state n step h (suc most) left e =
+      let go : Step T C → Pass T C E = λ f. pass how most (λ more. course (f.returned ∷ more)) f.state in
+      ap (λ x. pass_next how x p go) n ∙ ap (λ x. pass_field how spec p x go) step ∙ ap (item_then spec c) (h most left (omega (arith, e)))
 
 -- what a walk has done so far: the items of its pass, and the turns up to what comes next
 pub record Comes {T C E : Type 0} (how : Passing T C E) (gives : FieldSpec → C → Taken) (course : CountedCourse) (p : T) (steps steps' : ℕ) : Type 0 where
@@ -91,8 +90,8 @@ module _ {S T C E F : Type 0} (takes : S → FieldSpec → Result Taken F → S 
     pub meets : Meets (before ++ item spec content ∷ []) s' state
 
   module _ (follows : (before : List (Item C)) (s : S) (spec : FieldSpec) (t : Taken) (s' : S) (p : T) → Meets before s p → takes s spec (Ok t) s' → IsStep before spec t s' p) where
-    walk_passes : (before : List (Item C)) (course : Course) (s : S) (walked : List TakenField) (s' : S) (p : T) → Meets before s p → Takes (oks takes) course s walked s'
-        → (items : List (Item C)) × (state : T) × (answers_of walked ≡ answers_in gives items) × Meets (before ++ items) s' state × Passes how (course (answers_of walked)) course p items state
+    pub walk_passes : (before : List (Item C)) (course : Course) (s : S) (walked : List TakenField) (s' : S) (p : T) → Meets before s p → Takes (oks takes) course s walked s'
+        → (items : List (Item C)) × (state : T) × (answers_of walked ≡ answers_in gives items) × Meets (before ++ items) s' state × Passes how (answers_of walked) course p items state
     walk_passes before course s [] s' p m h =
         ([], p, refl, subst (λ xs. Meets xs s' p) (sym (append-nil before)) (subst (λ x. Meets before x p) (sym h) m), passes_none how course p)
     walk_passes before course s (i ∷ walked) s' p m h =
@@ -103,7 +102,7 @@ module _ {S T C E F : Type 0} (takes : S → FieldSpec → Result Taken F → S 
           rest.1,
           ap (λ t. t ∷ answers_of walked) f.answer ∙ ap (λ ts. gives i.spec f.content ∷ ts) rest.2,
           subst (λ xs. Meets xs s' rest.1) (append_assoc before (x ∷ []) rest.0) rest.3,
-          passes_one how (course (i.taken ∷ answers_of walked)) course p i.spec f.content i.taken f.state rest.0 rest.1 h.1 f.step rest.4,
+          passes_one how (answers_of walked) course p i.spec f.content i.taken f.state rest.0 rest.1 h.1 f.step rest.4,
         )
 
     module _ (course : CountedCourse) (s : S) (steps : ℕ) (s' : S) (steps' : ℕ) (p : T) (first : Meets [] s p) where
@@ -111,15 +110,15 @@ module _ {S T C E F : Type 0} (takes : S → FieldSpec → Result Taken F → S 
           → (c : Comes how gives course p steps steps') × Meets c.items mid c.state × ((course (answers_of walked)).next ≡ (course (answers_in gives c.items)).next)
       comes walked mid h ticks =
           let r = walk_passes [] (uncounted course) s walked mid p first h in
-          let next : Next = (course (answers_in gives r.0)).next in
-          let passes : Passes how next (uncounted course) p r.0 r.1 = subst (λ ts. Passes how (course ts).next (uncounted course) p r.0 r.1) r.2 r.4 in (
+          let answers = answers_in gives r.0 in
+          let passes : Passes how answers (uncounted course) p r.0 r.1 = subst (λ ts. Passes how ts (uncounted course) p r.0 r.1) r.2 r.4 in (
             record {
               items = r.0;
               state = r.1;
               ticks = ticks ∙ ap (λ ts. ticked steps (course ts).turns) r.2;
-              ends = λ most stop. pass_ends how next (uncounted course) p r.0 r.1 most stop passes;
-              begins = λ most. pass_begins how next (uncounted course) p r.0 r.1 most passes;
-              goes = λ most spec f. pass_goes how next (uncounted course) p r.0 r.1 most spec f passes;
+              ends = λ most stop lt. pass_ends how answers (uncounted course) p r.0 r.1 most passes lt stop;
+              begins = λ most. pass_begins how answers (uncounted course) p r.0 r.1 most passes;
+              goes = λ most spec f lt. pass_goes how answers (uncounted course) p r.0 r.1 most passes lt spec f;
             },
             r.3,
             ap (λ ts. (course ts).next) r.2,
