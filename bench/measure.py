@@ -53,9 +53,9 @@ STREAMS = {
     "dump_escapes": "messages that contain only strings of escaped bytes",
     "dump_new_references": "messages that redefine reference values with 2 03",
     "dump_references_in_subsets": "messages in which each of 2,000 subsets redefines reference values with 2 03",
-    "dump_twelve_lists": "messages with 12 alternating descriptor lists",
-    "dump_lists_in_turn": "messages with 14 alternating descriptor lists",
-    "dump_hundred_lists": "messages with 100 alternating descriptor lists",
+    "dump_twelve_lists": "messages that cycle through 12 descriptor lists",
+    "dump_lists_in_turn": "messages that cycle through 14 descriptor lists",
+    "dump_hundred_lists": "messages that cycle through 100 descriptor lists",
 }
 LISTED = [name for name in STREAMS if not name.startswith("dump_")]
 DUMPED = [name for name in STREAMS if name.startswith("dump_")]
