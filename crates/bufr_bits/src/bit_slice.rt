@@ -1,8 +1,8 @@
-//! Octets read as bits, most significant first.
+//! Reading octets as bits, most significant first.
 ghost use Rattle.std.specs.Prelude.{◌≡◌, ◌≤◌, ◌<◌, ◌+◌, ◌-◌, ◌/◌, ◌%◌, ◌^◌, ◌==◌, ℕ, MatchOption, length, slice_index, slice_range, ◌*◌, option_map, SomeIff, IfSome};
 ghost use Rattle.bufr_bits.specs.Bits.{are_all_ones, IsWindow, number_of, bits_at};
 
-/// Octets that are read as bits, at most 2^60 octets. Bits are counted from 0, most significant
+/// A slice of at most 2^60 octets that is read as bits. Bits are counted from 0, most significant
 /// first.
 ///
 /// ```
@@ -20,7 +20,7 @@ pub struct BitSlice<'a> {
 impl<'a> BitSlice<'a> {
     ghost use Rattle.bufr_bits.specs.BitSlice.{octets_of};
 
-    /// The bits of `octets`, of which there are at most 2^60.
+    /// Creates a slice of the bits of `octets`, which must have at most 2^60 octets.
     pub fn new(octets: &'a [u8]) -> BitSlice<'a>
         requires { length octets.now ≤ 2 ^ 60 }
         ensures { octets_of result ≡ octets.now }
@@ -28,15 +28,16 @@ impl<'a> BitSlice<'a> {
         BitSlice { octets }
     }
 
-    /// How many bits there are.
+    /// Returns the number of bits.
     pub fn len_bits(&self) -> u64
         ensures { result ≡ 8 * length (octets_of self.now) }
     {
         8 * self.octets.len() as u64
     }
 
-    /// The number that `width` bits, at most 63, write from bit `at` on, most significant first;
-    /// `None` exactly where they go past the end. No bits write 0.
+    /// Returns the unsigned number in the `width` bits that begin at bit `at`, most significant
+    /// first, or `None` if they extend past the end. The width must be at most 63. The number in 0
+    /// bits is 0.
     // rule: bit-order, field-number, past-last-bit
     pub fn get(&self, at: u64, width: u32) -> Option<u64>
         requires { width ≤ 63 }
@@ -54,7 +55,8 @@ impl<'a> BitSlice<'a> {
         Some(self.number(at, width))
     }
 
-    /// The number that bits write from bit `at` on which are there, at least one and at most 63.
+    /// Returns the unsigned number in the `width` bits that begin at bit `at`, most significant
+    /// first. The width must be 1 to 63, and the bits must not extend past the end.
     #[inline(always)]
     pub fn number(&self, at: u64, width: u32) -> u64
         requires some { 1 ≤ width }
@@ -70,8 +72,9 @@ impl<'a> BitSlice<'a> {
         }
     }
 
-    /// The number of bits which no eight octets from their first on have: of bits in the last eight
-    /// octets by these, of others octet by octet.
+    /// Does the work of [`BitSlice::number`] if the eight octets that begin with the first octet of
+    /// the bits do not all exist or do not contain all of the bits. If the last eight octets of the
+    /// slice contain the bits, the number is read from these; otherwise it is read octet by octet.
     #[inline(never)]
     fn by_octets(&self, at: u64, width: u32) -> u64
         requires some { 1 ≤ width }
@@ -99,7 +102,8 @@ impl<'a> BitSlice<'a> {
         value
     }
 
-    /// The eight bits from bit `at` on as an octet; `None` exactly where they go past the end.
+    /// Returns the eight bits that begin at bit `at` as an octet, or `None` if they extend past the
+    /// end.
     pub fn octet(&self, at: u64) -> Option<u8>
         ensures { SomeIff result (at + 8 ≤ 8 * length (octets_of self.now))
             (number_of (bits_at (octets_of self.now) at 8)) }
@@ -108,8 +112,8 @@ impl<'a> BitSlice<'a> {
         Some(octet as u8)
     }
 
-    /// The `count` octets that begin with bit `at`, borrowed; `None` exactly where `at` is within
-    /// an octet or they go past the end.
+    /// Returns a slice (not a copy) of the `count` octets that begin at bit `at`. Returns `None` if
+    /// `at` is not a multiple of 8 or if the octets extend past the end.
     pub fn octets(&self, at: u64, count: usize) -> Option<&'a [u8]>
         ensures value { SomeIff (option_map (λ s. s.now) result)
             ((at % 8 ≡ 0) × (at + 8 * count ≤ 8 * length (octets_of self.now)))
@@ -126,8 +130,8 @@ impl<'a> BitSlice<'a> {
         Some(part(self.octets, (at / 8) as usize, count))
     }
 
-    /// Whether `width` bits, of any number, are all ones from bit `at` on; `None` exactly where
-    /// they go past the end. Where there are no bits they are.
+    /// Returns whether the `width` bits that begin at bit `at` are all ones, or `None` if they
+    /// extend past the end. The width is not limited. A width of 0 counts as all ones.
     pub fn all_ones(&self, at: u64, width: u32) -> Option<bool>
         ensures { SomeIff result (at + width ≤ 8 * length (octets_of self.now))
             (are_all_ones (bits_at (octets_of self.now) at width)) }
@@ -158,7 +162,8 @@ fn part(octets: &[u8], first: usize, count: usize) -> &[u8]
     &octets[first..first + count]
 }
 
-/// The number that the first eight octets write, or `None` where there are fewer.
+/// Returns the number in the first eight octets, most significant octet first, or `None` if there
+/// are fewer.
 #[inline(always)]
 fn first_window(octets: &[u8]) -> Option<u64>
     ensures { MatchOption result (length octets.now < 8) (λ window. IsWindow window 0 octets.now) }

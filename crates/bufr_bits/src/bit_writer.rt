@@ -1,12 +1,12 @@
-//! Bits that are written one after another, most significant first.
+//! Writing bits one after another, most significant first.
 ghost use Rattle.std.specs.Prelude.{◌≡◌, ◌⊎◌, ◌≤◌, ◌<◌, ◌+◌, ◌-◌, ◌*◌, ◌/◌, ◌%◌, ◌^◌, ◌++◌, [], Bool, List, ℕ, length, slice_index, min, max, vec_len, vec_capacity, OnOk, OnErr};
 ghost use Rattle.bufr_bits.specs.Bits.{bits_of, bits_in, bits_at, number_of, padding, BitWriterModel, IsWriting, room_after};
 
 use std::alloc::{AllocError, Global};
 use std::marker::Model;
 
-/// Bits that are written one after another, at most 2^63 of them. A contract sees the bits, and for
-/// how many more there is room.
+/// A writer that appends bits to a buffer, at most 2^63 of them. Contracts see the bits and the
+/// number of further bits for which there is room.
 ///
 /// ```
 /// let mut bits = BitWriter::new(rt.alloc());
@@ -18,10 +18,10 @@ use std::marker::Model;
 #[derive(Drop)]
 pub struct BitWriter {
     octets: Vec<u8>,
-    /// The bits after the octets, fewer than 64.
+    /// The last `count` bits, fewer than 64, which come after those of `octets`.
     last: u64,
     count: u32,
-    /// How many more bits `last` takes. The octets have room for all of them.
+    /// The number of free bits in `last`. `octets` has room for them and for those in use.
     free: u32,
 }
 
@@ -38,7 +38,7 @@ impl Model for BitWriter {
 }
 
 impl BitWriter {
-    /// Returns a writer of no bits yet. It allocates no memory.
+    /// Creates a writer without bits. It does not allocate.
     pub fn new(alloc: Global) -> BitWriter
         ensures bits { result.bits ≡ [] }
         ensures room { result.room ≡ 0 }
@@ -51,28 +51,29 @@ impl BitWriter {
         }
     }
 
-    /// How many bits were written.
+    /// Returns the number of bits written so far.
     pub fn len_bits(&self) -> u64
         ensures { result ≡ length self.now.bits }
     {
         8 * self.octets.len() as u64 + u64::from(self.count)
     }
 
-    /// Makes room for so many more bits. There must be at most 2^63 bits with these. If the writer
-    /// has to grow, it makes room for at least as many more as its old capacity.
+    /// Makes room for `bits` more bits. There must be at most 2^63 bits in all. If the writer has
+    /// to grow, it makes room for at least as many more octets as its old capacity.
     ///
     /// # Errors
     ///
-    /// [`AllocError`] where the writer could not grow; its bits stay.
+    /// [`AllocError`] if the writer cannot grow; its bits are left unchanged.
     #[inline(always)]
     pub fn reserve(&mut self, bits: u64) -> Result<(), AllocError>
         requires { length self.old.bits + bits ≤ 2 ^ 63 }
         ensures bits { self.new.bits ≡ self.old.bits }
         ensures room { OnOk result (bits ≤ self.new.room) }
-        // At most, there is room for 128 bits more than requested, or for the old capacity, which
-        // is the bits that were written and those for which there was room.
+        // The new room is at most 128 bits more than requested, or the old capacity if that is
+        // more. The old capacity is the bits that were written and those for which there was room.
         ensures most { self.new.room ≤ max (bits + 128) (length self.old.bits + self.old.room) }
-        // If the room grows, it becomes about the old capacity, up to 2^63 bits in all.
+        // If the room changes, it becomes at least the old capacity less 64 bits, up to 2^63 bits
+        // in all.
         ensures grows { (self.new.room ≡ self.old.room)
             ⊎ (min (length self.old.bits + self.old.room) (2 ^ 63 - length self.old.bits)
             ≤ self.new.room + 64) }
@@ -90,9 +91,8 @@ impl BitWriter {
         Ok(())
     }
 
-    /// Appends the `width` bits that write `value`, most significant first.
-    /// [`BitWriter::reserve`] must have made room for them. The width is at most 63, and the value
-    /// is below 2^`width`.
+    /// Appends `value` as `width` bits, most significant first. The width must be at most 63 and
+    /// the value below 2^`width`. [`BitWriter::reserve`] must have made room for the bits.
     #[inline(always)]
     pub fn put(&mut self, value: u64, width: u32)
         requires width { width ≤ 63 }
@@ -111,7 +111,7 @@ impl BitWriter {
         }
     }
 
-    /// [`BitWriter::put`] where the last number has too few free bits.
+    /// Does the work of [`BitWriter::put`] if `width` exceeds `free`.
     #[inline(never)]
     fn put_over(&mut self, value: u64, width: u32)
         requires width { width ≤ 63 }
@@ -128,7 +128,7 @@ impl BitWriter {
             self.free = free_after(&self.octets, self.count);
             return;
         }
-        // 64 bits go out as eight octets.
+        // `last` is full: its 64 bits become eight octets.
         let rest = width - free;
         let full = (self.last << free) + (value >> rest);
         put(&mut self.octets, &full.to_be_bytes());
@@ -137,7 +137,7 @@ impl BitWriter {
         self.count = rest;
     }
 
-    /// Appends the bits of octets. [`BitWriter::reserve`] must have made room for them.
+    /// Appends the bits of `octets`. [`BitWriter::reserve`] must have made room for them.
     pub fn put_octets(&mut self, octets: &[u8])
         requires { 8 * length octets.now ≤ self.old.room }
         ensures bits { self.new.bits ≡ self.old.bits ++ bits_of octets.now }
@@ -157,12 +157,12 @@ impl BitWriter {
         }
     }
 
-    /// Appends the `width` bits that write `value`, most significant first. The width is at most
-    /// 63, the value is below 2^`width`, and afterwards there are at most 2^63 bits.
+    /// Appends `value` as `width` bits, most significant first, and grows the writer if necessary.
+    /// The width must be at most 63, the value below 2^`width`, and the total at most 2^63 bits.
     ///
     /// # Errors
     ///
-    /// [`AllocError`] where the writer could not grow; its bits are then unchanged.
+    /// [`AllocError`] if the writer cannot grow; its bits are left unchanged.
     #[inline(always)]
     pub fn push(&mut self, value: u64, width: u32) -> Result<(), AllocError>
         requires width { width ≤ 63 }
@@ -177,11 +177,12 @@ impl BitWriter {
         Ok(())
     }
 
-    /// Appends the bits of octets. Afterwards there are at most 2^63 bits.
+    /// Appends the bits of `octets`, and grows the writer if necessary. The total must be at most
+    /// 2^63 bits.
     ///
     /// # Errors
     ///
-    /// [`AllocError`] where the writer could not grow; its bits are then unchanged.
+    /// [`AllocError`] if the writer cannot grow; its bits are left unchanged.
     pub fn push_octets(&mut self, octets: &[u8]) -> Result<(), AllocError>
         requires { length self.old.bits + 8 * length octets.now ≤ 2 ^ 63 }
         ensures ok { OnOk result (self.new.bits ≡ self.old.bits ++ bits_of octets.now) }
@@ -194,7 +195,7 @@ impl BitWriter {
         Ok(())
     }
 
-    /// The octets of the bits, with zero bits up to the next octet. It takes no memory.
+    /// Returns the bits as octets. The last octet is padded with zero bits. This does not allocate.
     pub fn into_octets(self) -> Vec<u8>
         ensures bits { bits_of result.items ≡ self.bits ++ padding (length self.bits) }
         ensures len { vec_len result ≡ (length self.bits + 7) / 8 }
@@ -210,7 +211,7 @@ impl BitWriter {
     }
 }
 
-/// Makes room for so many more octets, or for as many as the old capacity, whichever is more.
+/// Makes room for `count` more octets or, if that is more, for as many as the old capacity.
 #[cold]
 #[inline(never)]
 fn grow(out: &mut Vec<u8>, count: usize) -> Result<(), AllocError>
@@ -225,7 +226,7 @@ fn grow(out: &mut Vec<u8>, count: usize) -> Result<(), AllocError>
     out.reserve_exact(count.max(out.capacity()))
 }
 
-/// Appends octets for which there is room.
+/// Appends octets to `out`, which must have room for them.
 pub(crate) fn put(out: &mut Vec<u8>, octets: &[u8])
     requires { vec_len out.old + length octets.now ≤ vec_capacity out.old }
     ensures items { out.new.items ≡ out.old.items ++ octets.now }
@@ -237,7 +238,8 @@ pub(crate) fn put(out: &mut Vec<u8>, octets: &[u8])
     }
 }
 
-/// How many more bits a number with `count` of them takes, where the octets have room for them.
+/// Returns how many more bits fit into a `last` with `count` bits: at most 63 bits in all, and no
+/// more than `octets` has room for.
 fn free_after(octets: &Vec<u8>, count: u32) -> u32
     requires few { count < 64 }
     requires room { 8 * vec_len octets.now + count ≤ 8 * vec_capacity octets.now }
@@ -248,7 +250,7 @@ fn free_after(octets: &Vec<u8>, count: u32) -> u32
     room.min(63) - count
 }
 
-/// Appends the octets of bits kept in a number, with zero bits up to the next octet.
+/// Appends the `count` bits in `last`, padded with zero bits to whole octets.
 fn put_last(out: &mut Vec<u8>, last: u64, count: u32)
     requires few { count < 64 }
     requires low { last < 2 ^ count }
@@ -264,16 +266,16 @@ fn put_last(out: &mut Vec<u8>, last: u64, count: u32)
     }
 }
 
-/// Law: where octets have the bits that write a value, with any bits before and after, the number
-/// that [`BitSlice::get`](crate::BitSlice::get) answers for them is the value.
+/// Law: if octets contain the bits of a value, with any bits before and after them, then
+/// [`BitSlice::get`](crate::BitSlice::get) returns the value for these bits.
 pub fn pushed_reads_back(value: u64, width: u32)
     requires { value < 2 ^ width }
     ensures { (before after : List Bool) (octets : List ℕ) → bits_of octets ≡ before ++ bits_in
         value width ++ after → number_of (bits_at octets (length before) width) ≡ value }
 {}
 
-/// Law: octets have the bits of other octets, with any bits before and after. Then each of these is
-/// the number that [`BitSlice::octet`](crate::BitSlice::octet) returns at its place.
+/// Law: if octets contain the bits of other octets, with any bits before and after them, then
+/// [`BitSlice::octet`](crate::BitSlice::octet) returns each of the other octets at its position.
 pub fn pushed_octets_read_back(octets: &[u8])
     ensures bits { (before after : List Bool) (among : List ℕ)
         → bits_of among ≡ before ++ bits_of octets.now ++ after

@@ -1,4 +1,5 @@
-//! Numbers with a decimal scale as text, and back: the number v at scale s is v / 10^s.
+//! Conversion between numbers with a decimal scale and text. The number v at scale s means
+//! v / 10^s.
 ghost use Rattle.std.specs.Prelude.{◌≡◌, ◌≤◌, ◌<◌, ◌+◌, ◌*◌, ◌^◌, ◌++◌, ◌==◌, ℕ, true, false, length, replicate, take, get_or, vec_len, vec_capacity, IfSome, MatchOption, OnOk, OnErr};
 ghost use Rattle.std.specs.Char.{is_ascii_digit};
 ghost use Rattle.std.specs.List.{list_all, position};
@@ -11,23 +12,24 @@ use itoa::Buffer;
 use std::alloc::AllocError;
 use thiserror::Error;
 
-/// Why a text is not a number at a scale. The first fault that applies is reported.
+/// The reason why a text is not a number at a scale. The first fault that applies is reported.
 #[derive(Clone, Copy, Debug, PartialEq, Eq, Error)]
 pub enum NumberFault {
-    /// Not an optional `-`, one or more digits, and optionally a point and one or more digits.
+    /// The text is not an optional `-`, one or more digits, and optionally a point and one or more
+    /// digits.
     #[error("not a decimal number")]
     Syntax,
     /// The number times 10^scale is not whole.
     #[error("more places than the scale has")]
     Inexact,
-    /// The number times 10^scale does not fit into `i128`.
+    /// The number times 10^scale does not fit into an `i128`.
     #[error("too large")]
     Large,
 }
 
 /// Appends the text of `v` at `scale` to `out`. A scale above 0 puts a point before the last
-/// `scale` digits, with leading zeros so that one digit comes before it. One below 0 puts as many
-/// zeros after the digits, except that zero is `0`. A negative number begins with `-`.
+/// `scale` digits, after leading zeros if no digit would precede the point. A scale below 0 appends
+/// `-scale` zeros to the digits, but not to 0. A negative number begins with `-`.
 ///
 /// ```
 /// let mut out = Vec::new(rt.alloc());
@@ -39,7 +41,7 @@ pub enum NumberFault {
 ///
 /// # Errors
 ///
-/// [`AllocError`] where `out` could not grow; it is then unchanged.
+/// [`AllocError`] if `out` cannot grow; it is left unchanged.
 // rule: decimal-zeros-after
 pub fn decimal_text(v: i128, scale: i16, out: &mut Vec<u8>) -> Result<(), AllocError>
     ensures ok { OnOk result (out.new.items ≡ out.old.items ++ decimal_text_of v scale) }
@@ -74,7 +76,8 @@ fn put_zero_digits(out: &mut Vec<u8>, count: usize)
     }
 }
 
-/// How often ten multiplies and how often it divides a number at a scale.
+/// Returns the exponents of the powers of ten by which `scale` multiplies and divides a number that
+/// is read. At least one of them is 0.
 fn powers_of(scale: i16) -> (usize, usize)
     ensures up { result.0 ≡ positive_scale scale }
     ensures down { result.1 ≡ negative_scale scale }
@@ -96,7 +99,8 @@ fn push_sign(out: &mut Vec<u8>, v: i128)
     }
 }
 
-/// Appends digits with a point before the last `places` of them.
+/// Appends digits with a point before the last `places` of them, after leading zeros if no digit
+/// would precede the point.
 // rule: decimal-point
 fn push_with_point(out: &mut Vec<u8>, digits: &[u8], places: usize)
     requires { vec_len out.old + length digits.now + places + 2 ≤ vec_capacity out.old }
@@ -114,9 +118,8 @@ fn push_with_point(out: &mut Vec<u8>, digits: &[u8], places: usize)
     }
 }
 
-/// Reads the text of a number at `scale`: an optional `-`, one or more digits, and optionally a
-/// point and one or more digits. The answer is the number that the text writes times 10^`scale`. It
-/// takes no memory.
+/// Parses the text of a number at `scale`: an optional `-`, one or more digits, and optionally a
+/// point and one or more digits. Returns the number times 10^`scale`. This does not allocate.
 ///
 /// ```
 /// assert_eq!(rt; decimal_read(b"288.15", 2), Ok(28815));
@@ -126,8 +129,9 @@ fn push_with_point(out: &mut Vec<u8>, digits: &[u8], places: usize)
 ///
 /// # Errors
 ///
-/// The first that fits of [`NumberFault::Syntax`], [`NumberFault::Inexact`] where the answer is not
-/// whole, and [`NumberFault::Large`] where it is outside `i128`.
+/// The first of these that applies: [`NumberFault::Syntax`] if the text does not have this form,
+/// [`NumberFault::Inexact`] if the result is not whole, or [`NumberFault::Large`] if it does not
+/// fit into an `i128`.
 // rule: inexact-before-too-large
 pub fn decimal_read(text: &[u8], scale: i16) -> Result<i128, NumberFault>
     ensures { result ≡ decimal_value_of text.now scale }
@@ -151,7 +155,8 @@ fn without_sign(text: &[u8]) -> (bool, &[u8])
     }
 }
 
-/// The digits before and after the point, or `None` where the text is not of that form.
+/// Splits a number without a sign into the digits before and after the point. Returns `None` if the
+/// text does not have this form.
 // rule: decimal-form
 fn parts_of(body: &[u8]) -> Option<(&[u8], &[u8])>
     ensures { MatchOption result (is_unsigned body.now ≡ false)
@@ -184,7 +189,9 @@ fn all_digits(text: &[u8]) -> bool
     text.iter().all(|c| c.is_ascii_digit())
 }
 
-/// The number of digits with a point, times ten to `up` and by ten to `down`, one of which is 0.
+/// Returns the number with these digits before and after the point, times 10^`up` and divided by
+/// 10^`down`, capped at `u128::MAX`. At least one of the exponents must be 0. Returns
+/// [`NumberFault::Inexact`] if the result is not whole.
 fn scaled(whole: &[u8], fraction: &[u8], up: usize, down: usize) -> Result<u128, NumberFault>
     requires whole { all_digits whole.now ≡ true }
     requires fraction { all_digits fraction.now ≡ true }
@@ -210,7 +217,8 @@ fn are_zeros(digits: &[u8]) -> bool
     digits.iter().all(|digit| *digit == b'0')
 }
 
-/// The number that digits write after a number, up to the greatest `u128`.
+/// Returns the number whose digits are those of `number` followed by `digits`, capped at
+/// `u128::MAX`.
 fn extend_with_digits(number: u128, digits: &[u8]) -> u128
     requires { all_digits digits.now ≡ true }
     ensures { (n : ℕ) → number ≡ capped n → result ≡ capped (digits_value_after 10 n digits.now) }
@@ -224,7 +232,7 @@ fn extend_with_digits(number: u128, digits: &[u8]) -> u128
     value
 }
 
-/// A number times ten so often, up to the greatest `u128`.
+/// Returns `number` times 10^`times`, capped at `u128::MAX`.
 fn times_ten(number: u128, times: usize) -> u128
     ensures { (n : ℕ) → number ≡ capped n → result ≡ capped (n * 10 ^ times) }
 {
@@ -235,7 +243,7 @@ fn times_ten(number: u128, times: usize) -> u128
     value
 }
 
-/// A number with its sign, if it is within `i128`.
+/// Returns the number with its sign, or [`NumberFault::Large`] if it does not fit into an `i128`.
 fn apply_sign(negative: bool, number: u128) -> Result<i128, NumberFault>
     ensures { (n : ℕ) → number ≡ capped n → result ≡ signed negative n }
 {
@@ -247,10 +255,10 @@ fn apply_sign(negative: bool, number: u128) -> Result<i128, NumberFault>
     signed.ok_or(NumberFault::Large)
 }
 
-/// The most digits whose number always fits a `u64`.
+/// The greatest number of digits that always fit into a `u64`.
 const MAX_DIGITS: usize = 19;
 
-/// A number whose digits fit a `u64`, as a decimal text writes it.
+/// A decimal number, as it is written in a text, whose digits fit into a `u64`.
 ///
 /// ```
 /// let (number, len) = ShortDecimal::prefix(b"-0.50  # K").ok_or("a number")?;
@@ -259,19 +267,19 @@ const MAX_DIGITS: usize = 19;
 /// ```
 #[derive(Clone, Copy, Debug, PartialEq, Eq)]
 pub struct ShortDecimal {
-    /// The number that the digits write without the point.
+    /// The digits as a number, without the point.
     pub digits: u64,
-    /// How many digits follow the point.
+    /// The number of digits after the point.
     pub places: u8,
     /// Whether the number is below zero.
     pub negative: bool,
 }
 
 impl ShortDecimal {
-    /// The number that comes first in a text, and how many octets write it. At most 19 octets
-    /// after the sign are looked at, so more octets of a number may follow. `None` where no number
-    /// comes first, where its spelling is none of [`decimal_text`](crate::decimal_text), and where
-    /// a point is the 19th octet.
+    /// Parses the number at the start of a text. Returns it and its length in octets. At most 19
+    /// octets after the sign are examined, so the number may continue after these. Returns `None`
+    /// if the text does not begin with a number, if [`decimal_text`](crate::decimal_text) would
+    /// write it differently, or if the 19th octet after the sign is a point.
     #[inline(always)]
     pub fn prefix(text: &[u8]) -> Option<(ShortDecimal, usize)>
         ensures some { IfSome result (λ found. 0 < found.1) }
@@ -279,7 +287,7 @@ impl ShortDecimal {
         ensures text { IfSome result (λ found. take found.1 text.now ≡ short_text found.0) }
         ensures octets { IfSome result
             (λ found. list_all is_decimal_octet (take found.1 text.now) ≡ true) }
-        // The next octet, if it is among those that are searched, does not continue the number.
+        // If the next octet is among those examined, it does not continue the number.
         ensures longest { IfSome result (λ found. found.1 < searched_octets text.now
             → continues_number found.0.places (get_or text.now found.1 0) ≡ false) }
     {
@@ -299,12 +307,13 @@ impl ShortDecimal {
         Some((number, count + 1))
     }
 
-    /// The number times 10^`scale`, as [`decimal_read`](crate::decimal_read) reads its text.
+    /// Returns the number times 10^`scale`, as [`decimal_read`](crate::decimal_read) does for its
+    /// text.
     ///
     /// # Errors
     ///
-    /// [`NumberFault::Inexact`] where that is not whole, [`NumberFault::Large`] where it is outside
-    /// `i128`.
+    /// [`NumberFault::Inexact`] if the result is not whole, or [`NumberFault::Large`] if it does
+    /// not fit into an `i128`.
     #[inline(always)]
     pub fn scaled(self, scale: i16) -> Result<i128, NumberFault>
         ensures { result ≡ decimal_value_of (short_text self) scale }
@@ -323,7 +332,8 @@ impl ShortDecimal {
     }
 }
 
-/// The number that comes first without its point, the digits after the point, and its octets.
+/// Parses the number without a sign at the start of a text. Returns its digits as a number, the
+/// number of digits after the point, and its length in octets.
 #[inline(always)]
 fn unsigned_prefix(body: &[u8]) -> Option<(u64, u8, usize)>
     ensures some { IfSome result (λ found. 0 < found.2) }
@@ -355,7 +365,8 @@ fn unsigned_prefix(body: &[u8]) -> Option<(u64, u8, usize)>
     Some((number, places as u8, count + 1 + places))
 }
 
-/// The number that the first digits of a text write after a number, and how many they are.
+/// Parses the digits at the start of a text, and appends them to those of `number`. Returns the
+/// resulting number and how many digits were appended.
 fn read_digits(number: u64, text: &[u8]) -> (u64, usize)
     requires { (number + 1) * 10 ^ length text.now ≤ 2 ^ 64 }
     ensures count { result.1 ≤ length text.now }
@@ -375,7 +386,8 @@ fn read_digits(number: u64, text: &[u8]) -> (u64, usize)
     (value, count)
 }
 
-/// A number by ten so often, where that is whole.
+/// Returns `number` divided by 10^`times`, or [`NumberFault::Inexact`] if the quotient is not
+/// whole.
 fn by_ten(number: u64, times: usize) -> Result<u64, NumberFault>
     ensures { result ≡ whole_quotient number (10 ^ times) }
 {
@@ -396,7 +408,7 @@ fn short_signed(negative: bool, number: u64) -> i128
     if negative { -size } else { size }
 }
 
-/// Law: the text of a number at a scale, read at that scale, is the number.
+/// Law: if the text of a number at a scale is read at the same scale, the result is the number.
 pub fn decimal_reads_back(v: i128, scale: i16)
     ensures { decimal_value_of (decimal_text_of v scale) scale ≡ Ok v }
 {}

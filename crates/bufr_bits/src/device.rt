@@ -1,4 +1,4 @@
-//! Readers and writers that count their failures, and the readers and writers of `std` as such.
+//! Readers and writers that count their calls, and adapters for the readers and writers of `std`.
 ghost use Rattle.std.specs.Prelude.{◌≡◌, ◌≤◌, ◌<◌, ℕ, Bool, true, false, List, Option, length, min, IfOk, IsOk, nat_eq};
 ghost use Rattle.std.specs.Io.Buffered.{reader_remaining, reader_buffer};
 ghost use Rattle.std.specs.Io.KnownBytes.{ReadConsumes, WriteAppends, Keeps};
@@ -7,7 +7,8 @@ ghost use Rattle.bufr_bits.specs.Device.{Flushes, counted, failures_after, empty
 use std::io::{BufRead, BufReader, Read, Write};
 use thiserror::Error;
 
-/// The error of a call to a device. An interrupted call counts as failed, and no call is retried.
+/// The error of a failed call to a device. An interrupted call counts as failed, and no call is
+/// retried.
 #[derive(Clone, Copy, Debug, PartialEq, Eq, Error)]
 #[error("the device failed")]
 pub struct Failed;
@@ -45,7 +46,7 @@ pub trait Source {
     ///
     /// # Errors
     ///
-    /// [`Failed`] if the device failed; no octet is then read.
+    /// [`Failed`] if the device failed; no octet was read.
     fn read(&mut self, buf: &mut [u8]) -> Result<usize, Failed>
         ensures bound { IfOk result (λ n. n ≤ length buf.new) }
         ensures octets { ReadConsumes (left self.old) (left self.new) result buf.new }
@@ -81,7 +82,7 @@ pub trait Sink {
     ///
     /// # Errors
     ///
-    /// [`Failed`] if the device failed; no octet is then taken.
+    /// [`Failed`] if the device failed; no octet was taken.
     fn write(&mut self, buf: &[u8]) -> Result<usize, Failed>
         ensures bound { IfOk result (λ n. n ≤ length buf.now) }
         ensures octets { WriteAppends (taken self.old) (taken self.new) result buf.now }
@@ -109,7 +110,7 @@ pub trait Sink {
             result };
 }
 
-/// A reader or writer of `std` as a [`Source`] or a [`Sink`].
+/// An adapter that makes a reader or writer of `std` a [`Source`] or a [`Sink`].
 ///
 /// ```
 /// let mut source = Device::new(b"abc".as_slice());
@@ -131,7 +132,7 @@ pub struct Device<T> {
 }
 
 impl<T> Device<T> {
-    /// The device over `inner`, which has made no call.
+    /// Wraps `inner`. No calls have been made yet.
     pub fn new(inner: T) -> Device<T>
         ensures { result ≡ fresh_device inner }
     {
@@ -171,14 +172,15 @@ impl<T: Read> Source for Device<T> {
     }
 }
 
-/// A buffered reader of `std` as a [`Source`]. A read of octets that it holds does not wait.
+/// An adapter that makes a buffered reader of `std` a [`Source`]. A read does not block while
+/// octets are buffered.
 #[derive(Drop)]
 pub struct BufferedDevice<T: Read> {
     device: Device<BufReader<T>>,
 }
 
 impl<T: Read> BufferedDevice<T> {
-    /// The device over `inner`, which has made no call.
+    /// Wraps `inner`. No calls have been made yet.
     pub fn new(inner: BufReader<T>) -> BufferedDevice<T>
         ensures { result.device ≡ fresh_device inner }
     {
@@ -215,7 +217,7 @@ impl<T: Read> Source for BufferedDevice<T> {
         ensures asked { self.new.device.asked ≡ counted self.old.device.asked (length buf.new) }
         ensures sure { nat_eq (length (reader_buffer self.old.device.inner)) 0 ≡ false
             → IsOk result }
-        // Of the octets that are buffered a read takes all that fit.
+        // If octets are buffered, a read returns as many of them as fit into `buf`.
         ensures answer { 0 < length (reader_buffer self.old.device.inner)
             → result ≡ Ok (min (length (reader_buffer self.old.device.inner)) (length buf.old)) }
     {

@@ -1,6 +1,8 @@
-//! The lowest crate of `bufr`: devices that read and write octets, and octets as bits.
+//! The lowest crate of `bufr`: devices that read and write octets, octets as bits, and numbers as
+//! decimal text.
 //!
-//! A device is a [`Source`] or a [`Sink`]. Bits are counted from 0, most significant first.
+//! *Octet* is WMO's word for byte. A device is a [`Source`] or a [`Sink`]. Bits are counted from 0,
+//! most significant first.
 #![tactic(auto)]
 
 mod bit_slice;

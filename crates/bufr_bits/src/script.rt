@@ -1,4 +1,5 @@
-//! A reader and a writer in memory for tests, which go in small steps and fail at a given place.
+//! An in-memory reader and writer for tests. They process octets in small steps and can fail at a
+//! given place.
 ghost use Rattle.std.specs.Prelude.{◌≤◌, ◌<◌, vec_len, vec_capacity, ◌≡◌, Some, length, IfOk, IsOk, [], true, false, ◌-◌};
 ghost use Rattle.std.specs.Io.KnownBytes.{ReadConsumes, WriteAppends, Keeps};
 ghost use Rattle.bufr_bits.specs.Device.{counted, failures_after, empty_writes_after, flushes_after, whole_writes_after, all_flushed_after_write, all_flushed_after_flush};
@@ -7,8 +8,8 @@ use crate::bit_writer::put;
 use crate::{Failed, Sink, Source};
 use std::alloc::{AllocError, Global};
 
-/// A [`Source`] of octets in memory, for tests: it gives them in small steps, and can fail at a
-/// place.
+/// A [`Source`] of octets in memory, for tests. It returns them in small steps and can fail at a
+/// given place.
 #[derive(Drop)]
 pub struct ScriptIn<'a> {
     rest: &'a [u8],
@@ -21,8 +22,9 @@ pub struct ScriptIn<'a> {
 }
 
 impl<'a> ScriptIn<'a> {
-    /// A reader of `octets` that gives at most `step` octets per read, which is at least 1. With
-    /// `fails_at` it gives none past that many octets, and each read from there on fails.
+    /// Creates a reader of `octets` that returns at most `step` octets per read. The step must be
+    /// at least 1. If `fails_at` is given, the reader returns at most that many octets in all, and
+    /// each read after them fails.
     pub fn new(octets: &'a [u8], step: usize, fails_at: Option<usize>) -> ScriptIn<'a>
         requires { 0 < step }
         ensures octets { result.rest.now ≡ octets.now }
@@ -61,9 +63,9 @@ impl<'a> Source for ScriptIn<'a> {
         ensures failed { self.new.failures ≡ failures_after self.old.failures result }
         ensures made { self.new.reads ≡ counted self.old.reads 1 }
         ensures asked { self.new.asked ≡ counted self.old.asked (length buf.new) }
-        // It may wait at each read.
+        // Any read may block.
         ensures sure { true ≡ false → IsOk result }
-        // The script is kept to: the answer, the place of failure and the step.
+        // Reads follow the script: its step and its place of failure determine the result.
         ensures answer { result ≡ read_answer self.old.step (length buf.old)
             (length self.old.rest.now) self.old.before_failure }
         ensures failing { self.new.before_failure
@@ -87,19 +89,19 @@ impl<'a> Source for ScriptIn<'a> {
     }
 }
 
-/// What a [`ScriptOut`] does when no room is left, and whether it can be flushed.
+/// How a [`ScriptOut`] responds to writes when it is full, and whether it can be flushed.
 #[derive(Clone, Copy, Debug, PartialEq, Eq)]
 pub enum End {
-    /// A write takes no octet.
+    /// Writes take no octets.
     Zero,
-    /// A write fails.
+    /// Writes fail.
     Fail,
-    /// A write fails. Each flush fails, at any time.
+    /// Writes fail. Every flush fails too, even if the writer is not full.
     Flush,
 }
 
-/// A [`Sink`] into memory, for tests: it takes octets in small steps, into room that was reserved
-/// once.
+/// A [`Sink`] in memory, for tests. It takes octets in small steps, and all of its memory is
+/// allocated at the start.
 #[derive(Drop)]
 pub struct ScriptOut {
     taken: Vec<u8>,
@@ -120,13 +122,14 @@ pub struct ScriptOut {
 impl ScriptOut {
     ghost use Rattle.bufr_bits.specs.Script.{left_of};
 
-    /// A writer that takes `room` octets in all and at most `step`, which is at least 1, per write.
-    /// It reserves the room here, so that no write can want memory. While room is left a write of
-    /// no octets takes 0; with none left it does as any other.
+    /// Creates a writer that takes at most `room` octets in all and at most `step` octets per
+    /// write. The step must be at least 1. All memory is allocated here, so no write can run out of
+    /// it. Until the writer is full, a write of no octets takes 0; after that, it behaves like any
+    /// other write.
     ///
     /// # Errors
     ///
-    /// [`AllocError`] where the room could not be reserved.
+    /// [`AllocError`] if the memory cannot be allocated.
     pub fn new(alloc: Global, room: usize, step: usize, end: End) -> Result<ScriptOut, AllocError>
         requires { 0 < step }
         ensures taken { IfOk result (λ s. s.taken.items ≡ []) }
@@ -155,7 +158,7 @@ impl ScriptOut {
         })
     }
 
-    /// The octets that it took.
+    /// Returns the octets taken so far.
     pub fn taken(&self) -> &[u8]
         ensures { result.now ≡ self.now.taken.items }
     {
@@ -190,7 +193,7 @@ impl Sink for ScriptOut {
         ensures flushed { flushes_of self.new ≡ flushes_of self.old }
         ensures handed { self.new.all_flushed
             ≡ all_flushed_after_write self.old.all_flushed result }
-        // The script is kept to: the answer, the room left, the step and the end.
+        // Writes follow the script: its step, its end and the remaining room determine the result.
         ensures answer { result ≡ write_answer self.old.end self.old.step
             (left_of self.old) (length buf.now) }
         ensures left { left_of self.new ≡ left_of self.old - octets_moved result }

@@ -1,4 +1,4 @@
-//! Faults of a stream, a message, a run and a write, each with a number and the text of its line.
+//! The faults of streams, messages, runs and writes, each with its number and the text of its line.
 
 ghost use Rattle.std.specs.Prelude.{◌≡◌};
 ghost use Rattle.bufr_frame.specs.Numbers.{cause_report, section_report, run_report, number_of_write_fault};
@@ -6,71 +6,72 @@ ghost use Rattle.bufr_frame.specs.Numbers.{cause_report, section_report, run_rep
 use std::alloc::AllocError;
 use thiserror::Error;
 
-/// Why no message begins at an occurrence of `BUFR`.
+/// The reason why no message begins at an occurrence of `BUFR`.
 #[derive(Clone, Copy, Debug, PartialEq, Eq, Error)]
 pub enum Cause {
-    /// The stream ends before the 8 octets of section 0, or before the stated length.
+    /// The stream ends within section 0, which has 8 octets, or within the declared length.
     #[error("cut")]
     Cut,
-    /// The stated length is under 12 octets.
+    /// The declared length is less than 12 octets.
     #[error("short length")]
     ShortLength,
-    /// `7777` is not at the end of the stated length.
+    /// `7777` is not at the end of the declared length.
     #[error("no end")]
     NoEnd,
 }
 
-/// Why a message cannot be divided into its sections.
+/// The reason why a message cannot be split into its sections.
 #[derive(Clone, Copy, Debug, PartialEq, Eq, Error)]
 pub enum SectionFault {
-    /// The edition is another one than 3 or 4.
+    /// The edition is neither 3 nor 4.
     #[error("edition {0}")]
     Edition(u8),
-    /// This section is shorter than its fixed octets.
+    /// This section is shorter than its fixed part.
     #[error("section {0} short")]
     SectionShort(u8),
-    /// This section, or its length, reaches past the start of section 5.
+    /// This section, or its length, extends past the start of section 5.
     #[error("section {0} past the end")]
     SectionPast(u8),
     /// Section 4 does not end where section 5 begins.
     #[error("sections do not meet the end")]
     SectionsEnd,
-    /// A message of edition 3 with an odd section 3 or 4 has more than 16,777,213 octets. It is
-    /// written with even sections, and then three octets might not state its length.
+    /// An edition 3 message with a section 3 or 4 of odd length has more than 16,777,213 octets.
+    /// Writing it again would make these lengths even, and the length of the message might no
+    /// longer fit into three octets.
     #[error("edition 3 length")]
     Edition3Long,
 }
 
-/// Why a run ends early.
+/// The reason why a run stops early.
 #[derive(Clone, Copy, Debug, PartialEq, Eq, Error)]
 pub enum RunFault {
     /// A read failed.
     #[error("read failed")]
     Read,
-    /// A write or a flush failed, or a write took nothing.
+    /// A write or a flush failed, or a write took no octets.
     #[error("write failed")]
     Write,
     /// The input did not end within 2^32 reads.
     #[error("input too long")]
     InputTooLong,
-    /// Memory ran out.
+    /// Memory could not be allocated.
     #[error("out of memory")]
     Memory,
 }
 
-/// Why a message cannot be written.
+/// The reason why a message cannot be written.
 #[derive(Clone, Copy, Debug, PartialEq, Eq, Error)]
 pub enum WriteFault {
     /// The message would have more than 16,777,215 octets.
     #[error("too long")]
     TooLong,
-    /// Memory ran out.
+    /// Memory could not be allocated.
     #[error("out of memory")]
     Memory,
 }
 
 impl Cause {
-    /// The number of this fault, 1 to 3.
+    /// Returns the number of this fault: 1 to 3.
     pub fn number(self) -> u8
         ensures { result ≡ (cause_report self).0 }
     {
@@ -83,7 +84,7 @@ impl Cause {
 }
 
 impl SectionFault {
-    /// The number of this fault, 10 to 14.
+    /// Returns the number of this fault: 10 to 14.
     pub fn number(self) -> u8
         ensures { result ≡ (section_report self).0 }
     {
@@ -98,7 +99,7 @@ impl SectionFault {
 }
 
 impl RunFault {
-    /// The number of this fault, 70 to 73.
+    /// Returns the number of this fault: 70 to 73.
     pub fn number(self) -> u8
         ensures { result ≡ (run_report self).0 }
     {
@@ -112,7 +113,7 @@ impl RunFault {
 }
 
 impl WriteFault {
-    /// The number of this fault, 60 or 73.
+    /// Returns the number of this fault: 60 or 73.
     pub fn number(self) -> u8
         ensures { result ≡ number_of_write_fault self }
     {

@@ -1,4 +1,4 @@
-//! The finder: the messages of a stream, one after another, and its search for `BUFR`.
+//! The finder, which returns the messages of a stream one after another, and its search for `BUFR`.
 ghost use Rattle.std.specs.Prelude.{◌≡◌, ◌≢◌, ◌⊎◌, ◌≤◌, false, List, ℕ, ◌<◌, ◌+◌, ◌-◌, ◌*◌, ◌^◌, length, take, drop, codes, IfSome, Some, None, Option, max, Err};
 ghost use Rattle.memchr.specs.Find.{FindsNeedle};
 ghost use Rattle.bufr_frame.specs.Scan.{classify, stated_length};
@@ -17,26 +17,28 @@ use memchr::memmem;
 use std::alloc::Global;
 use std::marker::Model;
 
-/// How many octets may be held while no greater length was stated.
+/// The number of octets that may be buffered if no greater length was declared.
 const MIN_HELD: usize = 4096;
 
-/// The next event of a stream. Offsets are in octets, from 0.
+/// An event of a stream. Offsets are in octets, counted from 0.
 #[derive(Clone, Copy, Debug)]
 pub enum Event<'a> {
     /// A message: the offset of its first octet, and its octets from `BUFR` to `7777`.
     Frame(u64, &'a [u8]),
-    /// An occurrence of `BUFR` where no message begins: its offset, and the cause.
+    /// A stray, which is an occurrence of `BUFR` where no message begins: its offset, and the
+    /// cause.
     Stray(u64, Cause),
     /// The end of the stream.
     Done,
 }
 
-/// Finds the messages of a stream. Each `BUFR` that is not inside a frame begins one or is a stray
-/// word. The search goes on after the frame, or after the four octets of the stray word.
+/// A finder of the messages in a stream. Each `BUFR` that is not inside a frame either begins a
+/// frame or is a stray. The search continues after the frame, or after the four octets of the
+/// stray.
 ///
-/// It reads only while the next event is not certain, so the first message is returned before the
-/// second is read. It holds at most 4,096 octets or, where that is more, the greatest length stated
-/// so far. Its memory is about twice that.
+/// The finder reads only until the next event is certain, so it returns the first message before it
+/// reads the second. It buffers at most 4,096 octets or, if that is more, the greatest length
+/// declared so far, and uses about twice as much memory.
 ///
 /// ```
 /// let mut finder = Finder::new(rt.alloc());
@@ -49,20 +51,19 @@ pub enum Event<'a> {
 /// }
 /// ```
 ///
-/// (WMO-No. 306, Volume I.2, FM 94: section 0. The treatment of a stray word is a choice of this
-/// project.)
+/// (WMO-No. 306, Volume I.2, FM 94: section 0. The treatment of strays is our choice.)
 #[derive(Drop)]
 pub struct Finder {
-    /// The search for `BUFR`.
+    /// The searcher for `BUFR`.
     word: memmem::Finder<'static>,
-    /// The first `passed` octets that it holds were passed; the others are left.
+    /// The buffered octets. The search continues after the first `passed` of them.
     input: InputBuffer,
     passed: usize,
-    /// The offset of the first octet that is left.
+    /// The offset in the stream where the search continues.
     offset: u64,
-    /// The fault that ended the run.
+    /// The fault that stopped the finder.
     fault: Option<RunFault>,
-    /// The greatest length that was stated, in octets.
+    /// The greatest length declared so far, in octets.
     longest: usize,
 }
 
@@ -87,7 +88,7 @@ impl Model for Finder {
 impl Finder {
     ghost use Rattle.bufr_frame.specs.contracts.finder.Finder.{the_row};
 
-    /// A finder that has read nothing.
+    /// Creates a finder that has read nothing yet.
     pub fn new(alloc: Global) -> Finder
         ensures { result ≡ new_finder }
     {
@@ -101,8 +102,9 @@ impl Finder {
         }
     }
 
-    /// The number of octets held: those that were read and are left, and before them a frame that
-    /// is lent. At most 4,096 or, where that is more, [`Finder::longest`].
+    /// Returns the number of buffered octets: those still to be searched and, before them, those
+    /// passed since the last read, such as a frame that was returned. There are at most 4,096 of
+    /// them or, if that is more, [`Finder::longest`].
     pub fn held(&self) -> usize
         ensures value { result ≡ held self.now }
         ensures bound { result ≤ max min_held self.now.longest }
@@ -110,16 +112,16 @@ impl Finder {
         self.input.held().len()
     }
 
-    /// The greatest length in octets that was stated after a `BUFR`, 0 at first. After an event it
-    /// is that of all events so far. After a fault, a first `BUFR` that is not yet certain counts
-    /// too where its length was read.
+    /// Returns the greatest length, in octets, that was declared after a `BUFR` so far; 0 at the
+    /// start. After an event, this covers all events so far. After a fault, it also covers the
+    /// first `BUFR` whose event is not certain, if its length was read.
     pub fn longest(&self) -> usize
         ensures { result ≡ self.now.longest }
     {
         self.longest
     }
 
-    /// Passes the first `n` octets that are left, where this length is stated.
+    /// Moves the search forward by `n` octets, and takes the declared length into account.
     fn advance_to(&mut self, n: usize, stated_length: usize)
         requires within { n ≤ length self.old.rest }
         requires most { stated_length < 2 ^ 24 }
@@ -132,7 +134,8 @@ impl Finder {
         self.longest = self.longest.max(stated_length);
     }
 
-    /// Passes the next event where the octets that are held make it certain, else what begins none.
+    /// Moves the search past the next event, if the buffered octets make it certain, or else past
+    /// the octets in which no event begins.
     fn pass(&mut self) -> SearchResult
         ensures shows { IsSearchResult self.old.ended self.old.rest result }
         ensures gone { self.new ≡ passed_by self.old result }
@@ -157,7 +160,7 @@ impl Finder {
         shown
     }
 
-    /// The event that was passed last.
+    /// Returns the event that the search passed last.
     fn passed_event(&self, here: Candidate, stated_length: usize) -> Event<'_>
         requires within { here ≡ Candidate.Frame → stated_length ≤ length self.now.before }
         requires order { len_at here stated_length ≤ self.now.at }
@@ -174,9 +177,10 @@ impl Finder {
         }
     }
 
-    /// Returns the next event, as [`Finder::next`] does, if the octets that are held make it
-    /// certain. It is lent until the next call. `None` where a read is needed first
-    /// ([`Finder::read_more`]): nothing that is left is certain, and the end was not reached.
+    /// Returns the next event, as [`Finder::next`] does, if the buffered octets make it certain. A
+    /// frame is borrowed until the next call. Returns `None` if a read is needed first
+    /// ([`Finder::read_more`]): no event in the remaining octets is certain, and the end of the
+    /// stream was not found. After a fault, every call returns the same fault.
     pub fn next_held(&mut self) -> Option<Result<Event<'_>, RunFault>>
         ensures* next { sem 𝓛 (Rests the_row self.entry
             (λ new. GivesHeldEvent self.old new result)) }
@@ -195,12 +199,13 @@ impl Finder {
         }
     }
 
-    /// Reads once, where [`Finder::next_held`] needs it. The stream `r` must be the same at each
-    /// call.
+    /// Reads once. Call this if [`Finder::next_held`] returned `None`. The stream `r` must be the
+    /// same in every call.
     ///
     /// # Errors
     ///
-    /// As [`Finder::next`]; after a fault it returns the same one, and reads nothing.
+    /// The same as those of [`Finder::next`]. After a fault, every call returns the same fault and
+    /// reads nothing.
     pub fn read_more<R: Source>(&mut self, r: &mut R) -> Result<(), RunFault>
         requires going { self.old.ended ≡ false }
         requires few { length self.old.rest < max min_held self.old.longest }
@@ -211,11 +216,12 @@ impl Finder {
         ensures sure { self.old.fault ≡ None → R.waits r.old ≡ false
             → result ≢ Err RunFault.Read }
         ensures counts { AddsReads (R.reads r.old) (R.reads r.new) self.old.reads self.new.reads }
-        // A read asks for all that fits, up to what may be held.
+        // A read requests as many octets as fit, up to the number that may be buffered.
         ensures asked { R.asked r.new ≡ counted (R.asked r.old)
             (asked_by (max min_held self.old.longest - length self.old.rest)
             (input_left self.old) (input_left self.new)) }
-        // The room is at least 8,192 octets. If it grows, it becomes twice what was held, or 8,192.
+        // After a read, the capacity is at least 8,192 octets. If it grows, it becomes twice the
+        // number of octets that were buffered, but at least 8,192.
         ensures least { 0 < self.new.reads → 2 * min_held ≤ self.new.room }
         ensures grows { (self.new.room ≡ self.old.room)
             ⊎ (2 * length self.old.rest ≤ self.new.room) }
@@ -229,27 +235,27 @@ impl Finder {
         if let Some(fault) = self.fault {
             return Err(fault);
         }
-        // One read comes after the octets that are left, and those passed are dropped.
+        // The octets that the search passed are dropped to make space.
         self.input.skip(self.passed);
         self.passed = 0;
         let limit = self.longest.max(MIN_HELD);
         let held = self.input.held().len();
-        // The room grows with what came, since a stray word may state any length.
+        // The buffer grows with the octets that arrive, since a stray may declare any length.
         let room = (2 * limit).min((2 * MIN_HELD).max(2 * held));
         let read = self.input.fill(r, limit - held, room);
         self.fault = read.err();
         read
     }
 
-    /// Returns the next event of the stream `r`, which must be the same at each call. A frame is
-    /// lent until the next call. After [`Event::Done`] each call returns it again.
+    /// Returns the next event of the stream `r`, which must be the same in every call. A frame is
+    /// borrowed until the next call. After [`Event::Done`], every call returns it again.
     ///
     /// # Errors
     ///
-    /// [`RunFault::Read`] where a read failed in this call. [`RunFault::InputTooLong`] where the
-    /// end was not reached in 2^32 reads. [`RunFault::Memory`] where the buffer had to grow and was
-    /// refused. All events that were certain then were returned before. After a fault each call
-    /// returns the same one, and reads nothing.
+    /// [`RunFault::Read`] if a read failed in this call. [`RunFault::InputTooLong`] if 2^32 reads
+    /// did not find the end of the stream. [`RunFault::Memory`] if the buffer cannot grow. All
+    /// events that are certain at that point were returned before. After a fault, every call
+    /// returns the same fault and reads nothing.
     pub fn next<R: Source>(&mut self, r: &mut R) -> Result<Event<'_>, RunFault>
         ensures failed { self.old.fault ≡ None
             → R.failures r.new ≡ read_failures_after (R.failures r.old) result }
@@ -276,22 +282,23 @@ impl Finder {
     }
 }
 
-/// The index of octets 5 to 7 of a message, which state its length.
+/// The index of the three octets that declare the length of a message: octets 5 to 7.
 const LENGTH: usize = 4;
 
-/// How many indices are compared one by one first, since a search costs more to begin.
+/// The number of indices that are compared one by one first, since starting a search costs more.
 const NEAR: usize = 16;
 
 /// What begins at a `BUFR` in a stream.
 #[derive(Clone, Copy)]
 pub(crate) enum Candidate {
-    /// No message, for this reason. Such a `BUFR` is called a stray.
+    /// A stray: no message begins, for this reason.
     Stray(Cause),
     /// A message.
     Frame,
 }
 
-/// The length of what begins here: of a message as it states, else of the word.
+/// Returns the length of what begins here: the declared length of a message, or the 4 octets of a
+/// stray.
 fn candidate_len(here: Candidate, stated_length: usize) -> usize
     ensures { result ≡ len_at here stated_length }
 {
@@ -301,8 +308,8 @@ fn candidate_len(here: Candidate, stated_length: usize) -> usize
     }
 }
 
-/// What the octets that are held show. A place is an index from 0. The length that is stated there
-/// is 0 where its octets are missing.
+/// What a search in the remaining octets found. `place` is an index into these, counted from 0.
+/// `stated_length` is the length declared there, or 0 if there are fewer than eight octets.
 #[derive(Clone, Copy)]
 pub(crate) enum SearchResult {
     /// The next event: where its `BUFR` is, and what begins there.
@@ -311,17 +318,17 @@ pub(crate) enum SearchResult {
         here: Candidate,
         stated_length: usize,
     },
-    /// No event begins before the place, and more octets are needed to classify what does there.
+    /// No event begins before `place`, and more octets are needed to decide what begins there.
     NeedsMore {
         place: usize,
         stated_length: usize,
     },
-    /// No event any more.
+    /// There are no more events.
     End,
 }
 
-/// What begins where `m`, which begins with `BUFR`, begins, if nothing comes after `m`: the first
-/// case that holds counts.
+/// Returns what begins at the start of `m`, which must begin with `BUFR`, if no octets follow `m`.
+/// The first case that applies counts.
 // rule: stray-cut, stray-short-length, stray-no-end, input-ends-early, order-of-causes
 pub(crate) fn classify(m: &[u8]) -> Candidate
     requires { StartsWithBufr m.now }
@@ -343,12 +350,13 @@ pub(crate) fn classify(m: &[u8]) -> Candidate
     Candidate::Frame
 }
 
-/// The first index where `BUFR` is. `word` searches for it.
+/// Returns the index of the first `BUFR`, or `None` if there is none. `word` is the searcher for
+/// it.
 fn find_word(word: &memmem::Finder<'_>, rest: &[u8]) -> Option<usize>
     requires { word.now ≡ codes "BUFR" }
     ensures { FindsNeedle rest.now (codes "BUFR") 0 result }
 {
-    // Messages and stray words often follow one another.
+    // Messages and strays often follow one another without a gap.
     let near = rest.len().min(NEAR);
     'places: for place in 0..near {
         if rest[place..].starts_with(b"BUFR") {
@@ -359,7 +367,8 @@ fn find_word(word: &memmem::Finder<'_>, rest: &[u8]) -> Option<usize>
     Some(near + place)
 }
 
-/// What `rest` shows; more may come after it unless it ended. `word` searches for `BUFR`.
+/// Searches `rest` for the next event. More octets may follow `rest`, unless `ended`. `word` is the
+/// searcher for `BUFR`.
 // rule: first-bufr, output-waits
 pub(crate) fn find_event(word: &memmem::Finder<'_>, rest: &[u8], ended: bool) -> SearchResult
     requires { word.now ≡ codes "BUFR" }
@@ -369,7 +378,7 @@ pub(crate) fn find_event(word: &memmem::Finder<'_>, rest: &[u8], ended: bool) ->
         if ended {
             return SearchResult::End;
         }
-        // The last three octets may begin a word.
+        // The last three octets may be the start of a `BUFR`.
         return SearchResult::NeedsMore {
             place: rest.len() - rest.len().min(3),
             stated_length: 0,

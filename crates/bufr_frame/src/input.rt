@@ -1,4 +1,4 @@
-//! An input, read piece by piece or to its end.
+//! Reading an input, either step by step into a buffer or to its end.
 ghost use Rattle.std.specs.Prelude.{◌≡◌, ◌≢◌, ◌⊎◌, ◌≤◌, ◌<◌, ◌+◌, ◌-◌, ◌*◌, ◌^◌, ℕ, List, ◌++◌, take, length, drop, slice_range, Ok, Err, IsOk, IfOk, IfErr, vec_len, vec_capacity, [], ◌∷◌, true, false, max, nat_le, if◌then◌else◌};
 ghost use Rattle.bufr_bits.specs.Prelude.{counted};
 ghost use Rattle.bufr_frame.specs.Input.{read_failures_after, max_reads, ReadsOnce, ReadsInput, AddsReads, InputModel, FillsInput, SlidesOver, asked_by, new_input};
@@ -9,17 +9,18 @@ use std::alloc::Global;
 use std::marker::Model;
 use std::mem::replace;
 
-/// The most reads of one input, 2^32; no further one is made.
+/// The maximum number of reads of one input, 2^32.
 const MAX_READS: u64 = 1 << 32;
 
-/// How many octets one read asks for, where an input is read to its end.
+/// The number of octets that each read requests when an input is read to its end.
 const CHUNK: usize = 65536;
 
-/// The octets of an input that were read and not yet skipped. [`crate::Finder`] reads its stream by
-/// it, and a reader of lines its text. An input that is needed whole is read by [`read_to_end`].
+/// A buffer for the octets of an input that were read and not yet skipped. [`crate::Finder`] uses
+/// it to read a stream, and readers of lines use it to read text. To read a whole input, use
+/// [`read_to_end`].
 ///
-/// They slide to the start of its buffer only where at least as many were skipped. So on average
-/// each octet is moved at most once.
+/// The octets are moved to the start of the buffer only if at least as many were skipped. So on
+/// average, each octet is moved at most once.
 ///
 /// ```
 /// let mut input = InputBuffer::new(rt.alloc());
@@ -29,13 +30,13 @@ const CHUNK: usize = 65536;
 /// ```
 #[derive(Drop)]
 pub struct InputBuffer {
-    /// The octets from `start` to `filled` are held.
+    /// The octets from `start` to `filled` are buffered: they were read and not yet skipped.
     octets: Vec<u8>,
     start: usize,
     filled: usize,
-    /// How many reads were made, at most 2^32.
+    /// The number of reads made, at most 2^32.
     reads: u64,
-    /// Whether the end was reached.
+    /// Whether a read found the end of the input.
     ended: bool,
 }
 
@@ -57,7 +58,7 @@ impl Model for InputBuffer {
 }
 
 impl InputBuffer {
-    /// A buffer of an input that was not read. It takes no memory.
+    /// Creates a buffer for an input that has not been read. It does not allocate.
     pub fn new(alloc: Global) -> InputBuffer
         ensures { result ≡ new_input }
     {
@@ -70,21 +71,21 @@ impl InputBuffer {
         }
     }
 
-    /// The octets that were read and not yet skipped.
+    /// Returns the octets that were read and not yet skipped.
     pub fn held(&self) -> &[u8]
         ensures { result.now ≡ self.now.held }
     {
         &self.octets[self.start..self.filled]
     }
 
-    /// Whether the end of the input was reached.
+    /// Returns whether a read found the end of the input.
     pub fn ended(&self) -> bool
         ensures { result ≡ self.now.ended }
     {
         self.ended
     }
 
-    /// Skips the first `n` octets that are held.
+    /// Skips the first `n` buffered octets. At least `n` octets must be buffered.
     pub fn skip(&mut self, n: usize)
         requires { n ≤ length self.old.held }
         ensures { self.new
@@ -93,8 +94,8 @@ impl InputBuffer {
         self.start += n;
     }
 
-    /// Puts an octet after those that are held. A place must be free, as it is after the read that
-    /// reached the end.
+    /// Appends an octet to those buffered. There must be free space for it; the read that finds the
+    /// end of the input always leaves some.
     pub fn push(&mut self, octet: u8)
         requires { 0 < self.old.free }
         ensures { self.new
@@ -104,14 +105,16 @@ impl InputBuffer {
         self.filled += 1;
     }
 
-    /// Reads once after the octets that are held, at most `most` octets. Where no place is free for
-    /// them the buffer grows to `room` octets, at least twice those that are held.
+    /// Reads once and appends at most `most` octets to those buffered. If there is no free space,
+    /// the buffer grows to `room` octets, which must be at least twice the number of buffered
+    /// octets, and at least 1. `most` must be 1 to 2^24, and the end of the input must not have
+    /// been found.
     ///
     /// # Errors
     ///
-    /// [`RunFault::Read`] where the read failed. [`RunFault::InputTooLong`] where 2^32 reads were
-    /// made, and [`RunFault::Memory`] where the buffer had to grow and was refused; then no read is
-    /// made. The octets that are held stay.
+    /// [`RunFault::Read`] if the read failed. [`RunFault::InputTooLong`] if 2^32 reads were already
+    /// made, or [`RunFault::Memory`] if the buffer cannot grow; in these two cases, no read is
+    /// made. The buffered octets are left unchanged.
     pub fn fill<R: Source>(&mut self, r: &mut R, most: usize, room: usize) -> Result<(), RunFault>
         requires some { 0 < most }
         requires small { most ≤ 2 ^ 24 }
@@ -124,13 +127,13 @@ impl InputBuffer {
         ensures grows { (self.new.room ≡ self.old.room) ⊎ (room ≤ self.new.room) }
         ensures most { self.new.room ≤ max self.old.room room }
         ensures free { self.new.ended ≡ true → 0 < self.new.free }
-        // All places are used: each is in the gap, holds an octet or is free.
+        // The capacity consists of the gap, the buffered octets and the free space.
         ensures whole { self.new.room ≡ self.new.gap + length self.new.held + self.new.free }
         ensures slides { SlidesOver self.old self.new }
         ensures sure { R.waits r.old ≡ false → result ≢ Err RunFault.Read }
         ensures failed { R.failures r.new ≡ read_failures_after (R.failures r.old) result }
         ensures counts { AddsReads (R.reads r.old) (R.reads r.new) self.old.reads self.new.reads }
-        // A read asks for all that fits, up to `most`.
+        // A read requests as many octets as fit, up to `most`.
         ensures asked { R.asked r.new ≡ counted (R.asked r.old) (asked_by most self.old self.new) }
     {
         if self.reads == MAX_READS {
@@ -148,7 +151,8 @@ impl InputBuffer {
     }
 }
 
-/// Makes a place free after the octets from `start` to `filled`, and returns how far they slide.
+/// Makes space for at least one octet after those from `start` to `filled`. Returns how far these
+/// were moved towards the start.
 fn make_room(
     octets: &mut Vec<u8>,
     start: usize,
@@ -189,7 +193,7 @@ fn make_room(
     Ok(0)
 }
 
-/// Appends zeros to the octets of a buffer until there are `len`, for which there is room.
+/// Appends zeros to a buffer until it has `len` octets. Its capacity must be at least `len`.
 fn fill_up(octets: &mut Vec<u8>, len: usize)
     requires order { vec_len octets.old ≤ len }
     requires room { len ≤ vec_capacity octets.old }
@@ -198,7 +202,7 @@ fn fill_up(octets: &mut Vec<u8>, len: usize)
     ensures capacity { vec_capacity octets.new ≡ vec_capacity octets.old }
 {
     let alloc = *octets.allocator();
-    // In a local vector the loop compiles to one `memset`.
+    // For a local vector, the loop compiles to a single `memset`.
     let mut grown = replace(octets, Vec::new(alloc));
     'places: while grown.len() < len {
         grown.push_reserved(0);
@@ -206,7 +210,8 @@ fn fill_up(octets: &mut Vec<u8>, len: usize)
     *octets = grown;
 }
 
-/// Reads once after the first `filled` octets of a buffer, up to index `to`, and returns how many.
+/// Reads once into a buffer, from index `filled` up to (but not including) index `to`. Returns the
+/// number of octets read.
 fn read_after<R: Source>(
     r: &mut R,
     buffer: &mut Vec<u8>,
@@ -231,15 +236,15 @@ fn read_after<R: Source>(
     }
 }
 
-/// Reads an input to its end, and appends its octets to those that are held. It is for an input
-/// that is needed whole, as a table. `reads` counts the reads of the input, at most 2^32. A stream
-/// of messages is read by [`crate::Finder`].
+/// Reads an input to its end, and appends its octets to `octets`. Use it for an input that is
+/// needed as a whole, such as a table, and [`crate::Finder`] for a stream of messages. `reads`
+/// counts the reads of the input and must be at most 2^32.
 ///
 /// # Errors
 ///
-/// [`RunFault::Read`] where a read failed. [`RunFault::InputTooLong`] where the end was not reached
-/// in 2^32 reads. [`RunFault::Memory`] where the octets could not grow. The octets that were read
-/// before are held.
+/// [`RunFault::Read`] if a read failed. [`RunFault::InputTooLong`] if 2^32 reads did not find the
+/// end of the input. [`RunFault::Memory`] if `octets` cannot grow. The octets that were read until
+/// then are in `octets`.
 pub fn read_to_end<R: Source>(
     r: &mut R,
     octets: &mut Vec<u8>,
@@ -251,10 +256,10 @@ pub fn read_to_end<R: Source>(
     ensures failed { R.failures r.new ≡ read_failures_after (R.failures r.old) result }
     ensures made { R.reads r.new ≡ counted (R.reads r.old) (reads.new - reads.old) }
     ensures within { (reads.old ≤ reads.new) × (reads.new ≤ max_reads) }
-    // Each read but the last one gave an octet.
+    // Each read except the last returned at least one octet.
     ensures each { reads.new - reads.old ≤ length octets.new.items - length octets.old.items + 1 }
     ensures asked { R.asked r.new ≡ counted (R.asked r.old) (65536 * (reads.new - reads.old)) }
-    // The capacity grows to at most twice the octets that are held and one chunk more.
+    // If the capacity grows, it becomes at most twice the number of octets plus 65,536.
     ensures capacity { vec_capacity octets.new
         ≤ max (vec_capacity octets.old) (2 * length octets.new.items + 65536) }
 {

@@ -1,5 +1,5 @@
-//! The frames of FM 94 BUFR: finds the messages of a stream, divides a message into its sections,
-//! and writes one from its parts.
+//! The framing of FM 94 BUFR: finds the messages of a stream, splits a message into its sections,
+//! and writes a message from its parts.
 #![tactic(auto)]
 
 mod fault;

@@ -1,4 +1,4 @@
-//! A message divided into its sections. (WMO-No. 306, Volume I.2, FM 94)
+//! Splitting a message into its sections. (WMO-No. 306, Volume I.2, FM 94)
 ghost use Rattle.std.specs.Prelude.{◌≡◌, ◌≤◌, ◌+◌, length, IsTrue, Some, None, slice_range, if◌then◌else◌, ◌<◌, ◌*◌, ◌^◌, ◌-◌, Ok, IfOk, slice_get, ◌↔◌, []};
 ghost use Rattle.std.specs.Option.{option_map};
 ghost use Rattle.bufr_frame.specs.Section1.{edition_of, min_section_1, head_of};
@@ -15,7 +15,7 @@ use crate::section1::{
 use bufr_bits::BitSlice;
 use std::marker::Model;
 
-/// A message of edition 3 or 4, divided into its sections. It borrows its octets.
+/// An edition 3 or 4 message, split into its sections. It borrows its octets.
 ///
 /// ```
 /// if let Event::Frame(offset, octets) = finder.next(&mut input)? {
@@ -59,7 +59,7 @@ impl<'a> Model for Message<'a> {
     ghost invariant = { λ m. length m.payload.now < 2 ^ 24 };
 }
 
-/// The values of octet 8 of section 0 and of section 1 after its length.
+/// Returns the edition (octet 8 of section 0) and the values of section 1.
 // rule: odd-values-kept, section-1-of-edition-3, edition-3-lacks, year-of-the-century
 // rule: listing-of-edition-3, section-1-of-edition-4
 #[tactic(auto, unfolding(crate::specs::Section1::min_section_1))]
@@ -125,18 +125,23 @@ fn section2_of(m: &[u8], first: usize, second: usize) -> Option<&[u8]>
 }
 
 impl<'a> Message<'a> {
-    /// Divides a message of at least 12 octets into its sections. It reads octet 8, and the octets
-    /// from 9 to the last four; it takes the rest unchecked. It takes no memory.
+    /// Splits a message, which must have at least 12 octets, into its sections. It reads octet 8
+    /// and the octets from 9 up to the last four. The remaining octets, 1 to 7 and the last four,
+    /// are not checked. This does not allocate.
     ///
     /// # Errors
     ///
-    /// The first that holds. [`SectionFault::Edition`] for another edition than 3 or 4. Then for
-    /// sections 1, 2 (where bit 1 of the flags of section 1 is set), 3 and 4 in turn:
-    /// [`SectionFault::SectionPast`] where its length octets or its octets reach past the last four
-    /// octets; [`SectionFault::SectionShort`] where its length is under 22 (17 in edition 3), 4, 7
-    /// or 4. [`SectionFault::SectionsEnd`] where section 4 does not end at the last four octets.
-    /// [`SectionFault::Edition3Long`] where section 3 or 4 of edition 3 has an odd number of octets
-    /// and the message has more than 16,777,213.
+    /// The first of these that applies:
+    ///
+    /// - [`SectionFault::Edition`] if the edition is neither 3 nor 4;
+    /// - for sections 1, 2 (if bit 1 of the flags of section 1 is set), 3 and 4 in turn:
+    ///   [`SectionFault::SectionPast`] if its three length octets extend into the last four octets
+    ///   of the message; [`SectionFault::SectionShort`] if its length is less than 22 (17 in
+    ///   edition 3), 4, 7 or 4; [`SectionFault::SectionPast`] if the section extends into the last
+    ///   four octets;
+    /// - [`SectionFault::SectionsEnd`] if section 4 does not end where the last four octets begin;
+    /// - [`SectionFault::Edition3Long`] if, in edition 3, section 3 or 4 has an odd length and the
+    ///   message has more than 16,777,213 octets.
     #[tactic(auto, unfolding(crate::specs::Sections::sections_of))]
     // rule: edition-first, sections-in-order, section-4-end, local-use, section-3, section-4
     // rule: reserved-ignored, edition-3-length, order-of-sections
@@ -174,29 +179,30 @@ impl<'a> Message<'a> {
         })
     }
 
-    /// The edition and the values of section 1.
+    /// Returns the edition and the values of section 1.
     pub fn head(&self) -> Head
         ensures { result ≡ self.now.head }
     {
         self.head
     }
 
-    /// The octets of section 1 for local use: from its octet 23 on, in edition 3 from octet 18 on.
+    /// Returns the octets of section 1 for local use, which begin with octet 23 (octet 18 in
+    /// edition 3).
     pub fn local1(&self) -> &'a [u8]
         ensures { result.now ≡ self.now.local1 }
     {
         self.local1
     }
 
-    /// The octets of section 2 from its octet 5 on, where there is a section 2.
+    /// Returns section 2 from octet 5 on, or `None` if there is no section 2.
     pub fn section2(&self) -> Option<&'a [u8]>
         ensures { option_map (λ s. s.now) result ≡ self.now.section2 }
     {
         self.section2
     }
 
-    /// The word of descriptor `i` of section 3, from 0, where there is one. An octet left over
-    /// after the last whole descriptor is ignored.
+    /// Returns descriptor `i` of section 3 as a number of two octets, or `None` if there is none.
+    /// Descriptors are counted from 0. A single octet after the last whole descriptor is ignored.
     pub fn descriptor(&self, i: usize) -> Option<u16>
         ensures { result ≡ slice_get self.now.descriptors i }
     {
@@ -206,7 +212,8 @@ impl<'a> Message<'a> {
         Some(u16_at(self.descriptors, 2 * i))
     }
 
-    /// The words of the descriptors of section 3, in order, of two octets each.
+    /// Returns an iterator over the descriptors of section 3, in order, as numbers of two octets
+    /// each.
     pub fn descriptors(&self) -> Words<'a>
         ensures { words_left result ≡ self.now.descriptors }
     {
@@ -215,28 +222,29 @@ impl<'a> Message<'a> {
         }
     }
 
-    /// The number of subsets, octets 5 and 6 of section 3.
+    /// Returns the number of subsets: octets 5 and 6 of section 3.
     pub fn subsets(&self) -> u16
         ensures { result ≡ self.now.subsets }
     {
         self.subsets
     }
 
-    /// Whether the data are observed, bit 1 of octet 7 of section 3.
+    /// Returns whether the data are observed: bit 1 of octet 7 of section 3.
     pub fn observed(&self) -> bool
         ensures { result ≡ self.now.observed }
     {
         self.observed
     }
 
-    /// Whether the data are compressed, bit 2 of octet 7 of section 3.
+    /// Returns whether the data are compressed: bit 2 of octet 7 of section 3.
     pub fn compressed(&self) -> bool
         ensures { result ≡ self.now.compressed }
     {
         self.compressed
     }
 
-    /// The data and their padding: section 4 from its octet 5 on, less than 2^24 octets.
+    /// Returns the data and their padding: section 4 from octet 5 on, which is less than 2^24
+    /// octets.
     pub fn payload(&self) -> BitSlice<'a>
         ensures value { octets_of result ≡ self.now.payload }
         ensures short { length self.now.payload < 2 ^ 24 }
@@ -244,7 +252,7 @@ impl<'a> Message<'a> {
         BitSlice::new(self.payload)
     }
 
-    /// The number of octets of the message.
+    /// Returns the length of the message in octets.
     pub fn length(&self) -> u64
         ensures { result ≡ self.now.size }
     {
@@ -252,22 +260,22 @@ impl<'a> Message<'a> {
     }
 }
 
-/// An iterator over the words of two octets each, most significant octet first. An octet left over
-/// at the end is ignored.
+/// An iterator over numbers of two octets each (words), most significant octet first. A single
+/// octet at the end is ignored.
 #[derive(Debug, Drop)]
 pub struct Words<'a> {
     octets: &'a [u8],
 }
 
 impl<'a> Words<'a> {
-    /// How many words are left.
+    /// Returns the number of remaining words.
     pub fn len(&self) -> usize
         ensures { result ≡ length (words_left self.now) }
     {
         self.octets.len() / 2
     }
 
-    /// Whether no word is left.
+    /// Returns whether there are no more words.
     pub fn is_empty(&self) -> bool
         ensures { IsTrue result ↔ (words_left self.now ≡ []) }
     {
@@ -295,7 +303,8 @@ impl<'a> Iterator for Words<'a> {
     }
 }
 
-/// The end of section `k`, which begins at `p` and has at least `least` octets.
+/// Returns the index after section `k`, which begins at index `p` and must have at least `least`
+/// octets.
 #[tactic(auto, unfolding(crate::specs::Sections::section_end))]
 // rule: odd-sections-read, length-past-end, length-under-least, section-past-end
 // rule: order-of-sections
@@ -330,7 +339,8 @@ fn has_second(m: &[u8]) -> bool
     flags >= 128
 }
 
-/// The end of section 2, or of section 1 where there is no section 2.
+/// Returns the index after section 2, or `first`, the index after section 1, if there is no
+/// section 2.
 fn second_end(m: &[u8], first: usize) -> Result<usize, SectionFault>
     requires long { 18 ≤ length m.now }
     requires near { first < 2 ^ 31 }
@@ -348,5 +358,5 @@ fn second_end(m: &[u8], first: usize) -> Result<usize, SectionFault>
     }
 }
 
-/// The most octets of a message of edition 3 that two zero octets more may pad.
+/// The greatest length of an edition 3 message to which two padding octets can be added.
 const MOST_ODD: usize = 16_777_213;

@@ -1,8 +1,8 @@
-//! Numbers of two and three octets, most significant octet first.
+//! Numbers in two and three octets, most significant octet first.
 ghost use Rattle.std.specs.Prelude.{◌≡◌, ◌≤◌, ◌<◌, ◌+◌, ◌/◌, ◌%◌, ◌^◌, length};
 ghost use Rattle.bufr_frame.specs.Octets.{u16_at, u24_at};
 
-/// The number of the two octets from `p` on.
+/// Returns the number in the two octets from index `p` on.
 pub(crate) fn u16_at(m: &[u8], p: usize) -> u16
     requires { p + 2 ≤ length m.now }
     ensures { result ≡ u16_at m.now p }
@@ -10,7 +10,7 @@ pub(crate) fn u16_at(m: &[u8], p: usize) -> u16
     256 * u16::from(m[p]) + u16::from(m[p + 1])
 }
 
-/// The number of the three octets from `p` on.
+/// Returns the number in the three octets from index `p` on.
 pub(crate) fn u24_at(m: &[u8], p: usize) -> usize
     requires { p + 3 ≤ length m.now }
     ensures value { result ≡ u24_at m.now p }
@@ -19,14 +19,14 @@ pub(crate) fn u24_at(m: &[u8], p: usize) -> usize
     65536 * (m[p] as usize) + 256 * (m[p + 1] as usize) + m[p + 2] as usize
 }
 
-/// The first of the two octets of a number.
+/// Returns the first of the two octets of a number.
 pub(crate) fn high_octet(number: u16) -> u8
     ensures { result ≡ number / 256 }
 {
     (number / 256) as u8
 }
 
-/// The last of the two octets of a number.
+/// Returns the last of the two octets of a number.
 pub(crate) fn low_octet(number: u16) -> u8
     ensures { result ≡ number % 256 }
 {

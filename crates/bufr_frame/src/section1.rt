@@ -1,4 +1,5 @@
-//! The values of section 1, and the least octets of each section. (WMO-No. 306, Volume I.2, FM 94)
+//! The values of section 1, and the minimum lengths of the sections. (WMO-No. 306, Volume I.2,
+//! FM 94)
 ghost use Rattle.std.specs.Prelude.{◌≡◌, ◌≤◌, ◌<◌, ◌-◌, ◌^◌};
 ghost use Rattle.bufr_frame.specs.Layout.{even_size};
 ghost use Rattle.bufr_frame.specs.Section1.{min_section_1};
@@ -6,9 +7,9 @@ ghost use Rattle.bufr_frame.specs.Sections.{is_padded};
 
 /// The edition (octet 8 of section 0) and the values of section 1, as they are in a message.
 ///
-/// The values are not checked: a month of 14 is accepted. In edition 3, centre, sub-centre and year
-/// take one octet each, and `local_subcategory` and `second` are 0, since it has neither. (WMO-No.
-/// 306, Volume I.2, FM 94: section 1)
+/// The values are not checked: a month of 14 is accepted. In edition 3, the centre, sub-centre and
+/// year have one octet each, and `local_subcategory` and `second`, which it lacks, are 0.
+/// (WMO-No. 306, Volume I.2, FM 94: section 1)
 #[derive(Clone, Copy, Debug, PartialEq, Eq)]
 pub struct Head {
     /// The edition of FM 94, octet 8 of section 0.
@@ -45,10 +46,10 @@ pub struct Head {
     pub second: u8,
 }
 
-/// Section 0, which always has this length.
+/// The length of section 0, in octets.
 pub(crate) const SECTION_0: usize = 8;
 
-/// Section 1 of an edition, without octets for local use.
+/// Returns the length of section 1 in an edition, without octets for local use.
 #[tactic(auto, unfolding(crate::specs::Section1::min_section_1))]
 // rule: length-under-least
 pub(crate) fn min_section_1(edition: u8) -> usize
@@ -58,19 +59,19 @@ pub(crate) fn min_section_1(edition: u8) -> usize
     if edition == 3 { 17 } else { 22 }
 }
 
-/// Section 2, where there is one.
+/// The length of section 2, if there is one, without its content.
 pub(crate) const SECTION_2: usize = 4;
 
-/// Section 3, without descriptors.
+/// The length of section 3 without descriptors.
 pub(crate) const SECTION_3: usize = 7;
 
-/// Section 4, without data.
+/// The length of section 4 without data.
 pub(crate) const SECTION_4: usize = 4;
 
-/// Section 5, which always has this length.
+/// The length of section 5.
 pub(crate) const SECTION_5: usize = 4;
 
-/// Whether a section 3 or 4 of `len` octets is written with a zero octet more.
+/// Returns whether a section 3 or 4 of `len` octets is padded with a zero octet when it is written.
 // rule: least-lengths
 pub(crate) fn is_padded(edition: u8, len: usize) -> bool
     ensures { result ≡ is_padded edition len }
@@ -78,7 +79,7 @@ pub(crate) fn is_padded(edition: u8, len: usize) -> bool
     edition == 3 && len % 2 == 1
 }
 
-/// How many octets a section 3 or 4 has when it is written, its padding included.
+/// Returns the length of a section 3 or 4 when it is written, including its padding.
 // rule: least-lengths
 pub(crate) fn even_len(edition: u8, len: usize) -> usize
     requires { len < 2 ^ 64 - 1 }

@@ -10,10 +10,10 @@ use crate::section1::{
 };
 use std::alloc::{AllocError, Global};
 
-/// The most octets that a message has, since three octets state its length.
+/// The greatest length of a message in octets, since three octets declare it.
 const MAX_OCTETS: usize = 16_777_215;
 
-/// The number of octets of the message, or `TooLong`.
+/// Returns the length of the message in octets, or `None` if it is too long.
 #[tactic(auto, unfolding(crate::specs::Section1::min_section_1))]
 // rule: greatest-length
 fn size_of(
@@ -51,7 +51,7 @@ fn push_three(octets: &mut Vec<u8>, n: usize) -> Result<(), AllocError>
     octets.extend_from_slice(&[(n / 65536) as u8, (n / 256 % 256) as u8, (n % 256) as u8])
 }
 
-/// Section 1 of edition 3 after its length.
+/// Returns section 1 of edition 3 from octet 4 up to its octets for local use.
 // rule: section-1-of-edition-3, year-of-the-century
 fn head_octets_3(head: &Head, optional: bool) -> [u8; 14]
     requires centre { head.now.centre ≤ 255 }
@@ -77,7 +77,7 @@ fn head_octets_3(head: &Head, optional: bool) -> [u8; 14]
     ]
 }
 
-/// Section 1 of edition 4 after its length.
+/// Returns section 1 of edition 4 from octet 4 up to its octets for local use.
 // rule: section-1-of-edition-4
 fn head_octets_4(head: &Head, optional: bool) -> [u8; 19]
     ensures { result ≡ octets_4 head.now (if optional then 128 else 0) }
@@ -105,7 +105,7 @@ fn head_octets_4(head: &Head, optional: bool) -> [u8; 19]
     ]
 }
 
-/// Appends section 1 after its length and before its local use.
+/// Appends section 1 from octet 4 up to its octets for local use.
 fn push_head(octets: &mut Vec<u8>, head: &Head, optional: bool) -> Result<(), AllocError>
     requires { IsTrue (is_writable head.now) }
     ensures { OnOk result (octets.new.items ≡ octets.old.items ++ head_octets head.now optional) }
@@ -127,7 +127,8 @@ fn push_padding(octets: &mut Vec<u8>, pads: bool) -> Result<(), AllocError>
     Ok(())
 }
 
-/// Appends a section 2 or 4: its length, a reserved octet, these octets, and its padding.
+/// Appends a section 2 or 4: its length, a reserved octet, its content and, if `pads`, a zero
+/// octet.
 fn push_plain(octets: &mut Vec<u8>, content: &[u8], pads: bool) -> Result<(), AllocError>
     requires { 4 + length (with_pad_octet pads content.now) < 2 ^ 24 }
     ensures { OnOk result
@@ -181,15 +182,16 @@ fn push_section3(
     push_padding(octets, is_padded(edition, len))
 }
 
-/// Writes a message of edition 3 or 4 from its parts: `BUFR` first, its length in octets 5 to 7,
-/// `7777` last. Sections have the least lengths that hold the parts; reserved octets and bits are
-/// zero. `local1` is in section 1 from its octet 23 on (18 in edition 3). `section2` and `payload`
-/// are in sections 2 and 4 from octet 5 on. In edition 3 sections 3 and 4 have an even number of
-/// octets: a zero octet follows the descriptors, and follows an odd payload.
+/// Writes an edition 3 or 4 message from its parts. It begins with `BUFR`, has its length in
+/// octets 5 to 7, and ends with `7777`. Each section is as short as its parts allow, and reserved
+/// octets and bits are zero. `local1` begins at octet 23 of section 1 (octet 18 in edition 3).
+/// `section2` and `payload` begin at octet 5 of sections 2 and 4. In edition 3, sections 3 and 4
+/// have even lengths: a zero octet follows the descriptors, and another one follows a payload of
+/// odd length.
 ///
-/// The condition is that `head.edition` is 3 or 4. In edition 3 centre, sub-centre and year must
-/// fit an octet, and the local sub-category and the second must be 0. (WMO-No. 306, Volume I.2, FM
-/// 94: sections 0 to 5)
+/// `head.edition` must be 3 or 4. In edition 3, the centre, sub-centre and year must each fit into
+/// one octet, and the local sub-category and the second must be 0. (WMO-No. 306, Volume I.2, FM 94:
+/// sections 0 to 5)
 ///
 /// ```
 /// let message = Message::parse(octets)?;
@@ -201,8 +203,8 @@ fn push_section3(
 ///
 /// # Errors
 ///
-/// [`WriteFault::TooLong`] exactly where the message would have more than 16,777,215 octets.
-/// [`WriteFault::Memory`] where memory ran out.
+/// [`WriteFault::TooLong`] if and only if the message would have more than 16,777,215 octets.
+/// [`WriteFault::Memory`] if memory cannot be allocated.
 // rule: reserved-zero, section-0, section-4, section-5, sections-1-and-2-as-given
 pub fn write_message(
     alloc: Global,
@@ -216,10 +218,11 @@ pub fn write_message(
     payload: &[u8],
 ) -> Result<Vec<u8>, WriteFault>
     requires { IsTrue (is_writable head.now) }
-    // These octets, read as a message, have the parts again.
     ensures layout { IfOk result (λ octets. octets.items ≡ message_octets head.now
         (parts_of local1.now (option_map (λ s. s.now) section2.entry) descriptors.now subsets
         observed compressed payload.now)) }
+    // Parsing these octets gives the parts again. In edition 3, the payload may then end with a
+    // padding octet.
     ensures read_back { IfOk result (λ octets. sections_of octets.items ≡ Ok (sections_from head.now
         (parts_of local1.now (option_map (λ s. s.now) section2.entry) descriptors.now subsets
         observed compressed payload.now))) }

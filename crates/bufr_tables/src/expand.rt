@@ -1,5 +1,5 @@
-//! The expansion of descriptors, depth first, from left to right, and the cells that it builds.
-//! Few descriptors are looked at for each place, so a hostile list is refused soon.
+//! The expansion of descriptor lists, depth first, from left to right, into the cells of templates.
+//! Only a few descriptors are examined for each place, so malicious lists are rejected early.
 ghost use Rattle.std.specs.Prelude.{◌≡◌, ◌≢◌, is_some, ◌+◌, ◌*◌, max, vec_capacity, ◌<◌, ◌≤◌, ◌++◌, ◌∷◌, [], length, Ok, Err, MatchResult, OnOk, OnErr, IfErr, IfOk};
 ghost use Rattle.bufr_tables.specs.Fxy.{x_of};
 ghost use Rattle.bufr_tables.specs.TableB.{entry_of};
@@ -15,19 +15,18 @@ use crate::table_d::TableD;
 use crate::template::{Cell, Template};
 use std::alloc::Global;
 
-/// The most groups and sequences that may be open together.
+/// The greatest number of groups and sequences that may be open at the same time.
 const MAX_OPEN: u32 = 32;
 
-/// The least room for cells that is made at the beginning: most templates fit in it.
+/// The minimum initial capacity for cells. Most templates fit into it.
 const MIN_ROOM: usize = 128;
 
 impl Template {
-    /// Expands a list of descriptors, depth first, from left to right, and flattens the tree to
-    /// cells.
+    /// Expands a descriptor list, depth first, from left to right, and flattens the tree to cells.
     ///
-    /// At most 32 groups and sequences are open together, and a template takes at most 65,535
-    /// places ([`Template::places`] counts them). A list that would expand to more is refused after
-    /// that many.
+    /// At most 32 groups and sequences may be open at the same time, and a template may have at
+    /// most 65,535 places (see [`Template::places`]). A list that would expand to more is rejected
+    /// as soon as it exceeds this limit.
     ///
     /// ```
     /// let descriptors = [Fxy::from_word(0x0101)]; // 0 01 001
@@ -37,26 +36,26 @@ impl Template {
     ///
     /// # Errors
     ///
-    /// The first fault that is met:
+    /// The first fault found:
     ///
-    /// - at a replication 1 X Y: [`TemplateFault::GroupShape`] where X is 0;
-    ///   [`TemplateFault::NoFactor`] where Y is 0 and no factor follows (0 31 000, 0 31 001 or
-    ///   0 31 002); [`TemplateFault::UnknownElement`] with the factor where Table B lacks it;
-    ///   [`TemplateFault::GroupShape`] where fewer than X descriptors are left in the same list,
-    ///   the factor not among them; then [`TemplateFault::Depth`], [`TemplateFault::TemplateSize`],
-    ///   the faults of its body, and [`TemplateFault::EmptyGroup`] where no node of the body takes
-    ///   bits of the data;
-    /// - at a sequence: [`TemplateFault::UnknownSequence`] where Table D lacks it, then
-    ///   [`TemplateFault::Depth`], then the faults of its members;
-    /// - at an element: [`TemplateFault::UnknownElement`] where Table B lacks it, unless 2 06 Y
-    ///   is before it; then [`TemplateFault::TemplateSize`];
-    /// - at an operator: [`TemplateFault::Operator`] where it, or its operand, is none that a
-    ///   template may hold; [`TemplateFault::LocalShape`] where 2 06 Y is not followed by an
-    ///   element in the same list; then [`TemplateFault::TemplateSize`];
-    /// - at the end: [`TemplateFault::EmptyGroup`] with the first descriptor (000000 where there is
-    ///   none) where no node takes bits.
+    /// - at a replication 1 X Y: [`TemplateFault::GroupShape`] if X is 0;
+    ///   [`TemplateFault::NoFactor`] if Y is 0 and no factor (0 31 000, 0 31 001 or 0 31 002)
+    ///   follows; [`TemplateFault::UnknownElement`] with the factor if Table B does not contain it;
+    ///   [`TemplateFault::GroupShape`] if fewer than X descriptors follow in the same list, not
+    ///   counting the factor; then [`TemplateFault::Depth`], [`TemplateFault::TemplateSize`], the
+    ///   faults of its body, and [`TemplateFault::EmptyGroup`] if no node of the body takes bits of
+    ///   the data;
+    /// - at a sequence: [`TemplateFault::UnknownSequence`] if Table D does not contain it; then
+    ///   [`TemplateFault::Depth`]; then the faults of its members;
+    /// - at an element: [`TemplateFault::UnknownElement`] if Table B does not contain it, unless it
+    ///   follows 2 06 Y; then [`TemplateFault::TemplateSize`];
+    /// - at an operator: [`TemplateFault::Operator`] if a template may not contain it, or not with
+    ///   this operand; [`TemplateFault::LocalShape`] if 2 06 Y is not followed by an element in the
+    ///   same list; then [`TemplateFault::TemplateSize`];
+    /// - at the end: [`TemplateFault::EmptyGroup`] with the first descriptor (000000 if the list is
+    ///   empty) if no node takes bits of the data.
     ///
-    /// [`TemplateFault::Memory`] where memory runs out, at any growth.
+    /// [`TemplateFault::Memory`] if memory cannot be allocated, which can happen at any time.
     // rule: groups-take-bits
     pub fn build(
         alloc: Global,
@@ -75,7 +74,7 @@ impl Template {
         ensures leaves { IfOk result
             (λ template. ListsLeaves (members_of table_d.now) descriptors.now (leaves template)) }
 
-        // What the walk over a template relies on.
+        // The walk over a template relies on the following clauses.
         ensures known { IfOk result
             (λ template. IsKnown (λ fxy. is_some (entry_of table_b.now fxy)) template) }
         ensures sound { IfOk result IsSound }
@@ -113,7 +112,7 @@ impl Template {
     }
 }
 
-/// What expands lists: the two tables, and how many groups and sequences more may be open.
+/// The two tables that an expansion uses, and how many more groups and sequences may be open.
 #[derive(Clone, Copy)]
 pub(crate) struct Expander<'a> {
     pub(crate) table_b: &'a TableB,
@@ -130,7 +129,7 @@ impl Expander<'_> {
         self.table_b.get(fxy).is_some()
     }
 
-    /// Expands a list after what has grown.
+    /// Expands a list, and appends its cells to `growing`.
     #[cycle(expansion)]
     pub(crate) fn list(
         &self,
@@ -151,7 +150,7 @@ impl Expander<'_> {
         Ok(())
     }
 
-    /// Expands one descriptor, and returns how many of those after it it takes.
+    /// Expands one descriptor. Returns how many of the descriptors after it belong to it.
     #[cycle(expansion)]
     // rule: descriptor-kinds, 2-06-y-unknown-element, 2-06-y-before-an-element
     // rule: order-at-an-element, order-at-an-operator, order-at-a-sequence
@@ -204,7 +203,8 @@ impl Expander<'_> {
         }
     }
 
-    /// A replication: a group of Y passes, or of as many as its factor says, which comes first.
+    /// Expands a replication: a group with Y passes or, if Y is 0, with as many as the value of the
+    /// factor, which comes first. Returns how many of the descriptors after it belong to it.
     #[cycle(expansion)]
     // rule: fixed-replication, delayed-replication, order-at-a-replication
     fn group(
@@ -241,7 +241,8 @@ impl Expander<'_> {
         Ok(1 + usize::from(fxy.x()))
     }
 
-    /// A group whose body is the next X descriptors; some node of it takes bits.
+    /// Expands a group whose body is the next X descriptors. Some node of the body must take bits
+    /// of the data.
     #[cycle(expansion)]
     // rule: replication-before-expansion, replication-nested, replication-in-one-list
     // rule: groups-take-bits, order-at-a-replication
@@ -284,17 +285,17 @@ fn begins_with_element(list: &[Fxy]) -> bool
     list.first().is_some_and(|fxy| fxy.f() == 0)
 }
 
-/// How many passes a group makes.
+/// The number of passes of a group.
 #[derive(Clone, Copy)]
 pub(crate) enum Passes {
-    /// So many.
+    /// A fixed number of passes.
     Fixed(u8),
-    /// As many as the factor's value in the data.
+    /// As many passes as the value of this factor in the data.
     Delayed(Fxy),
 }
 
 impl Passes {
-    /// The places of the group beside those of its body.
+    /// Returns the number of places of the group in addition to those of its body.
     fn places(&self) -> u32
         ensures { result ≡ own_places self.now }
     {
@@ -304,7 +305,7 @@ impl Passes {
         }
     }
 
-    /// The group's first cell, where `after` is the place after its end.
+    /// Returns the first cell of the group. `after` is the place after the end of the group.
     fn first_cell(&self, after: u32) -> Cell
         ensures { result ≡ first_cell self.now after }
     {
@@ -315,26 +316,28 @@ impl Passes {
     }
 }
 
-/// The most places that a template may take.
+/// The greatest number of places in a template.
 pub(crate) const MAX_PLACES: u32 = 65_535;
 
-/// The cells of a template, as far as its list has been expanded.
+/// A template that is being built from a descriptor list.
 #[derive(Drop)]
 pub(crate) struct TemplateBuilder {
     /// The cells so far.
     pub(crate) cells: Vec<Cell>,
-    /// How many groups are open; the end of each is still to come.
+    /// The number of open groups, whose ends are still to be added.
     pub(crate) open_groups: u32,
-    /// The most groups that were open together.
+    /// The greatest number of groups that were open at the same time so far.
     pub(crate) depth: u32,
-    /// Whether some node of the innermost open list takes bits of the data.
+    /// Whether some node of the innermost open group, or of the whole list if no group is open,
+    /// takes bits of the data.
     pub(crate) consumes: bool,
     pub(crate) ghost within: { length cells.items + open_groups < 65535 },
     pub(crate) ghost around: { open_groups ≤ depth },
     pub(crate) ghost room: { vec_capacity cells ≤ 131072 },
 }
 
-/// The fault of the descriptor that asks for so many places more, where they are too many.
+/// Checks that `more` places can be added to `places`. Returns [`TemplateFault::TemplateSize`] with
+/// `fxy` if there would be too many.
 fn check_places(places: u32, more: u32, fxy: Fxy) -> Result<(), TemplateFault>
     requires within { places ≤ 65535 }
     requires few { more ≤ 3 }
@@ -348,7 +351,7 @@ fn check_places(places: u32, more: u32, fxy: Fxy) -> Result<(), TemplateFault>
     Ok(())
 }
 
-/// Puts a cell after others. If there is no room for it, the room doubles.
+/// Appends a cell. If the vector is full, its capacity doubles.
 pub(crate) fn push_cell(cells: &mut Vec<Cell>, cell: Cell) -> Result<(), TemplateFault>
     ensures room { vec_capacity cells.new
         ≤ max (vec_capacity cells.old) (2 * length cells.old.items + 1) }
@@ -366,7 +369,7 @@ pub(crate) fn push_cell(cells: &mut Vec<Cell>, cell: Cell) -> Result<(), Templat
     Ok(())
 }
 
-/// Puts the cells between a group's first one and its body after others.
+/// Appends the cells between the first cell of a group and its body: the factor, if there is one.
 fn push_factor(cells: &mut Vec<Cell>, passes: &Passes) -> Result<(), TemplateFault>
     ensures room { vec_capacity cells.new
         ≤ max (vec_capacity cells.old) (2 * length cells.old.items + 1) }
@@ -386,7 +389,7 @@ impl TemplateBuilder {
     ghost use Rattle.bufr_tables.specs.Growth.{places_so_far, with_cell, with_closed_group, GivesGrowth, GivesPlace};
     ghost use Rattle.bufr_tables.specs.Growing.{builder_model};
 
-    /// The places up to here, with those of the ends that are still to come.
+    /// Returns the number of places so far, including those of the ends that are still to be added.
     fn places(&self) -> u32
         ensures value { result ≡ places_so_far (builder_model self.now) }
         ensures most { result ≤ 65535 }
@@ -414,7 +417,7 @@ impl TemplateBuilder {
         Ok(())
     }
 
-    /// Begins a group after the cells, and returns the place of its first cell.
+    /// Begins a group. Returns the place of its first cell.
     pub(crate) fn open(&mut self, fxy: Fxy, passes: &Passes) -> Result<usize, TemplateFault>
         ensures { GivesPlace (builder_model self.old) passes.now fxy result
             (builder_model self.new) }
@@ -430,7 +433,8 @@ impl TemplateBuilder {
         Ok(place)
     }
 
-    /// Ends the innermost group, and writes into its first cell what is after the group.
+    /// Ends the innermost group, whose first cell is at `place`, and stores the place after the
+    /// group in this cell.
     pub(crate) fn close(&mut self, place: usize, passes: &Passes) -> Result<(), TemplateFault>
         requires inside { place < length self.old.cells.items }
         requires around { 0 < self.old.open_groups }

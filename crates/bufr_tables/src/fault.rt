@@ -1,4 +1,4 @@
-//! Why a table cannot be read, and why a list of descriptors makes no template.
+//! The faults of tables, and of descriptor lists that cannot be expanded to a template.
 ghost use Rattle.std.specs.Prelude.{◌≡◌};
 ghost use Rattle.bufr_tables.specs.declared.fault.TableFault.TheVariants.{Memory};
 ghost use Rattle.bufr_tables.specs.FaultNumber.{table_report, template_report};
@@ -7,39 +7,42 @@ use crate::fxy::Fxy;
 use std::alloc::{AllocError, AllocFailed};
 use thiserror::Error;
 
-/// Why a table cannot be read.
+/// The reason why a table cannot be read.
 ///
-/// The first record at fault decides. Of one record [`TableFault::Csv`] goes before
-/// [`TableFault::Row`], this before [`TableFault::Duplicate`], and this before
-/// [`TableFault::TableSize`]. [`TableFault::Cycle`] comes after all records.
+/// The first invalid record determines the fault. If several faults apply to it, the first of
+/// [`TableFault::Csv`], [`TableFault::Row`], [`TableFault::Duplicate`] and
+/// [`TableFault::TableSize`] is reported. [`TableFault::Cycle`] is reported only if all records are
+/// valid.
 #[derive(Clone, Copy, Debug, PartialEq, Eq, Drop, Error)]
 pub enum TableFault {
-    /// There is no record, or the first is not the header of the table.
+    /// There are no records, or the first one is not the header of the table.
     #[error("header")]
     Header,
-    /// A record does not read as a row. The header is record 1; empty lines are not counted.
+    /// The record with this number is not a valid row. The header is record 1, and empty lines are
+    /// not counted.
     #[error("row {0}")]
     Row(u64),
-    /// An element of Table B that an earlier record has, or a sequence of Table D that begins a
-    /// second run of rows.
+    /// An earlier record already defines this element of Table B, or the rows of this sequence of
+    /// Table D are not contiguous.
     #[error("duplicate {0}")]
     Duplicate(Fxy),
-    /// The first sequence of the file that reaches itself by a chain of members.
+    /// This sequence contains itself, directly or through other sequences. It is the first such
+    /// sequence in the file.
     #[error("cycle {0}")]
     Cycle(Fxy),
     /// Table D has more than 65,536 rows.
     #[error("table size")]
     TableSize,
-    /// A record has another number of fields than the header.
+    /// A record and the header have different numbers of fields.
     #[error("csv")]
     Csv,
-    /// Memory ran out.
+    /// Memory could not be allocated.
     #[error("out of memory")]
     Memory,
 }
 
 impl TableFault {
-    /// Its number: 40 to 45, or 73.
+    /// Returns the number of this fault: 40 to 45, or 73.
     pub fn number(self) -> u8
         ensures { result ≡ (table_report self).0 }
     {
@@ -55,45 +58,45 @@ impl TableFault {
     }
 }
 
-/// Why a list of descriptors makes no template: the first fault met when the list is expanded depth
-/// first, from left to right.
+/// The reason why a descriptor list cannot be expanded to a template: the first fault found when
+/// the list is expanded depth first, from left to right.
 #[derive(Clone, Copy, Debug, PartialEq, Eq, Drop, Error)]
 pub enum TemplateFault {
-    /// Table B lacks the element, or the replication factor.
+    /// Table B does not contain this element or replication factor.
     #[error("unknown element {0}")]
     UnknownElement(Fxy),
-    /// Table D lacks the sequence.
+    /// Table D does not contain this sequence.
     #[error("unknown sequence {0}")]
     UnknownSequence(Fxy),
-    /// The operator, or its operand, is none that a template may hold (Table C).
+    /// This operator is not supported, or not with this operand (Table C).
     #[error("operator {0}")]
     Operator(Fxy),
-    /// The replication takes no descriptor, or more than its list has left.
+    /// This replication has no descriptors to repeat, or more than follow it in its list.
     #[error("group shape {0}")]
     GroupShape(Fxy),
-    /// The delayed replication is not followed by a factor: 0 31 000, 0 31 001 or 0 31 002.
+    /// This delayed replication is not followed by a factor (0 31 000, 0 31 001 or 0 31 002).
     #[error("no factor {0}")]
     NoFactor(Fxy),
-    /// No node of the group's body takes bits of the data; or none of the whole list, with its
-    /// first descriptor, or 000000.
+    /// No node in the body of this replication takes bits of the data. If no node of the whole list
+    /// does, the descriptor is the first one of the list, or 000000 if the list is empty.
     #[error("empty group {0}")]
     EmptyGroup(Fxy),
-    /// The group or sequence would be the 33rd of those that are open together.
+    /// This replication or sequence is inside 32 others, which is the limit.
     #[error("depth {0}")]
     Depth(Fxy),
-    /// The element, operator or group would bring the template over 65,535 places.
+    /// With this element, operator or replication, the template would have more than 65,535 places.
     #[error("template size {0}")]
     TemplateSize(Fxy),
-    /// The operator 2 06 Y is not followed by an element in its list.
+    /// This operator 2 06 Y is not followed by an element in its list.
     #[error("local shape {0}")]
     LocalShape(Fxy),
-    /// Memory ran out.
+    /// Memory could not be allocated.
     #[error("out of memory")]
     Memory,
 }
 
 impl TemplateFault {
-    /// Its number: 20 to 28, or 73.
+    /// Returns the number of this fault: 20 to 28, or 73.
     pub fn number(self) -> u8
         ensures { result ≡ (template_report self).0 }
     {

@@ -1,4 +1,4 @@
-//! A descriptor, as section 3 of a message, a template and the tables have it.
+//! Descriptors, as they occur in section 3 of a message, in templates and in the tables.
 ghost use Rattle.std.specs.Prelude.{◌≡◌, ◌<◌, ◌≤◌, IsTrue, Some, length, ℕ};
 ghost use Rattle.std.specs.Char.{is_ascii_digit};
 ghost use Rattle.std.specs.List.{list_all};
@@ -11,7 +11,7 @@ use std::marker::Model;
 /// A descriptor F X Y of section 3: two, six and eight bits (WMO-No. 306, Volume I.2, FM 94).
 ///
 /// F is 0 for an element of Table B, 1 for a replication, 2 for an operator and 3 for a sequence of
-/// Table D. In clauses, a descriptor is the number that its 16 bits write.
+/// Table D. In contracts, a descriptor is the unsigned number in its 16 bits.
 ///
 /// ```
 /// let temperature = Fxy::from_word(0x0c65);
@@ -32,21 +32,21 @@ impl Model for Fxy {
 }
 
 impl Fxy {
-    /// The descriptor with these 16 bits.
+    /// Creates the descriptor with these 16 bits.
     pub const fn from_word(word: u16) -> Fxy
         ensures { result ≡ word }
     {
         Fxy { word }
     }
 
-    /// The 16 bits.
+    /// Returns the 16 bits.
     pub const fn word(self) -> u16
         ensures { result ≡ self }
     {
         self.word
     }
 
-    /// F, from 0 to 3.
+    /// Returns F, from 0 to 3.
     pub const fn f(self) -> u8
         ensures value { result ≡ f_of self }
         ensures most { result ≤ 3 }
@@ -54,7 +54,8 @@ impl Fxy {
         (self.word / 16384) as u8
     }
 
-    /// X, the class, from 0 to 63.
+    /// Returns X, from 0 to 63: the class of an element or sequence, the number of descriptors that
+    /// a replication repeats, or the kind of an operator.
     pub const fn x(self) -> u8
         ensures value { result ≡ x_of self }
         ensures most { result ≤ 63 }
@@ -62,28 +63,29 @@ impl Fxy {
         (self.word / 256 % 64) as u8
     }
 
-    /// Y, the place in the class, from 0 to 255.
+    /// Returns Y, from 0 to 255: the number of an element or sequence in its class, the count of a
+    /// replication, or the operand of an operator.
     pub const fn y(self) -> u8
         ensures { result ≡ y_of self }
     {
         (self.word % 256) as u8
     }
 
-    /// Whether it is a factor of delayed replications: 0 31 000, 0 31 001 or 0 31 002.
+    /// Returns whether this is a factor of delayed replications: 0 31 000, 0 31 001 or 0 31 002.
     pub const fn is_factor(self) -> bool
         ensures { result ≡ is_factor self }
     {
         self.f() == 0 && self.x() == 31 && self.y() <= 2
     }
 
-    /// Whether it is the operator 2 06 Y, which gives the width of the descriptor that follows.
+    /// Returns whether this is the operator 2 06 Y, which gives the width of the next descriptor.
     pub(crate) const fn gives_width(self) -> bool
         ensures { result ≡ gives_width self }
     {
         self.f() == 2 && self.x() == 6
     }
 
-    /// Whether a template may hold this operator, with its operand (Table C).
+    /// Returns whether a template may contain this operator of Table C with its operand.
     // rule: operators-known
     pub(crate) const fn is_legal_operator(self) -> bool
         ensures { result ≡ is_legal_operator self }
@@ -98,7 +100,7 @@ impl Fxy {
         }
     }
 
-    /// X and Y as one number: its place among the descriptors of its F.
+    /// Returns X and Y as one number: the index of this descriptor among those with the same F.
     pub(crate) const fn key(self) -> usize
         ensures value { result ≡ key_of self }
         ensures most { result < 16384 }
@@ -106,7 +108,7 @@ impl Fxy {
         (self.word % 16384) as usize
     }
 
-    /// The six digits, as `012101`.
+    /// Returns the descriptor as six digits, for example `012101`.
     // rule: descriptor-fxy
     pub const fn text(self) -> [u8; 6]
         ensures value { result ≡ fxy_text self }
@@ -123,9 +125,9 @@ impl Fxy {
         ]
     }
 
-    /// The descriptor that six digits `FXXYYY` write: one of F, two of X and three of Y. None where
-    /// the text is not six digits. None where F is past 3, X past 63 or Y past 255: they do not fit
-    /// their two, six and eight bits.
+    /// Parses six digits `FXXYYY`: one for F, two for X and three for Y. Returns `None` if the text
+    /// is not six digits, or if F exceeds 3, X exceeds 63 or Y exceeds 255, since these would not
+    /// fit into two, six and eight bits.
     ///
     /// ```
     /// assert_eq!(rt; Fxy::read(b"012101"), Some(Fxy::from_word(0x0c65)));
@@ -157,7 +159,7 @@ impl fmt::Display for Fxy {
     }
 }
 
-/// The number of the digit at a place of a text of digits.
+/// Returns the value of the digit at an index of a text of digits.
 fn digit_at(text: &[u8], place: usize) -> u16
     requires digits { IsTrue (list_all is_ascii_digit text.now) }
     requires inside { place < length text.now }

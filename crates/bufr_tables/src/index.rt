@@ -1,19 +1,20 @@
-//! Finds a descriptor by its X and Y in one step.
+//! An index that finds a descriptor by its X and Y in one step.
 ghost use Rattle.std.specs.Prelude.{◌≡◌, ◌<◌, [], ◌∷◌, ◌++◌, length, None, IfOk, IfSome, List, ℕ};
 ghost use Rattle.bufr_tables.specs.Fxy.{place_of, IsDirectory};
 
 use std::alloc::{AllocError, Global};
 use std::marker::Model;
 
-/// How many values X and Y have together.
+/// The number of combinations of X and Y.
 pub(crate) const KEYS: usize = 16384;
 
-/// A list of keys, each the 14 bits of X and Y, and their places. A clause sees the list.
+/// A list of keys, each of which is the 14 bits of X and Y, with an index that finds the position
+/// of a key in the list. Contracts see the list.
 #[derive(Drop)]
 pub(crate) struct FxyIndex {
-    /// There is room for all keys.
+    /// The list, with room for all keys.
     keys: Vec<u16>,
-    /// For each key 0 where the list lacks it, and else its place and one more.
+    /// For each key, 0 if the list does not contain it, or its position plus 1.
     marks: Vec<u16>,
 }
 
@@ -26,7 +27,7 @@ impl Model for FxyIndex {
 }
 
 impl FxyIndex {
-    /// The empty list.
+    /// Creates an empty list.
     pub(crate) fn new(alloc: Global) -> Result<FxyIndex, AllocError>
         ensures { IfOk result (λ d. d ≡ []) }
     {
@@ -37,7 +38,8 @@ impl FxyIndex {
         })
     }
 
-    /// The place of a key in the list, counted from 0.
+    /// Returns the position of a key in the list, counted from 0, or `None` if the list does not
+    /// contain it.
     #[inline(always)]
     pub(crate) fn place(&self, key: usize) -> Option<usize>
         requires { key < 16384 }
@@ -50,7 +52,7 @@ impl FxyIndex {
         }
     }
 
-    /// Adds a key after the others.
+    /// Appends a key. The list must not contain it yet.
     pub(crate) fn add(&mut self, key: usize)
         requires small { key < 16384 }
         requires absent { place_of self.old key ≡ None }

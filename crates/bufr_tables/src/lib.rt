@@ -1,8 +1,8 @@
 //! The tables of FM 94 BUFR: descriptors, and Tables B and D read from CSV.
 //!
-//! A descriptor ([`Fxy`]) is looked up in [`TableB`], the elements, or in [`TableD`], the
-//! sequences. A list of descriptors is expanded to a [`Template`], the tree that says what a
-//! message's data hold.
+//! A descriptor ([`Fxy`]) is looked up in [`TableB`] if it is an element, or in [`TableD`] if it is
+//! a sequence. A descriptor list is expanded to a [`Template`], the tree that describes the data of
+//! a message.
 #![tactic(auto)]
 
 mod expand;

@@ -1,4 +1,4 @@
-//! The rows of a table's text: its records, one after another, and the whole numbers in them.
+//! Reading the CSV records of a table, and the whole numbers in their fields.
 ghost use Rattle.std.specs.Prelude.{◌≡◌, ◌≢◌, ◌-◌, ◌^◌, ◌<◌, ◌==◌, IfOk, IfErr, false, min, option_map, slice_index};
 ghost use Rattle.bufr_tables.specs.Records.{i64_of, natural_of, GivesNext, IsBetween, IsOpened, field_texts, field_of, records_of, has_header};
 ghost use Rattle.std.specs.Str.{bytes_eq};
@@ -11,18 +11,18 @@ use crate::fxy::are_digits;
 use csv::{ByteRecord, Reader, ReaderBuilder};
 use std::alloc::Global;
 
-/// Reads the records of a text, and counts them from 1.
+/// A reader of the records of a text, which counts them from 1.
 #[derive(Drop)]
 pub(crate) struct RecordReader<'a> {
     reader: Reader<&'a [u8]>,
-    /// The record that was given last.
+    /// The record that was read last.
     pub(crate) row: ByteRecord,
-    /// How many records were given.
+    /// The number of records read so far.
     pub(crate) number: u64,
 }
 
 impl<'a> RecordReader<'a> {
-    /// A reader after the header of a text: a first record of these fields.
+    /// Creates a reader and reads the header: the first record must have exactly these fields.
     pub(crate) fn open(
         alloc: Global,
         text: &'a [u8],
@@ -48,7 +48,7 @@ impl<'a> RecordReader<'a> {
         Ok(records)
     }
 
-    /// Reads the next record, if there is one.
+    /// Reads the next record into `row`. Returns `false` if there are no more records.
     pub(crate) fn advance(&mut self) -> Result<bool, TableFault>
         requires { IsBetween self.old }
         ensures memory { IfErr result (λ e. e ≡ Memory) }
@@ -60,13 +60,14 @@ impl<'a> RecordReader<'a> {
                 self.number += 1;
                 Ok(true)
             }
-            // Octets in memory are read without fail, and records may have any number of fields.
+            // This error can only mean that memory ran out: reading from a slice does not fail, and
+            // records may have any number of fields.
             Err(_) => Err(TableFault::Memory),
         }
     }
 }
 
-/// A field of a record, counted from 0, or no octets where there is none.
+/// Returns a field of a record, counted from 0. It is empty if the record has no such field.
 pub(crate) fn field(fields: &ByteRecord, place: usize) -> &[u8]
     ensures { result.now ≡ field_of (fields_of fields.now) place }
 {
@@ -88,7 +89,8 @@ fn has_fields(fields: &ByteRecord, names: &[&[u8]]) -> bool
     true
 }
 
-/// The number that an optional `-` and one or more digits write, where an `i64` holds it.
+/// Parses an optional `-` and one or more digits. Returns `None` if the text does not have this
+/// form or the number does not fit into an `i64`.
 #[tactic(auto, unfolding(crate::specs::Records::i64_of, crate::specs::Records::integer_of))]
 pub(crate) fn integer(text: &[u8]) -> Option<i64>
     ensures { result ≡ i64_of text.now }
@@ -101,15 +103,17 @@ pub(crate) fn integer(text: &[u8]) -> Option<i64>
     0i64.checked_add_unsigned(size)
 }
 
-/// Whether a text begins with `-`. (Were `strip_prefix` called here too, it would no longer be
-/// put into the reading of a dump's lines, and encoding reports took 3 % more instructions.)
+/// Returns whether a text begins with `-`. (With a call of `strip_prefix` here, the compiler no
+/// longer inlined `strip_prefix` where lines of dumps are read, and encoding reports took 3 % more
+/// instructions.)
 fn is_negative(text: &[u8]) -> bool
     ensures { result ≡ (slice_index text.now 0 == 45) }
 {
     !text.is_empty() && text[0] == b'-'
 }
 
-/// The number that one or more digits write, or the greatest `u64` where it is over that.
+/// Parses one or more digits. The result is capped at `u64::MAX`. Returns `None` if the text does
+/// not have this form.
 #[tactic(auto, unfolding(crate::specs::Records::natural_of))]
 pub(crate) fn magnitude(digits: &[u8]) -> Option<u64>
     ensures { result ≡ option_map (λ n. min n (2 ^ 64 - 1)) (natural_of digits.now) }

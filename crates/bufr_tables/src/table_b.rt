@@ -1,4 +1,5 @@
-//! Table B, the elements, read from CSV, and what the unit of an element says of its values.
+//! Table B, which defines the elements, read from CSV; and the kind of an element, which its unit
+//! determines.
 ghost use Rattle.std.specs.Prelude.{◌≡◌, ◌≢◌, ◌<◌, [], ◌∷◌, ◌++◌, None, length, OnOk, IfErr, IfOk, IfSome, option_map, Ok, Err};
 ghost use Rattle.std.specs.List.{list_all};
 ghost use Rattle.csv.specs.Records.{fields_of};
@@ -18,8 +19,8 @@ use std::marker::Model;
 /// The fields of the header.
 const HEADER: [&[u8]; 6] = [b"fxy", b"name", b"unit", b"scale", b"reference", b"width"];
 
-/// An element as the table keeps it. Its octets, `FXXYYY   # NAME [UNIT]` and a line feed, go from
-/// `start` to `end`. Its name ends at `middle`.
+/// An element as the table stores it. Its octets, `FXXYYY   # NAME [UNIT]` and a line feed, extend
+/// from `start` to `end`. Its name ends at `middle`.
 #[derive(Clone, Copy)]
 struct Stored {
     fxy: Fxy,
@@ -32,11 +33,11 @@ struct Stored {
     width: u32,
 }
 
-/// What Table B says of an element: a handle on the row of a table.
+/// The row of an element in Table B, borrowed from the table.
 ///
-/// [`TableB::get`] promises the limits that the methods state. The factors of delayed replications,
-/// 031000, 031001 and 031002, are no text and have 1, 8 and 16 bits, scale 0 and reference 0. Two
-/// entries are equal where their rows are.
+/// The entries that [`TableB::get`] returns are within the limits given for each method. The
+/// factors of delayed replications (031000, 031001 and 031002) are not text; they have 1, 8 and 16
+/// bits, scale 0 and reference value 0. Two entries are equal if their rows are equal.
 #[derive(Clone, Copy)]
 pub struct Entry<'a> {
     /// The octets of all rows.
@@ -50,7 +51,7 @@ impl<'a> Entry<'a> {
     ghost use Rattle.bufr_tables.specs.Entry.{row_of_entry};
     ghost use Rattle.bufr_tables.specs.TableB.{row_comment, row_line_start};
 
-    /// The descriptor of the element.
+    /// Returns the descriptor of the element.
     #[inline(always)]
     pub fn fxy(&self) -> Fxy
         ensures { result ≡ (row_of_entry self.now).fxy }
@@ -58,8 +59,8 @@ impl<'a> Entry<'a> {
         self.stored.fxy
     }
 
-    /// The name: at most 512 octets, none of them a control character of ASCII. They are not taken
-    /// for UTF-8.
+    /// Returns the name: at most 512 octets, none of which is an ASCII control character. It need
+    /// not be valid UTF-8.
     #[inline(always)]
     pub fn name(&self) -> &'a [u8]
         ensures { result.now ≡ (row_of_entry self.now).name }
@@ -68,7 +69,7 @@ impl<'a> Entry<'a> {
         &self.octets[stored.start + 11..stored.middle]
     }
 
-    /// The unit: at most 512 octets, none of them a control character of ASCII.
+    /// Returns the unit: at most 512 octets, none of which is an ASCII control character.
     #[inline(always)]
     pub fn unit(&self) -> &'a [u8]
         ensures { result.now ≡ (row_of_entry self.now).unit }
@@ -77,7 +78,7 @@ impl<'a> Entry<'a> {
         &self.octets[stored.middle + 2..stored.end - 2]
     }
 
-    /// The start of an item's line: the six digits of the descriptor and a space.
+    /// Returns the start of an item's line: the six digits of the descriptor and a space.
     #[inline(always)]
     pub fn line_start(&self) -> &'a [u8]
         ensures { result.now ≡ row_line_start (row_of_entry self.now) }
@@ -86,7 +87,7 @@ impl<'a> Entry<'a> {
         &self.octets[start..start + 7]
     }
 
-    /// The comment at the end of an item's line: `  # NAME [UNIT]` and a line feed.
+    /// Returns the comment at the end of an item's line: `  # NAME [UNIT]` and a line feed.
     #[inline(always)]
     pub fn comment(&self) -> &'a [u8]
         ensures { result.now ≡ row_comment (row_of_entry self.now) }
@@ -95,8 +96,9 @@ impl<'a> Entry<'a> {
         &self.octets[stored.start + 7..stored.end]
     }
 
-    /// The octets of the table from the start of an item's line on, and the length of its comment,
-    /// which begins at the eighth. Blocks of a fixed size are copied from them.
+    /// Returns the octets of the table from the start of an item's line on, and the length of its
+    /// comment, which begins at index 7. The octets may extend past the comment, so that callers
+    /// can copy blocks of a fixed size from them.
     #[inline(always)]
     pub fn line_on(&self) -> (&'a [u8], usize)
         ensures within { 7 + result.1 ≤ length result.0.now }
@@ -111,7 +113,7 @@ impl<'a> Entry<'a> {
         )
     }
 
-    /// What the values are, as the unit says.
+    /// Returns the kind of the values, which the unit determines.
     #[inline(always)]
     pub fn kind(&self) -> Kind
         ensures { result ≡ (row_of_entry self.now).kind }
@@ -119,7 +121,7 @@ impl<'a> Entry<'a> {
         self.stored.kind
     }
 
-    /// The scale, from -127 to 127: a value is (raw + reference) / 10^scale.
+    /// Returns the scale, from -127 to 127. A value is (raw + reference) / 10^scale.
     #[inline(always)]
     pub fn scale(&self) -> i16
         ensures { result ≡ (row_of_entry self.now).scale }
@@ -127,7 +129,7 @@ impl<'a> Entry<'a> {
         self.stored.scale
     }
 
-    /// The reference value, which is added to the raw value before the scale.
+    /// Returns the reference value, which is added to the raw value before the scale is applied.
     #[inline(always)]
     pub fn reference(&self) -> i64
         ensures { result ≡ (row_of_entry self.now).reference }
@@ -135,7 +137,7 @@ impl<'a> Entry<'a> {
         self.stored.reference
     }
 
-    /// The width in bits: 1 to 63, and for text 8 to 2,040 in whole octets.
+    /// Returns the width in bits: 1 to 63, or for text 8 to 2,040 in whole octets.
     #[inline(always)]
     pub fn width(&self) -> u32
         ensures { result ≡ (row_of_entry self.now).width }
@@ -184,7 +186,8 @@ impl<'a> fmt::Debug for Entry<'a> {
     }
 }
 
-/// A name or a unit.
+/// Returns the text if it can be a name or a unit: at most 512 octets without ASCII control
+/// characters.
 #[tactic(auto, unfolding(crate::specs::TableB::plain_of))]
 fn read_plain(text: &[u8]) -> Option<&[u8]>
     ensures { option_map (λ s. s.now) result ≡ plain_of text.now }
@@ -201,7 +204,8 @@ fn is_printable_text(text: &[u8]) -> bool
     text.iter().all(|octet| *octet >= 32 && *octet != 127)
 }
 
-/// The width of an element of this kind, in bits.
+/// Parses the width in bits of an element of this kind. Returns `None` if the kind does not allow
+/// it.
 #[tactic(auto, unfolding(crate::specs::TableB::width_of))]
 fn read_width(kind: Kind, text: &[u8]) -> Option<u32>
     ensures { result ≡ width_of kind text.now }
@@ -221,7 +225,7 @@ fn read_width(kind: Kind, text: &[u8]) -> Option<u32>
     Some(width)
 }
 
-/// The row that a record writes.
+/// A row of the table, parsed from a record.
 #[derive(Clone, Copy)]
 struct ParsedRow<'a> {
     fxy: Fxy,
@@ -233,7 +237,8 @@ struct ParsedRow<'a> {
     width: u32,
 }
 
-/// Whether a factor of delayed replications may have this row; another element may have any.
+/// Returns whether a row meets the additional conditions for factors of delayed replications. For
+/// all other elements, the result is `true`.
 fn is_valid_factor(row: &ParsedRow) -> bool
     ensures { result ≡ is_valid_factor (factor_width row.now.fxy) (row_parsed row.now) }
 {
@@ -248,7 +253,7 @@ fn is_valid_factor(row: &ParsedRow) -> bool
     row.width == width && row.scale == 0 && row.reference == 0 && row.kind != Kind::Character
 }
 
-/// The row that a record writes, where it writes one.
+/// Parses a record. Returns `None` if it is not a valid row.
 #[tactic(auto, unfolding(crate::specs::TableB::row_of, crate::specs::TableB::element_of, crate::specs::TableB::scale_of))]
 // rule: fault-41-of-table-b
 fn parse_row(fields: &ByteRecord) -> Option<ParsedRow<'_>>
@@ -283,9 +288,9 @@ fn parse_row(fields: &ByteRecord) -> Option<ParsedRow<'_>>
     Some(row)
 }
 
-/// Table B: the elements, by their descriptors.
+/// Table B: the elements, which can be looked up by their descriptors.
 ///
-/// A clause sees the table as the list of its rows, in the order of the file.
+/// Contracts see the table as the list of its rows, in the order of the file.
 ///
 /// ```
 /// let text = b"fxy,name,unit,scale,reference,width\n012101,AIR TEMPERATURE,K,2,0,16\n";
@@ -298,7 +303,7 @@ pub struct TableB {
     /// The octets of the elements, one after another.
     octets: Vec<u8>,
     stored: Vec<Stored>,
-    /// The descriptors of `stored`.
+    /// The descriptors of the elements in `stored`, as an index.
     directory: FxyIndex,
 }
 
@@ -320,17 +325,18 @@ impl TableB {
 
     /// Reads Table B from the octets of a CSV file.
     ///
-    /// Its header is `fxy,name,unit,scale,reference,width`. Each further record is one element.
-    /// `fxy` is six digits of an element. Name and unit have at most 512 octets without control
-    /// characters. The others are whole numbers, in the limits that [`Entry`] states. The factors
-    /// of delayed replications, 031000, 031001 and 031002, must be unsigned numbers of 1, 8 and 16
-    /// bits with scale and reference 0.
+    /// The header must be `fxy,name,unit,scale,reference,width`. Each further record defines one
+    /// element. `fxy` is its descriptor, as six digits. Name and unit have at most 512 octets and
+    /// no ASCII control characters. The other fields are whole numbers within the limits that
+    /// [`Entry`] states. The factors of delayed replications (031000, 031001 and 031002) must not
+    /// be text, and must have 1, 8 and 16 bits, scale 0 and reference value 0.
     ///
     /// # Errors
     ///
-    /// [`TableFault::Header`], and of the first record at fault [`TableFault::Csv`],
-    /// [`TableFault::Row`] or [`TableFault::Duplicate`], in this order; [`TableFault::Memory`]
-    /// where memory ran out.
+    /// [`TableFault::Header`] if the first record is not the header. The first invalid record, if
+    /// there is one, determines the fault: the first of [`TableFault::Csv`], [`TableFault::Row`]
+    /// and [`TableFault::Duplicate`] that applies to it. [`TableFault::Memory`] if memory cannot be
+    /// allocated.
     // rule: first-record-decides
     pub fn read(alloc: Global, text: &[u8]) -> Result<TableB, TableFault>
         ensures read { ReturnsUnlessMemory (table_b_of (records_of text.now)) result }
@@ -348,7 +354,8 @@ impl TableB {
         Ok(table)
     }
 
-    /// What the table says of an element, if it has it, within the limits that [`Entry`] states.
+    /// Returns the entry of an element, or `None` if the table does not contain it. The entry is
+    /// within the limits that [`Entry`] states.
     #[inline(always)]
     pub fn get(&self, fxy: Fxy) -> Option<Entry<'_>>
         ensures value { option_map row_of_entry result ≡ entry_of self.now fxy }
@@ -399,7 +406,7 @@ impl TableB {
     }
 }
 
-/// Pushes the octets of a row onto a block of octets.
+/// Appends the octets of a row to a block of octets, and returns the element as it is stored there.
 fn store(octets: &mut Vec<u8>, row: &ParsedRow) -> Result<Stored, AllocError>
     ensures grows { ExtendsBlock octets.old.items octets.new.items }
     ensures ok { IfOk result (λ s. IsStored octets.new.items row.now s) }
@@ -426,19 +433,19 @@ fn store(octets: &mut Vec<u8>, row: &ParsedRow) -> Result<Stored, AllocError>
     })
 }
 
-/// What the values of an element are, which its unit determines.
+/// The kind of an element's values, which its unit determines.
 #[derive(Clone, Copy, Debug, PartialEq, Eq)]
 pub enum Kind {
     /// Text: the unit is `CCITT IA5`.
     Character,
     /// Entries of a code table, a common code table or a flag table.
     Coded,
-    /// A quantity in the unit.
+    /// Quantities in the unit.
     Numeric,
 }
 
 impl Kind {
-    /// The kind of the elements with this unit. ASCII case makes no difference.
+    /// Returns the kind of elements with this unit. ASCII case is ignored.
     #[tactic(auto, unfolding(crate::specs::TableB::kind_of))]
     // rule: kind-by-unit
     pub(crate) fn of(unit: &[u8]) -> Kind
@@ -457,7 +464,7 @@ impl Kind {
     }
 }
 
-/// Whether a text begins with these words, whatever their case.
+/// Returns whether a text begins with these words. ASCII case is ignored.
 #[tactic(auto, unfolding(crate::specs::TableB::begins_with))]
 fn starts_with(text: &[u8], words: &[u8]) -> bool
     ensures { result ≡ begins_with text.now words.now }

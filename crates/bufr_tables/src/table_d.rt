@@ -1,4 +1,5 @@
-//! Table D, the sequences, read from CSV, and refused where a sequence reaches itself.
+//! Table D, which defines the sequences, read from CSV. It is rejected if a sequence contains
+//! itself, directly or through other sequences.
 ghost use Rattle.std.specs.Prelude.{◌≡◌, ◌≢◌, ◌≤◌, ◌<◌, [], ◌∷◌, ◌++◌, None, length, slice_index, OnOk, IfErr, IfOk, IfSome, is_some, option_map, Ok, Err, IsTrue, MatchOption, ◌↔◌, List, ℕ};
 ghost use Rattle.csv.specs.Records.{fields_of};
 ghost use Rattle.bufr_tables.specs.declared.fault.TableFault.TheVariants.{Memory};
@@ -16,10 +17,11 @@ use std::marker::Model;
 /// The fields of the header.
 const HEADER: [&[u8]; 2] = [b"fxy", b"member"];
 
-/// How many rows the table may have.
+/// The greatest number of rows in the table.
 const ROWS: u64 = 65536;
 
-/// The sequence and the member that a record writes, where it writes a row.
+/// Parses a record. Returns the sequence and its member, or `None` if the record is not a valid
+/// row.
 #[tactic(auto, unfolding(crate::specs::TableD::member_of, crate::specs::TableD::sequence_of))]
 // rule: fault-41-of-table-d
 fn row(fields: &ByteRecord) -> Option<(Fxy, Fxy)>
@@ -35,7 +37,7 @@ fn row(fields: &ByteRecord) -> Option<(Fxy, Fxy)>
     Some((sequence, member))
 }
 
-/// The members of a sequence, from `start` to `end` of all members.
+/// A sequence, whose members extend from `start` to `end` in the members of all sequences.
 #[derive(Clone, Copy)]
 struct MemberRange {
     fxy: Fxy,
@@ -43,9 +45,9 @@ struct MemberRange {
     end: usize,
 }
 
-/// Table D: the sequences, by their descriptors.
+/// Table D: the sequences, which can be looked up by their descriptors.
 ///
-/// A clause sees the table as the list of its sequences, in the order of the file.
+/// Contracts see the table as the list of its sequences, in the order of the file.
 ///
 /// ```
 /// let text = b"fxy,member\n360192,001001\n360192,012101\n";
@@ -55,10 +57,10 @@ struct MemberRange {
 /// ```
 #[derive(Drop)]
 pub struct TableD {
-    /// The members of all sequences, one after another.
+    /// The members of all sequences, one sequence after another.
     members: Vec<Fxy>,
     runs: Vec<MemberRange>,
-    /// X and Y of the sequences of `runs`.
+    /// X and Y of the sequences in `runs`, as an index.
     directory: FxyIndex,
 }
 
@@ -73,15 +75,18 @@ impl Model for TableD {
 impl TableD {
     /// Reads Table D from the octets of a CSV file.
     ///
-    /// Its header is `fxy,member`. Each further record is one member of a sequence: `fxy` six
-    /// digits of a sequence, `member` six digits of any descriptor. The rows of one sequence are
-    /// together, in the order of its members. There are at most 65,536 rows.
+    /// The header must be `fxy,member`. Each further record is one member of a sequence: `fxy` is
+    /// the descriptor of the sequence, and `member` is any descriptor, each as six digits. The rows
+    /// of a sequence must be contiguous, in the order of its members. There may be at most 65,536
+    /// rows.
     ///
     /// # Errors
     ///
-    /// [`TableFault::Header`], and of the first record at fault [`TableFault::Csv`],
-    /// [`TableFault::Row`], [`TableFault::Duplicate`] or [`TableFault::TableSize`], in this order;
-    /// after all records [`TableFault::Cycle`]; [`TableFault::Memory`] where memory ran out.
+    /// [`TableFault::Header`] if the first record is not the header. The first invalid record, if
+    /// there is one, determines the fault: the first of [`TableFault::Csv`], [`TableFault::Row`],
+    /// [`TableFault::Duplicate`] and [`TableFault::TableSize`] that applies to it.
+    /// [`TableFault::Cycle`] if all records are valid, but a sequence contains itself, directly or
+    /// through other sequences. [`TableFault::Memory`] if memory cannot be allocated.
     // rule: first-record-decides, fault-43-last
     pub fn read(alloc: Global, text: &[u8]) -> Result<TableD, TableFault>
         ensures read { ReadsTableD (records_of text.now) result }
@@ -102,7 +107,7 @@ impl TableD {
         }
     }
 
-    /// The members of a sequence in order, if the table has it.
+    /// Returns the members of a sequence in order, or `None` if the table does not contain it.
     pub fn members(&self, fxy: Fxy) -> Option<&[Fxy]>
         ensures { option_map (λ s. s.now) result ≡ members_of self.now fxy }
     {
@@ -133,7 +138,7 @@ impl TableD {
         self.runs.len()
     }
 
-    /// The descriptor of the sequence at a place of the file, counted from 0.
+    /// Returns the descriptor of a sequence by its position in the file, counted from 0.
     pub(crate) fn sequence_at(&self, place: usize) -> Fxy
         requires { place < length self.now }
         ensures { result ≡ slice_index (fxys_of self.now) place }
@@ -212,10 +217,11 @@ impl TableD {
     }
 }
 
-/// How many descriptors there are.
+/// The number of descriptors.
 const WORDS: usize = 65536;
 
-/// The first sequence that reaches itself, if one does; ranks leave only that one to search.
+/// Returns the first sequence that contains itself, directly or through other sequences, or `None`
+/// if there is none. Thanks to the ranks, no other sequence has to be searched.
 // rule: fault-43
 pub(crate) fn first_cycle(alloc: Global, table: &TableD) -> Result<Option<Fxy>, AllocError>
     ensures { IfOk result (λ o. MatchOption o ((fxy : ℕ) → ¬ ReachesItself table.now fxy)
@@ -235,7 +241,7 @@ pub(crate) fn first_cycle(alloc: Global, table: &TableD) -> Result<Option<Fxy>, 
     Ok(None)
 }
 
-/// Whether no sequence has a rank below that of a member.
+/// Returns whether no sequence has a lower rank than one of its members.
 fn falls(table: &TableD, ranks: &[u32]) -> bool
     requires { length ranks.now ≡ 16384 }
     ensures { IsTrue result → Falls table.now ranks.now }
@@ -250,7 +256,8 @@ fn falls(table: &TableD, ranks: &[u32]) -> bool
     true
 }
 
-/// Whether a limit is above the ranks of all members of a sequence.
+/// Returns whether `limit` is above the rank of each member of a sequence that is itself a
+/// sequence.
 fn is_above(table: &TableD, ranks: &[u32], sequence: Fxy, limit: u32) -> bool
     requires { length ranks.now ≡ 16384 }
     ensures { IsTrue result → IsAbove table.now ranks.now sequence limit }
@@ -278,7 +285,8 @@ fn reaches_itself(alloc: Global, table: &TableD, sequence: Fxy) -> Result<bool, 
     Ok(seen[usize::from(sequence.word())])
 }
 
-/// Puts the members of a sequence that are sequences and were not seen after the queue.
+/// Appends those members of a sequence to the queue that are sequences and were not seen before,
+/// and marks them as seen.
 fn visit(
     table: &TableD,
     sequence: Fxy,
@@ -301,19 +309,22 @@ fn visit(
     Ok(())
 }
 
-/// A rank for each sequence of the table, at its X and Y. That of a member is the same where it
-/// leads back, and else lower. Until it has its rank, a sequence has a mark above all ranks.
+/// Returns a rank for each sequence of the table, at the index given by X and Y. A member has the
+/// same rank as its sequence if it leads back to it, and a lower rank otherwise. Until its rank is
+/// known, a sequence has a mark, which is above all ranks.
 fn ranks_of(alloc: Global, table: &TableD) -> Result<Vec<u32>, AllocError>
     ensures { IfOk result (λ v. length v.items ≡ 16384) }
 {
     let mut ranks = vec![in alloc; 0u32; KEYS]?;
-    // What is left to search, depth first: each sequence first and again after its members, and
-    // each row. These are fewer than 131,072.
+    // The stack of the depth-first search. Each sequence is pushed at the start, and again to be
+    // completed after its members; each member is pushed once. This makes fewer than 131,072
+    // entries.
     let mut left = Vec::new(alloc);
     for place in 0..table.count() {
         left.push((table.sequence_at(place), false))?;
     }
-    // Those after their members: their marks are the greatest that their members lead to.
+    // Sequences that were completed but have no rank yet. Their marks are the greatest that their
+    // members lead to.
     let mut marked = Vec::new(alloc);
     let mut rank = 0u32;
     let mut mark = u32::MAX;
@@ -348,7 +359,7 @@ fn ranks_of(alloc: Global, table: &TableD) -> Result<Vec<u32>, AllocError>
         if most > own {
             continue;
         }
-        // It and those that were marked since lead to one another.
+        // This sequence and those that were marked after it lead to one another.
         rank = rank.saturating_add(1);
         for _ in 0..marked.len() {
             let Some(last) = marked.pop() else {

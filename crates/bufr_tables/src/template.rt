@@ -1,4 +1,4 @@
-//! Templates: the tree that a list of descriptors means, flattened to cells.
+//! Templates: the trees to which descriptor lists expand, flattened to cells.
 ghost use Rattle.std.specs.Prelude.{◌≡◌, ◌≤◌, length};
 ghost use Rattle.bufr_tables.specs.Tree.{places as places_of, depth as depth_of, Tree};
 ghost use Rattle.bufr_tables.specs.Cells.{AreCellsOf, tree_code, trees_of_cells, IsTemplate};
@@ -6,22 +6,25 @@ ghost use Rattle.bufr_tables.specs.Cells.{AreCellsOf, tree_code, trees_of_cells,
 use crate::fxy::Fxy;
 use std::marker::Model;
 
-/// One place of a template, as a walk takes them, one a turn.
+/// An entry in the flat list that stores a template. A walk processes one cell per turn.
 ///
-/// The cells of a group are `Fixed`, or `Delayed` and `Factor`, then those of its body, then
-/// `PassEnd`. The last cell of a template is `Finish`. Places count from 0.
+/// The cells of a group are `Fixed`, or `Delayed` and `Factor`; then those of its body; then
+/// `PassEnd`. The last cell of a template is `Finish`. A place is the index of a cell, counted from
+/// 0.
 #[derive(Clone, Copy, Debug, PartialEq, Eq)]
 pub enum Cell {
-    /// An element of Table B, or the local descriptor after 2 06 Y, which Table B need not have.
+    /// An element of Table B, or the local descriptor after 2 06 Y, which need not be in Table B.
     Element(Fxy),
     /// An operator of Table C, with its operand.
     Operator(Fxy),
-    /// A group of so many passes, 1 to 255, and the place after the group's `PassEnd`.
+    /// The start of a group with a fixed number of passes, 1 to 255, and the place after the
+    /// group's `PassEnd`.
     Fixed(u8, u32),
-    /// A group of as many passes as the value of its factor, and the place after the group's
-    /// `PassEnd`.
+    /// The start of a group with as many passes as the value of its factor, and the place after the
+    /// group's `PassEnd`.
     Delayed(u32),
-    /// The factor of the delayed group before it: 0 31 000, 0 31 001 or 0 31 002.
+    /// The factor of the group that begins with the `Delayed` before it: 0 31 000, 0 31 001 or
+    /// 0 31 002.
     Factor(Fxy),
     /// The end of a pass of the innermost open group.
     PassEnd,
@@ -29,12 +32,12 @@ pub enum Cell {
     Finish,
 }
 
-/// A template: the tree of elements, operators and groups that a list of descriptors means,
-/// sequences replaced by their members (WMO-No. 306, Volume I.2, FM 94: section 3, Table D),
-/// written out in cells. A clause sees it as that tree.
+/// A template: the tree of elements, operators and groups to which a descriptor list expands, with
+/// sequences replaced by their members (WMO-No. 306, Volume I.2, FM 94: section 3, Table D). It is
+/// stored as a flat list of cells. Contracts see it as the tree.
 ///
-/// Some node of each group's body, and of the whole, takes bits of the data, so that a pass of a
-/// group is never free.
+/// At least one node in the body of each group, and at least one in the whole template, takes bits
+/// of the data, so that no pass of a group is free.
 #[derive(Debug, Drop)]
 pub struct Template {
     pub(crate) cells: Vec<Cell>,
@@ -52,9 +55,10 @@ impl Model for Template {
 }
 
 impl Template {
-    /// How many places it takes, from 2 to 65,535: one for its end, and one for each element and
-    /// operator. A group of a fixed count takes two, and a delayed group three, its factor among
-    /// them. Takes no memory.
+    /// Returns the number of places, from 2 to 65,535. The end of the template takes one place, and
+    /// so does each element and operator. In addition to its body, a group takes two places if its
+    /// count is fixed, or three if it is delayed, one of which is for its factor. This does not
+    /// allocate.
     pub fn places(&self) -> u32
         ensures value { result ≡ places_of self.now }
         ensures most { result ≤ 65535 }
@@ -62,7 +66,8 @@ impl Template {
         self.cells.len() as u32
     }
 
-    /// The greatest number of groups open at one place, from 0 to 32. Takes no memory.
+    /// Returns the greatest number of groups that are open at one place, from 0 to 32. This does
+    /// not allocate.
     pub fn depth(&self) -> u32
         ensures value { result ≡ depth_of self.now }
         ensures most { result ≤ 32 }
@@ -70,9 +75,10 @@ impl Template {
         self.depth
     }
 
-    /// Its cells in the order of the data, as many as [`Template::places`] says. The cells of a
-    /// group are [`Cell::Fixed`], or [`Cell::Delayed`] and [`Cell::Factor`], then those of its
-    /// body, then [`Cell::PassEnd`]; the last cell is [`Cell::Finish`]. Takes no memory.
+    /// Returns the cells in the order of the data, as many as [`Template::places`] returns. The
+    /// cells of a group are [`Cell::Fixed`], or [`Cell::Delayed`] and [`Cell::Factor`]; then those
+    /// of its body; then [`Cell::PassEnd`]. The last cell is [`Cell::Finish`]. This does not
+    /// allocate.
     pub fn cells(&self) -> &[Cell]
         ensures flattened { AreCellsOf result.now self.now }
         ensures count { length result.now ≡ places_of self.now }
