@@ -1,13 +1,15 @@
-//! `bufr`: lists, dumps and encodes messages of FM 94 BUFR.
+//! `bufr`: lists, dumps and encodes FM 94 BUFR messages.
 //!
-//! `bufr ls [FILE]` writes a line for each message of a stream. `bufr dump -B FILE -D FILE [FILE]`
-//! writes the text of each, by Tables B and D. `bufr encode -B FILE -D FILE [--form WORD] [FILE]`
-//! writes the messages that such texts spell. Faults go to standard error, a line each. The exit
-//! status is 0 where nothing was refused, and 1 where a message or a document was. It is 2 where
-//! the command line, a file, a table, reading, writing or memory failed.
+//! `bufr ls [FILE]` prints a line for each message of a stream. `bufr dump -B FILE -D FILE [FILE]`
+//! prints each message as text, using Tables B and D.
+//! `bufr encode -B FILE -D FILE [--form WORD] [FILE]` encodes such text as messages. Faults are
+//! reported on standard error, one per line. The exit status is 0 if nothing was rejected, and 1 if
+//! a message or a document was rejected or the input contained a stray. It is 2 if the command line
+//! or a table was invalid, a file could not be opened, reading or writing failed, or memory ran
+//! out.
 //!
-//! This crate wraps the process: its arguments, its inputs and its writers. [`run`] of `bufr_cli`
-//! does what the arguments ask for.
+//! This crate provides the arguments, the inputs and the writers of the process. [`run`] of
+//! `bufr_cli` does what the arguments specify.
 #![tactic(auto)]
 
 ghost use Rattle.bufr.specs.Calling.{IsWordless, RunsArguments};
@@ -22,12 +24,12 @@ use process::Process;
 use std::io::{Error, ErrorKind};
 use std::process::ExitCode;
 
-/// Runs the command line over the process's own inputs and writers.
+/// Runs the command line with the process's own inputs and writers.
 fn main(rt: HostRuntime) -> ExitCode {
     ExitCode::from(status(&rt))
 }
 
-/// The exit status of the process.
+/// Runs the command line, and returns the exit status of the process.
 // rule: output-held-back
 fn status(rt: &HostRuntime) -> u8 {
     let Ok(mut e) = Buffered::new(rt.alloc(), BUFFERED, Device::new(rt.stderr())) else {
@@ -44,7 +46,7 @@ fn status(rt: &HostRuntime) -> u8 {
     status
 }
 
-/// Why there are no words of a command line.
+/// Returns the outcome if the arguments of the process cannot be read.
 // rule: argument-not-utf-8
 fn argument_fault(error: &Error) -> Outcome<'static>
     ensures { IsWordless result }
@@ -56,7 +58,7 @@ fn argument_fault(error: &Error) -> Outcome<'static>
     }
 }
 
-/// Runs the words of the command line over these inputs.
+/// Runs the command line of the process with these inputs and writers.
 fn run_words<I: Inputs, W: Sink, E: Sink>(
     rt: &HostRuntime,
     inputs: &mut I,

@@ -1,15 +1,15 @@
-//! The process as the program's inputs.
+//! The inputs of the program, provided by the process.
 use bufr_bits::BufferedDevice;
 use bufr_cli::{BUFFERED, Inputs, OpenFault};
 use std::alloc::AllocError;
 use std::fs::{self, File};
 use std::io::{BufReader, Stdin};
 
-/// The inputs of the process: its standard input, and files by their names. Nothing is known of
-/// their octets before they are read.
+/// The inputs of the process: its standard input, and files that are opened by name. Nothing is
+/// known about their octets before they are read.
 #[derive(Drop)]
 pub struct Process<'a> {
-    /// The process.
+    /// The runtime of the process.
     pub runtime: &'a HostRuntime,
 }
 

@@ -1,4 +1,4 @@
-//! The calls for programs in C.
+//! The functions that C programs call.
 ghost use Rattle.std.specs.Prelude.{◌≡◌, IfNone, IfSome, drop, pos};
 ghost use Rattle.bufr_cli.specs.Prelude.{dump_piece, encode_pieces, ls_piece};
 ghost use Rattle.bufr_text.specs.Prelude.{documents_of};
@@ -17,8 +17,7 @@ use crate::texts::{
 };
 use std::alloc::Global;
 
-/// The version of the library: 1,000,000 times the first number, 1,000 times the second, and the
-/// third.
+/// Returns the version of the library: 1,000,000 * major + 1,000 * minor + patch.
 #[unsafe(no_mangle)]
 pub extern "C" fn bufr_version() -> u32
     ensures { result ≡ 1000 }
@@ -26,9 +25,11 @@ pub extern "C" fn bufr_version() -> u32
     1_000
 }
 
-/// Lists the messages of a stream, from `texts.at` on: a line for each in `lines`, a fault line for
-/// each that is refused in `faults`. Returns 0 at the end, 73 if memory ran out, and 74 before the
-/// first message whose line does not fit.
+/// Lists the messages of a stream, starting at `texts.at`.
+///
+/// Writes a line for each accepted message to `lines`, and a fault line for each stray and each
+/// rejected message to `faults`. Returns 0 at the end of the stream, 73 if memory runs out, and 74
+/// before the first event whose line does not fit.
 #[unsafe(no_mangle)]
 pub extern "C" fn bufr_list(
     alloc: Global,
@@ -48,10 +49,12 @@ pub extern "C" fn bufr_list(
     write_events(&run, octets, lines, faults, texts)
 }
 
-/// Dumps the messages of a stream from `texts.at` on: their texts in `text`, a fault line for each
-/// that is refused in `faults`. Returns 0 at the end, 73 if memory ran out, and 74 before the first
-/// message whose text does not fit. If a table cannot be read, returns its fault: that of Table B,
-/// or 100 more for Table D.
+/// Dumps the messages of a stream, starting at `texts.at`.
+///
+/// Writes the dump of each accepted message to `text`, and a fault line for each stray and each
+/// rejected message to `faults`. Returns 0 at the end of the stream, 73 if memory runs out, and 74
+/// before the first event whose text or fault line does not fit. If a table cannot be read, returns
+/// the number of its fault, plus 100 for Table D.
 #[tactic(auto, using(crate::proofs::EventLemmas::unread, crate::proofs::EventLemmas::dump_read, crate::proofs::EventLemmas::ran_status))]
 #[unsafe(no_mangle)]
 pub extern "C" fn bufr_dump(
@@ -80,10 +83,12 @@ pub extern "C" fn bufr_dump(
     write_events(&run, input.octets, text, faults, texts)
 }
 
-/// Encodes all documents of the text from `texts.at` on, up to the first that is refused: the
-/// messages in `messages`, the line of the refused document in `faults`. Returns 0 at the end. If
-/// either has no room, returns 74, says how much is needed and writes nothing. Returns 75 if there
-/// is no such form, and otherwise the statuses of [`bufr_dump`].
+/// Encodes the documents of a text, starting at `texts.at`, up to the first that is rejected.
+///
+/// Writes the messages to `messages`, and the fault line of the rejected document to `faults`.
+/// Returns 0 if all of this fits. If either buffer is too small, returns 74, writes nothing, and
+/// reports the required room in `texts`. Returns 75 if there is no form with this number. The other
+/// statuses are those of [`bufr_dump`].
 #[tactic(auto, using(crate::proofs::EventLemmas::encode_unread, crate::proofs::EventLemmas::encode_read, crate::proofs::EventLemmas::known_status, crate::proofs::EventLemmas::known_form, crate::proofs::EventLemmas::unknown_form, crate::proofs::EventLemmas::ran_status, crate::proofs::EventLemmas::memory_status, crate::proofs::EventLemmas::stopped_73))]
 #[unsafe(no_mangle)]
 pub extern "C" fn bufr_encode(
@@ -128,10 +133,12 @@ pub extern "C" fn bufr_encode(
     DONE
 }
 
-/// Reads the items of the messages of a stream from `counts.at` on: a row for each wanted item in
-/// `rows.items`, the octets of their texts in `rows.texts`, and a row for each message or stray
-/// `BUFR` in `rows.messages`. Returns 0 at the end, 73 if memory ran out, and 74 before the first
-/// message that does not fit. If a table cannot be read, returns its fault as [`bufr_dump`] does.
+/// Reads the items of the messages of a stream, starting at `counts.at`.
+///
+/// Writes a row for each wanted item to `rows.items`, the octets of strings and wide numbers to
+/// `rows.texts`, and a row for each message or stray to `rows.messages`. Returns 0 at the end of
+/// the stream, 73 if memory runs out, and 74 before the first event that does not fit. If a table
+/// cannot be read, returns its fault as [`bufr_dump`] does.
 #[tactic(auto, using(crate::proofs::RowLemmas::unread_rows, crate::proofs::RowLemmas::buffers_here, crate::proofs::RowLemmas::items_read, crate::proofs::EventLemmas::ran_status))]
 #[unsafe(no_mangle)]
 pub extern "C" fn bufr_items(

@@ -1,4 +1,4 @@
-//! The text of one event, as the command writes it.
+//! The text of one event, as the program `bufr` writes it.
 ghost use Rattle.std.specs.Prelude.{◌≡◌, ◌∷◌, [], false, IfOk, OnOk};
 ghost use Rattle.bufr_frame.specs.Prelude.{scan, FrameAt, cause_report};
 ghost use Rattle.bufr_cli.specs.Prelude.{OnErrors, dump_piece, encode_pieces, fault_line, ls_piece};
@@ -14,38 +14,38 @@ use bufr_tables::{TableB, TableD};
 use bufr_text::Form;
 use std::alloc::Global;
 
-/// A command over a stream.
+/// A command that runs on a stream.
 #[derive(Clone, Copy)]
 pub(crate) enum Command<'t> {
-    /// `bufr ls`
+    /// `bufr ls`.
     List,
-    /// `bufr dump` by these tables.
+    /// `bufr dump`, using these tables.
     Dump(&'t TableB, &'t TableD),
 }
 
-/// A command, and where it allocates.
+/// A command and its allocator.
 #[derive(Clone, Copy)]
 pub(crate) struct Run<'t> {
     pub(crate) alloc: Global,
     pub(crate) command: Command<'t>,
 }
 
-/// The text of one event, and memory for making it.
+/// The text of one event, and the buffers that are reused to build it.
 #[derive(Drop)]
 pub(crate) struct EventText {
     alloc: Global,
     /// The text for the output.
     pub(crate) output: TextOut,
-    /// The text for the errors.
+    /// The text for the error output.
     pub(crate) errors: TextOut,
     /// Whether the event is an accepted message.
     pub(crate) accepted: bool,
-    /// Output and errors that report offset 0.
+    /// Output and fault lines with offset 0, before the offset is corrected.
     lines: TextOut,
     faults: TextOut,
 }
 
-/// The line of a stray `BUFR` at offset 0.
+/// Returns the fault line of a stray at offset 0.
 fn stray_line(cause: Cause) -> &'static [u8]
     ensures { result.now ≡ fault_line 0 (cause_report cause) }
 {
@@ -68,7 +68,7 @@ impl EventText {
         }
     }
 
-    /// Clears all text and retains its memory.
+    /// Clears all text, but keeps its memory allocated.
     fn clear(&mut self)
         ensures output { self.new.output.octets.items ≡ [] }
         ensures errors { self.new.errors.octets.items ≡ [] }
@@ -83,7 +83,7 @@ impl EventText {
         self.accepted = false;
     }
 
-    /// Makes the text of a stray `BUFR`.
+    /// Sets the text to the fault line of a stray.
     pub(crate) fn set_stray(&mut self, offset: u64, cause: Cause) -> Result<(), RunFault>
         ensures { OnOk result (IsTextOf self.new
             (OnErrors (fault_line offset (cause_report cause)))) }
@@ -92,8 +92,8 @@ impl EventText {
         write_moved(stray_line(cause), offset, &mut self.errors)
     }
 
-    /// Makes the text that `bufr ls` writes for a message. It lists the octets of the message
-    /// alone, and then corrects the offset.
+    /// Sets the text to what `bufr ls` writes for a message. Lists the message alone, as if it were
+    /// at offset 0, and then corrects the offset.
     fn set_listed(&mut self, offset: u64, octets: &[u8]) -> Result<(), RunFault>
         requires { scan octets.now ≡ FrameAt 0 octets.now ∷ [] }
         ensures { OnOk result (IsTextOf self.new (ls_piece (FrameAt offset octets.now))) }
@@ -106,7 +106,7 @@ impl EventText {
         write_moved(self.faults.octets.as_slice(), offset, &mut self.errors)
     }
 
-    /// Makes the text that `bufr dump` writes for a message, in the same way.
+    /// Sets the text to what `bufr dump` writes for a message, in the same way.
     fn set_dumped(
         &mut self,
         offset: u64,
@@ -125,7 +125,7 @@ impl EventText {
         write_moved(self.faults.octets.as_slice(), offset, &mut self.errors)
     }
 
-    /// Makes the text that a command writes for a message.
+    /// Sets the text to what a command writes for a message.
     pub(crate) fn set_message(
         &mut self,
         command: &Command<'_>,
@@ -142,7 +142,7 @@ impl EventText {
         }
     }
 
-    /// Makes the text that `bufr encode` writes for all documents of a text.
+    /// Sets the text to what `bufr encode` writes for all documents of a text.
     #[tactic(auto, using(crate::proofs::EventLemmas::all_encoded))]
     pub(crate) fn set_encoded(
         &mut self,

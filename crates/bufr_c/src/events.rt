@@ -9,16 +9,17 @@ use crate::texts::{DONE, NO_ROOM, OUT_OF_MEMORY, Texts};
 use bufr_frame::{Cause, RunFault};
 use memchr::memmem;
 
-/// What begins at a `BUFR`.
+/// What begins at an occurrence of `BUFR`.
 #[derive(Clone, Copy)]
 pub(crate) enum Candidate {
-    /// No message: the word is a stray one.
+    /// A stray, and its cause.
     Stray(Cause),
-    /// A message of this length.
+    /// A message of this length in octets.
     Frame(usize),
 }
 
-/// What begins where `m`, which begins with `BUFR`, begins: the first case that holds counts.
+/// Returns what begins at the start of `m`, which starts with `BUFR`. The checks are made in the
+/// order of the fault numbers, and the first one that fails decides.
 pub(crate) fn classify(m: &[u8]) -> Candidate
     requires { StartsWithBufr m.now }
     ensures { IsCandidate m.now result }
@@ -39,8 +40,8 @@ pub(crate) fn classify(m: &[u8]) -> Candidate
     Candidate::Frame(len)
 }
 
-/// Makes the text of the event where `m`, which begins with `BUFR`, begins. Returns the number of
-/// octets after which the search continues.
+/// Sets `text` to the text of the event at the start of `m`, which starts with `BUFR`. Returns the
+/// number of octets to skip before the search continues.
 fn set_event(
     command: &Command<'_>,
     offset: u64,
@@ -63,7 +64,7 @@ fn set_event(
     }
 }
 
-/// Copies values into `to`, from index `at` on. Returns the index after the last one.
+/// Copies `values` into `to`, from index `at` on. Returns the index after the last copied value.
 pub(crate) fn put<T: Copy>(values: &[T], at: usize, to: &mut [T]) -> usize
     requires { at + length values.now ≤ length to.old }
     ensures end { result ≡ at + length values.now }
@@ -77,7 +78,7 @@ pub(crate) fn put<T: Copy>(values: &[T], at: usize, to: &mut [T]) -> usize
 }
 
 /// Appends the text of an event to the earlier texts if there is room, and returns whether there
-/// is. If not, `texts` says how much room the event needs.
+/// is. If not, sets the room that the event needs in `texts`.
 pub(crate) fn write_text(
     text: &EventText,
     output: &mut [u8],
@@ -104,6 +105,7 @@ pub(crate) fn write_text(
 }
 
 /// Writes the texts of the events from `texts.at` on, one event at a time, while there is room.
+/// Returns the status of the call.
 #[tactic(auto, using(crate::proofs::EventLemmas::so_far_stopped))]
 pub(crate) fn write_events(
     run: &Run<'_>,

@@ -17,9 +17,9 @@ use std::marker::Model;
 #[derive(Drop)]
 pub(crate) struct ItemsOut<'w> {
     wanted: &'w [u16],
-    /// The index of the message.
+    /// The index of the message among the rows of messages.
     message: u32,
-    /// The index of the first octet of its texts.
+    /// The index, in the caller's buffer, of the first octet of the message's texts.
     base: usize,
     subset: u16,
     pub(crate) items: Vec<ValueRow>,
@@ -55,7 +55,7 @@ impl<'w> ItemsOut<'w> {
         }
     }
 
-    /// Clears all rows and retains their memory.
+    /// Clears all rows, but keeps their memory allocated, and prepares for the next message.
     fn restart(&mut self, wanted: &'w [u16], message: u32, base: usize)
         ensures { self.new ≡ no_items wanted.now message base }
     {
@@ -67,14 +67,14 @@ impl<'w> ItemsOut<'w> {
         self.subset = 0;
     }
 
-    /// Whether an item of this descriptor is wanted.
+    /// Returns whether items with this descriptor are wanted.
     fn is_wanted(&self, fxy: u16) -> bool
         ensures { result ≡ is_wanted self.now.wanted fxy }
     {
         self.wanted.is_empty() || self.wanted.contains(&fxy)
     }
 
-    /// Adds a row.
+    /// Appends a row without octets.
     fn put_row(&mut self, fxy: u16, kind: u8, scale: i16, value: i64) -> Result<(), AllocError>
         ensures { OnOk result (self.new ≡ with_item self.old fxy kind scale value 0) }
     {
@@ -91,7 +91,7 @@ impl<'w> ItemsOut<'w> {
         Ok(())
     }
 
-    /// Adds octets, and a row for them.
+    /// Appends octets, and a row for them.
     fn put_text(&mut self, fxy: u16, kind: u8, scale: i16, octets: &[u8]) -> Result<(), AllocError>
         ensures { OnOk result (self.new ≡ with_text self.old fxy kind scale octets.now) }
     {
@@ -115,7 +115,7 @@ impl<'w> ItemsOut<'w> {
         Ok(())
     }
 
-    /// Adds a number that 64 bits do not hold.
+    /// Appends a number that does not fit in 64 bits.
     fn put_wide(&mut self, fxy: u16, scale: i16, number: i128) -> Result<(), AllocError>
         ensures { OnOk result (self.new ≡ with_wide self.old fxy scale number) }
     {
@@ -123,7 +123,7 @@ impl<'w> ItemsOut<'w> {
         self.put_text(fxy, WIDE, scale, &octets)
     }
 
-    /// Adds a number.
+    /// Appends a number, which is wide if it does not fit in 64 bits.
     fn put_number(&mut self, fxy: u16, scale: i16, number: i128) -> Result<(), AllocError>
         ensures { OnOk result (self.new ≡ with_number self.old fxy scale number) }
     {
@@ -161,7 +161,7 @@ impl<'w> Visitor for ItemsOut<'w> {
     }
 }
 
-/// Sets a list to the descriptors of a message.
+/// Sets `list` to the descriptors of `message`.
 fn set_descriptors(list: &mut Vec<Fxy>, message: &Message<'_>) -> Result<(), AllocError>
     ensures { OnOk result (list.new.items ≡ message.now.descriptors) }
 {
@@ -174,14 +174,14 @@ fn set_descriptors(list: &mut Vec<Fxy>, message: &Message<'_>) -> Result<(), All
     Ok(())
 }
 
-/// A message and the template of its descriptors, at one lifetime.
+/// A message and its template, borrowed for the same lifetime.
 struct Expanded<'a, 'o> {
     message: &'a Message<'o>,
     template: &'a Template,
 }
 
-/// Adds the items of a message by the template that was selected. Returns the number of its fault,
-/// or 0.
+/// Appends the items of a message, using the template that was selected. Returns the number of the
+/// message's fault, or 0 if it has none.
 #[tactic(auto, using(crate::proofs::RowLemmas::message_done, crate::proofs::RowLemmas::message_refused, crate::proofs::RowLemmas::template_refused, crate::proofs::RowLemmas::message_done_fault, crate::proofs::RowLemmas::message_refused_fault, crate::proofs::RowLemmas::template_refused_fault))]
 fn put_selected(
     message: &Message<'_>,
@@ -214,15 +214,15 @@ fn put_selected(
     }
 }
 
-/// The rows of one event, and memory for making them.
+/// The rows of one event, and memory that is reused to build them.
 #[derive(Drop)]
 pub(crate) struct EventRows<'t> {
     templates: TemplateCache<'t>,
     descriptors: Vec<Fxy>,
     wanted: &'t [u16],
-    /// The rows of its items.
+    /// The rows of the event's items.
     pub(crate) out: ItemsOut<'t>,
-    /// Its own row.
+    /// The row of the event itself.
     pub(crate) row: MessageRow,
 }
 
@@ -241,7 +241,8 @@ impl<'t> EventRows<'t> {
         }
     }
 
-    /// Makes the rows of a message, which go where `counts` says.
+    /// Builds the rows of a message. `counts` says where in the caller's buffers they will be
+    /// written.
     fn set_message(&mut self, offset: u64, octets: &[u8], counts: &Counts) -> Result<(), AllocError>
         requires { 12 ≤ length octets.now }
         ensures table_b { self.new.templates.table_b ≡ self.old.templates.table_b }
@@ -274,8 +275,8 @@ impl<'t> EventRows<'t> {
         Ok(())
     }
 
-    /// Makes the rows of the event where `m`, which begins with `BUFR`, begins. Returns the number
-    /// of octets after which the search continues.
+    /// Builds the rows of the event at the start of `m`, which starts with `BUFR`. Returns the
+    /// number of octets to skip before the search continues.
     pub(crate) fn set_event(
         &mut self,
         offset: u64,

@@ -1,4 +1,4 @@
-//! The library for programs in C and in every language that calls C: `bufr ls`, `bufr dump` and
+//! The library for C, and for any language that can call C: `bufr ls`, `bufr dump` and
 //! `bufr encode` on octets in memory, and the items of messages as rows of numbers.
 #![tactic(auto)]
 

@@ -10,7 +10,7 @@ use crate::texts::{DONE, NO_ROOM, OUT_OF_MEMORY};
 use memchr::memmem;
 
 /// Appends the rows of an event to the earlier rows if there is room, and returns whether there is.
-/// If not, `counts` says how much room the event needs.
+/// If not, sets the room that the event needs in `counts`.
 fn put_rows(event: &EventRows<'_>, rows: &mut RowBuffers<'_>, counts: &mut Counts) -> bool
     requires items { counts.old.items ≤ length rows.old.items.now }
     requires texts { counts.old.octets ≤ length rows.old.texts.now }
@@ -37,6 +37,7 @@ fn put_rows(event: &EventRows<'_>, rows: &mut RowBuffers<'_>, counts: &mut Count
 }
 
 /// Writes the rows of the events from `counts.at` on, one event at a time, while there is room.
+/// Returns the status of the call.
 #[tactic(auto, using(crate::proofs::RowLemmas::rows_stopped))]
 pub(crate) fn write_rows(
     event: &mut EventRows<'_>,

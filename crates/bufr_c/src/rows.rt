@@ -6,27 +6,27 @@ use bufr_frame::Message;
 
 /// A missing value.
 pub const MISSING: u8 = 0;
-/// A number, divided by ten to the power of its scale.
+/// A number: the value divided by ten to the power of the scale.
 pub const NUMBER: u8 = 1;
-/// The octets of a text.
+/// A string of octets.
 pub const TEXT: u8 = 2;
 /// A reference value that the data define.
 pub const REFERENCE: u8 = 3;
-/// A number that 64 bits do not hold: 16 octets, the lowest first.
+/// A number that does not fit in 64 bits: 16 octets, with the least significant first.
 pub const WIDE: u8 = 4;
 
-/// An item.
+/// The row of an item.
 #[repr(C)]
 #[derive(Clone, Copy, Debug, PartialEq, Eq)]
 pub struct ValueRow {
-    /// The number or the reference value; for a text or a wide number, the index of its first octet
+    /// The number or the reference value. For a text or a wide number, the index of its first octet
     /// in the texts.
     pub value: i64,
-    /// The index of its message among the rows of messages.
+    /// The index of the item's message among the rows of messages.
     pub message: u32,
-    /// The number of octets in the texts.
+    /// The number of octets that the item has in the texts.
     pub length: u32,
-    /// The subset, from 1.
+    /// The number of the subset, from 1.
     pub subset: u16,
     /// The descriptor: F, X and Y in 2, 6 and 8 bits.
     pub fxy: u16,
@@ -34,21 +34,21 @@ pub struct ValueRow {
     pub scale: i16,
     /// [`MISSING`], [`NUMBER`], [`TEXT`], [`REFERENCE`] or [`WIDE`].
     pub kind: u8,
-    /// 0, for later versions.
+    /// 0 (reserved for later versions).
     pub reserved: u8,
 }
 
-/// A message, or a stray `BUFR`.
+/// The row of a message or a stray.
 #[repr(C)]
 #[derive(Clone, Copy, Debug, PartialEq, Eq)]
 pub struct MessageRow {
-    /// Where it begins in the stream.
+    /// Where the message begins in the stream, in octets from 0.
     pub offset: u64,
-    /// Its number of octets; 4 for a stray `BUFR`.
+    /// The length in octets, which is 4 for a stray.
     pub length: u64,
-    /// The index of its first item.
+    /// The index of the message's first item.
     pub first: usize,
-    /// Its number of items.
+    /// The number of items.
     pub items: usize,
     /// The originating centre.
     pub centre: u16,
@@ -58,10 +58,10 @@ pub struct MessageRow {
     pub year: u16,
     /// The number of subsets.
     pub subsets: u16,
-    /// The number of its fault; 0 if it was accepted.
+    /// The number of the fault, or 0 if the message was accepted.
     pub fault: u8,
-    /// The edition; 0 if the message cannot be divided into its sections, and for a stray `BUFR`.
-    /// The other values of the header are then 0 too.
+    /// The edition. For a stray, or a message that cannot be divided into its sections, it is 0,
+    /// and so are all other values of the header.
     pub edition: u8,
     /// The master table.
     pub master: u8,
@@ -91,12 +91,12 @@ pub struct MessageRow {
     pub observed: u8,
     /// 1 if the data are compressed.
     pub compressed: u8,
-    /// 0, for later versions.
+    /// 0 (reserved for later versions).
     pub reserved: u64,
 }
 
 impl MessageRow {
-    /// The row of a message without a header, or of a stray `BUFR`.
+    /// Returns the row of a stray, or of a message whose header cannot be read.
     pub(crate) fn plain(offset: u64, length: u64, first: usize, fault: u8) -> MessageRow
         ensures { result ≡ plain_row offset length first fault }
     {
@@ -129,7 +129,7 @@ impl MessageRow {
         }
     }
 
-    /// The row of a message with its header.
+    /// Returns the row of a message with its header.
     pub(crate) fn of(
         message: &Message<'_>,
         offset: u64,
@@ -170,44 +170,44 @@ impl MessageRow {
     }
 }
 
-/// Where [`crate::bufr_items`] writes.
+/// The buffers that [`crate::bufr_items`] writes to.
 #[repr(C)]
 #[derive(Drop)]
 pub struct RowBuffers<'a> {
     /// The rows of items.
     pub items: &'a mut [ValueRow],
-    /// The octets of texts.
+    /// The octets of strings and wide numbers.
     pub texts: &'a mut [u8],
     /// The rows of messages.
     pub messages: &'a mut [MessageRow],
-    /// 0, for later versions.
+    /// 0 (reserved for later versions).
     pub reserved: [u64; 2],
 }
 
-/// How far a call came, and how many rows and octets it wrote.
+/// The progress of a call, and the number of rows and octets that it wrote.
 #[repr(C)]
 #[derive(Clone, Copy, Debug, PartialEq, Eq)]
 pub struct Counts {
-    /// Where the call begins, in octets from 0; after it, where the next call continues.
+    /// Where the call begins, in octets from 0; afterwards, where the next call continues.
     pub at: usize,
-    /// The number of rows of items written.
+    /// The number of rows written to the rows of items.
     pub items: usize,
-    /// The number of octets of texts written.
+    /// The number of octets written to the texts.
     pub octets: usize,
-    /// The number of rows of messages written.
+    /// The number of rows written to the rows of messages.
     pub messages: usize,
-    /// If the next message does not fit: its number of items.
+    /// If the next event does not fit: the number of its items.
     pub items_needed: usize,
-    /// If the next message does not fit: its number of octets of texts.
+    /// If the next event does not fit: the number of octets that it has in the texts.
     pub octets_needed: usize,
-    /// If the next message does not fit: its number of rows of messages, which is 1.
+    /// If the next event does not fit: the number of its rows of messages, which is 1.
     pub messages_needed: usize,
-    /// 0, for later versions.
+    /// 0 (reserved for later versions).
     pub reserved: u64,
 }
 
 impl Counts {
-    /// A call that begins at `at`, before anything is written.
+    /// Returns the counts of a call that begins at `at` and has not written anything.
     pub(crate) fn at(at: usize) -> Counts
         ensures at { result.at ≡ at }
         ensures items { result.items ≡ 0 }

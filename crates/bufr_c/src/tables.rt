@@ -14,7 +14,7 @@ pub(crate) struct Tables {
     pub(crate) d: TableD,
 }
 
-/// The status for an invalid Table D.
+/// Returns the status for an invalid Table D.
 fn table_d_status(fault: TableFault) -> i32
     ensures { result ≡ pos (100 + (table_report fault).0) }
 {

@@ -1,4 +1,4 @@
-//! The calls, called as by a program in C.
+//! Tests that call the functions as a C program would.
 
 use crate::calls::{bufr_dump, bufr_encode, bufr_items, bufr_list, bufr_version};
 use crate::rows::{Counts, MessageRow, RowBuffers, ValueRow};
@@ -43,7 +43,7 @@ fn stops_before_a_line_without_room(rt: HostRuntime) {
     assert_eq!(rt; &faults[..16], b"offset 5: 1 cut\n".as_slice());
 }
 
-/// A message of one WMO block number, 10.
+/// A message whose only item is the WMO block number 10.
 const BLOCK: [u8; 48] = [
     0x42, 0x55, 0x46, 0x52, 0x00, 0x00, 0x30, 0x04, 0x00, 0x00, 0x16, 0x00, 0x00, 0x62, 0x00, 0x00,
     0x00, 0x00, 0x00, 0x00, 0x00, 0x0E, 0x00, 0x07, 0xE8, 0x01, 0x02, 0x03, 0x04, 0x05, 0x00, 0x00,

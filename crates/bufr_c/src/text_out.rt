@@ -8,7 +8,7 @@ use bufr_frame::RunFault;
 use bufr_text::LineWriter;
 use std::alloc::Global;
 
-/// The size of the block in which the start of a line is assembled.
+/// The size, in octets, of the block in which the start of a line is assembled.
 const LINE: usize = 64;
 
 /// A [`Sink`] in memory. A write fails only if memory runs out.
@@ -32,7 +32,7 @@ impl TextOut {
         }
     }
 
-    /// Clears the text and retains its memory.
+    /// Clears the text, but keeps its memory allocated.
     pub(crate) fn clear(&mut self)
         ensures { self.new.octets.items ≡ [] }
     {
@@ -67,7 +67,7 @@ impl Sink for TextOut {
     }
 }
 
-/// Writes a line that reports offset 0, with another offset instead. Writes nothing if the line is
+/// Writes a line that reports offset 0, but with `offset` instead. Writes nothing if the line is
 /// empty.
 pub(crate) fn write_moved<W: Sink>(line: &[u8], offset: u64, out: &mut W) -> Result<(), RunFault>
     ensures { Writes (W.taken out.old) (W.taken out.new) (moved offset line.now) result }

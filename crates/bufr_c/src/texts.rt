@@ -1,4 +1,4 @@
-//! What a call reads, and what it reports to its caller.
+//! The input of a call, and what the call reports to its caller.
 ghost use Rattle.std.specs.Prelude.{◌≡◌, drop};
 ghost use Rattle.bufr_c.specs.Commands.{form_by};
 
@@ -8,32 +8,32 @@ use bufr_text::Form;
 pub(crate) const DONE: i32 = 0;
 /// Memory ran out.
 pub(crate) const OUT_OF_MEMORY: i32 = 73;
-/// What comes next does not fit into the caller's buffers.
+/// The next output does not fit into the caller's buffers.
 pub(crate) const NO_ROOM: i32 = 74;
-/// There is no form of this number.
+/// There is no form with this number.
 pub(crate) const UNKNOWN_FORM: i32 = 75;
 
-/// What a call reads.
+/// The input of a call.
 #[repr(C)]
 #[derive(Clone, Copy, Debug)]
 pub struct CallInput<'a> {
     /// The stream; for [`crate::bufr_encode`], the text.
     pub octets: &'a [u8],
-    /// The contents of the file of Table B.
+    /// The contents of the file with Table B.
     pub table_b: &'a [u8],
-    /// The contents of the file of Table D.
+    /// The contents of the file with Table D.
     pub table_d: &'a [u8],
-    /// For [`crate::bufr_items`]: the descriptors of the wanted items; if there are none, all items
+    /// For [`crate::bufr_items`]: the descriptors of the wanted items. If it is empty, all items
     /// are wanted.
     pub wanted: &'a [u16],
-    /// For [`crate::bufr_encode`]: 0 for the form that each document states, 1 for plain data, 2
-    /// for compressed data.
+    /// For [`crate::bufr_encode`]: 0 for the form that each document specifies, 1 for plain data,
+    /// and 2 for compressed data.
     pub form: u64,
-    /// 0, for later versions.
+    /// 0 (reserved for later versions).
     pub reserved: [u64; 7],
 }
 
-/// The form of a number.
+/// Returns the form with this number.
 pub(crate) fn form_by(form: u64) -> Option<Form>
     ensures { result ≡ form_by form }
 {
@@ -45,7 +45,7 @@ pub(crate) fn form_by(form: u64) -> Option<Form>
     }
 }
 
-/// The octets from an index on: none past the end.
+/// Returns the octets from index `at` on, or none if `at` is past the end.
 #[tactic(auto, using(crate::proofs::EventLemmas::rest_from))]
 pub(crate) fn rest_of(octets: &[u8], at: usize) -> &[u8]
     ensures { result.now ≡ drop at octets.now }
@@ -53,11 +53,11 @@ pub(crate) fn rest_of(octets: &[u8], at: usize) -> &[u8]
     &octets[at.min(octets.len())..]
 }
 
-/// How far a call came, and what it wrote.
+/// The progress of a call, and what it wrote.
 #[repr(C)]
 #[derive(Clone, Copy, Debug, PartialEq, Eq)]
 pub struct Texts {
-    /// Where the call begins, in octets from 0; after it, where the next call continues.
+    /// Where the call begins, in octets from 0; afterwards, where the next call continues.
     pub at: usize,
     /// The number of octets written to the output.
     pub output_length: usize,
@@ -67,16 +67,16 @@ pub struct Texts {
     pub output_needed: usize,
     /// If the next event does not fit: the number of octets of its fault line.
     pub errors_needed: usize,
-    /// How many messages were accepted.
+    /// The number of messages or documents that were accepted.
     pub accepted: u64,
-    /// How many messages and stray `BUFR`s were refused.
+    /// The number of strays, and of messages or documents that were rejected.
     pub refused: u64,
-    /// 0, for later versions.
+    /// 0 (reserved for later versions).
     pub reserved: u64,
 }
 
 impl Texts {
-    /// A call that begins at `at`, before anything is written.
+    /// Returns the state of a call that begins at `at` and has not written anything.
     pub(crate) fn at(at: usize) -> Texts
         ensures at { result.at ≡ at }
         ensures output { result.output_length ≡ 0 }

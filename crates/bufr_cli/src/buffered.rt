@@ -1,4 +1,4 @@
-//! A buffered writer that tries nothing again.
+//! A buffered writer that does not call its sink again after a failure.
 ghost use Rattle.std.specs.Prelude.{◌≡◌, ◌≤◌, ◌<◌, ◌+◌, ◌-◌, min, ℕ, List, [], length, drop, false, Ok, IfOk, IsErr, OnOk, vec_len, vec_capacity};
 ghost use Rattle.std.specs.Io.KnownBytes.{Keeps, WriteAppends};
 ghost use Rattle.bufr_bits.specs.Device.{all_flushed_after_flush, all_flushed_after_write, counted, empty_writes_after, failures_after, flushes_after, whole_writes_after};
@@ -8,16 +8,18 @@ ghost use Rattle.bufr_cli.specs.Prelude.{CallsAtMost, CountsCall, StaysBounded, 
 use bufr_bits::{Failed, Sink};
 use std::alloc::{AllocError, Global};
 
-/// How many octets the program's own reader and writers hold. So one call of the system serves many
-/// reads of the finder and many lines.
+/// The size, in octets, of the buffers of the program's own reader and writers. With buffers of
+/// this size, one system call serves many reads of the finder, or many lines of output.
 pub const BUFFERED: usize = 65_536;
 
-/// A buffered writer that tries nothing again. After a call that failed each further one fails at
-/// once. A flush that went through leaves nothing held. At its end it writes nothing.
+/// A buffered writer that does not call its sink again after a failure.
+///
+/// Once a call has failed, every later call fails immediately. After a successful flush, nothing is
+/// buffered. When the writer is dropped, it does not write the octets that are still buffered.
 ///
 /// ```
 /// let mut w = Buffered::new(rt.alloc(), BUFFERED, Device::new(rt.stdout()))?;
-/// w.write(b"abc")?; // it is held
+/// w.write(b"abc")?; // buffered
 /// w.flush()?;
 /// ```
 #[derive(Drop)]
@@ -31,11 +33,11 @@ pub struct Buffered<S: Sink> {
 }
 
 impl<S: Sink> Buffered<S> {
-    /// A writer that holds at most `capacity` octets before `sink`.
+    /// Creates a writer that buffers at most `capacity` octets before it writes them to `sink`.
     ///
     /// # Errors
     ///
-    /// [`AllocError`] where memory ran out.
+    /// [`AllocError`] if the buffer cannot be allocated.
     pub fn new(alloc: Global, capacity: usize, sink: S) -> Result<Buffered<S>, AllocError>
     where
         S: Drop,
@@ -57,7 +59,8 @@ impl<S: Sink> Buffered<S> {
     }
 }
 
-/// Writes octets, up to a write that fails or takes nothing. Returns how many are left.
+/// Writes `octets` until a write fails or takes nothing. Returns the number of octets that were not
+/// taken.
 #[tactic(auto, using(bufr_text::proofs::PushLemmas::write_steps))]
 fn write_out<S: Sink>(octets: &[u8], sink: &mut S) -> usize
     ensures moved { (rest : List ℕ) × (result ≡ length rest)
@@ -66,7 +69,8 @@ fn write_out<S: Sink>(octets: &[u8], sink: &mut S) -> usize
         (S.empty_writes sink.old) (S.empty_writes sink.new) }
     ensures cut { 0 < result → Fails (S.failures sink.old) (S.failures sink.new)
         (S.empty_writes sink.old) (S.empty_writes sink.new) }
-    // Each write is given all that is left, so at most one takes all that it is given.
+    // Each write is passed all remaining octets, so at most one write takes everything that it is
+    // passed.
     ensures few { S.whole_writes sink.new ≤ counted (S.whole_writes sink.old) 1 }
     ensures flushes { S.flushes sink.new ≡ S.flushes sink.old }
     ensures unflushed { result < length octets.now → S.all_flushed sink.new ≡ false }
@@ -84,7 +88,7 @@ fn write_out<S: Sink>(octets: &[u8], sink: &mut S) -> usize
     0
 }
 
-/// Removes all octets but the last `left`.
+/// Removes all octets except the last `left`.
 fn remove_front(octets: &mut Vec<u8>, left: usize)
     requires { left ≤ vec_len octets.old }
     ensures items { octets.new.items ≡ drop (vec_len octets.old - left) octets.old.items }
@@ -96,7 +100,7 @@ fn remove_front(octets: &mut Vec<u8>, left: usize)
 }
 
 impl<S: Sink> Buffered<S> {
-    /// Writes what is held. What the sink does not take stays held.
+    /// Writes the buffered octets to the sink. Octets that the sink does not take remain buffered.
     fn hand_on(&mut self) -> Result<(), Failed>
         ensures octets { Keeps (taken_by S.taken self.old) (taken_by S.taken self.new) }
         ensures none { OnOk result (self.new.held.items ≡ []) }
@@ -116,7 +120,9 @@ impl<S: Sink> Buffered<S> {
         Ok(())
     }
 
-    /// Writes octets that do not fit after those that are held.
+    /// Writes octets for which the buffer has no room. First writes the buffered octets to the
+    /// sink. Then buffers `buf` if it fits in the empty buffer, and otherwise writes it to the
+    /// sink.
     fn write_through(&mut self, buf: &[u8]) -> Result<usize, Failed>
         ensures bound { IfOk result (λ n. n ≤ length buf.now) }
         ensures octets { WriteAppends (taken_by S.taken self.old) (taken_by S.taken self.new)
@@ -143,7 +149,7 @@ impl<S: Sink> Buffered<S> {
         Ok(n)
     }
 
-    /// Flushes the sink, after it took what is held.
+    /// Writes the buffered octets to the sink, and then flushes it.
     fn flush_through(&mut self) -> Result<(), Failed>
         ensures octets { Keeps (taken_by S.taken self.old) (taken_by S.taken self.new) }
         ensures flushed { flushed_by S.all_flushed self.new
@@ -158,7 +164,8 @@ impl<S: Sink> Buffered<S> {
         self.sink.flush()
     }
 
-    /// [`Buffered::write`] where the octets do not fit, or a call failed.
+    /// Does the work of [`Buffered::write`] if the octets cannot be buffered or an earlier call
+    /// failed.
     #[inline(never)]
     fn write_or_fail(&mut self, buf: &[u8]) -> Result<usize, Failed>
         ensures bound { IfOk result (λ n. n ≤ length buf.now) }
@@ -205,14 +212,15 @@ impl<S: Sink> Sink for Buffered<S> {
         ensures octets { WriteAppends (taken_by S.taken self.old) (taken_by S.taken self.new)
             result buf.now }
         ensures failed { self.new.failures ≡ failures_after self.old.failures result }
-        // Octets that fit are held, and the sink is not called. A write of some octets takes some,
-        // or fails.
+        // Octets that fit are buffered, and the sink is not called. A write of at least one octet
+        // takes at least one, or fails.
         ensures takes { self.old.failures ≡ 0
             → vec_len self.old.held + length buf.now
             ≤ min self.old.capacity (vec_capacity self.old.held)
             → (result ≡ Ok (length buf.now)) × (self.new.sink ≡ self.old.sink) }
-        // Other octets make at most one write of those that are held, and one of their own. If it
-        // does not take all of them, the sink was given all of them.
+        // Otherwise, at most two writes to the sink take everything that they are passed: one of
+        // the buffered octets, and one of `buf`. If the result is less than the length of `buf`,
+        // the sink was passed all of `buf` and took only part of it.
         ensures calls { CallsAtMost S.Sink 2 0 self.old.sink self.new.sink }
         ensures full { IfOk result (λ n. n < length buf.now
             → CallsAtMost S.Sink 1 0 self.old.sink self.new.sink) }
@@ -221,8 +229,8 @@ impl<S: Sink> Sink for Buffered<S> {
         ensures handed { flushed_by S.all_flushed self.new
             ≡ all_flushed_after_write (flushed_by S.all_flushed self.old) result }
         ensures bounded { StaysBounded self.old self.new }
-        // Until the first failure, a call fails if and only if a call of the sink does. After it,
-        // nothing is tried.
+        // Until the first failure, a call fails if and only if a call to the sink fails or takes
+        // nothing. After that, the sink is not called.
         ensures counts { self.old.failures ≡ 0
             → CountsCall S.Sink self.old.sink self.new.sink result }
         ensures again { 0 < self.old.failures → IsErr result × (self.new.sink ≡ self.old.sink)
@@ -245,10 +253,11 @@ impl<S: Sink> Sink for Buffered<S> {
         ensures handed { flushed_by S.all_flushed self.new
             ≡ all_flushed_after_flush (flushed_by S.all_flushed self.old) result }
         ensures bounded { StaysBounded self.old self.new }
-        // The sink gets what is held in one write, and one flush.
+        // At most one write to the sink takes everything that it is passed, and the sink is flushed
+        // at most once.
         ensures calls { CallsAtMost S.Sink 1 1 self.old.sink self.new.sink }
-        // Until the first failure, a call fails if and only if a call of the sink does. After it,
-        // nothing is tried.
+        // Until the first failure, a call fails if and only if a call to the sink fails or takes
+        // nothing. After that, the sink is not called.
         ensures counts { self.old.failures ≡ 0
             → CountsCall S.Sink self.old.sink self.new.sink result }
         ensures again { 0 < self.old.failures → IsErr result × (self.new.sink ≡ self.old.sink)

@@ -13,7 +13,7 @@ use bufr_walk::{Steps, TemplateCache, WalkFault, read_by};
 use std::alloc::{AllocError, Global};
 use std::mem;
 
-/// Sets a list to the descriptors of a message.
+/// Sets `list` to the descriptors of `message`.
 fn set_descriptors(list: &mut Vec<Fxy>, message: &Message<'_>) -> Result<(), AllocError>
     ensures { OnOk result (list.new.items ≡ message.now.descriptors) }
 {
@@ -26,7 +26,8 @@ fn set_descriptors(list: &mut Vec<Fxy>, message: &Message<'_>) -> Result<(), All
     Ok(())
 }
 
-/// What a run keeps from message to message: messages repeat their descriptors.
+/// State that a run reuses from message to message, because messages often have the same
+/// descriptors.
 #[derive(Drop)]
 struct DumpRun<'a> {
     templates: TemplateCache<'a>,
@@ -35,13 +36,14 @@ struct DumpRun<'a> {
     descriptors: Vec<Fxy>,
 }
 
-/// A message and the template of its descriptors, at one lifetime.
+/// A message and its template, borrowed for the same lifetime.
 struct Expanded<'a, 'o> {
     message: &'a Message<'o>,
     template: &'a Template,
 }
 
-/// Writes the text of a message by the template that was selected, or the line of its fault.
+/// Writes the dump of a message to `w`, using the template that was selected, or writes a fault
+/// line to `e`.
 // rule: refused-messages-write-nothing
 fn dump_selected<W: Sink, E: Sink>(
     offset: u64,
@@ -67,7 +69,7 @@ fn dump_selected<W: Sink, E: Sink>(
 {
     match run.templates.answer() {
         Ok(template) => {
-            // A reading borrows both for one lifetime.
+            // `read_by` borrows both for the same lifetime.
             let Expanded { message, template } = Expanded { message, template };
             let mut steps = Steps::new();
             match read_by(message, template, &mut run.memory.specs, &mut steps) {
@@ -124,12 +126,14 @@ impl<'a> MessageWriter for DumpRun<'a> {
     }
 }
 
-/// Dumps the messages of `r` by these tables, in the order of the stream, each as soon as it is
-/// certain. The text of a message goes to `w`. A stray `BUFR` and a message that is refused have a
-/// fault line on `e` and nothing on `w`. At the end `w`, then `e` is flushed.
+/// Dumps the messages of `r` to `w`, using the given tables.
 ///
-/// A message is refused for its sections, then for its descriptors ([`TemplateFault`]), then for
-/// its data ([`WalkFault`]).
+/// Messages are dumped in the order of the stream, each as soon as it is certain. For each stray
+/// and each rejected message, writes a fault line to `e` and nothing to `w`. At the end, flushes
+/// `w` and then `e`.
+///
+/// A message is rejected for its first fault. Its sections are checked first, then its descriptors
+/// ([`TemplateFault`]), and then its data ([`WalkFault`]).
 ///
 /// ```
 /// let table_b = TableB::read(rt.alloc(), b"fxy,name,unit,scale,reference,width\n")?;
@@ -138,14 +142,15 @@ impl<'a> MessageWriter for DumpRun<'a> {
 /// let mut w = Device::new(Vec::new(rt.alloc()));
 /// let mut e = Device::new(Vec::new(rt.alloc()));
 /// let tally = run_dump(rt.alloc(), &mut r, &mut w, &mut e, &table_b, &table_d)?;
-/// assert_eq!(rt; tally.refused, 1); // `offset 0: 1 cut` is on `e`
+/// assert_eq!(rt; tally.refused, 1); // `e` contains `offset 0: 1 cut`
 /// ```
 ///
 /// # Errors
 ///
-/// [`RunFault::Read`] and [`RunFault::InputTooLong`] as [`bufr_frame::Finder::next`] gives them;
-/// the texts of all that was certain were written then. [`RunFault::Write`] where a writer failed
-/// or took nothing, and [`RunFault::Memory`]: a prefix of the texts was written.
+/// [`RunFault::Read`] and [`RunFault::InputTooLong`] under the same conditions as
+/// [`bufr_frame::Finder::next`]; in both cases, the output for all certain events has been written.
+/// [`RunFault::Write`] if a writer fails or takes nothing, and [`RunFault::Memory`] if memory runs
+/// out; in both cases, a prefix of the output has been written.
 pub fn run_dump<R: Source, W: Sink, E: Sink>(
     alloc: Global,
     r: &mut R,
@@ -154,7 +159,8 @@ pub fn run_dump<R: Source, W: Sink, E: Sink>(
     table_b: &TableB,
     table_d: &TableD,
 ) -> Result<Tally, RunFault>
-    // Where the whole input is known, exactly its pieces were written, and the tally counts them.
+    // If the run completes and its whole input is known, exactly the pieces of that input are
+    // written, and the tally counts them.
     ensures { LeavesDevices (event_pieces (dump_piece table_b.now table_d.now))
         (input_of R.Source r.old) (input_of R.Source r.new)
         (writers_of W.Sink w.old E.Sink e.old) (writers_of W.Sink w.new E.Sink e.new) result }

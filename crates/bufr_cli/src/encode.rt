@@ -1,4 +1,4 @@
-//! `bufr encode`: writes the messages that a text spells.
+//! `bufr encode`: encodes the documents of a text as messages.
 ghost use Rattle.std.specs.Prelude.{◌≡◌, true};
 ghost use Rattle.bufr_text.specs.Prelude.{Complete};
 ghost use Rattle.bufr_text.specs.declared.encode.Form.TheVariants.{AsWritten};
@@ -14,19 +14,19 @@ use bufr_text::{Document, DocumentFault, DumpReader, Form, ReadFault, encode_by,
 use bufr_walk::{Steps, TemplateCache};
 use std::alloc::Global;
 
-/// The documents of a text, the form that they are encoded in, and what is kept from one to the
-/// next.
+/// The state of a run: the reader of its documents, the form in which they are encoded, and what is
+/// reused from document to document.
 #[derive(Drop)]
 struct EncodeRun<'a> {
     alloc: Global,
     reader: DumpReader,
     form: Form,
     templates: TemplateCache<'a>,
-    /// What became of the last document; a refusal ends the run.
+    /// The verdict on the last document. If the document was rejected, the run ends.
     last: Verdict,
 }
 
-/// Writes the message of a document, whole, or its fault line.
+/// Encodes a document and writes the whole message to `w`, or writes a fault line to `e`.
 fn write_document<W: Sink, E: Sink>(
     run: &mut EncodeRun<'_>,
     document: &Document,
@@ -106,15 +106,18 @@ impl<'a> PieceWriter for EncodeRun<'a> {
     fn read_more<R: Source>(&mut self, r: &mut R) -> Result<(), RunFault> {
         match self.reader.read_more(r) {
             Err(ReadFault::Run(fault)) => Err(fault),
-            // A read has no other fault.
+            // Reading has no other fault.
             _ => Ok(()),
         }
     }
 }
 
-/// Encodes the documents of the text `r` in a form, by these tables. Each message is on `w` as soon
-/// as its `end` was read, in the order of the text. The first document that is refused ends the
-/// run, with its fault line on `e` and nothing of it on `w`. At the end `w`, then `e` is flushed.
+/// Encodes the documents of the text `r` in the given form, using the given tables.
+///
+/// Documents are encoded in the order of the text. Each message is written to `w` as soon as the
+/// `end` line of its document has been read. The run stops at the first invalid document: its fault
+/// line is written to `e`, and nothing of it is written to `w`. At the end, flushes `w` and then
+/// `e`.
 ///
 /// ```
 /// let table_b = TableB::read(rt.alloc(), b"fxy,name,unit,scale,reference,width\n")?;
@@ -124,14 +127,15 @@ impl<'a> PieceWriter for EncodeRun<'a> {
 /// let mut e = Device::new(Vec::new(rt.alloc()));
 /// let form = Form::Plain;
 /// let tally = run_encode_form(rt.alloc(), &mut r, &mut w, &mut e, &table_b, &table_d, form)?;
-/// assert_eq!(rt; tally.refused, 1); // `line 1: 50 line` is on `e`
+/// assert_eq!(rt; tally.refused, 1); // `e` contains `line 1: 50 line`
 /// ```
 ///
 /// # Errors
 ///
-/// [`RunFault::Read`] and [`RunFault::InputTooLong`] as [`DumpReader::next_document`] gives them;
-/// the messages of all documents that were read whole were written then. [`RunFault::Write`] where
-/// a writer failed or took nothing, and [`RunFault::Memory`]: a prefix of the messages was written.
+/// [`RunFault::Read`] and [`RunFault::InputTooLong`] under the same conditions as
+/// [`DumpReader::next_document`]; in both cases, the messages of all complete documents have been
+/// written. [`RunFault::Write`] if a writer fails or takes nothing, and [`RunFault::Memory`] if
+/// memory runs out; in both cases, a prefix of the messages has been written.
 pub fn run_encode_form<R: Source, W: Sink, E: Sink>(
     alloc: Global,
     r: &mut R,
@@ -141,7 +145,8 @@ pub fn run_encode_form<R: Source, W: Sink, E: Sink>(
     table_d: &TableD,
     form: Form,
 ) -> Result<Tally, RunFault>
-    // Where the whole input is known, exactly its pieces were written, and the tally counts them.
+    // If the run completes and its whole input is known, exactly the pieces of that input are
+    // written, and the tally counts them.
     ensures { LeavesDevices (document_pieces form table_b.now table_d.now)
         (input_of R.Source r.old) (input_of R.Source r.new)
         (writers_of W.Sink w.old E.Sink e.old) (writers_of W.Sink w.new E.Sink e.new) result }
@@ -156,8 +161,9 @@ pub fn run_encode_form<R: Source, W: Sink, E: Sink>(
     run_pieces(&mut run, r, w, e)
 }
 
-/// Encodes the documents of the text `r`, each in the form that it says: [`run_encode_form`] with
-/// [`Form::AsWritten`].
+/// Encodes the documents of the text `r`, each in the form that it specifies.
+///
+/// This is [`run_encode_form`] with [`Form::AsWritten`].
 ///
 /// ```
 /// let table_b = TableB::read(rt.alloc(), b"fxy,name,unit,scale,reference,width\n")?;
@@ -166,12 +172,12 @@ pub fn run_encode_form<R: Source, W: Sink, E: Sink>(
 /// let mut w = Device::new(Vec::new(rt.alloc()));
 /// let mut e = Device::new(Vec::new(rt.alloc()));
 /// let tally = run_encode(rt.alloc(), &mut r, &mut w, &mut e, &table_b, &table_d)?;
-/// assert_eq!(rt; tally.refused, 1); // `line 1: 50 line` is on `e`
+/// assert_eq!(rt; tally.refused, 1); // `e` contains `line 1: 50 line`
 /// ```
 ///
 /// # Errors
 ///
-/// Those of [`run_encode_form`].
+/// The same as those of [`run_encode_form`].
 pub fn run_encode<R: Source, W: Sink, E: Sink>(
     alloc: Global,
     r: &mut R,
@@ -180,7 +186,8 @@ pub fn run_encode<R: Source, W: Sink, E: Sink>(
     table_b: &TableB,
     table_d: &TableD,
 ) -> Result<Tally, RunFault>
-    // Where the whole input is known, exactly its pieces were written, and the tally counts them.
+    // If the run completes and its whole input is known, exactly the pieces of that input are
+    // written, and the tally counts them.
     ensures { LeavesDevices (document_pieces AsWritten table_b.now table_d.now)
         (input_of R.Source r.old) (input_of R.Source r.new)
         (writers_of W.Sink w.old E.Sink e.old) (writers_of W.Sink w.new E.Sink e.new) result }

@@ -1,4 +1,4 @@
-//! The lines that report the faults of a stream, its messages, and a text and its documents.
+//! Fault lines for streams and their messages, and for texts and their documents.
 ghost use Rattle.std.specs.Prelude.{◌≡◌, [], ◌∷◌, ◌++◌, IfErr, codes, decimal};
 ghost use Rattle.bufr_frame.specs.Prelude.{cause_report, section_report};
 ghost use Rattle.bufr_tables.specs.Prelude.{fxy_text, template_report};
@@ -15,18 +15,20 @@ use bufr_tables::{Fxy, TemplateFault};
 use bufr_text::{DocumentFault, LineWriter, ReadFault, TextLineFault};
 use bufr_walk::{Spot, WalkFault};
 
-/// The octets in which a line is put together. The longest, of a fault of the data, has 107.
+/// The size, in octets, of the block in which a line is assembled. The longest line reports a fault
+/// in the data, and has 107 octets.
 const LINE: usize = 112;
 
-/// The octets in which the line of a stray `BUFR` is put together. The longest has 44.
+/// The size, in octets, of the block in which the line of a stray is assembled. The longest such
+/// line has 44 octets.
 const STRAY_LINE: usize = 48;
 
-/// Why a message of a stream is refused.
+/// The reason why a message of a stream is rejected.
 #[derive(Clone, Copy)]
 pub(crate) enum StreamFault<'f> {
-    /// The message cannot be taken apart.
+    /// The message cannot be divided into its sections.
     Section(SectionFault),
-    /// Its descriptors make no template.
+    /// Its descriptors cannot be expanded into a template.
     Template(&'f TemplateFault),
     /// Its data cannot be read.
     Data(&'f WalkFault),
@@ -40,7 +42,8 @@ fn push_number<E: Sink>(line: &mut LineWriter<'_, '_, E>, number: u8)
     line.push(b" ");
 }
 
-/// Pushes the prefix of a fault line: a word, the position that it counts, and the number.
+/// Pushes the prefix of a fault line: a word, the position that the word introduces, and the number
+/// of the fault.
 #[inline(always)]
 // rule: stream-fault-line
 fn push_prefix<E: Sink>(line: &mut LineWriter<'_, '_, E>, word: &[u8], position: u64, number: u8)
@@ -91,7 +94,7 @@ fn push_section_fault<E: Sink>(line: &mut LineWriter<'_, '_, E>, fault: SectionF
     }
 }
 
-/// Pushes the text of a template's fault. Want of memory has none.
+/// Pushes the text of a template fault. [`TemplateFault::Memory`] has no text.
 #[inline(never)]
 // rule: fault-20, fault-21, fault-22, fault-23, fault-24, fault-25, fault-26, fault-27, fault-28
 fn push_template_fault<E: Sink>(line: &mut LineWriter<'_, '_, E>, fault: &TemplateFault)
@@ -111,7 +114,7 @@ fn push_template_fault<E: Sink>(line: &mut LineWriter<'_, '_, E>, fault: &Templa
     }
 }
 
-/// Pushes the name of a fault of the data, and where in the data it is.
+/// Pushes the name of a data fault and its position in the data.
 // rule: stream-fault-place
 fn push_spot<E: Sink>(line: &mut LineWriter<'_, '_, E>, name: &[u8], spot: Spot)
     ensures { Pushes line.old (concat (spot_text name.now spot)) line.new }
@@ -122,7 +125,7 @@ fn push_spot<E: Sink>(line: &mut LineWriter<'_, '_, E>, name: &[u8], spot: Spot)
     line.push_named(b" bit ", spot.bit);
 }
 
-/// Pushes the text of a fault of the data. Want of memory has none.
+/// Pushes the text of a data fault. [`WalkFault::Memory`] has no text.
 #[inline(never)]
 // rule: fault-30, fault-31, fault-32, fault-33, fault-34, fault-35
 fn push_walk_fault<E: Sink>(line: &mut LineWriter<'_, '_, E>, fault: &WalkFault)
@@ -163,7 +166,7 @@ fn push_fault<E: Sink>(line: &mut LineWriter<'_, '_, E>, offset: u64, fault: Str
     }
 }
 
-/// Writes the line of a `BUFR` at `offset`, in octets from 0, that begins no message.
+/// Writes the fault line of the stray at `offset`, in octets from 0.
 #[inline(always)]
 pub(crate) fn write_stray<E: Sink>(offset: u64, cause: Cause, e: &mut E) -> Result<(), RunFault>
     ensures writes { Writes (E.taken e.old) (E.taken e.new)
@@ -180,7 +183,7 @@ pub(crate) fn write_stray<E: Sink>(offset: u64, cause: Cause, e: &mut E) -> Resu
     outcome
 }
 
-/// Writes the line of a fault at `offset`, in octets from 0.
+/// Writes the fault line of the rejected message at `offset`, in octets from 0.
 pub(crate) fn write_fault<E: Sink>(
     offset: u64,
     fault: StreamFault<'_>,
@@ -199,7 +202,8 @@ pub(crate) fn write_fault<E: Sink>(
     outcome
 }
 
-/// Pushes a fault line: the line of the text, from 1, the fault's number and its text.
+/// Pushes a fault line: the number of the line in the text (from 1), and the number and text of the
+/// fault.
 fn push_line<E: Sink>(line: &mut LineWriter<'_, '_, E>, position: u64, number: u8, text: &[u8])
     ensures { Pushes line.old (document_line position (number, text.now ∷ [])) line.new }
 {
@@ -219,7 +223,8 @@ fn push_expected<E: Sink>(line: &mut LineWriter<'_, '_, E>, expected: Expected)
     }
 }
 
-/// Pushes the descriptor at which the walk over the template is refused, and why.
+/// Pushes the number of the fault that stops the walk over the template, and the descriptor at
+/// which it occurs.
 // rule: fault-62
 fn push_walk<E: Sink>(line: &mut LineWriter<'_, '_, E>, refusal: &WalkRefusal)
     ensures { Pushes line.old (concat (item_report (ItemFault.Walk refusal.now)).1) line.new }
@@ -265,11 +270,12 @@ fn push_document_fault<E: Sink>(line: &mut LineWriter<'_, '_, E>, fault: Documen
     }
 }
 
-/// Writes the line of a document that cannot be encoded. Want of memory has none.
+/// Writes the fault line of a document that cannot be encoded. [`DocumentFault::Memory`] has no
+/// fault line.
 ///
 /// # Errors
 ///
-/// [`RunFault::Write`] where the writer fails or takes nothing; a prefix of the line was taken.
+/// [`RunFault::Write`] if the writer fails or takes nothing; a prefix of the line has been written.
 // rule: fault-lines-of-encoding
 pub fn write_document_fault<E: Sink>(fault: DocumentFault, e: &mut E) -> Result<(), RunFault>
     ensures writes { Writes (E.taken e.old) (E.taken e.new) (refusal_line fault) result }
@@ -284,7 +290,7 @@ pub fn write_document_fault<E: Sink>(fault: DocumentFault, e: &mut E) -> Result<
     outcome
 }
 
-/// What is wrong with a line, in words.
+/// Returns the text of a line fault.
 fn text_of(fault: TextLineFault) -> &'static [u8]
     ensures { result.now ∷ [] ≡ (line_report fault).1 }
 {
@@ -304,11 +310,11 @@ fn push_read_fault<E: Sink>(line: &mut LineWriter<'_, '_, E>, fault: ReadFault)
     }
 }
 
-/// Writes the line of a text line that is refused. A fault of a device or of memory has none.
+/// Writes the fault line of an invalid line in a text. [`ReadFault::Run`] has no fault line.
 ///
 /// # Errors
 ///
-/// [`RunFault::Write`] where the writer fails or takes nothing; a prefix of the line was taken.
+/// [`RunFault::Write`] if the writer fails or takes nothing; a prefix of the line has been written.
 // rule: fault-lines-of-reading
 pub fn write_read_fault<E: Sink>(fault: ReadFault, e: &mut E) -> Result<(), RunFault>
     ensures writes { Writes (E.taken e.old) (E.taken e.new) (line_of_read_fault fault) result }

@@ -12,7 +12,7 @@ use clap::{Arg, ArgMatches};
 use std::alloc::{AllocError, Global};
 use std::convert::AsStr;
 
-/// The names of the files of Tables B and D.
+/// The names of the files that contain Tables B and D.
 #[derive(Clone, Copy, Debug, PartialEq, Eq)]
 pub struct TableNames<'a> {
     /// The value of `-B`.
@@ -28,24 +28,23 @@ pub enum Subcommand<'a> {
     Ls,
     /// `bufr dump`: write the messages as text, using these tables.
     Dump(TableNames<'a>),
-    /// `bufr encode`: write the messages of the documents in a text, using these tables and this
-    /// form.
+    /// `bufr encode`: encode the documents in a text, using these tables and this form.
     Encode(TableNames<'a>, Form),
 }
 
-/// What a command line asks for.
+/// The task that a command line specifies.
 #[derive(Clone, Copy, Debug)]
 pub struct Job<'a> {
     /// The subcommand.
     pub command: Subcommand<'a>,
-    /// The name of the input file; standard input if there is none.
+    /// The name of the input file, or `None` for standard input.
     pub file: Option<&'a str>,
 }
 
-/// Why a command line is not a job.
+/// The reason why a command line does not specify a job.
 #[derive(Debug, Drop, thiserror::Error)]
 pub enum LineFault {
-    /// It asks for help or for the version, which is this text for standard output.
+    /// It requests help or the version; this text is for standard output.
     #[error("help was asked for")]
     Help(String),
     /// It is invalid; this text is for standard error.
@@ -59,7 +58,7 @@ pub enum LineFault {
 /// The version that `bufr --version` prints.
 const VERSION: &str = "0.1.0";
 
-/// The notes under the help of the program.
+/// The notes after the help for the program.
 const PROGRAM_NOTES: &str = "\
 Exit status:
   0  no faults were reported
@@ -73,7 +72,7 @@ Examples:
   bufr dump -B B.csv -D D.csv bulletins.bufr > bulletins.txt
   bufr encode -B B.csv -D D.csv bulletins.txt > again.bufr";
 
-/// The notes under the help of `ls`.
+/// The notes after the help for `ls`.
 const LS_NOTES: &str = "\
 Each line on standard output describes one message.
 Each line on standard error reports one fault. For a fault in the stream, it
@@ -93,7 +92,7 @@ Exit status:
 Example:
   bufr ls bulletins.bufr 2> faults.txt";
 
-/// The notes under the help of `dump`.
+/// The notes after the help for `dump`.
 const DUMP_NOTES: &str = "\
 Every message is printed on standard output unless it has a fault.
 Each line on standard error reports one fault. For a fault in the stream, it
@@ -126,7 +125,7 @@ Exit status:
 Example:
   bufr dump -B B.csv -D D.csv bulletins.bufr > bulletins.txt";
 
-/// The notes under the help of `encode`.
+/// The notes after the help for `encode`.
 const ENCODE_NOTES: &str = "\
 Each document (the dump of one message) is encoded as soon as it is complete.
 bufr stops at the first invalid document and writes nothing for that document.
@@ -176,7 +175,7 @@ impl From<AllocError> for LineFault {
     }
 }
 
-/// A command of this name, which help describes, with these notes under its own help.
+/// Creates a command with this name and description, and with `notes` after its help.
 fn named_command<'a>(
     alloc: Global,
     name: &'a str,
@@ -191,7 +190,7 @@ fn named_command<'a>(
         .after_help(notes)
 }
 
-/// The input's file, which help describes.
+/// Creates the argument for the input file, with this description in the help.
 fn file_argument<'a>(alloc: Global, help: &'a str) -> Arg<'a>
     ensures rule { rule_of result ≡ new_rule (codes "FILE") }
     ensures global { result.global ≡ false }
@@ -199,7 +198,7 @@ fn file_argument<'a>(alloc: Global, help: &'a str) -> Arg<'a>
     Arg::new(alloc, "FILE").help(help)
 }
 
-/// The option of a table, of one letter, which must be there.
+/// Creates a required option of one letter for a table, with this description in the help.
 fn table_option<'a>(alloc: Global, id: &'a str, letter: char, help: &'a str) -> Arg<'a>
     ensures rule { rule_of result ≡ table_rule id.entry.now letter }
     ensures global { result.global ≡ false }
@@ -211,7 +210,7 @@ fn table_option<'a>(alloc: Global, id: &'a str, letter: char, help: &'a str) -> 
         .help(help)
 }
 
-/// A command of this name that reads tables: `-B FILE -D FILE [FILE]`.
+/// Creates a command that reads tables: `-B FILE -D FILE [FILE]`.
 fn command_with_tables<'a>(
     alloc: Global,
     name: &'a str,
@@ -229,7 +228,7 @@ fn command_with_tables<'a>(
     command.arg(file_argument(alloc, file))
 }
 
-/// `bufr encode -B FILE -D FILE [--form WORD] [FILE]`.
+/// Creates the command `bufr encode -B FILE -D FILE [--form WORD] [FILE]`.
 fn encode_command<'a>(alloc: Global) -> Result<clap::Command<'a>, AllocError>
     ensures app { IfOk result (λ c. app_of c ≡ with_rule (tables_app (codes "encode")) form_rule) }
     ensures local { IfOk result (λ c. (out-Command c).has_globals ≡ false) }
@@ -243,7 +242,7 @@ fn encode_command<'a>(alloc: Global) -> Result<clap::Command<'a>, AllocError>
     command.arg(form)
 }
 
-/// `bufr` without its subcommands but `ls`.
+/// Creates the command `bufr` with only one of its subcommands, `ls`.
 fn top_command<'a>(alloc: Global) -> Result<clap::Command<'a>, AllocError>
     ensures { IfOk result (λ c. app_of c ≡ with_subcommand top_app
         (with_rule (new_app (codes "ls")) (new_rule (codes "FILE"))).top) }
@@ -256,7 +255,7 @@ fn top_command<'a>(alloc: Global) -> Result<clap::Command<'a>, AllocError>
     command.subcommand(ls)
 }
 
-/// The command line of `bufr`.
+/// Creates the command `bufr` with all of its subcommands.
 // rule: version, one-file
 fn command_line<'a>(alloc: Global) -> Result<clap::Command<'a>, AllocError>
     ensures { IfOk result (λ c. app_of c ≡ bufr_app) }
@@ -305,8 +304,8 @@ fn form_of(found: &ArgMatches<'_>) -> Option<Form>
     }
 }
 
-/// Why a subcommand that clap accepted is not a job. clap itself rejects the first two cases, which
-/// are here because the code must cover every case, but clap does not know the forms.
+/// The reason why a subcommand that clap accepted is not a job. clap itself rejects the first two
+/// cases, but the code must cover every case. clap does not check the name of the form.
 #[derive(Clone, Copy, Debug, PartialEq, Eq)]
 enum NoJob {
     /// There is no subcommand with this name.
@@ -331,7 +330,7 @@ impl NoJob {
     }
 }
 
-/// The subcommand of this name, with its tables and its form.
+/// Returns the subcommand with this name, including its tables and form.
 fn command_of<'a>(name: &str, found: &ArgMatches<'a>) -> Result<Subcommand<'a>, NoJob>
     ensures name { IfOk result (λ command. name.now ≡ name_of command) }
     ensures tables { IfOk result (HasTables (rows_of (found_of found.now))) }
@@ -358,7 +357,7 @@ fn command_of<'a>(name: &str, found: &ArgMatches<'a>) -> Result<Subcommand<'a>, 
     Err(NoJob::UnknownCommand)
 }
 
-/// What the words of a command line ask for; the first is the program's name.
+/// Parses a command line. The first of its words is the program's name.
 ///
 /// ```
 /// let words = ["bufr", "ls", "bulletins.bufr"];
@@ -368,17 +367,17 @@ fn command_of<'a>(name: &str, found: &ArgMatches<'a>) -> Result<Subcommand<'a>, 
 ///
 /// # Errors
 ///
-/// [`LineFault::Help`] where help or the version is asked for. [`LineFault::Usage`] where the words
-/// are not understood, no command is among them, a table is missing or a form unknown.
-/// [`LineFault::Memory`] where memory ran out.
+/// [`LineFault::Help`] if help or the version is requested. [`LineFault::Usage`] if clap rejects
+/// the words, there is no subcommand, a table is missing or the form is unknown.
+/// [`LineFault::Memory`] if memory runs out.
 // rule: help, usage
 pub fn parse_line<'a, S: AsStr>(alloc: Global, words: &'a [S]) -> Result<Job<'a>, LineFault>
     ensures job { IfOk result
         (λ job. IsJobOf (subcommand_of bufr_app (map S.text words.entry.now)) job) }
     ensures accepted { IfOk result (λ _.
         fault_of bufr_app (map S.text words.entry.now) ≡ []) }
-    // Help only where clap's rules for the line ask for it, a usage fault only where they refuse it
-    // or no job is met.
+    // Returns help only if clap's rules for the line request it, and a usage fault only if they
+    // reject the line or it does not specify a job.
     ensures fault { IfErr result (SaysWhy (fault_of bufr_app (map S.text words.entry.now))
         (subcommand_of bufr_app (map S.text words.entry.now))) }
 {

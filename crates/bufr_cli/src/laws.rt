@@ -1,5 +1,6 @@
-//! Laws on the texts that the program writes: what `dump` writes is fixed, and `encode` reads it
-//! back. [`dump_encode_dump`] runs them in memory.
+//! Laws about the texts that the program writes: `encode` reads back what `dump` writes, and
+//! dumping that again gives the same text. [`dump_encode_dump`] performs these three steps in
+//! memory.
 ghost use Rattle.std.specs.List.{AllByRecursion, concat};
 ghost use Rattle.std.specs.Prelude.{◌≡◌, List, ℕ, [], Option, Some, IfOk};
 ghost use Rattle.bufr_cli.specs.Prelude.{IsDumpedInOneSpelling, RoundTrips, IsWholeRound, IsCanonicalMessage, Written, accepted_messages, rebuilt, RunsInMemory, written_by, dump_pieces, form_pieces, holding, WritesWhole, document_pieces, dump_piece, event_pieces};
@@ -17,15 +18,20 @@ use bufr_frame::RunFault;
 use bufr_tables::{TableB, TableD};
 use std::alloc::Global;
 
-/// Law: for every stream of octets and all tables that were read, `encode` refuses nothing of the
-/// text that `dump` writes. The messages that it builds have, one by one, the same readings as
-/// those that were dumped. They are no longer, but for up to two octets for each message of
-/// edition 3 with an odd section 3 or 4. Dumped again they are the same text, octet for octet.
+/// Law: dumps round-trip.
 ///
-/// Accepted messages that are as an encoder writes them are built of the dump text octet for octet.
-/// Such a message has reserved bits and octets of zero, nothing after the descriptors, and no minus
-/// zero. Each compressed item is packed as its values are packed. Its data take the least octets,
-/// with zero bits at their end.
+/// For every stream of octets and all tables that can be read, `encode` accepts the whole text that
+/// `dump` writes. The messages that it builds have, one by one, the same readings as those that
+/// were dumped. No message is longer than its original, except that an edition 3 message can grow
+/// by up to two octets if its section 3 or 4 has an odd length. Dumping the new messages gives the
+/// same text, octet for octet.
+///
+/// If all accepted messages are canonical, as an encoder writes them, `encode` rebuilds them from
+/// the dump octet for octet. In a canonical message, reserved bits and octets are zero, nothing
+/// follows the descriptors, and no redefined reference value is written as minus zero. Each item of
+/// compressed data is packed in the way that `encode` packs its values. The data take as few octets
+/// as possible (in edition 3, as few as make the length of section 4 even), and the unused bits at
+/// their end are zero.
 // rule: encode-may-grow
 pub fn dumped_streams_are_built_again()
     ensures { (records : List Record) (table_b : List Row) (table_d : List Sequence)
@@ -35,10 +41,12 @@ pub fn dumped_streams_are_built_again()
         → rebuilt table_b table_d s ≡ concat (accepted_messages table_b table_d s)) }
 {}
 
-/// Runs of the program that went through, each over what the one before wrote, by the same tables.
-/// After `dump`, `encode` and `dump` again the two texts are the same, and nothing was refused but
-/// by the first. The messages have one by one the readings of those that were dumped. Canonical
-/// messages are the same octet for octet.
+/// Law: three runs of the program complete a round trip.
+///
+/// If `dump`, `encode` and `dump` again complete with the same tables, each run on the output of
+/// the previous one, then the two dumps are the same text, and only the first run rejects anything.
+/// The encoded messages have, one by one, the readings of those that were dumped. If all of those
+/// were canonical, the encoded messages are the same, octet for octet.
 pub fn runs_close_the_round()
     ensures { (records : List Record) (table_b : List Row) (table_d : List Sequence)
         (stream : List ℕ) (text messages again : Written) (e e' : Option (List ℕ))
@@ -52,28 +60,30 @@ pub fn runs_close_the_round()
         → IsWholeRound table_b table_d stream text messages again }
 {}
 
-/// For every text, in every form and by all tables that were read: what `encode` builds of it is
-/// dumped without a fault. The dump is the texts of its documents before the first that is refused,
-/// or before the line that is. Each text is in the one spelling that a dump has. These texts are
-/// encoded to the same octets again.
+/// Law: encoding a text and dumping the result gives the text in its normal spelling.
+///
+/// For every text and form and all tables that can be read, the messages that `encode` builds are
+/// dumped without a fault. The dump consists of the texts of the documents before the first
+/// document that is rejected, or before the first invalid line. Each of these texts has the normal
+/// spelling, the one that `dump` writes. Encoding them gives the same octets again.
 pub fn encoded_texts_are_dumped_in_one_spelling()
     ensures { (form : Form) (records : List Record) (table_b : List Row) (table_d : List Sequence)
         (text : List ℕ) → AreRows records table_b
         → IsDumpedInOneSpelling form table_b table_d text }
 {}
 
-/// What a run wrote into memory, and its counts.
+/// What a run wrote to memory, and its counts.
 #[derive(Drop)]
 pub struct RunInMemory {
     /// The output.
     pub output: ScriptOut,
-    /// The errors.
+    /// The fault lines.
     pub errors: ScriptOut,
-    /// How many pieces went to each.
+    /// The number of pieces that were written to each.
     pub tally: Tally,
 }
 
-/// How many octets a writer in memory takes at once.
+/// The maximum number of octets that a writer in memory takes at once.
 const STEP: usize = 65_536;
 
 fn dump_octets(
@@ -103,19 +113,20 @@ fn dump_octets(
     })
 }
 
-/// A stream's dump text, what that was encoded to, and the dump text of this.
+/// The dump of a stream, the messages that were encoded from it, and the dump of these messages.
 #[derive(Drop)]
 pub struct Round {
     /// The dump of the stream.
     pub text: RunInMemory,
-    /// What the text was encoded to.
+    /// The messages that were encoded from the dump.
     pub messages: RunInMemory,
     /// The dump of the messages.
     pub again: RunInMemory,
 }
 
-/// Dumps the messages of a stream, encodes that text, and dumps what was encoded, each into writers
-/// with room for so many octets.
+/// Dumps the messages of a stream, encodes the dump, and dumps the encoded messages.
+///
+/// Each writer has room for `room` octets.
 ///
 /// ```
 /// let table_b = TableB::read(rt.alloc(), b"fxy,name,unit,scale,reference,width\n")?;
@@ -127,7 +138,7 @@ pub struct Round {
 ///
 /// # Errors
 ///
-/// [`RunFault::Write`] where the room is too small, and [`RunFault::Memory`].
+/// [`RunFault::Write`] if `room` is too small, and [`RunFault::Memory`] if memory runs out.
 pub fn dump_encode_dump(
     alloc: Global,
     stream: &[u8],
@@ -142,8 +153,8 @@ pub fn dump_encode_dump(
         (taken_of round.text.output))) }
     ensures dump_again { IfOk result (λ round. RunsInMemory round.again
         (dump_pieces table_b.now table_d.now (taken_of round.messages.output))) }
-    // By a Table B that was read, nothing is refused, the two texts are the same, and so are the
-    // messages' readings.
+    // If the rows of Table B were read from records, `encode` rejects nothing, both dumps are the
+    // same text, and the messages have the same readings.
     ensures round { (records : List Record) → AreRows records table_b.now
         → IfOk result (λ round. IsWholeRound table_b.now table_d.now stream.now
         (written_by round.text) (written_by round.messages) (written_by round.again)) }

@@ -1,5 +1,6 @@
-//! `bufr` as a library: the command line, the runs, and the last line, over any inputs and writers.
-//! [`run`] puts them together over [`Inputs`]; `bufr` calls it with [`Buffered`] writers.
+//! `bufr` as a library: the command line, the runs, and the last line, with any inputs and writers.
+//! [`run`] combines all of them; the program `bufr` calls it with its own [`Inputs`] and with
+//! [`Buffered`] writers.
 #![tactic(auto)]
 
 mod buffered;

@@ -11,7 +11,7 @@ use bufr_frame::{Message, RunFault};
 use bufr_text::write_ls;
 use std::alloc::Global;
 
-/// Writes a message by its line.
+/// The writer of the messages for `bufr ls`, one line each.
 #[derive(Drop)]
 struct LsRun;
 
@@ -44,23 +44,25 @@ impl MessageWriter for LsRun {
     }
 }
 
-/// Lists the messages of `r`, in the order of the stream, each as soon as it is certain. A message
-/// has a line on `w`. A stray `BUFR` and a message that cannot be taken apart have a fault line on
-/// `e`. At the end `w`, then `e` is flushed.
+/// Lists the messages of `r`, one per line.
+///
+/// Messages are listed in the order of the stream, each as soon as it is certain. The line of a
+/// message is written to `w`. For each stray, and for each message that cannot be divided into its
+/// sections, writes a fault line to `e` instead. At the end, flushes `w` and then `e`.
 ///
 /// ```
 /// let mut r = Device::new(b"BUFR".as_slice());
 /// let mut w = Device::new(Vec::new(rt.alloc()));
 /// let mut e = Device::new(Vec::new(rt.alloc()));
-/// let tally = run_ls(rt.alloc(), &mut r, &mut w, &mut e)?; // `offset 0: 1 cut` is on `e`
+/// let tally = run_ls(rt.alloc(), &mut r, &mut w, &mut e)?; // `e` contains `offset 0: 1 cut`
 /// assert_eq!(rt; tally.refused, 1);
 /// ```
 ///
 /// # Errors
 ///
-/// [`RunFault::Read`], [`RunFault::InputTooLong`] and [`RunFault::Memory`] as [`Finder::next`]
-/// gives them; the lines of all that was certain were written then. [`RunFault::Write`] where a
-/// writer failed or took nothing: a prefix of the lines was written.
+/// [`RunFault::Read`], [`RunFault::InputTooLong`] and [`RunFault::Memory`] under the same
+/// conditions as [`Finder::next`]; in each case, the lines of all certain events have been written.
+/// [`RunFault::Write`] if a writer fails or takes nothing; a prefix of the lines has been written.
 // rule: input-without-bufr
 pub fn run_ls<R: Source, W: Sink, E: Sink>(
     alloc: Global,
@@ -68,7 +70,8 @@ pub fn run_ls<R: Source, W: Sink, E: Sink>(
     w: &mut W,
     e: &mut E,
 ) -> Result<Tally, RunFault>
-    // Where the whole input is known, exactly its pieces were written, and the tally counts them.
+    // If the run completes and its whole input is known, exactly the pieces of that input are
+    // written, and the tally counts them.
     ensures leaves { LeavesDevices (event_pieces ls_piece)
         (input_of R.Source r.old) (input_of R.Source r.new)
         (writers_of W.Sink w.old E.Sink e.old) (writers_of W.Sink w.new E.Sink e.new) result }

@@ -10,7 +10,8 @@ use bufr_frame::RunFault;
 use bufr_tables::TableFault;
 use bufr_text::LineWriter;
 
-/// The octets in which a line is put together; what is longer goes out in several writes.
+/// The size, in octets, of the block in which a line is assembled. A longer line takes several
+/// writes.
 const LINE: usize = 320;
 
 /// The outcome of a call of the program.
@@ -20,7 +21,7 @@ pub enum Outcome<'a> {
     Ran(Tally),
     /// The command line is invalid; this text says why.
     Usage(&'a str),
-    /// The file of this name cannot be opened.
+    /// The file with this name cannot be opened.
     CannotOpen(&'a str),
     /// Table B cannot be read.
     TableB(TableFault),
@@ -92,7 +93,8 @@ fn push_table_fault<E: Sink>(line: &mut LineWriter<'_, '_, E>, table: &[u8], fau
     }
 }
 
-/// Pushes the line that goes before status 2, or the usage text, or nothing.
+/// Pushes the last line: the usage text, or the reason why the run did not complete. Pushes nothing
+/// if the run completed.
 // rule: status-of-usage, status-of-open
 fn push_last<E: Sink>(line: &mut LineWriter<'_, '_, E>, outcome: &Outcome<'_>)
     ensures { Pushes line.old (last_line outcome.now) line.new }
@@ -111,12 +113,14 @@ fn push_last<E: Sink>(line: &mut LineWriter<'_, '_, E>, outcome: &Outcome<'_>)
     }
 }
 
-/// Writes the line that goes before status 2, or the usage text, or nothing where the run went
-/// through. Returns the exit status: 0 where nothing was refused, 1 where something was, and 2 for
-/// all else. A write that fails leaves the status as it is. It takes no memory.
+/// Writes the last line to `e`, and returns the exit status.
+///
+/// The last line is the usage text, or reports why the run did not complete. Nothing is written if
+/// the run completed. The status is 0 if nothing was rejected, 1 if something was, and 2 if the run
+/// did not complete. A failed write does not change the status. This function allocates no memory.
 pub fn finish<E: Sink>(outcome: &Outcome<'_>, e: &mut E) -> u8
     ensures status { result ≡ status_of outcome.now }
-    // A prefix of the line is written, and all of it where no call of the writer failed or took
+    // A prefix of the line is written, and the whole line if no call to the writer fails or takes
     // nothing.
     ensures prefix { GrowsByPrefix (E.taken e.old) (E.taken e.new) (last_line outcome.now) }
     ensures whole { E.failures e.old < 2 ^ 64 - 1 → E.empty_writes e.old < 2 ^ 64 - 1
@@ -132,22 +136,22 @@ pub fn finish<E: Sink>(outcome: &Outcome<'_>, e: &mut E) -> u8
     status(outcome)
 }
 
-/// What became of a message, a document, or a place where `BUFR` is.
+/// The verdict on a message, a document or a stray.
 #[derive(Clone, Copy, Debug, PartialEq, Eq)]
 pub enum Verdict {
-    /// Its text was written on the output.
+    /// Its text or message was written to the output.
     Accepted,
-    /// Its fault line was written on the errors.
+    /// Its fault line was written to the error output.
     Refused,
 }
 
-/// How many messages or documents a run accepted, and how many strays, messages or documents it
-/// refused.
+/// The number of messages or documents that a run accepted, and the number of strays, messages or
+/// documents that it rejected.
 #[derive(Clone, Copy, Debug, PartialEq, Eq)]
 pub struct Tally {
-    /// The messages or documents that were written to the output.
+    /// The number of messages or documents that were written to the output.
     pub accepted: u64,
-    /// The fault lines that were written to the errors, including those of strays.
+    /// The number of fault lines that were written to the error output, including those of strays.
     pub refused: u64,
 }
 

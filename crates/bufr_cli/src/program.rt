@@ -1,4 +1,4 @@
-//! The program below `main`: what it does with a command line, its inputs and its writers.
+//! The program below `main`: what it does with a command line, given its inputs and writers.
 ghost use Rattle.std.specs.Prelude.{◌≡◌, ◌⊎◌, ◌≤◌, ◌+◌, ◌*◌, ℕ, true, List, Option, None, [], ◌∷◌, Ok, IfOk, IfErr, IfSome, OnOk, length, map};
 ghost use Rattle.bufr_bits.specs.Prelude.{counted};
 ghost use Rattle.bufr_frame.specs.Prelude.{read_failures_after, MakesReads};
@@ -21,7 +21,7 @@ use std::alloc::{AllocError, Global};
 use std::convert::AsStr;
 use thiserror::Error;
 
-/// Why a file is not opened.
+/// The reason why a file was not opened.
 #[derive(Clone, Copy, Debug, PartialEq, Eq, Error)]
 pub enum OpenFault {
     /// It cannot be opened.
@@ -48,11 +48,11 @@ pub trait Inputs {
     /// contains.
     ghost file_octets: { Self → List ℕ → Option (List ℕ) };
 
-    /// What was opened so far, in order, if it is known. Calls that failed are included.
+    /// The inputs that were opened so far, in order, if they are known. Failed calls are included.
     ghost opened: { Self → Option (List InputName) } = { λ _. None };
 
-    /// Standard input. It is opened after all files, so no clause says what is known of files after
-    /// that.
+    /// Opens standard input. It is opened after all files, so no clause states what is known about
+    /// files after that.
     ///
     /// # Errors
     ///
@@ -62,7 +62,7 @@ pub trait Inputs {
             (λ input. Self.Standard.left input ≡ standard_octets self.old) }
         ensures opens { Opens (opened self.old) (opened self.new) (standard_name ∷ []) };
 
-    /// The file with this name.
+    /// Opens the file with this name.
     ///
     /// # Errors
     ///
@@ -78,17 +78,17 @@ pub trait Inputs {
         ensures standard { standard_octets self.new ≡ standard_octets self.old };
 }
 
-/// The octets of `r` to its end.
+/// Reads all octets of `r`, up to its end.
 ///
 /// # Errors
 ///
-/// [`RunFault::Read`] where a read failed, [`RunFault::InputTooLong`] where the end was not
-/// reached in 2^32 reads, and [`RunFault::Memory`].
+/// [`RunFault::Read`] if a read fails, [`RunFault::InputTooLong`] if 2^32 reads do not reach the
+/// end, and [`RunFault::Memory`] if memory runs out.
 pub fn read_all<R: Source>(alloc: Global, r: &mut R) -> Result<Vec<u8>, RunFault>
     ensures read { (bs : List ℕ) × ReadsAll (R.left r.old) (R.left r.new) result bs }
     ensures failed { R.failures r.new ≡ read_failures_after (R.failures r.old) result }
     ensures reads { MakesReads (R.reads r.old) (R.reads r.new) result }
-    // Each read but the last one gave an octet.
+    // Every read except the last one returned at least one octet.
     ensures each { IfOk result (λ octets. (n : ℕ) × (n ≤ length octets.items + 1)
         × (R.reads r.new ≡ counted (R.reads r.old) n)
         × (R.asked r.new ≡ counted (R.asked r.old) (65536 * n))) }
@@ -99,10 +99,11 @@ pub fn read_all<R: Source>(alloc: Global, r: &mut R) -> Result<Vec<u8>, RunFault
     Ok(octets)
 }
 
-/// Does what a command line asks for; the first of its words is the program's name. It returns the
-/// exit status: that of `status_of` (specs/Ending), or 0 if help or the version was written to `w`.
-/// It opens Table B first, Table D if Table B is valid, and the input if both are valid, each at
-/// most once.
+/// Runs a command line, whose first word is the program's name, and returns the exit status.
+///
+/// The status is that of `status_of` (specs/Ending), or 0 if help or the version was written to
+/// `w`. `dump` and `encode` open Table B first, then Table D if Table B is valid, and then the
+/// input if both tables are valid. `ls` opens only the input. Each is opened at most once.
 pub fn run<'a, S: AsStr, I: Inputs, W: Sink, E: Sink>(
     alloc: Global,
     words: &'a [S],
@@ -143,14 +144,14 @@ fn write_and_flush<W: Sink>(text: &[u8], w: &mut W) -> Result<(), RunFault>
     flush(w)
 }
 
-/// What a command works with: memory, and the name of its input.
+/// The allocator of a command and the name of its input file.
 #[derive(Clone, Copy, Drop)]
 struct Call<'a> {
     alloc: Global,
     file: Option<&'a str>,
 }
 
-/// Opens what a job names, the tables first, and does it.
+/// Opens the inputs of a job, the tables first, and runs it.
 // rule: tables-before-input
 fn run_job<'a, I: Inputs, W: Sink, E: Sink>(
     alloc: Global,
@@ -234,7 +235,7 @@ struct Tables {
     table_d: TableD,
 }
 
-/// Table B, then Table D, of the files of these names.
+/// Reads Table B, and then Table D, from the files with these names.
 fn read_tables<'a, I: Inputs>(
     alloc: Global,
     names: TableNames<'a>,
@@ -284,13 +285,13 @@ fn outcome_of<'a>(ran: Result<Tally, RunFault>) -> Outcome<'a>
 enum Command<'t> {
     /// Lists the messages of an input.
     Ls,
-    /// Dumps the messages of an input by these tables.
+    /// Dumps the messages of an input, using these tables.
     Dump(&'t TableB, &'t TableD),
-    /// Encodes the documents of an input in this form, by these tables.
+    /// Encodes the documents of an input in this form, using these tables.
     Encode(Form, &'t TableB, &'t TableD),
 }
 
-/// Runs a command over a file, or over standard input.
+/// Runs a command on a file or on standard input.
 // rule: dash-is-a-name
 fn run_input<'a, I: Inputs, W: Sink, E: Sink>(
     call: Call<'a>,
@@ -318,7 +319,7 @@ fn run_input<'a, I: Inputs, W: Sink, E: Sink>(
     }
 }
 
-/// Runs a command over an input, and flushes the rest.
+/// Runs a command on an input, and flushes the remaining output.
 fn run_source<R: Source, W: Sink, E: Sink>(
     alloc: Global,
     command: Command<'_>,
@@ -354,8 +355,8 @@ fn run_command<R: Source, W: Sink, E: Sink>(
     }
 }
 
-/// Hands on what a run has written, where memory or reads ended it. Before a read that fails, all
-/// was handed on.
+/// Flushes the output if the run stopped because memory ran out or the input was too long. If a
+/// read failed, everything was already flushed before that read.
 fn flush_rest<W: Sink>(ran: Result<Tally, RunFault>, w: &mut W) -> Result<Tally, RunFault>
     ensures same { result ≡ ran }
     ensures rest { FlushesRest (writer_of W.Sink w.old) (writer_of W.Sink w.new) ran }

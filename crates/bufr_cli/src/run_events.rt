@@ -1,4 +1,4 @@
-//! A run over the events of a stream, whatever is written for its messages.
+//! Runs over the events of a stream, for any writer of messages.
 ghost use Rattle.std.specs.Prelude.{◌≡◌, ◌≤◌, ℕ, Bool, length};
 ghost use Rattle.bufr_frame.specs.Prelude.{StreamEvent, FrameAt, StrayAt, cause_report};
 ghost use Rattle.bufr_frame.specs.declared.fault.Cause.{Cause};
@@ -11,23 +11,25 @@ use bufr_bits::{Sink, Source};
 use bufr_frame::{Event, Finder, RunFault};
 use std::alloc::Global;
 
-/// What a run writes for the messages of its stream. A stray `BUFR` has its fault line.
+/// A writer of the messages of a stream. The run itself writes the fault lines of strays.
 pub trait MessageWriter {
-    /// What is to be written for an event.
+    /// The piece of an event.
     ghost piece: { Self → StreamEvent → Piece };
 
-    /// Whether writing takes memory.
+    /// Whether writing allocates memory.
     ghost takes_memory: { Self → Bool };
 
-    /// A stray `BUFR` has its fault line.
+    /// The piece of a stray is its fault line.
     ghost strays: { (s : Self) (offset : ℕ) (cause : Cause)
         → piece s (StrayAt offset cause) ≡ OnErrors (fault_line offset (cause_report cause)) };
 
-    /// Writes the piece of the message in these octets, and answers on which writer.
+    /// Writes the piece of the message in `octets`, which is at `offset` in the stream. The verdict
+    /// says to which writer the piece was written.
     ///
     /// # Errors
     ///
-    /// [`RunFault::Write`] and [`RunFault::Memory`]; of the piece a prefix was written.
+    /// [`RunFault::Write`] if a writer fails or takes nothing, and [`RunFault::Memory`] if memory
+    /// runs out; in both cases, a prefix of the piece has been written.
     fn write_message<W: Sink, E: Sink>(
         &mut self,
         offset: u64,
@@ -48,7 +50,7 @@ pub trait MessageWriter {
         ensures errors_flushes { E.flushes e.new ≡ E.flushes e.old };
 }
 
-/// The messages of a stream, and what writes them.
+/// The finder of the events of a stream, and the writer of its messages.
 #[derive(Drop)]
 struct EventRun<T> {
     finder: Finder,
@@ -88,7 +90,7 @@ impl<T: MessageWriter> PieceWriter for EventRun<T> {
     }
 }
 
-/// Writes the events of `r`, each as soon as it is certain.
+/// Writes the piece of each event of `r` as soon as the event is certain.
 pub(crate) fn run_events<T: MessageWriter + Drop, R: Source, W: Sink, E: Sink>(
     alloc: Global,
     writer: T,

@@ -1,4 +1,4 @@
-//! A run over an input: what comes next is written, piece by piece.
+//! Runs over an input, whose pieces are written one by one.
 ghost use Rattle.std.specs.Prelude.{◌≡◌, ◌≢◌, ◌≤◌, ℕ, Bool, true, false, Ok, Err, OnOk, IfErr};
 ghost use Rattle.std.specs.Io.KnownBytes.{Keeps};
 ghost use Rattle.bufr_bits.specs.Prelude.{counted};
@@ -9,39 +9,40 @@ use crate::outcome::{Tally, Verdict};
 use bufr_bits::{Sink, Source};
 use bufr_frame::RunFault;
 
-/// What came of the next step of a run.
+/// The result of a step of a run.
 #[derive(Clone, Copy)]
 pub enum RunStep {
     /// A piece was written.
     Piece(Verdict),
-    /// A read is needed first.
+    /// A read is needed before the next step.
     Read,
-    /// Nothing comes any more.
+    /// There are no more pieces.
     End,
 }
 
-/// What comes next of an input, and what is written for it.
+/// A writer of the pieces of an input.
 pub trait PieceWriter {
-    /// What is to be written for an input.
+    /// The pieces of an input.
     ghost pieces: { Self → RunPieces };
 
-    /// Whether writing takes memory.
+    /// Whether writing allocates memory.
     ghost takes_memory: { Self → Bool };
 
-    /// How many reads it made.
+    /// The number of reads made so far.
     ghost reads: { Self → ℕ };
 
-    /// Whether a run has come so far.
+    /// Whether a run has made this progress.
     ghost reaches: { Self → Progress → Type 0 };
 
     /// Whether a read is needed.
     ghost needs_read: { Self → Type 0 };
 
-    /// Writes the next piece, if what was read makes it certain.
+    /// Writes the next piece if it is certain from what has been read.
     ///
     /// # Errors
     ///
-    /// [`RunFault::Write`] and [`RunFault::Memory`]; of the piece a prefix was written.
+    /// [`RunFault::Write`] if a writer fails or takes nothing, and [`RunFault::Memory`] if memory
+    /// runs out; in both cases, a prefix of the piece has been written.
     fn write_next<W: Sink, E: Sink>(&mut self, w: &mut W, e: &mut E) -> Result<RunStep, RunFault>
         requires begun { (so : Progress) × reaches self.old so }
         ensures next { (so : Progress) → reaches self.old so
@@ -57,11 +58,13 @@ pub trait PieceWriter {
         ensures output_flushes { W.flushes w.new ≡ W.flushes w.old }
         ensures errors_flushes { E.flushes e.new ≡ E.flushes e.old };
 
-    /// Reads once, where a read is needed. The input must be the same at each call.
+    /// Reads once from `r`, which must be the same input at each call. Call this only when a read
+    /// is needed.
     ///
     /// # Errors
     ///
-    /// [`RunFault::Read`], [`RunFault::InputTooLong`] and [`RunFault::Memory`]; no octets came.
+    /// [`RunFault::Read`] if the read fails, [`RunFault::InputTooLong`] if 2^32 reads were already
+    /// made, and [`RunFault::Memory`] if memory runs out. In each case, no octets were read.
     fn read_more<R: Source>(&mut self, r: &mut R) -> Result<(), RunFault>
         requires { needs_read self.old }
         ensures reads_on { (so : Progress) → so.left ≡ R.left r.old → reaches self.old so
@@ -75,7 +78,7 @@ pub trait PieceWriter {
         ensures memory { takes_memory self.new ≡ takes_memory self.old };
 }
 
-/// Hands on what was written.
+/// Flushes a writer.
 pub(crate) fn flush<W: Sink>(w: &mut W) -> Result<(), RunFault>
     ensures keeps { Keeps (W.taken w.old) (W.taken w.new) }
     ensures made { (W.flushes w.new).made ≤ counted (W.flushes w.old).made 1 }
@@ -90,7 +93,7 @@ pub(crate) fn flush<W: Sink>(w: &mut W) -> Result<(), RunFault>
     }
 }
 
-/// Hands on what was written: the output, then the errors.
+/// Flushes the output and then the error output.
 fn hand_on<W: Sink, E: Sink>(w: &mut W, e: &mut E) -> Result<(), RunFault>
     ensures handed { FlushesBoth (writers_of W.Sink w.old E.Sink e.old)
         (writers_of W.Sink w.new E.Sink e.new) result }
@@ -99,7 +102,7 @@ fn hand_on<W: Sink, E: Sink>(w: &mut W, e: &mut E) -> Result<(), RunFault>
     flush(e)
 }
 
-/// To which writers a run has written since it began or since its last flush of them.
+/// The writers to which a run has written since it began or since it last flushed them.
 #[derive(Clone, Copy)]
 pub(crate) struct Unflushed {
     output: bool,
@@ -127,7 +130,7 @@ fn flush_if<W: Sink>(written: bool, w: &mut W) -> Result<(), RunFault>
     Ok(())
 }
 
-/// Hands on what was written since the last flush, where the next read of `r` may wait.
+/// Flushes what was written since the last flush, if the next read of `r` may block.
 fn hand_on_before_read<R: Source, W: Sink, E: Sink>(
     r: &R,
     unflushed: &mut Unflushed,
@@ -148,9 +151,8 @@ fn hand_on_before_read<R: Source, W: Sink, E: Sink>(
     Ok(())
 }
 
-/// Writes the pieces of `r`, each as soon as it is certain. Before a read that may wait, what was
-/// written is handed on; a writer that took nothing since its last flush is not flushed again. At
-/// the end both are.
+/// Writes the pieces of `r`, each as soon as it is certain. Before a read that may block, flushes
+/// each writer that was written to since its last flush. At the end, flushes both writers.
 // rule: output-in-order, fault-line-not-written, input-not-read, reader-gone
 pub(crate) fn run_pieces<P: PieceWriter, R: Source, W: Sink, E: Sink>(
     next: &mut P,

@@ -1,4 +1,4 @@
-//! Bits, devices and decimal text.
+//! Tests of bits, devices and decimal text.
 ghost use Rattle.std.specs.Prelude.{◌≤◌, length};
 
 use crate::support::{Runtime, assert_same, joined, ok, repeated};
@@ -10,7 +10,7 @@ use std::io::{self, Read, Write};
 
 const NINE: &[u8] = &[0x01, 0x23, 0x45, 0x67, 0x89, 0xAB, 0xCD, 0xEF, 0x01];
 
-/// The number that `get` is to return, one bit after another.
+/// Returns the number that `get` should return, computed bit by bit.
 fn bit_by_bit(octets: &[u8], at: u64, width: u32) -> Option<u64> {
     let mut value = 0u64;
     for bit in at..at.saturating_add(u64::from(width)) {
@@ -63,7 +63,7 @@ const NUMBERS_AT_THE_ENDS: &[(u64, u32, Option<u64>)] = &[
 
 const OCTETS_AT_THE_ENDS: &[(u64, Option<u8>)] = &[(3, Some(0x09)), (64, Some(0x01)), (65, None)];
 
-/// A bit, a count of octets, and these octets.
+/// Each row contains a bit offset, a number of octets, and the octets that can be borrowed there.
 #[rattlefmt::skip]
 const BORROWED_OCTETS: &[(u64, usize, Option<&[u8]>)] = &[
     (56, 2, Some(b"\xEF\x01")), (72, 0, Some(b"")), (57, 1, None), (64, 2, None), (80, 0, None),
@@ -84,14 +84,15 @@ fn numbers_and_octets_at_the_ends(rt: HostRuntime) {
     }
 }
 
-/// In fifteen ones and a zero: a bit, a width, and whether all are ones.
+/// Fields in fifteen ones and a zero. Each row contains the bit offset, the width, and whether all
+/// bits are ones.
 #[rattlefmt::skip]
 const ONES_AND_A_ZERO: &[(u64, u32, Option<bool>)] = &[
     (0, 15, Some(true)), (0, 16, Some(false)), (1, 16, None), (16, 0, Some(true)),
     (u64::MAX, u32::MAX, None),
 ];
 
-/// A zero among ones is found at every width.
+/// A zero among ones is found in a field of any width.
 #[test]
 fn one_zero_among_ones(rt: HostRuntime) {
     for (at, width, want) in ONES_AND_A_ZERO {
@@ -122,7 +123,7 @@ fn push_octets(rt: &impl Runtime, writer: &mut BitWriter, octets: &[u8])
     ok(rt, writer.push_octets(octets));
 }
 
-/// Bits for which there is room are those of a push.
+/// `put` and `put_octets` write bits into room that was reserved.
 #[test]
 fn bits_are_put_where_there_is_room(rt: HostRuntime) {
     let mut writer = BitWriter::new(rt.alloc());
@@ -137,10 +138,11 @@ fn bits_are_put_where_there_is_room(rt: HostRuntime) {
     assert_number(&rt, &octets, 91, 5, Some(0));
 }
 
-/// Of these the lowest bits are pushed at each width.
+/// Values whose lowest bits are pushed at each width.
 const PUSHED: &[u64] = &[0, 1, u64::MAX, 0x5A5A_5A5A_5A5A_5A5A];
 
-/// A writer to which these values were pushed, and the nine octets after each width.
+/// Returns a writer to which these values were pushed at each width, followed each time by the nine
+/// octets.
 fn pushed_at_each_width(rt: &impl Runtime) -> BitWriter {
     let mut writer = BitWriter::new(rt.alloc());
     for width in 0..64u32 {
@@ -182,7 +184,7 @@ fn bits_are_pushed_at_each_width(rt: HostRuntime) {
     assert_same(&rt, &at, &length, &"length");
 }
 
-/// A reader and writer whose every call is interrupted.
+/// A reader and writer whose calls are all interrupted.
 #[derive(Drop)]
 struct Broken;
 
@@ -236,14 +238,14 @@ fn a_scripted_reader_fails_at_its_place(rt: HostRuntime) {
     assert_same(&rt, &buf, b"dec\0", &"octets");
 }
 
-/// Writes before the end of a scripted writer.
+/// Writes before the end of a scripted writer, and their results.
 const WRITES: &[(&[u8], Result<usize, Failed>)] = &[
     (b"", Ok(0)),
     (b"abcd", Ok(3)),
     (b"def", Ok(2)),
 ];
 
-/// The end of a scripted writer, what a write and a flush give there.
+/// Each row contains the end of a scripted writer, and the results of a write and a flush there.
 #[rattlefmt::skip]
 const ENDS: &[(End, Result<usize, Failed>, Result<(), Failed>)] = &[
     (End::Zero, Ok(0), Ok(())),
@@ -251,7 +253,7 @@ const ENDS: &[(End, Result<usize, Failed>, Result<(), Failed>)] = &[
     (End::Flush, Err(Failed), Err(Failed)),
 ];
 
-/// A writer of five octets takes three at most a write.
+/// A writer with room for five octets takes at most three in each write.
 #[test]
 fn a_scripted_writer_ends_at_its_place(rt: HostRuntime) {
     for (end, last, flushed) in ENDS {
@@ -263,7 +265,7 @@ fn a_scripted_writer_ends_at_its_place(rt: HostRuntime) {
     }
 }
 
-/// A device fails where its reader or writer does.
+/// A device fails if its reader or writer fails.
 #[test]
 fn devices(rt: HostRuntime) {
     let mut source = Device::new(b"abc".as_slice());
@@ -303,7 +305,7 @@ const TEXTS: &[(i128, i16, &[u8])] = &[
     (i128::MAX, 38, b"1.70141183460469231731687303715884105727"),
 ];
 
-/// The ends of `i128`, each as its sign and its 39 digits.
+/// The least and the greatest `i128`, each with its sign and its 39 digits.
 #[rattlefmt::skip]
 const ENDS_OF_NUMBERS: &[(i128, &[u8], &[u8])] = &[
     (i128::MIN, b"-", b"170141183460469231731687303715884105728"),
@@ -328,7 +330,7 @@ fn decimal_texts(rt: HostRuntime) {
     }
 }
 
-/// Texts and scales, by the fault that they are refused with.
+/// Texts and scales, grouped by the fault for which they are rejected.
 #[rattlefmt::skip]
 const REFUSED: &[(NumberFault, &[(&[u8], i16)])] = &[
     (NumberFault::Syntax, &[
@@ -348,7 +350,7 @@ const REFUSED: &[(NumberFault, &[(&[u8], i16)])] = &[
     ]),
 ];
 
-/// Texts, scales and the numbers that are read; many about the ends of 64 bits.
+/// Texts, scales, and the numbers that are read. Many are near the limits of 64 bits.
 #[rattlefmt::skip]
 const READ: &[(&[u8], i16, i128)] = &[
     (b"28800", -2, 288), (b"-0", 0, 0), (b"-0.00", 2, 0), (b"007.50", 1, 75), (b"-000.10", 1, -1),
@@ -386,7 +388,8 @@ fn decimal_readings(rt: HostRuntime) {
     }
 }
 
-/// Texts, and how many octets write the short decimal that comes first in each, or none.
+/// Texts, and the length in octets of the short decimal at the start of each, or 0 if there is
+/// none.
 #[rattlefmt::skip]
 const PREFIXES: &[(&[u8], usize)] = &[
     (b"0", 1), (b"10  # K", 2), (b"-0.50 ", 5), (b"0.05x", 4), (b"1-2", 1), (b"1.5.", 3),
@@ -396,7 +399,8 @@ const PREFIXES: &[(&[u8], usize)] = &[
     (b".5", 0), (b"1.", 0), (b"1. ", 0),
 ];
 
-/// The number that a short decimal writes, read as its text.
+/// Asserts the length of the short decimal at the start of a text, and that its value is the same
+/// as that of its text.
 fn assert_prefix(rt: &impl Runtime, text: &[u8], want: usize) {
     let Some((number, len)) = ShortDecimal::prefix(text) else {
         return assert_same(rt, &want, &0, &text);

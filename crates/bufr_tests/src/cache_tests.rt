@@ -1,4 +1,4 @@
-//! What is kept between messages: the last templates, and the specs of their cells.
+//! Tests of what is cached between messages: the last templates, and the specs of their cells.
 
 use crate::encode_tests::{document_of, encoded};
 use crate::messages::{PLAIN, message_of, text_of};
@@ -8,10 +8,11 @@ use crate::support::{Runtime, assert_same, ok, repeated};
 use bufr_text::{Form, encode_by};
 use bufr_walk::{SpecCache, Steps, TemplateCache};
 
-/// More lists than are kept.
+/// The number of descriptor lists, which is greater than the number that can be cached.
 const LISTS: u16 = 140;
 
-/// The fourth list has a fault, and the template of the ninth more cells than are kept.
+/// Returns the descriptor list at an index. The fourth list has a fault, and the template of the
+/// ninth list has too many cells to be cached.
 fn list_of(rt: &impl Runtime, index: u16) -> String {
     let width = (index % 40).saturating_add(128);
     let blocks = (index / 40).saturating_add(2);
@@ -23,12 +24,13 @@ fn list_of(rt: &impl Runtime, index: u16) -> String {
     ok(rt, list)
 }
 
-/// A message of a list.
+/// Returns a message with this descriptor list.
 fn message_with(rt: &impl Runtime, list: &str) -> Vec<u8> {
     message_of(rt, 1, PLAIN, list, &repeated(rt, b"\x15", 12))
 }
 
-/// The text of the message of a list; of the one with a fault a text of this list.
+/// Returns the dump of a message with this descriptor list. For the list that has a fault, returns
+/// another text with this list.
 fn text_for(rt: &impl Runtime, list: &str) -> Vec<u8> {
     let text = run_whole(rt, Dump, &message_with(rt, list));
     if text.output().is_empty() {

@@ -1,4 +1,4 @@
-//! Documents encoded: their messages, their faults and the steps of the walk.
+//! Tests of encoding documents: the messages, the faults, and the steps of the walk.
 
 use crate::messages::{HEAD, PACKED, PLAIN, dump_of, message_of_hex, text_of};
 use crate::runs::Command::{Dump, Encode, EncodeIn};
@@ -11,19 +11,20 @@ use bufr_tables::{Fxy, TemplateFault};
 use bufr_text::{Document, DocumentFault, DumpReader, Form, encode_document, encode_form, laws};
 use bufr_walk::Steps;
 
-/// What a document is encoded to.
+/// The result of encoding a document.
 #[derive(Clone, Copy)]
 pub(crate) enum Want {
-    /// A message with these data in hexadecimal digits.
+    /// A message with these data, in hexadecimal digits.
     Data(&'static str),
-    /// Nothing, with this fault line.
+    /// No message, but this fault line.
     Fault(&'static str),
 }
 
 use Want::{Data, Fault};
 
-/// A document: name, subsets, flags, descriptors, items, what is wanted, and the steps of the walk.
-/// A | separates subsets, a ; their items. The first item is line 24.
+/// A document: its name, the number of subsets, flags, descriptors, items, the expected result, and
+/// the steps of the walk. `|` separates subsets, and `;` separates their items. The first item is
+/// on line 24.
 pub(crate) struct Row(
     &'static str,
     u16,
@@ -37,7 +38,7 @@ pub(crate) struct Row(
 /// A delayed replication of one element.
 const DELAYED: &str = "101000 031001 001001";
 
-/// An element whose reference value is redefined.
+/// Descriptors that redefine the reference value of an element.
 const REDEFINED: &str = "203010 012101 203255 012101";
 
 #[rattlefmt::skip]
@@ -64,10 +65,11 @@ static ROWS: &[Row] = &[
         Fault("25: 62 walk 31 descriptor 001001"), 3),
 ];
 
-/// Two subsets of one value and of two.
+/// Two subsets, the first with one value and the second with two.
 const UNEQUAL: &str = "031001 1;001001 10|031001 2;001001 10;001001 11";
 
-/// Documents in a form, for which the message has other flags.
+/// Each row contains a form, the flags of the message in this form, and a document that has other
+/// flags.
 #[rattlefmt::skip]
 static FORMS: &[(Form, u8, Row)] = &[
     (Form::Compressed, PACKED, Row("delayed_twice", 1, PLAIN, DELAYED,
@@ -85,12 +87,12 @@ impl Row {
         self.0
     }
 
-    /// The text of its document.
+    /// Returns the text of the document.
     pub(crate) fn text(&self, rt: &impl Runtime) -> String {
         text_of(rt, self.1, self.2, self.3, self.4)
     }
 
-    /// Its message with these flags; empty where it is refused.
+    /// Returns the message with these flags, which is empty if the document is rejected.
     fn message(&self, rt: &impl Runtime, flags: u8) -> Vec<u8> {
         match self.5 {
             Data(digits) => message_of_hex(rt, self.1, flags, self.3, digits),
@@ -98,7 +100,7 @@ impl Row {
         }
     }
 
-    /// Its fault line; empty where it is accepted.
+    /// Returns the fault line, which is empty if the document is accepted.
     pub(crate) fn fault(&self, rt: &impl Runtime) -> String {
         match self.5 {
             Data(_) => String::new(rt.alloc()),
@@ -107,14 +109,14 @@ impl Row {
     }
 }
 
-/// The first document of a text.
+/// Returns the first document of a text.
 pub(crate) fn document_of(rt: &impl Runtime, text: &[u8]) -> Document {
     let mut reader = DumpReader::new(rt.alloc());
     let mut input = ScriptIn::new(text, 4096, None);
     some(rt, ok(rt, reader.next_document(&mut input)))
 }
 
-/// Encodes a document by the command of a task.
+/// Encodes a document with the command of a task.
 fn encode_by(
     task: &Task,
     document: &Document,
@@ -126,7 +128,8 @@ fn encode_by(
     }
 }
 
-/// The same, and the steps. Those of an earlier call do not count.
+/// Encodes a document, and returns the result and the number of steps. The steps of an earlier call
+/// do not count.
 pub(crate) fn encoded(
     rt: &impl Runtime,
     command: Command,
@@ -139,7 +142,7 @@ pub(crate) fn encoded(
     (outcome, steps.count())
 }
 
-/// What a document is encoded to, once.
+/// Encodes a document once.
 fn encode_once(
     rt: &impl Runtime,
     command: Command,
@@ -148,12 +151,12 @@ fn encode_once(
     encode_by(&Task::new(rt, command), document, &mut Steps::new())
 }
 
-/// The octets that a document is encoded to.
+/// Returns the octets of the message for a document.
 fn octets_of(rt: &impl Runtime, command: Command, document: &Document) -> Vec<u8> {
     ok(rt, encode_once(rt, command, document))
 }
 
-/// The octets that a text's first document is encoded to.
+/// Returns the octets of the message for the first document of a text.
 pub(crate) fn octets_for(rt: &impl Runtime, text: &[u8]) -> Vec<u8> {
     octets_of(rt, Encode, &document_of(rt, text))
 }
@@ -189,7 +192,8 @@ fn assert_encoded(rt: &impl Runtime, command: Command, flags: u8, row: &Row) {
     assert_run(rt, run)
 }
 
-/// What a document is encoded to, in how many steps. `tests/vectors` has more documents.
+/// Checks the message or fault and the number of steps for each document. `tests/vectors` contains
+/// more documents.
 #[test]
 // rule: fault-lines-of-encoding
 fn encodes_worked_documents(rt: HostRuntime) {
@@ -219,11 +223,12 @@ fn laws() {
     laws::encoded_documents_are_read();
 }
 
-/// A document from `observed` to its subsets: as many as there may be, of two texts each.
+/// The lines of a document from `observed` to its descriptors. It has the greatest possible number
+/// of subsets, with two strings each.
 const MANY_SUBSETS: &str =
     "observed 1\ncompressed 1\noptional 0\nsubsets 65535\ndescriptors 205255 205002\n";
 
-/// The text of such a document.
+/// Returns the text of this document.
 fn text_of_many_subsets(rt: &impl Runtime) -> String {
     let mut text = with_head(rt, MANY_SUBSETS);
     for subset in 1..=65_535 {
@@ -234,7 +239,7 @@ fn text_of_many_subsets(rt: &impl Runtime) -> String {
     text
 }
 
-/// Compressed it has few octets, in plain form too many.
+/// The compressed message is short, but the plain one is too long.
 #[test]
 fn refuses_a_long_plain_form(rt: HostRuntime) {
     let text = text_of_many_subsets(&rt);
@@ -250,11 +255,12 @@ fn assert_too_long(rt: &impl Runtime, command: Command, document: &Document, lin
     assert_same(rt, &fault.line(), &Some(line), &fault)
 }
 
-/// A document from `observed` to its subset: 65,792 texts of 255 octets, and one of its own width.
+/// The lines of a document from `observed` to its descriptors, without the last descriptor. It has
+/// 65,792 strings of 255 octets, and a last one with a width of its own.
 const MANY_TEXTS: &str = "observed 1\ncompressed 0\noptional 0\nsubsets 1\n\
     descriptors 102255 101255 205255 102003 101255 205255 205255 205255\ndescriptors ";
 
-/// A comment, then the text of such a document with this last text.
+/// Returns a comment and then the text of this document, with this descriptor for its last string.
 fn text_of_many_texts(rt: &impl Runtime, last: &str) -> String {
     let head = format!(in rt.alloc(); "# a comment\n{HEAD}{MANY_TEXTS}");
     let mut text = ok(rt, head);
@@ -279,7 +285,7 @@ fn encodes_the_longest_message(rt: HostRuntime) {
     assert_that(&rt, first && octets.ends_with(b" 7777"), &"ends");
 }
 
-/// Of a message of one octet more nothing is written.
+/// If a message would be one octet longer than the longest one, nothing is written.
 #[test]
 fn refuses_a_message_too_long(rt: HostRuntime) {
     let text = text_of_many_texts(&rt, "205193");
@@ -290,17 +296,17 @@ fn refuses_a_message_too_long(rt: HostRuntime) {
     run_whole(&rt, Encode, text.as_bytes()).assert(&rt, run, 0)
 }
 
-/// A document from `observed` on, as it may be written by hand.
+/// A document from `observed` on, as someone might write it by hand.
 const BY_HAND: &str = "observed 1\ncompressed 0\n\n# local use and section 2\noptional 1\n\
     subsets 001\nlocal1 ab\nlocal1 CD\nsection2 0102\ndescriptors 012101\ndescriptors 001015\n\
     subset 01\n012101 0288.1\n001015 \"ABC\"  # a name\nend\n";
 
-/// The same as a dump has it.
+/// The same document, as `dump` writes it.
 const AS_DUMPED: &str = "observed 1\ncompressed 0\noptional 1\nsubsets 1\nlocal1 ABCD\n\
     section2 0102\ndescriptors 012101 001015\nsubset 1\n012101 288.10  # AIR TEMPERATURE [K]\n\
     001015 \"ABC                 \"  # STATION OR SITE NAME [CCITT IA5]\nend\n";
 
-/// A text by hand and its dump are encoded to the same octets.
+/// A text that was written by hand and its dump are encoded to the same octets.
 #[test]
 fn dumps_what_was_written_by_hand(rt: HostRuntime) {
     let octets = octets_for(&rt, with_head(&rt, BY_HAND).as_bytes());
@@ -310,7 +316,8 @@ fn dumps_what_was_written_by_hand(rt: HostRuntime) {
     assert_same(&rt, &octets_for(&rt, text.taken()), &octets, &"octets");
 }
 
-/// Compressed messages: subsets, descriptors and items. A | separates subsets, a ; their items.
+/// Compressed messages: the number of subsets, descriptors and items. `|` separates subsets, and
+/// `;` separates their items.
 #[rattlefmt::skip]
 const ALIKE: &[(u16, &str, &str)] = &[
     (3, "001001 012101", "001001 10;012101 MISSING|001001 10;012101 MISSING|001001 10;012101 MISSING"),
@@ -320,7 +327,8 @@ const ALIKE: &[(u16, &str, &str)] = &[
     (1, "001001 012101", "001001 13;012101 288.15"),
 ];
 
-/// Each subset has the lines that all have alike, at their places, and none of the message before.
+/// Lines that are the same in all subsets are dumped in each subset, in their places. The shared
+/// lines of one message do not appear in the next.
 #[test]
 fn dumps_what_subsets_have_alike(rt: HostRuntime) {
     let (mut text, mut dump) = (String::new(rt.alloc()), String::new(rt.alloc()));

@@ -1,4 +1,4 @@
-//! Items written as data, plain and compressed, and the faults of items.
+//! Tests of writing items as data, plain and compressed, and of the faults of items.
 
 use crate::support::{Runtime, assert_same, assert_that, from_hex, ok, table_b, template_of};
 use bufr_bits::ShortDecimal;
@@ -9,7 +9,8 @@ use bufr_fill::{
 use bufr_tables::{Fxy, TableB, Template};
 use bufr_walk::{Fields, Steps, WalkStop, walk};
 
-/// Items of one element of seven bits, in two subsets: a short decimal, and octets.
+/// Returns items of an element of seven bits in two subsets: one as a short decimal, and one as
+/// octets.
 fn two_items(rt: &impl Runtime, digits: u64) -> Entries {
     let mut entries = Entries::new(rt.alloc());
     let fxy = Fxy::from_word(257);
@@ -33,7 +34,7 @@ fn two_items(rt: &impl Runtime, digits: u64) -> Entries {
     entries
 }
 
-/// A fault's number and its line.
+/// Returns the number and the line of a fault.
 fn fault_of(fault: DraftFault) -> (u8, u64) {
     let line = match fault {
         DraftFault::Item(line, _) => line,
@@ -42,7 +43,8 @@ fn fault_of(fault: DraftFault) -> (u8, u64) {
     (fault.number(), line)
 }
 
-/// The number of why a walk stopped, and its line: of a walk's own fault that of the next entry.
+/// Returns the number and the line of the fault that stopped a walk. For a fault of the walk
+/// itself, the line is that of the next entry.
 fn stop_of(stop: WalkStop<DraftFault>, next: u64) -> (u8, u64) {
     match stop {
         WalkStop::Width(_) => (31, next),
@@ -52,7 +54,8 @@ fn stop_of(stop: WalkStop<DraftFault>, next: u64) -> (u8, u64) {
     }
 }
 
-/// Writes the items of two subsets, one after another, and counts the bits of whole subsets.
+/// Writes the items of two subsets, one subset after the other, and returns the data and the number
+/// of bits in complete subsets.
 fn write_plain(
     rt: &impl Runtime,
     entries: &Entries,
@@ -75,7 +78,7 @@ fn write_plain(
     (Ok(out.into_octets()), bits)
 }
 
-/// Writes the items of all subsets together, and counts their bits.
+/// Writes the items of all subsets together, and returns the data and the number of bits.
 fn write_compressed(
     rt: &impl Runtime,
     entries: &Entries,
@@ -110,7 +113,7 @@ fn laws() {
     laws::faults_are_as_defined();
 }
 
-/// Asserts what is written of an item, and how many bits it takes.
+/// Asserts the data that were written, and the number of bits.
 fn assert_written(
     rt: &impl Runtime,
     written: &(Result<Vec<u8>, (u8, u64)>, u64),

@@ -1,4 +1,4 @@
-//! The last line of a run, and its status.
+//! Tests of the last line of a run and of the exit status.
 
 use crate::runs::{tally, writer};
 use crate::support::{Runtime, assert_same, joined, ok, read_d, some};
@@ -7,7 +7,8 @@ use bufr_cli::{Outcome, finish};
 use bufr_frame::RunFault;
 use bufr_tables::{Fxy, TableFault};
 
-/// The status of a run, and the line that is written on errors with this room and end.
+/// Returns the status of a run, and the line that is written to an error output with this room and
+/// end.
 fn finished(rt: &impl Runtime, run: &Outcome<'_>, room: (usize, End)) -> (u8, Vec<u8>) {
     let mut e = writer(rt, 3, room);
     let status = finish(run, &mut e);
@@ -22,7 +23,7 @@ fn assert_finished(rt: &impl Runtime, run: &Outcome<'_>, line: &str, status: u8)
     assert_same(rt, &found, &status, &line);
 }
 
-/// The fault's line is its number and its text.
+/// Asserts that the line of a fault consists of its number and its text.
 fn assert_run_fault(rt: &impl Runtime, fault: RunFault, text: &str) {
     let shown = ok(rt, format!(in rt.alloc(); "{} {fault}", fault.number()));
     assert_same(rt, &shown.as_str(), &text, &fault);
@@ -45,7 +46,7 @@ fn finishes(rt: HostRuntime) {
     assert_run_fault(&rt, RunFault::Memory, "73 out of memory");
 }
 
-/// The fault's line in Table B and in Table D is its number and its text.
+/// Asserts that the line of a fault in Table B or Table D consists of its number and its text.
 fn assert_table_fault(rt: &impl Runtime, fault: TableFault, text: &str) {
     let shown = ok(rt, format!(in rt.alloc(); "{} {fault}", fault.number()));
     assert_same(rt, &shown.as_str(), &text, &fault);

@@ -1,4 +1,4 @@
-//! Messages in streams, taken apart and written.
+//! Tests of finding messages in streams, dividing them into their parts, and writing them.
 
 use crate::messages::{
     COMPRESSED, EDITION_3, EDITION_3_ODD, LOCAL_USE, ONE_BLOCK_NUMBER, PACKED, PLAIN, STRAY,
@@ -14,7 +14,7 @@ use bufr_frame::{
 };
 use std::alloc::Global;
 
-/// The messages that the tests build are those whose octets are listed.
+/// The messages that the tests build have the octets that are listed for them.
 #[test]
 fn messages_are_built(rt: HostRuntime) {
     let one = message_of_hex(&rt, 1, PLAIN, "001001", "14");
@@ -24,8 +24,9 @@ fn messages_are_built(rt: HostRuntime) {
     assert_same(&rt, &bulletins(&rt).len(), &305, &"bulletins");
 }
 
-/// An event: a frame's offset and length, a stray's offset and cause, the end, a failed read.
-/// `Holds` is no event, but how many octets the finder holds, and the greatest length stated.
+/// An expected event: a frame's offset and length, a stray's offset and cause, the end, or a failed
+/// read. `Holds` is not an event, but the number of octets that the finder buffers and the greatest
+/// length declared so far.
 #[derive(Clone, Copy, Debug, PartialEq, Eq)]
 enum Want {
     Frame(u64, usize),
@@ -44,7 +45,8 @@ fn has_at(stream: &[u8], offset: u64, octets: &[u8]) -> bool {
     }
 }
 
-/// The next event. A frame has the octets of the stream at its offset.
+/// Returns the next event. Returns `None` for a frame that does not have the octets of the stream
+/// at its offset, and for any fault except a failed read.
 fn next_event(stream: &[u8], finder: &mut Finder, r: &mut ScriptIn<'_>) -> Option<Want> {
     match finder.next(r) {
         Ok(Event::Frame(offset, octets)) => {
@@ -77,8 +79,8 @@ fn assert_event(
     }
 }
 
-/// Asserts the events of a stream, read by so many octets at a time, of which some may fail. The
-/// end comes again and again.
+/// Asserts the events of a stream that is read `step` octets at a time, with failing reads from
+/// `fails_at` on. The end or the failure is returned again by each later call.
 fn assert_events_by(
     rt: &impl Runtime,
     stream: &[u8],
@@ -104,7 +106,7 @@ fn assert_events_by(
     assert_same(rt, &measures_of(&finder).1, &longest, &step);
 }
 
-/// How many octets the readers give a read.
+/// Values of the maximum number of octets in a read.
 const STEPS: &[usize] = &[1, 3, 65536];
 
 fn assert_events(
@@ -119,7 +121,8 @@ fn assert_events(
     }
 }
 
-/// The parts of a stream, the octet where its reader fails, the events, the greatest length stated.
+/// Each row contains the parts of a stream, the offset at which its reader fails, the events, and
+/// the greatest declared length.
 #[rattlefmt::skip]
 const STREAMS: &[(&[&[u8]], Option<usize>, &[Want], usize)] = &[
     (&[], None, &[], 0),
@@ -129,7 +132,7 @@ const STREAMS: &[(&[&[u8]], Option<usize>, &[Want], usize)] = &[
     (&[STRAY, ONE_BLOCK_NUMBER, b"xyBUF", ONE_BLOCK_NUMBER, b"BUFR\x00\x00\x0B\x04abcBUFR"], None,
         &[Stray(0, Cause::NoEnd), Frame(8, 48), Frame(61, 48), Stray(109, Cause::ShortLength),
             Stray(120, Cause::Cut)], 64),
-    // the certain events come before the failed read
+    // the certain events are returned before the failed read
     (&[ONE_BLOCK_NUMBER], Some(20), &[], 48),
     (&[ONE_BLOCK_NUMBER, ONE_BLOCK_NUMBER], Some(48), &[Frame(0, 48)], 48),
     (&[ONE_BLOCK_NUMBER, ONE_BLOCK_NUMBER], Some(58), &[Frame(0, 48)], 48),
@@ -149,7 +152,8 @@ fn events_of_streams(rt: HostRuntime) {
     }
 }
 
-/// The events of 1,024 words so many octets apart: the first ones have no end, the others are cut.
+/// Returns the events of 1,024 strays that are `apart` octets apart. The first `without_end` have
+/// no end, and the others are cut.
 fn strays(rt: &impl Runtime, apart: u64, without_end: u64) -> Vec<Want> {
     let mut wanted = Vec::new(rt.alloc());
     for i in 0..1024u64 {
@@ -163,7 +167,8 @@ fn strays(rt: &impl Runtime, apart: u64, without_end: u64) -> Vec<Want> {
     wanted
 }
 
-/// Each word states a length. Whether it is cut may be known only at the end.
+/// Each occurrence of `BUFR` declares a length. Whether the message is cut may not be certain until
+/// the end of the input.
 #[test]
 // rule: after-a-stray, output-waits
 fn words_alone(rt: HostRuntime) {
@@ -173,7 +178,7 @@ fn words_alone(rt: HostRuntime) {
     assert_events(&rt, &words, None, &strays(&rt, 8, 513), 4096);
 }
 
-/// A message with 5,000 local octets in section 1, 5,048 octets.
+/// Returns a message of 5,048 octets, with 5,000 local octets in section 1.
 fn long_message(rt: &impl Runtime) -> Vec<u8> {
     let section_1 = ONE_BLOCK_NUMBER.get(11..30).unwrap_or(b"");
     let rest = ONE_BLOCK_NUMBER.get(30..).unwrap_or(b"");
@@ -193,7 +198,8 @@ fn a_message_longer_than_all_before(rt: HostRuntime) {
     assert_events(&rt, &growing, None, &wanted, 5048);
 }
 
-/// A message longer than all before is held whole until the next call, and nothing else.
+/// A message that is longer than all earlier ones is buffered completely until the next call.
+/// Nothing else is buffered.
 #[test]
 fn a_long_message_is_held(rt: HostRuntime) {
     let stream = joined(&rt, &[&long_message(&rt), ONE_BLOCK_NUMBER]);
@@ -235,8 +241,8 @@ const HEAD_3: Head = Head {
     year: 24, month: 1, day: 2, hour: 3, minute: 4, second: 0,
 };
 
-/// What a message says: section 1 and its local octets, section 2, subsets, whether observed and
-/// compressed, the first descriptor, the data.
+/// The contents of a message: section 1 and its local octets, section 2, the number of subsets,
+/// whether the data are observed and compressed, the first descriptor, and the data.
 type Parts = (
     Head,
     &'static [u8],
@@ -246,7 +252,7 @@ type Parts = (
     &'static [u8],
 );
 
-/// Messages, what each says, and what its parts give when they are written.
+/// Each row contains a message, its contents, and the message that is written from these contents.
 #[rattlefmt::skip]
 const MESSAGES: &[(&[u8], Parts, &[u8])] = &[
     (ONE_BLOCK_NUMBER, (HEAD_4, b"", None, (1, true, false), 0x0101, b"\x14"), ONE_BLOCK_NUMBER),
@@ -280,7 +286,7 @@ fn assert_descriptors(rt: &impl Runtime, message: &Message<'_>, word: u16) {
     assert_same(rt, &found, &(Some(word), None), &"descriptors");
 }
 
-/// A message of the parts of another one, where its head can be written.
+/// Writes a message from the parts of another one, if its head can be written.
 fn written(alloc: Global, message: &Message<'_>, word: u16, payload: &[u8]) -> Option<Vec<u8>> {
     let head = message.head();
     let fits = head.centre <= 255 && head.subcentre <= 255 && head.year <= 255;
@@ -317,7 +323,7 @@ fn parts_of_messages(rt: HostRuntime) {
     }
 }
 
-/// The length of a message, or the fault that refuses it.
+/// Returns the length of a message, or the fault for which it is rejected.
 fn length_of(rt: &impl Runtime, octets: &[u8]) -> Result<u64, SectionFault> {
     assert!(rt; octets.len() >= 12);
     match Message::parse(octets) {
@@ -326,7 +332,8 @@ fn length_of(rt: &impl Runtime, octets: &[u8]) -> Result<u64, SectionFault> {
     }
 }
 
-/// Octets of the message with one block number that are changed, its fault, and its text.
+/// Each row contains changes to octets of the message with one block number, the fault, and its
+/// text.
 #[rattlefmt::skip]
 const FAULTS: &[(&[(usize, u8)], SectionFault, &str)] = &[
     (&[(7, 2)], SectionFault::Edition(2), "10 edition 2"),
@@ -340,7 +347,7 @@ const FAULTS: &[(&[(usize, u8)], SectionFault, &str)] = &[
     (&[(32, 12)], SectionFault::SectionPast(4), "12 section 4 past the end"),
 ];
 
-/// The message with one block number, with these octets in place of its own.
+/// Returns the message with one block number, after these changes to its octets.
 fn changed(rt: &impl Runtime, changes: &[(usize, u8)]) -> Vec<u8> {
     let mut octets = joined(rt, &[ONE_BLOCK_NUMBER]);
     for (index, octet) in changes {
@@ -349,7 +356,7 @@ fn changed(rt: &impl Runtime, changes: &[(usize, u8)]) -> Vec<u8> {
     octets
 }
 
-/// The octets have this fault, and its line this text.
+/// Asserts that the octets have this fault, and that its line contains this text.
 fn assert_fault(rt: &impl Runtime, octets: &[u8], fault: SectionFault, text: &str) {
     assert_same(rt, &length_of(rt, octets), &Err(fault), &text);
     let shown = ok(rt, format!(in rt.alloc(); "{} {fault}", fault.number()));
@@ -366,7 +373,8 @@ fn faults_of_sections(rt: HostRuntime) {
     }
 }
 
-/// A message of edition 3 of 16,777,214 octets: its sections 0 to 3, and the length of section 4.
+/// Returns the length of an edition 3 message of 16,777,214 octets, or its fault. The message
+/// begins with `sections` (sections 0 to 3), and `fourth` is the length of section 4.
 fn length_of_long(
     rt: &impl Runtime,
     sections: Option<&[u8]>,
@@ -377,7 +385,7 @@ fn length_of_long(
     length_of(rt, &octets)
 }
 
-/// With even sections its length could not be stated.
+/// A message with odd sections is rejected if it would be too long with even sections.
 #[test]
 // rule: edition-3-length
 fn long_messages_of_edition_3_have_even_sections(rt: HostRuntime) {
@@ -388,7 +396,8 @@ fn long_messages_of_edition_3_have_even_sections(rt: HostRuntime) {
     assert_same(&rt, &SectionFault::Edition3Long.number(), &14, &"number");
 }
 
-/// How many octets a message with so many local ones has, or the fault that refuses it.
+/// Returns the length of a message with this number of local octets, or the fault for which it
+/// cannot be written.
 fn length_with(rt: &impl Runtime, local: usize) -> Result<usize, WriteFault> {
     let local = ok(rt, vec![in rt.alloc(); 0u8; local]);
     write_message(rt.alloc(), &HEAD_4, &local, None, &[], 1, true, false, b"").map(
@@ -396,7 +405,7 @@ fn length_with(rt: &impl Runtime, local: usize) -> Result<usize, WriteFault> {
     )
 }
 
-/// How many local octets a message has, and how many octets in all.
+/// Each row contains the number of local octets of a message, and its length or fault.
 #[rattlefmt::skip]
 const LOCAL_LENGTHS: &[(usize, Result<usize, WriteFault>)] = &[
     (16_777_215, Err(WriteFault::TooLong)), (16_777_171, Err(WriteFault::TooLong)),
@@ -421,7 +430,7 @@ fn reads_to_the_end(rt: HostRuntime) {
     assert_same(&rt, &octets.as_slice(), &LOCAL_USE, &"octets");
 }
 
-/// Reads with some octets skipped between them.
+/// Reads twice, and skips some octets between the reads.
 #[test]
 fn reads_piece_by_piece(rt: HostRuntime) {
     let mut r = ScriptIn::new(b"abcd", 3, None);
@@ -434,7 +443,7 @@ fn reads_piece_by_piece(rt: HostRuntime) {
     assert_same(&rt, &input.held(), &b"cd".as_slice(), &"octets");
 }
 
-/// The end of an input, and an octet put there.
+/// Pushes an octet at the end of an input.
 #[test]
 fn pushes_an_octet_at_the_end(rt: HostRuntime) {
     let mut r = ScriptIn::new(b"", 3, None);

@@ -1,7 +1,8 @@
-//! Calls that take memory: each answers the whole, or that it wants memory.
+//! Tests of calls that allocate memory. Each call returns its whole result, or reports that memory
+//! ran out.
 //!
-//! `tests/memory_refused.py` refuses each growth of each test in turn. So a test ends well where it
-//! gets no memory for its own values.
+//! `tests/memory_refused.py` makes each allocation of each test fail in turn. Therefore, a test
+//! also passes if it cannot allocate memory for its own values.
 
 use crate::frame_tests::HEAD_4;
 use crate::messages::{self, LOCAL_USE};
@@ -14,7 +15,8 @@ use std::alloc::AllocError;
 use std::fmt::Debug;
 use std::process::Abort;
 
-/// The whole answer of a call, if it got memory; else its fault is want of memory.
+/// Returns the whole result of a call, or `None` if memory ran out. Asserts that there is no other
+/// fault.
 fn whole<T, E: Debug + PartialEq + Drop>(
     rt: &impl Abort,
     answer: Result<T, E>,
@@ -29,7 +31,8 @@ fn whole<T, E: Debug + PartialEq + Drop>(
     }
 }
 
-/// Writes a number after others. Where memory is wanted nothing is written, and it is tried again.
+/// Appends a number to the earlier ones. If memory runs out, asserts that nothing was written, and
+/// tries again.
 fn write_number(rt: &impl Abort, out: &mut Vec<u8>) {
     let before = out.len();
     if decimal_text(-28_815, 2, out).is_err() {
@@ -48,7 +51,7 @@ fn decimal_text_grows(rt: HostRuntime) {
     assert_same(&rt, &out.as_slice(), &want, &"numbers");
 }
 
-/// Pushes 40 bits. Where memory is wanted nothing is pushed, and it is tried again.
+/// Pushes 40 bits. If memory runs out, asserts that nothing was pushed, and tries again.
 fn push_number(rt: &impl Abort, writer: &mut BitWriter, value: u64) {
     let before = writer.len_bits();
     assert!(rt; before < 100_000);
@@ -58,7 +61,7 @@ fn push_number(rt: &impl Abort, writer: &mut BitWriter, value: u64) {
     }
 }
 
-/// A number of 40 bits that is another at each index.
+/// Returns a number of 40 bits that is different for each index.
 fn number_at(index: u64) -> u64 {
     index.wrapping_mul(0x0001_2345_6789) % (1 << 40)
 }
@@ -77,7 +80,7 @@ fn push_grows(rt: HostRuntime) {
     }
 }
 
-/// Pushes octets. Where memory is wanted nothing is pushed, and it is tried again.
+/// Pushes octets. If memory runs out, asserts that nothing was pushed, and tries again.
 fn push_message(rt: &impl Abort, writer: &mut BitWriter) {
     let before = writer.len_bits();
     assert!(rt; before < 100_000);
@@ -127,7 +130,8 @@ fn write_message_grows(rt: HostRuntime) {
     }
 }
 
-/// The descriptors of 32 replications of one descriptor each, around an element.
+/// Returns the descriptors of 32 nested replications of one descriptor each, with an element
+/// inside.
 fn thirty_two_groups() -> [Fxy; 33] {
     let mut descriptors = [Fxy::from_word(0x0101); 33];
     for place in 0..32u16 {
@@ -162,7 +166,7 @@ fn read_all_grows(rt: HostRuntime) {
     }
 }
 
-/// Lines, and how what they give ends: the name of a file, help, or why they are not understood.
+/// Command lines, and how their results end: the name of a file, the help, or a usage error.
 #[rattlefmt::skip]
 static LINES: &[(&[&str], &str)] = &[
     (&["bufr", "encode", "-B", "b.csv", "-D", "d.csv", "--form", "plain", "x.txt"], "x.txt"),

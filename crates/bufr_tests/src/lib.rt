@@ -1,6 +1,6 @@
-//! The tests of all libraries, by their public calls.
+//! Tests of the public functions of all libraries.
 //!
-//! They have a crate of their own, since the tests of a crate are proved together with it.
+//! They are in a crate of their own because the tests of a crate are proved together with it.
 #![tactic(auto)]
 
 #[cfg(test)]

@@ -1,4 +1,4 @@
-//! The tables and messages of the tests. They are test data, not the tables of the WMO.
+//! The tables and messages for the tests. They are test data, not the tables of WMO.
 
 use crate::support::{Runtime, from_hex, joined, ok, words_of};
 
@@ -8,7 +8,7 @@ pub(crate) const HEADER_B: &[u8] = b"fxy,name,unit,scale,reference,width\n";
 /// The header of Table D.
 pub(crate) const HEADER_D: &[u8] = b"fxy,member\n";
 
-/// Table B: elements, and the factors of delayed replications.
+/// Table B: elements, including the factors of delayed replications.
 const TABLE_B: &[u8] = b"fxy,name,unit,scale,reference,width
 001001,WMO BLOCK NUMBER,Numeric,0,0,7
 001015,STATION OR SITE NAME,CCITT IA5,0,0,160
@@ -25,10 +25,10 @@ const TABLE_B: &[u8] = b"fxy,name,unit,scale,reference,width
 ///
 /// | sequences | members |
 /// |---|---|
-/// | 3 00 001 to 3 00 017 | the next one twice |
-/// | 3 10 001 to 3 10 016 | two passes of the next one twice |
-/// | 3 20 001 to 3 20 033 | the next one |
-/// | 3 30 001 to 3 30 003 | an operator or a replication without what it needs |
+/// | 3 00 001 to 3 00 017 | the next sequence twice |
+/// | 3 10 001 to 3 10 016 | two passes over a group that contains the next sequence twice |
+/// | 3 20 001 to 3 20 033 | the next sequence |
+/// | 3 30 001 to 3 30 003 | an operator or a replication without what must follow it |
 /// | 3 60 192 | two elements |
 const TABLE_D: &[u8] = b"\
     fxy,member\n300001,300002\n300001,300002\n300002,300003\n300002,300003\n300003,300004\n\
@@ -53,7 +53,7 @@ const TABLE_D: &[u8] = b"\
     320032,320033\n320033,001001\n330001,206012\n330002,101002\n330003,201132\n360192,001001\n\
     360192,012101\n";
 
-/// Table B. A caller does not carry its text through its proof.
+/// Returns Table B. Because this is a function, the proofs of its callers do not contain the text.
 pub(crate) fn table_b() -> &'static [u8] {
     TABLE_B
 }
@@ -62,7 +62,7 @@ pub(crate) fn table_d() -> &'static [u8] {
     TABLE_D
 }
 
-/// A message of edition 4 with one block number, 48 octets, a line for each section.
+/// An edition 4 message of 48 octets with one block number. Each section is on its own line.
 pub(crate) const ONE_BLOCK_NUMBER: &[u8] = b"\
     BUFR\x00\x00\x30\x04\
     \x00\x00\x16\x00\x00\x62\x00\x00\x00\x00\x00\x00\x00\x0E\x00\x07\xE8\x01\x02\x03\x04\x05\
@@ -70,7 +70,7 @@ pub(crate) const ONE_BLOCK_NUMBER: &[u8] = b"\
     \x00\x00\x05\x00\x14\
     7777";
 
-/// The same with local octets in section 1 and a section 2, 56 octets.
+/// The same message with local octets in section 1 and a section 2, which has 56 octets.
 pub(crate) const LOCAL_USE: &[u8] = b"\
     BUFR\x00\x00\x38\x04\
     \x00\x00\x18\x00\x00\x62\x00\x00\x00\x80\x00\x00\x00\x0E\x00\x07\xE8\x01\x02\x03\x04\x05\
@@ -80,7 +80,7 @@ pub(crate) const LOCAL_USE: &[u8] = b"\
     \x00\x00\x05\x00\x14\
     7777";
 
-/// A message of two compressed temperatures, 50 octets.
+/// A message of 50 octets with two compressed temperatures.
 pub(crate) const COMPRESSED: &[u8] = b"\
     BUFR\x00\x00\x32\x04\
     \x00\x00\x16\x00\x00\x62\x00\x00\x00\x00\x00\x00\x00\x0E\x00\x07\xE8\x01\x02\x03\x04\x05\
@@ -88,7 +88,7 @@ pub(crate) const COMPRESSED: &[u8] = b"\
     \x00\x00\x07\x00\x70\x8F\x05\
     7777";
 
-/// A message of edition 3 with one block number, 46 octets.
+/// An edition 3 message of 46 octets with one block number.
 pub(crate) const EDITION_3: &[u8] = b"\
     BUFR\x00\x00\x2E\x03\
     \x00\x00\x12\x00\x00\x62\x00\x00\x00\x00\x0E\x00\x18\x01\x02\x03\x04\x00\
@@ -96,7 +96,7 @@ pub(crate) const EDITION_3: &[u8] = b"\
     \x00\x00\x06\x00\x14\x00\
     7777";
 
-/// The same with odd sections 3 and 4, 44 octets.
+/// The same message with odd sections 3 and 4, which has 44 octets.
 pub(crate) const EDITION_3_ODD: &[u8] = b"\
     BUFR\x00\x00\x2C\x03\
     \x00\x00\x12\x00\x00\x62\x00\x00\x00\x00\x0E\x00\x18\x01\x02\x03\x04\x00\
@@ -104,7 +104,7 @@ pub(crate) const EDITION_3_ODD: &[u8] = b"\
     \x00\x00\x05\x00\x14\
     7777";
 
-/// A word that begins no message, and states 64 octets.
+/// A stray that declares a length of 64 octets.
 pub(crate) const STRAY: &[u8] = b"BUFR\x00\x00\x40\x04";
 
 /// Octet 7 of section 3: observed data, not compressed.
@@ -113,7 +113,7 @@ pub(crate) const PLAIN: u8 = 0x80;
 /// Octet 7 of section 3: observed and compressed data.
 pub(crate) const PACKED: u8 = 0xC0;
 
-/// The octets of a message between its length and that of its section 3, less the last one.
+/// The octets of a message from the edition to the first octet of section 3.
 const SECTION_1: &[u8] = &[
     4, 0, 0, 22, 0, 0, 98, 0, 0, 0, 0, 0, 0, 0, 14, 0, 7, 232, 1, 2, 3, 4, 5, 0,
 ];
@@ -122,7 +122,7 @@ fn length_of(rt: &impl Runtime, length: usize) -> u16 {
     ok(rt, u16::try_from(length))
 }
 
-/// The octets of the words of descriptors.
+/// Returns the octets of the words of descriptors.
 fn octets_of_words(rt: &impl Runtime, descriptors: &str) -> Vec<u8> {
     let mut octets = Vec::new(rt.alloc());
     for word in &words_of(rt, descriptors) {
@@ -131,7 +131,7 @@ fn octets_of_words(rt: &impl Runtime, descriptors: &str) -> Vec<u8> {
     octets
 }
 
-/// A message of edition 4 with these subsets, flags, descriptors and data.
+/// Returns an edition 4 message with these subsets, flags, descriptors and data.
 pub(crate) fn message_of(
     rt: &impl Runtime,
     subsets: u16,
@@ -152,7 +152,7 @@ pub(crate) fn message_of(
     joined(rt, &[&head, &section_3, &fourth, b"\0", payload, b"7777"])
 }
 
-/// Such a message of data in hexadecimal digits.
+/// Returns such a message with data in hexadecimal digits.
 pub(crate) fn message_of_hex(
     rt: &impl Runtime,
     subsets: u16,
@@ -164,13 +164,13 @@ pub(crate) fn message_of_hex(
     message_of(rt, subsets, flags, descriptors, &octets)
 }
 
-/// The lines of each dump text before `observed`.
+/// The lines of every dump before `observed`.
 pub(crate) const HEAD: &str = "\
     message\nedition 4\nmaster 0\ncentre 98\nsubcentre 0\nupdate 0\ncategory 0\nsubcategory 0\n\
     localsubcategory 0\nmasterversion 14\nlocalversion 0\nyear 2024\nmonth 1\nday 2\nhour 3\n\
     minute 4\nsecond 5\n";
 
-/// The lines of a dump text from `observed` to `subsets`.
+/// Returns the lines of a dump from `observed` to `subsets`.
 fn counts_of(rt: &impl Runtime, subsets: u16, flags: u8) -> String {
     let (observed, compressed) = (flags / 128, flags / 64 % 2);
     let counts = format!(in rt.alloc();
@@ -179,7 +179,7 @@ fn counts_of(rt: &impl Runtime, subsets: u16, flags: u8) -> String {
     ok(rt, counts)
 }
 
-/// Appends the lines of descriptors, eight a line.
+/// Appends the lines of descriptors, with eight in a line.
 fn push_descriptors(rt: &impl Runtime, text: &mut String, descriptors: &str) {
     let mut index = 0usize;
     for digits in descriptors.split_whitespace() {
@@ -198,7 +198,7 @@ fn push_descriptors(rt: &impl Runtime, text: &mut String, descriptors: &str) {
     }
 }
 
-/// The comments of elements in a dump.
+/// The comments of the elements in a dump.
 #[rattlefmt::skip]
 const COMMENTS: &[(&str, &str)] = &[
     ("001001", "  # WMO BLOCK NUMBER [Numeric]"), ("001015", "  # STATION OR SITE NAME [CCITT IA5]"),
@@ -217,7 +217,7 @@ fn comment_of(item: &str) -> &'static str {
     ""
 }
 
-/// Appends the lines of a subset. A ; separates its items.
+/// Appends the lines of a subset. `;` separates its items.
 fn push_subset(rt: &impl Runtime, text: &mut String, subset: u16, items: &str, dumped: bool) {
     let line = ok(rt, format!(in rt.alloc(); "subset {subset}\n"));
     ok(rt, text.push_str(line.as_str()));
@@ -233,8 +233,8 @@ fn push_subset(rt: &impl Runtime, text: &mut String, subset: u16, items: &str, d
     }
 }
 
-/// The text of a message from `message_of`. A | separates the items of its subsets, which have the
-/// comments of a dump or none.
+/// Returns the text of a message from `message_of`. `|` separates the items of its subsets. If
+/// `dumped` is set, the items have the comments of a dump.
 fn text_with(
     rt: &impl Runtime,
     subsets: u16,
@@ -257,7 +257,7 @@ fn text_with(
     text
 }
 
-/// The text of a message with these items.
+/// Returns the text of a message with these items, without comments.
 pub(crate) fn text_of(
     rt: &impl Runtime,
     subsets: u16,
@@ -268,7 +268,7 @@ pub(crate) fn text_of(
     text_with(rt, subsets, flags, (descriptors, items), false)
 }
 
-/// The dump text of a message with these items.
+/// Returns the dump of a message with these items.
 pub(crate) fn dump_of(
     rt: &impl Runtime,
     subsets: u16,
@@ -279,40 +279,41 @@ pub(crate) fn dump_of(
     text_with(rt, subsets, flags, (descriptors, items), true)
 }
 
-/// The line of `ls` for the message with one block number, less its offset.
+/// The line of `ls` for the message with one block number, without its offset.
 const LINE_OF_ONE: &str = "\
     length=48 edition=4 centre=98/0 update=0 category=0/0/0 tables=0/14/0 \
     time=2024-01-02T03:04:05 subsets=1 observed=1 compressed=0 optional=0 descriptors=1\n";
 
-/// That line at this offset.
+/// Returns that line with this offset.
 pub(crate) fn line_of_one(rt: &impl Runtime, offset: &str) -> String {
     ok(rt, format!(in rt.alloc(); "offset={offset} {LINE_OF_ONE}"))
 }
 
-/// The dump text of the message with one block number.
+/// Returns the dump of the message with one block number.
 pub(crate) fn text_of_one(rt: &impl Runtime) -> String {
     dump_of(rt, 1, PLAIN, "001001", "001001 10")
 }
 
-/// A message with a delayed group of two block numbers, 54 octets.
+/// Returns a message of 54 octets with a delayed replication of two block numbers.
 pub(crate) fn delayed_twice(rt: &impl Runtime) -> Vec<u8> {
     message_of_hex(rt, 1, PLAIN, "101000 031001 001001", "02142C")
 }
 
-/// The message with one block number, of edition 2, which is refused.
+/// Returns the message with one block number as edition 2, which is rejected.
 pub(crate) fn of_edition_2(rt: &impl Runtime) -> Vec<u8> {
     let rest = ONE_BLOCK_NUMBER.get(8..).unwrap_or(b"");
     joined(rt, &[b"BUFR\x00\x00\x30\x02", rest])
 }
 
-/// The messages of the bulletins below.
+/// Returns the messages of the bulletins below that are accepted.
 pub(crate) fn messages_of_bulletins(rt: &impl Runtime) -> Vec<u8> {
     let delayed = delayed_twice(rt);
     joined(rt, &[ONE_BLOCK_NUMBER, &delayed, COMPRESSED, LOCAL_USE])
 }
 
-/// The stream of `examples/bulletins.bufr`, 305 octets: a heading and four messages. A stray word
-/// follows the second one, a message of edition 2 the third, a short stray word the last.
+/// Returns the stream in `examples/bulletins.bufr`, 305 octets: a heading and four accepted
+/// messages. After the second message comes a stray, after the third a message of edition 2, and
+/// after the last a stray with a short length.
 pub(crate) fn bulletins(rt: &impl Runtime) -> Vec<u8> {
     let delayed = delayed_twice(rt);
     let refused = of_edition_2(rt);
@@ -325,7 +326,7 @@ pub(crate) fn bulletins(rt: &impl Runtime) -> Vec<u8> {
     joined(rt, &[&first, &second, LOCAL_USE, short])
 }
 
-/// The descriptors of 32 groups, one in another.
+/// The descriptors of 32 nested groups.
 pub(crate) const THIRTY_TWO_GROUPS: &str = "\
     132001 131001 130001 129001 128001 127001 126001 125001 124001 123001 122001 121001 120001 \
     119001 118001 117001 116001 115001 114001 113001 112001 111001 110001 109001 108001 107001 \

@@ -1,4 +1,5 @@
-//! Other programs on the crates: a lister, a reader of one element, a builder of messages.
+//! Other programs that use the crates: one that lists messages, one that reads an element, and one
+//! that builds a message.
 
 use crate::messages::{LOCAL_USE, ONE_BLOCK_NUMBER, STRAY, line_of_one, text_of_one};
 use crate::runs::writer;
@@ -12,7 +13,7 @@ use bufr_text::{DumpReader, encode_document, write_ls};
 use bufr_walk::{ItemView, Steps, Value, Visitor, read_message};
 use std::alloc::AllocError;
 
-/// Writes the line of a message. A finder gives at least 12 octets.
+/// Writes the line of a message. A finder returns frames of at least 12 octets.
 fn list_message(rt: &impl Runtime, offset: u64, octets: &[u8], output: &mut ScriptOut) {
     assert!(rt; octets.len() >= 12);
     if let Ok(message) = Message::parse(octets) {
@@ -20,7 +21,8 @@ fn list_message(rt: &impl Runtime, offset: u64, octets: &[u8], output: &mut Scri
     }
 }
 
-/// Lists a stream. Each event but the end passes an octet.
+/// Lists a stream. Every event except the end passes at least one octet, so the number of events is
+/// limited.
 fn list(rt: &impl Runtime, stream: &[u8], output: &mut ScriptOut) {
     let mut input = ScriptIn::new(stream, 4096, None);
     let mut finder = Finder::new(rt.alloc());
@@ -43,7 +45,7 @@ fn lists_a_stream(rt: HostRuntime) {
     assert_same(&rt, &output.taken(), &want.as_slice(), &"lines");
 }
 
-/// A visitor that keeps the numbers of one element.
+/// A visitor that collects the numbers of one element.
 #[derive(Drop)]
 struct Numbers {
     fxy: Fxy,
@@ -90,7 +92,7 @@ fn reads_one_element_of_every_message(rt: HostRuntime) {
     assert_same(&rt, &found, &[10, 10].as_slice(), &"001001");
 }
 
-/// The octets of the message of a document.
+/// Returns the octets of the message for the document in a text.
 fn message_of(rt: &impl Runtime, text: &[u8]) -> Vec<u8> {
     let mut input = ScriptIn::new(text, 4096, None);
     let mut reader = DumpReader::new(rt.alloc());

@@ -1,4 +1,4 @@
-//! Command lines: which are understood, and what the program does over inputs in memory.
+//! Tests of parsing command lines, and of what the program does with inputs in memory.
 
 use crate::messages::{ONE_BLOCK_NUMBER, line_of_one, table_b, table_d, text_of_one};
 use crate::runs::writer;
@@ -14,7 +14,7 @@ use std::alloc::{AllocError, Global};
 use std::cell::Cell;
 use std::io::{self, ErrorKind, Read, Write};
 
-/// The words of a command line: the program's name, a command and its arguments.
+/// Returns the words of a command line: the program's name, a command and its arguments.
 fn line_of(
     rt: &impl Runtime,
     command: &'static str,
@@ -47,7 +47,7 @@ static ARGUMENTS: &[(&[&str], Option<&str>)] = &[
     (&["-B", "b.csv", "-D", "d.csv", "--", "-B"], Some("-B")),
 ];
 
-// Arguments of `encode`, and the form that it is asked for.
+// Arguments of `encode`, and the form that they specify.
 #[rattlefmt::skip]
 static FORMS: &[(&[&str], Form)] = &[
     (&["-B", "b.csv", "-D", "d.csv", "--form", "plain"], Form::Plain),
@@ -74,7 +74,7 @@ fn parses_lines(rt: HostRuntime) {
     }
 }
 
-/// The text of a line that is not understood.
+/// Returns the usage text for an invalid command line.
 fn usage_of(rt: &impl Runtime, words: &[&str]) -> String {
     match parse_line(rt.alloc(), words) {
         Err(LineFault::Usage(text)) => text,
@@ -87,7 +87,7 @@ fn assert_usage(rt: &impl Runtime, words: &[&str], part: &str) {
     assert_that(rt, text.as_str().contains(part), &text);
 }
 
-// Lines that are not understood, and a part of what is written.
+// Invalid command lines, and a part of the usage text.
 #[rattlefmt::skip]
 static MISTAKEN: &[(&[&str], &str)] = &[
     (&["bufr"], "Usage: bufr <COMMAND>"),
@@ -98,7 +98,7 @@ static MISTAKEN: &[(&[&str], &str)] = &[
     (&["bufr", "encode", "-B", "b", "-D", "d", "--form", "plain", "--form", "plain"], "cannot be used multiple times"),
 ];
 
-// Words of `--form` that name none.
+// Words that are not valid after `--form`.
 static NO_FORMS: &[&str] = &["other", "", "Plain", "plain ", "compress"];
 
 #[test]
@@ -114,7 +114,7 @@ fn refuses_lines(rt: HostRuntime) {
     }
 }
 
-// Arguments that no command with tables takes, and a part of what is written.
+// Arguments that are invalid for every command with tables, and a part of the usage text.
 #[rattlefmt::skip]
 static MISTAKEN_ARGUMENTS: &[(&[&str], &str)] = &[
     (&["-B", "b", "-D", "d", "--long"], "unexpected argument '--long' found"),
@@ -133,8 +133,8 @@ fn refuses_lines_with_tables(rt: HostRuntime) {
     }
 }
 
-/// Calls the program. A test sees only what the call left, so its proof does not carry the call's
-/// contract.
+/// Calls the program. This function has no contract, so the proof of a test does not involve the
+/// contract of `run`.
 fn call<'a, I: Inputs, W: Sink, E: Sink>(
     alloc: Global,
     words: &'a [&'static str],
@@ -145,7 +145,7 @@ fn call<'a, I: Inputs, W: Sink, E: Sink>(
     run(alloc, words, inputs, w, e)
 }
 
-/// The text that was written.
+/// Returns the text that was written.
 fn text_on<'a>(rt: &impl Runtime, writer: &'a ScriptOut) -> &'a str {
     ok(rt, str::from_utf8(writer.taken()))
 }
@@ -158,7 +158,7 @@ struct Reply {
     errors: ScriptOut,
 }
 
-/// Calls the program with an output of this end.
+/// Calls the program with an output that has this end.
 fn reply_to<'a, I: Inputs>(
     rt: &impl Runtime,
     words: &'a [&'static str],
@@ -193,7 +193,7 @@ fn assert_called<'a, I: Inputs>(
     assert_holds(rt, text_on(rt, &reply.errors), errors);
 }
 
-/// A file; a torn one fails where its octets end.
+/// A file. If it is torn, reading fails at the end of its octets.
 #[derive(Drop)]
 struct Page<'a> {
     octets: &'a [u8],
@@ -209,7 +209,7 @@ impl<'a> Read for Page<'a> {
     }
 }
 
-/// Tables, the file `one`, torn files and standard input.
+/// Inputs in memory: tables, the file `one`, torn files and standard input.
 #[derive(Drop)]
 struct Library<'a> {
     one: &'a [u8],
@@ -249,13 +249,13 @@ impl<'a> Inputs for Library<'a> {
     }
 }
 
-/// Inputs whose standard input and file `one` are the message.
+/// Inputs whose standard input and file `one` contain the message with one block number.
 const ONE: Library<'static> = Library {
     one: ONE_BLOCK_NUMBER,
     standard: ONE_BLOCK_NUMBER,
 };
 
-/// The line of a write that failed.
+/// The line that reports a failed write.
 const WRITE_FAILED: &str = "bufr: 71 write failed\n";
 
 fn assert_shown(rt: &impl Runtime, words: &'static [&'static str]) {
@@ -276,7 +276,7 @@ fn shows_help(rt: HostRuntime) {
     assert_shown(&rt, &["bufr", "encode", "--help"]);
 }
 
-// Lines, the status, the output, and a part of the errors.
+// Command lines, the status, the output, and a part of the error output.
 #[rattlefmt::skip]
 static CALLED: &[(&[&str], u8, &str, &str)] = &[
     (&["bufr", "ls", "two"], 2, "", "bufr: cannot open two\n"),
@@ -286,7 +286,7 @@ static CALLED: &[(&[&str], u8, &str, &str)] = &[
     (&["bufr", "ls", "one", "two"], 2, "", "unexpected argument 'two' found"),
 ];
 
-/// The file has a stray word before the message.
+/// The file `one` contains a stray before the message.
 #[test]
 // rule: dash-is-a-name, status-of-help, status-of-usage, version
 fn runs_lines(rt: HostRuntime) {
@@ -315,8 +315,9 @@ fn runs_lines(rt: HostRuntime) {
     }
 }
 
-// Arguments of a command that takes tables, the status, whether its output is written, and a part
-// of the errors: without it those of the file `one`. Table B is read first, then D, then FILE.
+// Each row contains the arguments of a command that takes tables, the status, whether its output is
+// written, and a part of the error output (`None` for that of the file `one`). Table B is read
+// first, then Table D, and then FILE.
 #[rattlefmt::skip]
 static RUNS: &[(&[&str], u8, bool, Option<&str>)] = &[
     (&["-B", "b.csv", "-D", "d.csv"], 0, true, Some("")),
@@ -333,8 +334,8 @@ static RUNS: &[(&[&str], u8, bool, Option<&str>)] = &[
     (&["-D", "d.csv"], 2, false, Some("required arguments were not provided")),
 ];
 
-/// Asserts what a command does with each of these arguments: this output, and these errors of
-/// `one`.
+/// Asserts what a command does with each of these arguments. `output` is what it writes if it
+/// completes, and `errors` is a part of the error output for the file `one`.
 fn assert_runs(
     rt: &impl Runtime,
     runs: &[(&'static [&'static str], u8, bool, Option<&'static str>)],
@@ -350,7 +351,7 @@ fn assert_runs(
     }
 }
 
-/// The file has a stray word before the message.
+/// The file `one` contains a stray before the message.
 #[test]
 // rule: tables-before-input, table-not-read
 fn runs_dump_lines(rt: HostRuntime) {
@@ -361,7 +362,7 @@ fn runs_dump_lines(rt: HostRuntime) {
     assert_runs(&rt, RUNS, "dump", &mut library, want)
 }
 
-/// The file has a line after the document that may not come there.
+/// The file `one` contains a misplaced line after the document.
 #[test]
 // rule: tables-before-input
 fn runs_encode_lines(rt: HostRuntime) {
@@ -375,7 +376,7 @@ fn runs_encode_lines(rt: HostRuntime) {
     assert_runs(&rt, RUNS, "encode", &mut library, want)
 }
 
-/// The status of a call over the program's own writer on octets in memory.
+/// Returns the status of a call whose output is the program's own writer, on octets in memory.
 fn status_on(
     rt: &impl Runtime,
     words: &[&'static str],
@@ -405,7 +406,8 @@ fn assert_handed_on(
     assert_same(rt, &octets.as_slice(), &output, &command);
 }
 
-/// What a buffered writer holds at a fault of reading is on its device before the writer goes.
+/// If a read fails, the octets in a buffered writer are flushed to its device before the writer is
+/// dropped.
 #[test]
 fn hands_on_what_was_written_before_a_fault(rt: HostRuntime) {
     let (line, text) = (line_of_one(&rt, "0"), text_of_one(&rt));
@@ -416,7 +418,7 @@ fn hands_on_what_was_written_before_a_fault(rt: HostRuntime) {
     assert_handed_on(&rt, "encode", arguments, text, ONE_BLOCK_NUMBER);
 }
 
-/// A writer that is full, and counts the calls that it is given from the first write on.
+/// A full writer, which counts its calls from the first write on.
 #[derive(Drop)]
 struct Full<'a> {
     calls: &'a Cell<usize>,
@@ -436,8 +438,8 @@ impl<'a> Write for Full<'a> {
     }
 }
 
-/// The status of a call over the program's own writer that holds so many octets, on a full one.
-/// The writer is flushed and dropped.
+/// Returns the status of a call whose output is the program's own writer with this capacity, on a
+/// full writer. Flushes and drops the program's writer.
 fn status_if_full(
     rt: &impl Runtime,
     words: &[&'static str],
@@ -477,7 +479,8 @@ fn assert_tried_once(
     assert_one_call(rt, words.as_slice(), &mut inputs, 1000);
 }
 
-/// A write that failed is not tried again: not by the run, a flush, nor the drop of the writer.
+/// A failed write is not tried again, neither by the run nor by a flush, nor when the writer is
+/// dropped.
 #[test]
 fn tries_no_write_again(rt: HostRuntime) {
     let text = text_of_one(&rt);
@@ -487,7 +490,7 @@ fn tries_no_write_again(rt: HostRuntime) {
     assert_tried_once(&rt, "encode", arguments, text.as_bytes());
 }
 
-/// The octets of a message that comes in parts, from a reader that may fail.
+/// Reads all octets of a message that arrives in parts, from a reader that may fail.
 fn all_of_one(rt: &impl Runtime, fails_at: Option<usize>) -> Result<Vec<u8>, RunFault> {
     let mut r = ScriptIn::new(ONE_BLOCK_NUMBER, 7, fails_at);
     read_all(rt.alloc(), &mut r)

@@ -1,4 +1,4 @@
-//! Dump texts, read by readers of 1, 3 and 4,096 octets a read.
+//! Tests of reading dumps, with readers that return 1, 3 or 4,096 octets at a time.
 
 use crate::encode_tests::document_of;
 use crate::messages::{HEAD, ONE_BLOCK_NUMBER, text_of_one};
@@ -9,10 +9,11 @@ use bufr_bits::{Device, ScriptIn, Source};
 use bufr_frame::{Message, RunFault};
 use bufr_text::{Document, DumpReader, ReadFault, TextLineFault, laws};
 
-/// How many octets a read gives.
+/// Values of the maximum number of octets in a read.
 const STEPS: [usize; 3] = [1, 3, 4096];
 
-/// What a call returns: how many entries a document has and the line that begins it, or a fault.
+/// What a call returns: the number of entries of a document and the line where it begins, a fault,
+/// or the end.
 #[derive(Clone, Copy, Debug, PartialEq, Eq)]
 enum Next {
     Read(usize, u64),
@@ -24,7 +25,8 @@ enum Next {
 use Next::{Done, Failed, Read, Refused};
 use TextLineFault::{HeaderRange, NotAllowed, SubsetCount};
 
-/// The document of one block number, with this text in place of a line, from 1.
+/// Returns the document with one block number, with this text in place of a line. Lines are
+/// numbered from 1.
 fn with_line(rt: &impl Runtime, number: usize, text: &[u8]) -> Vec<u8> {
     let document = text_of_one(rt);
     let mut octets = Vec::new(rt.alloc());
@@ -42,12 +44,12 @@ fn with_line(rt: &impl Runtime, number: usize, text: &[u8]) -> Vec<u8> {
     octets
 }
 
-/// What a document is.
+/// Returns the number of entries of a document and the line where it begins.
 fn read_as(document: &Document) -> Next {
     Read(document.entries(), document.line())
 }
 
-/// What comes next.
+/// Returns what the reader returns next.
 fn next_of<R: Source>(reader: &mut DumpReader, r: &mut R) -> Next {
     match reader.next_document(r) {
         Ok(None) => Done,
@@ -88,7 +90,7 @@ fn assert_read(rt: &impl Runtime, text: &[u8], fails_at: Option<usize>, wanted: 
     }
 }
 
-/// The line of `encode` for a fault.
+/// Returns the line that `encode` writes for a fault.
 fn line_of(rt: &impl Runtime, line: u64, fault: TextLineFault) -> String {
     let text = match fault {
         NotAllowed => "50 line",
@@ -109,8 +111,8 @@ fn assert_document(rt: &impl Runtime, text: &[u8], want: Next) {
     }
 }
 
-// What the document is with another text in place of a line: the line's number, and texts. Beside
-// what is read are its nearest wrong neighbours.
+// Each row contains a line number, the expected result, and texts to replace the line. Valid texts
+// are listed next to the invalid texts that are most similar to them.
 #[rattlefmt::skip]
 static RULES: &[(usize, Next, &[&[u8]])] = &[
     (25, Refused(25, SubsetCount), &[b"subset 2\n001001 10\nend\n"]),
@@ -170,20 +172,20 @@ fn reads_each_line_by_its_rule(rt: HostRuntime) {
     }
 }
 
-/// A document without a subset, with these lines of octets.
+/// Returns a document without subsets, with these lines of octets.
 fn with_octets(rt: &impl Runtime, lines: &[u8]) -> Vec<u8> {
     let counts: &[u8] = b"observed 1\ncompressed 0\noptional 1\nsubsets 0\n";
     let end: &[u8] = b"descriptors 001001\nend\n";
     joined(rt, &[HEAD.as_bytes(), counts, lines, end])
 }
 
-/// A line of a word and so many digits.
+/// Returns a line that consists of a word and `count` digits.
 fn line_of_digits(rt: &impl Runtime, word: &[u8], count: usize) -> Vec<u8> {
     let digits = repeated(rt, b"9", count);
     joined(rt, &[word, &digits, b"\n"])
 }
 
-/// Lines of octets have at most 64 digits, and an even number of them.
+/// Asserts that lines of octets have at most 64 digits, and an even number of them.
 fn assert_octet_lines(rt: &impl Runtime, word: &[u8]) {
     for (count, want) in [
         (64, Read(0, 1)),
@@ -202,7 +204,8 @@ fn reads_lines_of_octets(rt: HostRuntime) {
     assert_octet_lines(&rt, b"section2 ")
 }
 
-// A word that digits are put after in place of a line, their count, and what the document then is.
+// Each row contains a line number, a word and the number of digits after it, which together replace
+// the line, and the expected result.
 #[rattlefmt::skip]
 static LONG_LINES: &[(usize, &[u8], usize, Next)] = &[
     (4, b"centre ", 4089, Refused(4, HeaderRange)),
@@ -212,7 +215,8 @@ static LONG_LINES: &[(usize, &[u8], usize, Next)] = &[
     (24, b"001001 10\n#", 4096, Refused(25, NotAllowed)),
 ];
 
-/// Lines of 4,096 octets are read; of one octet more no line feed is looked for.
+/// Lines of up to 4,096 octets are read. A longer line is rejected without looking for its line
+/// feed.
 #[test]
 // rule: reading-longest-line, reading-header-number
 fn reads_long_lines(rt: HostRuntime) {
@@ -224,10 +228,11 @@ fn reads_long_lines(rt: HostRuntime) {
     assert_read(&rt, &note, Some(4097), &[Refused(1, NotAllowed)]);
 }
 
-/// How many octets the document has.
+/// The length of the document in octets.
 const WHOLE: usize = 300;
 
-/// Lines are counted on from document to document. Between them come blank lines and comments.
+/// Line numbers continue from document to document. Blank lines and comments may come between
+/// documents.
 #[test]
 // rule: reading-between-documents, reading-line-numbers
 fn reads_several_documents(rt: HostRuntime) {
@@ -242,7 +247,7 @@ fn reads_several_documents(rt: HostRuntime) {
     assert_read(&rt, &refused, None, &[Read(2, 1), Refused(26, NotAllowed)]);
 }
 
-/// A document is read before the read after it fails.
+/// A document is returned before the read after it fails.
 #[test]
 fn reads_up_to_a_failed_read(rt: HostRuntime) {
     let two = repeated(&rt, text_of_one(&rt).as_bytes(), 2);
@@ -297,7 +302,7 @@ fn counts_entries(rt: HostRuntime) {
     assert_counts(&rt, &document, (false, true, 2, 4));
 }
 
-// Faults of reading, their numbers and their texts.
+// Faults of reading, with their numbers and texts.
 #[rattlefmt::skip]
 static FAULTS: &[(ReadFault, u8, &str)] = &[
     (ReadFault::Line(3, NotAllowed), 50, "line"),
@@ -328,12 +333,12 @@ fn laws() {
     laws::none_comes_again();
 }
 
-/// What a reader of octets in memory reads next.
+/// Returns what a reader of octets in memory returns next.
 fn next_in(reader: &mut DumpReader, unread: &mut &[u8]) -> Next {
     next_of(reader, &mut Device::new(unread))
 }
 
-/// What was read after the last line of a document is held, and nothing else.
+/// Octets that were read after the last line of a document are buffered, and no others.
 #[test]
 fn holds_what_follows_a_document(rt: HostRuntime) {
     let text = repeated(&rt, text_of_one(&rt).as_bytes(), 1000);
@@ -350,7 +355,7 @@ fn holds_what_follows_a_document(rt: HostRuntime) {
     assert_that(&rt, unread.is_empty() && reader.held() == 0, &taken);
 }
 
-/// Of a last line without a line feed its own octets are held, and none besides.
+/// If the last line has no line feed, its own octets are buffered, and no others.
 #[test]
 fn holds_the_last_line(rt: HostRuntime) {
     let text = joined(&rt, &[text_of_one(&rt).as_bytes(), b"# note"]);
@@ -368,7 +373,7 @@ fn assert_reused<R: Source>(rt: &impl Runtime, reader: &mut DumpReader, r: &mut 
     reader.reuse(document);
 }
 
-/// A document may take the memory of the one before, longer or shorter.
+/// A document can reuse the memory of the previous one, whether it is longer or shorter.
 #[test]
 fn reuses_memory(rt: HostRuntime) {
     let one = text_of_one(&rt);

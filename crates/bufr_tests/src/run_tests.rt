@@ -1,4 +1,4 @@
-//! Whole runs of `ls`, `dump` and `encode`.
+//! Tests of whole runs of `ls`, `dump` and `encode`.
 
 use crate::messages::{
     COMPRESSED, EDITION_3, LOCAL_USE, ONE_BLOCK_NUMBER, PLAIN, bulletins, delayed_twice,
@@ -27,8 +27,8 @@ fn refuses_a_message_cut_anywhere(rt: HostRuntime) {
     assert_cut_anywhere(&rt, Dump, "edition 3", EDITION_3)
 }
 
-/// A reader that gives a message in each of two reads, and notes at each read how many octets the
-/// writer was given before.
+/// A reader that returns a message in each of two reads, and records at each read how many octets
+/// have been written.
 #[derive(Drop)]
 struct Watching<'a> {
     octets: &'a Cell<usize>,
@@ -50,7 +50,7 @@ impl<'a> Read for Watching<'a> {
     }
 }
 
-/// Each line is written, whole and in one write, before the next message is read.
+/// Each line is written whole, in a single write, before the next message is read.
 #[test]
 fn lists_while_it_reads(rt: HostRuntime) {
     let (first, second) = (line_of_one(&rt, "0").len(), line_of_one(&rt, "48").len());
@@ -74,7 +74,7 @@ fn lists_while_it_reads(rt: HostRuntime) {
     assert_same(&rt, &(writes.get(), torn.get()), &(2, false), &"writes");
 }
 
-/// Also through a reader and writers of std.
+/// An empty input is accepted, both in memory and with a reader and writers from std.
 #[test]
 // rule: input-without-bufr
 fn accepts_an_empty_input(rt: HostRuntime) {
@@ -88,7 +88,8 @@ fn accepts_an_empty_input(rt: HostRuntime) {
     }
 }
 
-/// Two messages or documents, and what is written of the first and of the second.
+/// Asserts what runs write if a read or the output fails. `one` is a message or a document, and
+/// `first` and `second` are the outputs for two of them in a row.
 fn assert_pair_stops(
     rt: &impl Runtime,
     command: Command,
@@ -100,7 +101,8 @@ fn assert_pair_stops(
     assert_stops_at_output(rt, accepted(command, "one", one, first))
 }
 
-/// Wherever a read fails or is interrupted, or the output ends, what was decided before is written.
+/// If a read fails or is interrupted, or the output ends, everything that was certain before is
+/// written.
 #[test]
 // rule: fault-70, fault-71
 fn lists_what_was_decided_before_a_failure(rt: HostRuntime) {
@@ -130,12 +132,12 @@ fn stops_after_a_stray(rt: HostRuntime) {
     assert_stops_after_a_stray(&rt, Dump, ONE_BLOCK_NUMBER, text.as_bytes())
 }
 
-/// A document that is refused, at its line 24.
+/// Returns a document that is rejected at its line 24.
 fn text_refused(rt: &impl Runtime) -> String {
     text_of(rt, 1, PLAIN, "012101", "012101 288.155")
 }
 
-/// Where the errors end, the messages before a refused document are written.
+/// If the error output ends, the messages before a rejected document are written.
 #[test]
 fn stops_where_the_errors_end(rt: HostRuntime) {
     let line = b"offset 0: 1 cut\n";
@@ -154,7 +156,7 @@ fn stops_where_the_errors_end(rt: HostRuntime) {
     assert_stops_at_errors(&rt, run, b"")
 }
 
-/// The first document that is refused ends the run: what follows it is not read.
+/// The run stops at the first document that is rejected, and does not read what follows it.
 #[test]
 // rule: first-refusal-ends
 fn stops_at_the_first_refused_document(rt: HostRuntime) {
@@ -170,7 +172,7 @@ fn stops_at_the_first_refused_document(rt: HostRuntime) {
     assert_ran(&rt, &Task::new(&rt, Encode), run, devices)
 }
 
-/// Where the output is not flushed, all that both writers took stays.
+/// If the output cannot be flushed, both writers keep everything that they took.
 #[test]
 fn keeps_all_after_a_failed_flush(rt: HostRuntime) {
     let text = joined(&rt, &[text_of_one(&rt).as_bytes(), b"end\n"]);
@@ -182,7 +184,7 @@ fn keeps_all_after_a_failed_flush(rt: HostRuntime) {
     assert_ran(&rt, &Task::new(&rt, Encode), run, devices)
 }
 
-/// The end of an input flushes both writers, whether something was written to them or not.
+/// At the end of an input, both writers are flushed, whether or not anything was written to them.
 #[test]
 fn ends_where_a_writer_cannot_be_flushed(rt: HostRuntime) {
     for command in [Ls, Dump, Encode] {
@@ -197,11 +199,11 @@ fn ends_where_a_writer_cannot_be_flushed(rt: HostRuntime) {
     assert_fails_to_flush(&rt, stray)
 }
 
-/// A message of edition 3 of 16,777,214 octets with an odd section 3, up to its data.
+/// The octets, up to its data, of an edition 3 message of 16,777,214 octets with an odd section 3.
 const LONG: &str =
     "42554652FFFFFE03 000012000062000000000E00180102030400 000009000001800101 FFFFD7";
 
-/// A message that could not be written with even sections is refused by `ls` too.
+/// `ls` also rejects a message that would be too long with even sections.
 #[test]
 // rule: fault-14
 fn refuses_a_long_message_with_an_odd_section(rt: HostRuntime) {
@@ -219,13 +221,13 @@ fn laws() {
     laws::encoded_texts_are_dumped_in_one_spelling();
 }
 
-/// A stream dumped, encoded and dumped again.
+/// Dumps a stream, encodes the dump, and dumps the result.
 fn round_of(rt: &impl Runtime, stream: &[u8]) -> Round {
     let task = Task::new(rt, Dump);
     dump_encode_dump(rt.alloc(), stream, 4096, &task.b, &task.d).expect(rt, "a round")
 }
 
-/// The bulletins are dumped. Their text is encoded to the four messages, which have the same text.
+/// The dump of the bulletins is encoded to the four messages, and these have the same dump.
 #[test]
 fn encodes_a_dumped_stream(rt: HostRuntime) {
     let (messages, round) = (messages_of_bulletins(&rt), round_of(&rt, &bulletins(&rt)));

@@ -1,6 +1,7 @@
-//! Runs of the three commands over devices in memory.
+//! Runs of the three commands on devices in memory.
 //!
-//! A test sees only what a run left, so its own proof does not carry the run's contract.
+//! The functions here have no contracts, so the proof of a test does not involve the contracts of
+//! runs.
 
 use crate::messages::STRAY;
 use crate::support::{Runtime, assert_same, joined, ok, some, table_b, table_d};
@@ -22,12 +23,12 @@ pub(crate) enum Command {
     EncodeIn(Form),
 }
 
-/// What a run is to count: accepted and refused.
+/// Returns the expected counts of a run.
 pub(crate) fn tally(accepted: u64, refused: u64) -> Tally {
     Tally { accepted, refused }
 }
 
-/// A run over an input in memory, and what it is to return and to write.
+/// A run over an input in memory, and what it should return and write.
 #[derive(Clone, Copy)]
 pub(crate) struct Run<'a> {
     pub(crate) command: Command,
@@ -38,7 +39,7 @@ pub(crate) struct Run<'a> {
     pub(crate) outcome: Result<Tally, RunFault>,
 }
 
-/// A run that accepts one message or document, and writes this.
+/// Returns a run that accepts one message or document, and writes this output.
 pub(crate) fn accepted<'a>(
     command: Command,
     name: &'a str,
@@ -55,7 +56,7 @@ pub(crate) fn accepted<'a>(
     }
 }
 
-/// A run that refuses one message or document, with this fault line.
+/// Returns a run that rejects one message or document, with this fault line.
 pub(crate) fn refused<'a>(
     command: Command,
     name: &'a str,
@@ -67,7 +68,7 @@ pub(crate) fn refused<'a>(
 }
 
 impl<'a> Run<'a> {
-    /// The run that counts so many.
+    /// Returns the run with these expected counts.
     pub(crate) fn counting(self, accepted: u64, refused: u64) -> Run<'a> {
         Run {
             outcome: Ok(tally(accepted, refused)),
@@ -75,13 +76,13 @@ impl<'a> Run<'a> {
         }
     }
 
-    /// The run with these fault lines.
+    /// Returns the run with these expected fault lines.
     pub(crate) fn with_errors(self, errors: &'a [u8]) -> Run<'a> {
         Run { errors, ..self }
     }
 }
 
-/// The test tables, and what is run by them.
+/// A command and the test tables.
 #[derive(Drop)]
 pub(crate) struct Task {
     pub(crate) alloc: Global,
@@ -111,7 +112,7 @@ pub(crate) fn list<R: Source, W: Sink, E: Sink>(
     run_ls(alloc, r, w, e)
 }
 
-/// What a run returned, and its writers.
+/// The result of a run, and its writers.
 #[derive(Drop)]
 pub(crate) struct Ran {
     outcome: Result<Tally, RunFault>,
@@ -120,12 +121,13 @@ pub(crate) struct Ran {
 }
 
 impl Ran {
-    /// The octets that the output took.
+    /// Returns the octets that the output took.
     pub(crate) fn output(&self) -> &[u8] {
         self.output.taken()
     }
 
-    /// Asserts what the run returned and wrote, at an index in a list of runs.
+    /// Asserts what the run returned and wrote. `index` only identifies the run if an assertion
+    /// fails.
     pub(crate) fn assert(&self, rt: &impl Runtime, run: Run<'_>, index: usize) {
         let case = (run.name, index);
         assert_same(rt, &self.outcome, &run.outcome, &case);
@@ -134,7 +136,7 @@ impl Ran {
     }
 }
 
-/// Runs a command over a reader and two writers.
+/// Runs a command with a reader and two writers.
 fn run_over<R: Source>(
     task: &Task,
     input: &mut R,
@@ -157,26 +159,26 @@ fn run_over<R: Source>(
     }
 }
 
-/// A writer with this room and end, which takes at most so many octets at once.
+/// Returns a writer with this room and end, which takes at most `step` octets at once.
 pub(crate) fn writer(rt: &impl Runtime, step: usize, (room, end): (usize, End)) -> ScriptOut {
     assert!(rt; step > 0);
     ok(rt, ScriptOut::new(rt.alloc(), room, step, end))
 }
 
-/// How the devices of a run work.
+/// How the devices of a run behave.
 #[derive(Clone, Copy)]
 pub(crate) struct Devices {
-    /// At most so many octets in a read or a write.
+    /// The maximum number of octets in a read or a write.
     pub(crate) step: usize,
-    /// Where a read fails.
+    /// The offset at which a read fails, if any.
     pub(crate) fails_at: Option<usize>,
-    /// The octets that the output takes, and its end.
+    /// The room of the output in octets, and its end.
     pub(crate) output: (usize, End),
-    /// The same of the errors.
+    /// The same for the error output.
     pub(crate) errors: (usize, End),
 }
 
-/// Devices with room for 65,536 octets.
+/// Returns devices with room for 65,536 octets.
 pub(crate) fn roomy(step: usize) -> Devices {
     Devices {
         step,
@@ -186,7 +188,7 @@ pub(crate) fn roomy(step: usize) -> Devices {
     }
 }
 
-/// Runs the command of a task over an input and these devices.
+/// Runs the command of a task on an input, with these devices.
 fn run_on(rt: &impl Runtime, task: &Task, input: &[u8], devices: Devices) -> Ran {
     assert!(rt; devices.step > 0);
     let mut r = ScriptIn::new(input, devices.step, devices.fails_at);
@@ -195,7 +197,7 @@ fn run_on(rt: &impl Runtime, task: &Task, input: &[u8], devices: Devices) -> Ran
     run_over(task, &mut r, w, e)
 }
 
-/// Runs a command over an input.
+/// Runs a command on an input.
 pub(crate) fn run_whole(rt: &impl Runtime, command: Command, input: &[u8]) -> Ran {
     run_on(rt, &Task::new(rt, command), input, roomy(4096))
 }
@@ -212,8 +214,8 @@ pub(crate) fn assert_run(rt: &impl Runtime, run: Run<'_>) {
     }
 }
 
-/// Asserts what a run leaves on writers with room for so many octets that then end so. The output
-/// takes `before` where the errors are full.
+/// Asserts what a run leaves in two writers with these rooms and ends. If the error output is full,
+/// the output takes `before`.
 fn assert_room<'a>(
     rt: &impl Runtime,
     task: &Task,
@@ -242,7 +244,8 @@ fn assert_room<'a>(
     run_on(rt, task, run.input, devices).assert(rt, wanted, output.0.saturating_add(errors.0))
 }
 
-/// An output that fails, takes nothing or is not flushed takes a prefix of the whole.
+/// Asserts that an output that fails, takes nothing or cannot be flushed takes a prefix of the
+/// whole output.
 pub(crate) fn assert_stops_at_output(rt: &impl Runtime, run: Run<'_>) {
     let (task, errors) = (Task::new(rt, run.command), (run.errors.len(), End::Fail));
     for room in 0..run.output.len().saturating_add(1) {
@@ -252,8 +255,8 @@ pub(crate) fn assert_stops_at_output(rt: &impl Runtime, run: Run<'_>) {
     }
 }
 
-/// Errors that fail, take nothing or are not flushed take a prefix of the line. The output takes
-/// `before`, or the whole where the line was taken.
+/// Asserts that an error output that fails, takes nothing or cannot be flushed takes a prefix of
+/// the fault lines. The output takes `before`, or the whole output if all fault lines were taken.
 pub(crate) fn assert_stops_at_errors(rt: &impl Runtime, run: Run<'_>, before: &[u8]) {
     let (task, output) = (Task::new(rt, run.command), (run.output.len(), End::Fail));
     for room in 0..run.errors.len().saturating_add(1) {
@@ -263,7 +266,8 @@ pub(crate) fn assert_stops_at_errors(rt: &impl Runtime, run: Run<'_>, before: &[
     }
 }
 
-/// An output that cannot be flushed ends the run with 71 after all was taken, and so do errors.
+/// Asserts that the run fails with fault 71 if the output or the error output cannot be flushed,
+/// after everything was taken.
 pub(crate) fn assert_fails_to_flush(rt: &impl Runtime, run: Run<'_>) {
     let task = Task::new(rt, run.command);
     let (flushed, unflushed) = ((65_536, End::Fail), (65_536, End::Flush));
@@ -271,7 +275,7 @@ pub(crate) fn assert_fails_to_flush(rt: &impl Runtime, run: Run<'_>) {
     assert_room(rt, &task, run, b"", (flushed, unflushed));
 }
 
-/// A read that fails at this place ends the run.
+/// Asserts that a read that fails at this offset stops the run.
 fn assert_read_fails(rt: &impl Runtime, task: &Task, run: Run<'_>, place: usize) {
     let outcome = Err(RunFault::Read);
     for step in [1, 7] {
@@ -283,8 +287,9 @@ fn assert_read_fails(rt: &impl Runtime, task: &Task, run: Run<'_>, place: usize)
     }
 }
 
-/// A run over two messages or documents of as many octets, of which the first gives this output.
-/// Wherever a read fails or is interrupted, the output has what was decided before.
+/// Asserts that if a read fails or is interrupted, the output contains everything that was certain
+/// before. The run is over two messages or documents of the same length, and `first` is the output
+/// for the first one.
 pub(crate) fn assert_stops_at_reads(rt: &impl Runtime, run: Run<'_>, first: &[u8]) {
     let task = Task::new(rt, run.command);
     let (half, whole) = (run.input.len() / 2, run.input.len());
@@ -303,7 +308,7 @@ pub(crate) fn assert_stops_at_reads(rt: &impl Runtime, run: Run<'_>, first: &[u8
     }
 }
 
-/// A reader that is interrupted once, after a prefix, and notes a read that is made then.
+/// A reader that is interrupted once, after a prefix, and records whether it is read again.
 #[derive(Drop)]
 struct Interrupted<'a> {
     prefix: &'a [u8],
@@ -326,7 +331,7 @@ impl<'a> Read for Interrupted<'a> {
     }
 }
 
-/// An interrupted read is a failed one: it is not made again.
+/// Asserts that an interrupted read is treated as a failed one, and is not tried again.
 fn assert_read_interrupted(rt: &impl Runtime, task: &Task, run: Run<'_>, place: usize) {
     let (interrupted, tried_again) = (Cell::new(false), Cell::new(false));
     let mut r = Device::new(Interrupted {
@@ -343,7 +348,8 @@ fn assert_read_interrupted(rt: &impl Runtime, task: &Task, run: Run<'_>, place: 
     assert_same(rt, &notes, &(true, false), &place)
 }
 
-/// Wherever a message is cut it is refused, and with fewer than four octets it is none.
+/// Asserts that a message is rejected wherever it is cut, and that fewer than four octets of it are
+/// not reported.
 pub(crate) fn assert_cut_anywhere(rt: &impl Runtime, command: Command, name: &str, whole: &[u8]) {
     for length in 0..whole.len() {
         let prefix = whole.get(..length).unwrap_or(b"");
@@ -353,9 +359,10 @@ pub(crate) fn assert_cut_anywhere(rt: &impl Runtime, command: Command, name: &st
     }
 }
 
-/// A stray word that states 64 octets, a message, and zeros up to as many octets.
+/// Asserts how a run stops if its input is a stray that declares 64 octets, a message, and zeros up
+/// to 64 octets in total.
 ///
-/// Nothing is decided before the last octet. The stray's line is written before the output.
+/// Nothing is certain before the last octet. The stray's line is written before the output.
 pub(crate) fn assert_stops_after_a_stray(
     rt: &impl Runtime,
     command: Command,
@@ -379,7 +386,8 @@ pub(crate) fn assert_stops_after_a_stray(
     assert_read_fails(rt, &task, run, 64)
 }
 
-/// A writer that counts octets and writes, and notes a write that does not end a line.
+/// A writer that counts octets and writes, and records whether any write did not end with a line
+/// feed.
 #[derive(Drop)]
 pub(crate) struct Watched<'a> {
     pub(crate) octets: &'a Cell<usize>,

@@ -1,6 +1,7 @@
 //! What the tests share: assertions, octets from text, tables and templates.
 //!
-//! Nothing here has a contract, so the proof of a test carries none of the calls made here.
+//! The functions here have no contracts, so the proof of a test does not involve the calls that
+//! they make.
 
 use crate::messages;
 use bufr_frame::Message;
@@ -9,12 +10,13 @@ use std::alloc::Global;
 use std::fmt::Debug;
 use std::process::Abort;
 
-/// The runtime of a test, which ends a test that fails and allocates memory.
+/// The runtime of a test. It allocates memory, and aborts a test that fails.
 pub(crate) trait Runtime: Abort + AllocGlobal {}
 
 impl<R: Abort + AllocGlobal> Runtime for R {}
 
-/// The value of a call that is to succeed. A `?` in a test would be one more way out to prove.
+/// Returns the value of a call that must succeed. A `?` in a test would add another exit to its
+/// proof.
 pub(crate) fn ok<T, E: Drop>(rt: &impl Abort, answer: Result<T, E>) -> T {
     match answer {
         Ok(value) => value,
@@ -22,7 +24,7 @@ pub(crate) fn ok<T, E: Drop>(rt: &impl Abort, answer: Result<T, E>) -> T {
     }
 }
 
-/// The value of an option that is to have one.
+/// Returns the value of an option that must have one.
 pub(crate) fn some<T>(rt: &impl Abort, option: Option<T>) -> T {
     match option {
         Some(value) => value,
@@ -49,7 +51,7 @@ fn octet_of(rt: &impl Abort, high: char, low: char) -> u8 {
     ok(rt, u8::try_from(high.wrapping_mul(16).wrapping_add(low)))
 }
 
-/// The octets of hexadecimal digits, in pairs. Blanks may separate the digits.
+/// Returns the octets of hexadecimal digits, which come in pairs. Blanks may separate the digits.
 pub(crate) fn from_hex(rt: &impl Runtime, digits: &str) -> Vec<u8> {
     let mut octets = Vec::new(rt.alloc());
     let mut first = None;
@@ -69,7 +71,7 @@ pub(crate) fn from_hex(rt: &impl Runtime, digits: &str) -> Vec<u8> {
     octets
 }
 
-/// The octets of the parts, one after another.
+/// Returns the octets of the parts, one after another.
 pub(crate) fn joined(rt: &impl Runtime, parts: &[&[u8]]) -> Vec<u8> {
     let mut octets = Vec::new(rt.alloc());
     for part in parts {
@@ -78,7 +80,7 @@ pub(crate) fn joined(rt: &impl Runtime, parts: &[&[u8]]) -> Vec<u8> {
     octets
 }
 
-/// The octets of a part, repeated.
+/// Returns the octets of a part, repeated.
 pub(crate) fn repeated(rt: &impl Runtime, part: &[u8], times: usize) -> Vec<u8> {
     let mut octets = Vec::new(rt.alloc());
     for _ in 0..times {
@@ -91,7 +93,7 @@ fn descriptor_of(rt: &impl Abort, digits: &str) -> Fxy {
     some(rt, Fxy::read(digits.as_bytes()))
 }
 
-/// The descriptors of a text: six digits each, separated by blanks.
+/// Returns the descriptors in a text: six digits each, separated by blanks.
 pub(crate) fn descriptors_of(rt: &impl Runtime, text: &str) -> Vec<Fxy> {
     let mut descriptors = Vec::new(rt.alloc());
     for digits in text.split_whitespace() {
@@ -100,7 +102,7 @@ pub(crate) fn descriptors_of(rt: &impl Runtime, text: &str) -> Vec<Fxy> {
     descriptors
 }
 
-/// The words of such descriptors.
+/// Returns the words of such descriptors.
 pub(crate) fn words_of(rt: &impl Runtime, text: &str) -> Vec<u16> {
     let mut words = Vec::new(rt.alloc());
     for digits in text.split_whitespace() {
@@ -117,12 +119,12 @@ pub(crate) fn read_d(alloc: Global, text: &[u8]) -> Result<TableD, TableFault> {
     TableD::read(alloc, text)
 }
 
-/// Table B of the test messages.
+/// Returns Table B for the test messages.
 pub(crate) fn table_b(rt: &impl Runtime) -> TableB {
     ok(rt, read_b(rt.alloc(), messages::table_b()))
 }
 
-/// Table D of the test messages.
+/// Returns Table D for the test messages.
 pub(crate) fn table_d(rt: &impl Runtime) -> TableD {
     ok(rt, read_d(rt.alloc(), messages::table_d()))
 }
@@ -136,14 +138,14 @@ pub(crate) fn build(
     Template::build(alloc, descriptors, table_b, table_d)
 }
 
-/// The template of a text of descriptors, by the tables of the test messages.
+/// Returns the template of the descriptors in a text, using the tables for the test messages.
 pub(crate) fn template_of(rt: &impl Runtime, text: &str) -> Template {
     let descriptors = descriptors_of(rt, text);
     let (table_b, table_d) = (table_b(rt), table_d(rt));
     ok(rt, build(rt.alloc(), &descriptors, &table_b, &table_d))
 }
 
-/// The template of a message, by the same tables.
+/// Returns the template of a message, using the same tables.
 pub(crate) fn template_for(rt: &impl Runtime, message: &Message<'_>) -> Template {
     let mut descriptors = Vec::new(rt.alloc());
     for word in message.descriptors() {
@@ -155,7 +157,7 @@ pub(crate) fn template_for(rt: &impl Runtime, message: &Message<'_>) -> Template
     )
 }
 
-/// The message that octets are.
+/// Returns the message in these octets.
 pub(crate) fn parsed<'a>(rt: &impl Abort, octets: &'a [u8]) -> Message<'a> {
     assert!(rt; octets.len() >= 12);
     ok(rt, Message::parse(octets))

@@ -1,4 +1,4 @@
-//! Descriptors, and the reading of tables.
+//! Tests of descriptors and of reading tables.
 
 use crate::messages::{HEADER_B, HEADER_D};
 use crate::support::{
@@ -6,7 +6,7 @@ use crate::support::{
 };
 use bufr_tables::{Entry, Fxy, Kind, TableB, TableD, TableFault};
 
-/// Six digits, and the word of the descriptor that they write.
+/// Digits of descriptors, and the words of the descriptors, or `None` if the digits are invalid.
 #[rattlefmt::skip]
 const DESCRIPTORS: &[(&[u8], Option<u16>)] = &[
     (b"000000", Some(0)), (b"001001", Some(0x0101)), (b"012101", Some(0x0c65)),
@@ -68,7 +68,7 @@ const ELEMENTS: &[(u16, &[u8], &[u8], Kind, (i16, i64, u32))] = &[
     (0x1f02, b"EXTENDED DELAYED DESCRIPTOR REPLICATION FACTOR", b"Numeric", Kind::Numeric, (0, 0, 16)),
 ];
 
-/// An element that the table lacks, and descriptors that are no elements.
+/// An element that is not in the table, and descriptors that are not elements.
 const NO_ELEMENTS: &[u16] = &[0x3fff, 0x4c65, 0x8c65, 0xcc65];
 
 #[test]
@@ -107,7 +107,7 @@ fn entries(rt: HostRuntime) {
     assert_that(&rt, entry_of(&table, 0x0101) != found, &"another element");
 }
 
-/// A sequence that the table lacks, and descriptors that are no sequences.
+/// A sequence that is not in the table, and descriptors that are not sequences.
 const NO_SEQUENCES: &[u16] = &[0xffff, 0x3cc0, 0x0101];
 
 #[test]
@@ -121,7 +121,7 @@ fn sequences(rt: HostRuntime) {
     }
 }
 
-/// `read`, or the number and text of a fault.
+/// Returns `read`, or the number and text of the fault.
 fn outcome<T: Drop>(rt: &impl Runtime, answer: &Result<T, TableFault>) -> String {
     match answer {
         Ok(_) => ok(rt, String::from_str(rt.alloc(), "read")),
@@ -131,7 +131,7 @@ fn outcome<T: Drop>(rt: &impl Runtime, answer: &Result<T, TableFault>) -> String
 
 const LAST_IN_A_CYCLE: &str = "43 cycle 363255";
 
-/// Rows after the header of Table B, by what reading them gives.
+/// Rows after the header of Table B, grouped by the result of reading them.
 #[rattlefmt::skip]
 const ROWS_OF_B: &[(&str, &[&[u8]])] = &[
     ("read", &[
@@ -162,7 +162,7 @@ const ROWS_OF_B: &[(&str, &[&[u8]])] = &[
         // a replication factor
         b"031000,A,Numeric,0,0,8", b"031001,A,Numeric,0,0,16", b"031002,A,Numeric,0,0,8",
         b"031001,A,Numeric,1,0,8", b"031001,A,Numeric,0,-1,8", b"031001,A,CCITT IA5,0,0,8",
-        // the first fault counts
+        // only the first fault is reported
         b"001001,A,K,0,0,x\n001001,A",
     ]),
     ("41 row 3", &[b"001001,A,K,0,0,7\n001001,A,K,0,0,x"]),
@@ -178,20 +178,20 @@ const NO_HEADERS_OF_B: &[&[u8]] = &[
     b"fxy,name,unit,scale,reference, width\n", b"fxy,member\n",
 ];
 
-/// Rows after the header of Table D, by what reading them gives.
+/// Rows after the header of Table D, grouped by the result of reading them.
 #[rattlefmt::skip]
 const ROWS_OF_D: &[(&str, &[&[u8]])] = &[
     ("read", &[
         b"", b"300001,101000\n300001,031001\n300001,201132", b"363255,363254\n363255,001001",
-        // the same members twice, and a member that the table lacks, are no cycle
+        // repeated members, and members that are not in the table, do not make a cycle
         b"300001,300002\n300001,300002\n300002,300003\n300002,300003\n300003,001001",
         b"300001,300002\n300002,300003",
     ]),
     ("41 row 2", &[b"300001,x", b"200001,001001", b"300001,401001"]),
     ("41 row 3", &[b"300001,300001\n300002,x"]),
-    // a second run of rows goes before a cycle
+    // a second run of rows for a sequence is reported before a cycle
     ("42 duplicate 300001", &[b"300001,300002\n300002,300001\n300001,001001"]),
-    // a cycle is named by the first sequence of the file that reaches itself
+    // the fault names the first sequence in the file that contains itself
     ("43 cycle 300001", &[
         b"300001,300001", b"300001,001001\n300001,300001", b"300001,300002\n300002,300001",
         b"300001,300002\n300002,300003\n300003,300004\n300004,300002\n300004,300001",
@@ -247,7 +247,7 @@ fn rows_of_tables(rt: HostRuntime) {
     assert_same(&rt, &memory.as_str(), &"73 out of memory", &"memory");
 }
 
-/// Names and units of this many octets, and what reading them gives.
+/// Lengths of names and units in octets, and the result of reading them.
 const LONG_NAMES: &[(usize, &str)] = &[(512, "read"), (513, "41 row 2")];
 
 #[test]
@@ -290,7 +290,7 @@ fn push_row(rt: &impl Runtime, text: &mut Vec<u8>, sequence: u16, member: u16) {
     ok(rt, text.push(b'\n'));
 }
 
-/// The header of Table D and 65,536 rows of one sequence.
+/// Returns the header of Table D and 65,536 rows of one sequence.
 fn most_rows(rt: &impl Runtime) -> Vec<u8> {
     let mut text = joined(rt, &[HEADER_D]);
     for _ in 0..65536u32 {
@@ -316,8 +316,9 @@ fn as_many_rows_as_a_table_may_have(rt: HostRuntime) {
     assert_d(&rt, &text, "44 table size");
 }
 
-/// All sequences, each of four rows that name the next one. The last ends the chain, or with
-/// `cycle` holds itself. With `back` the file begins with the last one.
+/// Returns a Table D with all sequences, each of which has four rows with the next sequence as
+/// their member. The last sequence ends the chain or, if `cycle` is set, contains itself. If `back`
+/// is set, the file begins with the last sequence.
 fn long_chain(rt: &impl Runtime, back: bool, cycle: bool) -> Vec<u8> {
     let mut text = joined(rt, &[HEADER_D]);
     for key in 0..16384u16 {
@@ -343,7 +344,7 @@ fn long_chains_of_sequences(rt: HostRuntime) {
     }
 }
 
-/// Table B with 2,000 elements: each third word.
+/// Returns a Table B with 2,000 elements, whose words are multiples of three.
 fn many_elements(rt: &impl Runtime) -> Vec<u8> {
     let mut text = joined(rt, &[HEADER_B]);
     for third in 0..2000u16 {
@@ -355,7 +356,8 @@ fn many_elements(rt: &impl Runtime) -> Vec<u8> {
     text
 }
 
-/// Table D with 1,500 sequences of ten members, each beginning with the next sequence.
+/// Returns a Table D with 1,500 sequences of ten members, each of which begins with the next
+/// sequence.
 fn many_sequences(rt: &impl Runtime) -> Vec<u8> {
     let mut text = joined(rt, &[HEADER_D]);
     for key in 0..1500u16 {

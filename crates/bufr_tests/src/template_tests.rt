@@ -1,4 +1,4 @@
-//! Expansion of descriptors to templates.
+//! Tests of expanding descriptor lists into templates.
 
 use crate::messages::THIRTY_TWO_GROUPS;
 use crate::support::{
@@ -6,7 +6,8 @@ use crate::support::{
 };
 use bufr_tables::{Cell, Fxy, TableB, TableD, Template, TemplateFault};
 
-/// A name, descriptors, and what expanding them gives: places and depth, or a fault.
+/// Each row contains a name, descriptors, and the result of expanding them: the number of places
+/// and the depth, or a fault.
 #[rattlefmt::skip]
 const LISTS: &[(&str, &str, &str)] = &[
     ("one_block_number", "001001", "places 2 depth 0"),
@@ -58,7 +59,7 @@ const LISTS: &[(&str, &str, &str)] = &[
     ("doubling_groups_that_fit", "310003", "places 49151 depth 14"),
 ];
 
-/// What a template or a fault is, as text.
+/// Returns a template or a fault as text.
 fn outcome_of(rt: &impl Runtime, answer: &Result<Template, TemplateFault>) -> String {
     let text = match answer {
         Ok(template) => {
@@ -104,8 +105,8 @@ fn lists_of_descriptors(rt: HostRuntime) {
     assert_same(&rt, &memory.as_str(), &"73 out of memory", &"memory");
 }
 
-/// A name, descriptors, and the cells: a letter for each kind with its descriptor or count. After a
-/// colon comes the place after the group.
+/// Each row contains a name, descriptors, and the cells. For each cell, there is a letter for its
+/// kind, with its descriptor or count. After a colon comes the place after the group.
 #[rattlefmt::skip]
 const CELLS: &[(&str, &str, &str)] = &[
     ("one_block_number", "001001", "E001001 F"),
@@ -125,7 +126,7 @@ fn with_letter(rt: &impl Runtime, letter: &str, fxy: Fxy) -> String {
     ok(rt, format!(in rt.alloc(); "{letter}{fxy} "))
 }
 
-/// The text of a cell, and a blank after it.
+/// Returns the text of a cell, followed by a blank unless it is the last cell.
 fn text_of(rt: &impl Runtime, cell: Cell) -> String {
     let text = match cell {
         Cell::Element(fxy) => return with_letter(rt, "E", fxy),

@@ -1,4 +1,4 @@
-//! The line of `ls` and the dump text of a message.
+//! Tests of the line of `ls` and the dump of a message.
 
 use crate::messages::{
     COMPRESSED, HEAD, ONE_BLOCK_NUMBER, PLAIN, delayed_twice, line_of_one, message_of,
@@ -12,7 +12,7 @@ use bufr_text::{LineWriter, write_all, write_dump, write_ls};
 use bufr_walk::{Steps, read_message};
 use std::cell::Cell;
 
-/// The message that octets are. It promises nothing.
+/// Returns the message in these octets. This function has no contract.
 fn message_in(octets: &[u8]) -> Option<Message<'_>> {
     if octets.len() < 12 {
         return None;
@@ -30,7 +30,7 @@ fn lists_a_message(rt: HostRuntime) {
     assert_same(&rt, &w.taken(), &line.as_bytes(), &"line");
 }
 
-/// Pushes a text of each kind to a block of `room` octets, at most 64.
+/// Pushes text of each kind through a block of `room` octets, at most 64.
 fn push_each(rt: &impl Runtime, room: usize, w: &mut ScriptOut) {
     let mut block = [0; 64];
     let Some(octets) = block.get_mut(..room) else {
@@ -46,7 +46,7 @@ fn push_each(rt: &impl Runtime, room: usize, w: &mut ScriptOut) {
     ok(rt, line.status());
 }
 
-/// A line is the same over a block of any size.
+/// A line is the same whatever the size of the block.
 #[test]
 // rule: listing-time
 fn pushes_a_line_at_each_room(rt: HostRuntime) {
@@ -71,7 +71,7 @@ fn dump_by<W: Sink>(
     write_dump(rt.alloc(), message, &reading, steps, w)
 }
 
-/// Dumps a message, and counts the steps.
+/// Dumps a message, and returns the result and the number of steps.
 fn dump_to<W: Sink>(rt: &impl Runtime, octets: &[u8], w: &mut W) -> (Result<(), RunFault>, u64) {
     let message = some(rt, message_in(octets));
     let (template, table) = (template_for(rt, &message), table_b(rt));
@@ -80,25 +80,27 @@ fn dump_to<W: Sink>(rt: &impl Runtime, octets: &[u8], w: &mut W) -> (Result<(), 
     (outcome, steps.count())
 }
 
-/// The dump text of a message.
+/// Returns the dump of a message.
 pub(crate) fn dumped(rt: &impl Runtime, octets: &[u8]) -> ScriptOut {
     let mut w = writer(rt, 4096, (65_536, End::Fail));
     assert_same(rt, &dump_to(rt, octets, &mut w).0, &Ok(()), &"dumped");
     w
 }
 
-/// The lines of the header, then others.
+/// Returns the lines of the header, followed by others.
 pub(crate) fn with_head(rt: &impl Runtime, lines: &str) -> String {
     ok(rt, format!(in rt.alloc(); "{HEAD}{lines}"))
 }
 
-/// A message of 2,000 block numbers, whose text has more than the 65,536 octets of a block.
+/// Returns a message of 2,000 block numbers, whose dump is longer than the 65,536 octets of a
+/// block.
 fn long_message(rt: &impl Runtime) -> Vec<u8> {
     let payload = joined(rt, &[b"\x07\xD0", &repeated(rt, b"\0", 1750)]);
     message_of(rt, 1, PLAIN, "101000 031002 001001", &payload)
 }
 
-/// A message, the room of the writer, and the steps up to where it stops.
+/// Each row contains a message, the room of the writer, and the number of steps until the dump ends
+/// or the writer stops it.
 const STOPS: &[(&str, usize, u64)] = &[
     ("delayed_twice", 65_536, 7),
     ("delayed_twice", 200, 7),
@@ -107,7 +109,7 @@ const STOPS: &[(&str, usize, u64)] = &[
     ("compressed", 65_536, 0),
 ];
 
-/// The steps of the dump of a message to a writer with this room.
+/// Returns the number of steps to dump a message to a writer with this room.
 fn steps_to(rt: &impl Runtime, name: &str, room: usize) -> u64 {
     let message = match name.as_bytes() {
         b"delayed_twice" => delayed_twice(rt),
@@ -117,8 +119,8 @@ fn steps_to(rt: &impl Runtime, name: &str, room: usize) -> u64 {
     dump_to(rt, &message, &mut writer(rt, 131_072, (room, End::Fail))).1
 }
 
-/// An operator, a factor, an item and an end of a pass are steps. A text goes out in blocks, so the
-/// writer stops the dump at the end of one. Compressed data are shown without a step.
+/// Operators, factors, items and ends of passes count as steps. A dump is written in blocks, so a
+/// full writer stops it at the end of a block. Compressed data are shown without steps.
 #[test]
 fn counts_steps_of_a_dump(rt: HostRuntime) {
     for (name, room, steps) in STOPS {
@@ -138,7 +140,7 @@ fn assert_writes(rt: &impl Runtime, message: &[u8], count: usize) {
     assert_same(rt, &(writes.get(), torn.get()), &(count, false), &"writes");
 }
 
-/// No line is torn: a text goes out in one write, or in writes of whole lines.
+/// No line is split: a dump is written in one write, or in several writes of whole lines.
 #[test]
 // rule: one-write-a-line
 fn dumps_whole_lines(rt: HostRuntime) {

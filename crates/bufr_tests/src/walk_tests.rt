@@ -1,4 +1,4 @@
-//! Reading of data.
+//! Tests of reading data.
 
 ghost use Rattle.std.specs.Prelude.{◌≤◌, length};
 
@@ -14,7 +14,7 @@ use bufr_walk::{
 };
 use std::alloc::{AllocError, Global};
 
-/// A visitor that writes subsets and items. A `#` follows an item that Table B describes.
+/// A visitor that writes subsets and items as text. A `#` follows each item that Table B describes.
 #[derive(Drop)]
 struct Lines {
     alloc: Global,
@@ -41,7 +41,8 @@ impl Visitor for Lines {
     }
 }
 
-/// An item: its descriptor, and a number with its scale, digits of a text, or a reference value.
+/// Returns the text of an item: its descriptor, and a number with its scale, a string in
+/// hexadecimal digits, a reference value, or `missing`.
 fn line_of(alloc: Global, item: &ItemView<'_>) -> Result<String, AllocError> {
     match item.value {
         Value::Number(number, scale) => { format!(in alloc; " {} {number}e{scale}", item.fxy) }
@@ -51,7 +52,7 @@ fn line_of(alloc: Global, item: &ItemView<'_>) -> Result<String, AllocError> {
     }
 }
 
-/// An item that is a text, in hexadecimal digits.
+/// Returns the text of an item that is a string, in hexadecimal digits.
 fn line_of_text(alloc: Global, fxy: Fxy, octets: &[u8]) -> Result<String, AllocError> {
     let mut line = format!(in alloc; " {fxy} \"")?;
     for octet in octets {
@@ -65,7 +66,7 @@ fn push_octet(alloc: Global, line: &mut String, octet: u8) -> Result<(), AllocEr
     line.push_str(format!(in alloc; "{octet:02X}")?.as_str())
 }
 
-/// A visitor that counts subsets and items, and refuses an item after so many.
+/// A visitor that counts subsets and items, and rejects any item after the first `most`.
 #[derive(Drop)]
 struct Counts {
     subsets: u64,
@@ -104,13 +105,13 @@ fn spot_of(fault: WalkFault) -> Option<Spot> {
     }
 }
 
-/// The beginnings of the fault lines 30 to 35.
+/// The names of faults 30 to 35, with which their texts begin.
 #[rattlefmt::skip]
 const NAMES: [&str; 6] = [
     "data end", "width", "defining", "unequal factor", "increment", "too many values",
 ];
 
-/// A refusal: the fault's number, subset, descriptor and bit, and the steps.
+/// Returns the number, subset, descriptor and bit of a fault, and the steps.
 fn refused(rt: &impl Runtime, fault: &WalkFault, steps: &Steps) -> String {
     let (number, count) = (fault.number(), steps.count());
     let Some(spot) = spot_of(*fault) else {
@@ -125,7 +126,7 @@ fn refused(rt: &impl Runtime, fault: &WalkFault, steps: &Steps) -> String {
     ok(rt, text)
 }
 
-/// A reading: its bits, the steps, and the items that it holds, if any.
+/// Returns the bits and steps of a reading, and the number of items that it stores, if any.
 fn measures(rt: &impl Runtime, reading: &Reading<'_>, steps: &Steps) -> String {
     let (bits, count, held) = (reading.bits(), steps.count(), reading.held());
     let mut text = ok(rt, format!(in rt.alloc(); "bits {bits} steps {count}"));
@@ -136,8 +137,8 @@ fn measures(rt: &impl Runtime, reading: &Reading<'_>, steps: &Steps) -> String {
     text
 }
 
-/// A reading with its subsets and items. Showing takes as many steps as reading did, and none where
-/// items are held.
+/// Returns the same for a reading, with its subsets and items. Showing them takes as many steps as
+/// reading did, or none if the items are stored.
 fn shown(rt: &impl Runtime, reading: &Reading<'_>, steps: &mut Steps) -> String {
     let mut lines = Lines {
         alloc: rt.alloc(),
@@ -173,7 +174,7 @@ impl Case {
         }
     }
 
-    /// What reading it gives, and with `show` its subsets and items.
+    /// Returns the result of reading the message, with its subsets and items if `show` is set.
     fn outcome(&self, rt: &impl Runtime, show: bool) -> String {
         let message = parsed(rt, &self.octets);
         let mut steps = Steps::new();
@@ -185,8 +186,8 @@ impl Case {
         }
     }
 
-    /// How many subsets and items it shows, and in how many steps, where an item after so many is
-    /// refused.
+    /// Returns the number of subsets and items that are shown, and the number of steps, if the
+    /// visitor rejects any item after the first `most`.
     fn count_to(&self, rt: &impl Runtime, most: u64) -> (u64, u64, u64) {
         let message = parsed(rt, &self.octets);
         let mut steps = Steps::new();
@@ -198,14 +199,15 @@ impl Case {
         let (template, table) = (&self.template, &self.table);
         let answer = read_message(rt.alloc(), &message, template, table, &mut steps);
         let reading = ok(rt, answer);
-        // The counts say where it is refused.
+        // The counts show where the visitor rejected an item.
         let _ = reading.show(rt.alloc(), &mut counts, &mut steps);
         (counts.subsets, counts.items, steps.count())
     }
 }
 
-/// A name, subsets, flags, descriptors, data in hexadecimal digits, and what reading gives. That is
-/// bits, steps and items, or a fault's number, subset, descriptor, bit and the steps.
+/// Each row contains a name, the number of subsets, flags, descriptors, data in hexadecimal digits,
+/// and the result of reading. That is bits, steps and items, or the number, subset, descriptor and
+/// bit of a fault, and the steps.
 #[rattlefmt::skip]
 const READINGS: &[(&str, u16, u8, &str, &str, &str)] = &[
     ("one_block_number", 1, PLAIN, "001001", "14", "bits 7 steps 2; 1: 001001 10e0 #"),
@@ -320,8 +322,9 @@ fn readings_of_messages(rt: HostRuntime) {
     }
 }
 
-/// A name, subsets, flags, descriptors, the first two octets of the data and how many there are.
-/// Then what reading gives, and how many subsets and items are shown.
+/// Each row contains a name, the number of subsets, flags, descriptors, the first two octets of the
+/// data and their length, and the result of reading. If the subsets and items are shown, their
+/// numbers follow.
 #[rattlefmt::skip]
 const LIMITS: &[(&str, u16, u8, &str, ([u8; 2], usize), &str, Option<(u64, u64)>)] = &[
     ("one_item_too_many", 65535, PACKED, "101000 031002 001001", ([0x08, 0x00], 3330),
@@ -339,7 +342,7 @@ const LIMITS: &[(&str, u16, u8, &str, ([u8; 2], usize), &str, Option<(u64, u64)>
     ("many_fields", 2, PLAIN, "102205 101005 001001", ([0x14, 0x00], 1794), "bits 14350 steps 4924", Some((2, 2050))),
 ];
 
-/// So many octets, the first two of them given, the others 0.
+/// Returns `len` octets that begin with `first` and continue with zeros.
 fn octets_with(rt: &impl Runtime, first: &[u8], len: usize) -> Vec<u8> {
     let mut octets = joined(rt, &[first]);
     ok(rt, octets.resize(len, 0));
@@ -367,7 +370,8 @@ fn as_many_characters_as_may_be(rt: HostRuntime) {
     assert_same(&rt, &case.outcome(&rt, true).len(), &554, &"characters");
 }
 
-/// How many items a visitor of two subsets takes; the subsets and items shown, and the steps.
+/// Each row contains the number of items that a visitor of two subsets accepts, and the numbers of
+/// subsets and items that are shown and of steps.
 #[rattlefmt::skip]
 const REFUSED_ITEMS: &[(u64, (u64, u64, u64))] = &[
     (0, (1, 0, 1)), (2, (1, 2, 5)), (3, (2, 3, 8)), (4, (2, 4, 10)), (6, (2, 6, 14)),
@@ -382,8 +386,9 @@ fn items_that_a_visitor_refuses(rt: HostRuntime) {
     }
 }
 
-/// Items of compressed subsets: a name, subsets, descriptors, data in hexadecimal digits. Then the
-/// number of the fault or 0, and the bits of the items that were read.
+/// Items of compressed subsets. Each row contains a name, the number of subsets, descriptors, data
+/// in hexadecimal digits, the number of the fault or 0, and the number of bits of the items that
+/// were read.
 #[rattlefmt::skip]
 const PACKED_ITEMS: &[(&str, u16, &str, &str, (u8, u64))] = &[
     ("a_number_and_missing", 2, "001001", "FC1080", (0, 17)),
@@ -403,11 +408,11 @@ const PACKED_ITEMS: &[(&str, u16, &str, &str, (u8, u64))] = &[
     ("a_reference_with_increments", 2, "203010 012101 203255 012101", "E43F", (34, 0)),
     ("a_text_and_missing", 2, "205002", "00000507FC", (0, 38)),
     ("octets_over_the_width", 2, "205002", "00000C000000000000", (34, 0)),
-    // the octets of a text belong to the item, also where they are over its width
+    // the octets of a string belong to its item, even if they exceed its width
     ("octets_past_the_data", 2, "205002", "00000C", (30, 0)),
 ];
 
-/// The number of the fault that a walk ends with, 0 where it ends well.
+/// Returns the number of the fault with which a walk ends, or 0 if it completes.
 fn number_of(answer: Result<(), WalkStop<DataFault>>) -> u8 {
     match answer {
         Ok(()) => 0,
@@ -418,7 +423,8 @@ fn number_of(answer: Result<(), WalkStop<DataFault>>) -> u8 {
     }
 }
 
-/// How a walk over compressed data ends, and the bits of the items that were read.
+/// Returns how a walk over compressed data ends, and the number of bits of the items that were
+/// read.
 fn walked(
     alloc: Global,
     template: &Template,
@@ -450,7 +456,7 @@ fn items_of_compressed_subsets(rt: HostRuntime) {
     }
 }
 
-/// Faults that no row above has.
+/// Checks the faults that are in none of the rows above.
 #[test]
 fn faults_have_numbers(rt: HostRuntime) {
     assert_same(&rt, &WalkFault::Memory.number(), &73, &"memory");
