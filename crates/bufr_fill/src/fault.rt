@@ -1,5 +1,4 @@
-//! Faults in the items of a dump text. (Their numbers and their order are a choice of this
-//! project.)
+//! Faults in the items of a document. (Their numbers and their order are our choice.)
 ghost use Rattle.std.specs.Prelude.{◌≡◌};
 ghost use Rattle.bufr_fill.specs.Draft.{item_report, number_of_draft_fault, refusal_parts};
 ghost use Rattle.bufr_fill.specs.declared.fault.DraftFault.TheVariants.{Memory};
@@ -17,11 +16,11 @@ pub enum Expected {
     Item(Fxy),
     /// A redefined reference (`R`) with this descriptor.
     Reference(Fxy),
-    /// No further item.
+    /// The end of the subset: no further item.
     EndOfSubset,
 }
 
-/// Says what is expected, as the fault lines do.
+/// Writes what was expected in the form that fault lines use.
 impl fmt::Display for Expected {
     fn fmt<W: fmt::Write>(&self, f: &mut fmt::Formatter<W>) -> fmt::Result {
         match self {
@@ -32,19 +31,20 @@ impl fmt::Display for Expected {
     }
 }
 
-/// Why the walk over a template refuses an item, and the descriptor that it refuses.
+/// The reason why the walk over a template rejects an item, with the rejected descriptor.
 #[derive(Clone, Copy, Debug, PartialEq, Eq)]
 pub enum WalkRefusal {
-    /// As [`TurnRefusal::Width`](bufr_walk::TurnRefusal::Width).
+    /// The same as [`TurnRefusal::Width`](bufr_walk::TurnRefusal::Width).
     Width(Fxy),
-    /// As [`TurnRefusal::Defining`](bufr_walk::TurnRefusal::Defining).
+    /// The same as [`TurnRefusal::Defining`](bufr_walk::TurnRefusal::Defining).
     Defining(Fxy),
-    /// Compressed data would have more than 134,217,728 values with this item.
+    /// With this item, compressed data would have more than 134,217,728 values.
     TooManyValues(Fxy),
 }
 
 impl WalkRefusal {
-    /// Its number, that of the fault that a message's data would have: 31, 32 or 35.
+    /// Returns the number of the fault that a message's data would have for this reason: 31, 32 or
+    /// 35.
     pub fn number(self) -> u8
         ensures { result ≡ (refusal_parts self).0 }
     {
@@ -55,7 +55,7 @@ impl WalkRefusal {
         }
     }
 
-    /// The descriptor that is refused.
+    /// Returns the rejected descriptor.
     pub fn fxy(self) -> Fxy
         ensures { result ≡ (refusal_parts self).1 }
     {
@@ -67,39 +67,39 @@ impl WalkRefusal {
     }
 }
 
-/// What is wrong with an item.
+/// The reason why an item cannot be written.
 #[derive(Clone, Copy, Debug, PartialEq, Eq, Error)]
 pub enum ItemFault {
-    /// Expected this item, found another or none.
+    /// This was expected, but there is another item or none.
     #[error("expected {0}")]
     WrongDescriptor(Expected),
-    /// No decimal, or one that is not whole at the field's scale, or a value of another kind than
-    /// the field.
+    /// The value is not a decimal number, is not whole at the field's scale, or is of another kind
+    /// than the field.
     #[error("number")]
     Number,
-    /// The number does not fit the field's bits, or would read as missing; or a text would read as
-    /// missing.
+    /// The number does not fit in the field's bits, or the number or text would be read as missing.
     #[error("out of range")]
     OutOfRange,
-    /// A text has more octets than the field.
+    /// The text has more octets than the field.
     #[error("text long")]
     TextLong,
-    /// A missing value is not allowed for the field.
+    /// The field does not allow a missing value.
     #[error("missing forbidden")]
     MissingForbidden,
     /// A factor of compressed data differs from that of the first subset.
     #[error("unequal factor")]
     UnequalFactor,
-    /// Texts of compressed data differ but no increments can write them, or references differ.
+    /// In compressed data, texts differ and need more octets than an increment can have, or
+    /// redefined references differ.
     #[error("increment")]
     Increment,
-    /// The walk over the template is refused at it.
+    /// The walk over the template rejects this item.
     #[error("walk {number} descriptor {fxy}", number = .0.number(), fxy = .0.fxy())]
     Walk(WalkRefusal),
 }
 
 impl ItemFault {
-    /// The number of this fault in a document: 51 to 55, 58, 59, or 62.
+    /// Returns the number of this fault in a document: 51 to 55, 58, 59 or 62.
     pub fn number(self) -> u8
         ensures { result ≡ (item_report self).0 }
     {
@@ -116,11 +116,11 @@ impl ItemFault {
     }
 }
 
-/// Why items cannot be written.
+/// The reason why items cannot be written.
 #[derive(Clone, Copy, Debug, PartialEq, Eq, Error)]
 pub enum DraftFault {
-    /// What is wrong with an item, and the number of its line. If an item is missing, it is the
-    /// line that ends the subset.
+    /// The line number of an item, and the fault. If an item is missing, the line is the one that
+    /// ends the subset.
     #[error("{1}")]
     Item(u64, ItemFault),
     /// Memory ran out.
@@ -129,8 +129,9 @@ pub enum DraftFault {
 }
 
 impl DraftFault {
-    /// The number of this fault: that of the item's fault, 35 for too many values, and 73 where
-    /// memory ran out.
+    /// Returns the number of this fault. If the walk rejects an item, this is the number of the
+    /// reason: 31, 32 or 35. Otherwise, it is the number of the item's fault, or 73 if memory ran
+    /// out.
     pub fn number(self) -> u8
         ensures { result ≡ number_of_draft_fault self }
     {

@@ -1,4 +1,4 @@
-//! Converts an item of a dump text to the content of its field, and writes that as its bits.
+//! Converts an item of a document to the content of its field, and writes the content as bits.
 ghost use Rattle.std.specs.Prelude.{◌≡◌, ℕ, List, ◌≤◌, ◌<◌, ◌-◌, ◌/◌, ◌^◌, ◌==◌, ◌++◌, false, length, replicate, unsigned_abs, Some, IfOk, ◌+◌, ◌*◌, true, OnOk, OnErr};
 ghost use Rattle.std.specs.List.{list_all};
 ghost use Rattle.bufr_tables.specs.Prelude.{is_character};
@@ -12,20 +12,21 @@ use bufr_tables::Fxy;
 use bufr_walk::{Role, Spec, Taken};
 use std::alloc::AllocError;
 
-/// The content of a field, from an item.
+/// The content of a field, as given by an item.
 #[derive(Clone, Copy)]
 pub(crate) enum FieldContent<'a> {
-    /// A number before its reference is added.
+    /// The number in the field's bits, which does not include the reference value.
     Number(u64),
-    /// The octets of a text, which spaces follow up to its width.
+    /// The octets of a text. Spaces follow them up to the width of the field.
     Text(&'a [u8]),
-    /// All ones.
+    /// A missing value: all bits are ones.
     Missing,
     /// A redefined reference.
     Reference(i64),
 }
 
-/// The limit of the numbers that `width` bits write, without all ones where that is missing.
+/// Returns the limit below which numbers fit in `width` bits. All ones are excluded if they mean
+/// missing.
 pub(crate) fn raw_limit(may_be_missing: bool, width: u32) -> u64
     requires narrow { width ≤ 63 }
     ensures { result ≡ raw_limit may_be_missing width }
@@ -37,7 +38,8 @@ pub(crate) fn raw_limit(may_be_missing: bool, width: u32) -> u64
     }
 }
 
-/// The number in the bits of a value that was read at the field's scale, where it fits them.
+/// Returns the number to write in the field's bits for a value that was read at the field's scale,
+/// or a fault if the value could not be read or the number does not fit.
 #[inline(always)]
 // rule: fault-52, fault-53
 fn raw_of_read(read: Result<i128, NumberFault>, spec: &Spec) -> Result<u64, ItemFault>
@@ -60,7 +62,7 @@ fn raw_of_read(read: Result<i128, NumberFault>, spec: &Spec) -> Result<u64, Item
     }
 }
 
-/// Whether all octets are 255.
+/// Returns whether all octets are 255.
 pub(crate) fn is_all_255(octets: &[u8]) -> bool
     ensures { result ≡ list_all (λ octet. octet == 255) octets.now }
 {
@@ -117,7 +119,7 @@ fn content_by_form<'a>(
                 Err(NumberFault::Large) => return Err(ItemFault::OutOfRange),
                 Err(_) => return Err(ItemFault::Number),
             };
-            // The magnitude has to fit the bits after the sign.
+            // The magnitude must fit in the bits after the sign.
             if value.unsigned_abs() >= 1u128 << (spec.width() - 1) {
                 return Err(ItemFault::OutOfRange);
             }
@@ -126,7 +128,8 @@ fn content_by_form<'a>(
     }
 }
 
-/// Whether an item has the descriptor and the mark of a field.
+/// Returns whether an item has the descriptor of a field, and has the mark `R` if and only if the
+/// field is a redefined reference.
 #[inline(always)]
 // rule: fault-51
 fn is_of(fxy: Fxy, kind: ValueKind, spec: &Spec) -> bool
@@ -139,7 +142,7 @@ fn is_of(fxy: Fxy, kind: ValueKind, spec: &Spec) -> bool
     }
 }
 
-/// The fault of another item than the expected one.
+/// Returns the fault of a line that does not contain the expected item.
 pub(crate) fn wrong_item(spec: &Spec, line: u64) -> DraftFault
     ensures { result ≡ at_line line (wrong_for spec.now) }
 {
@@ -175,7 +178,7 @@ pub(crate) fn field_content<'a>(
     }
 }
 
-/// Octets, followed by spaces.
+/// Returns the octets, padded with spaces to 255 octets.
 #[tactic(auto, using(crate::proofs::FieldLemmas::spaced_whole))]
 pub(crate) fn with_spaces(octets: &[u8]) -> [u8; 255]
     requires { length octets.now ≤ 255 }
@@ -186,7 +189,7 @@ pub(crate) fn with_spaces(octets: &[u8]) -> [u8; 255]
     all
 }
 
-/// Writes `count` octets of ones.
+/// Appends `count` octets in which all bits are ones.
 #[tactic(auto, using(crate::proofs::FieldLemmas::full_bits))]
 pub(crate) fn put_full(out: &mut BitWriter, count: usize)
     requires most { count ≤ 255 }
@@ -199,7 +202,7 @@ pub(crate) fn put_full(out: &mut BitWriter, count: usize)
     out.put_octets(&ones[..count]);
 }
 
-/// Writes the content of a field, in the field's bits.
+/// Appends the content of a field as the field's bits. `out` must have room for them.
 #[inline(always)]
 #[tactic(auto, using(crate::proofs::FieldLemmas::top_below, crate::proofs::FieldLemmas::spaced_prefix, crate::proofs::FieldLemmas::eighths_ones, crate::proofs::FieldLemmas::ones_bits, crate::proofs::FieldLemmas::negative_bits, crate::proofs::FieldLemmas::positive_bits))]
 // rule: writes-plus-zero
@@ -227,7 +230,7 @@ pub(crate) fn put_content(out: &mut BitWriter, content: FieldContent<'_>, spec: 
     }
 }
 
-/// Makes room for the content of a field, and writes it in the field's bits.
+/// Makes room for the content of a field, and appends it as the field's bits.
 #[inline(always)]
 #[tactic(auto, using(crate::proofs::FieldLemmas::top_below))]
 pub(crate) fn push_content(
@@ -252,7 +255,7 @@ pub(crate) fn push_content(
     Ok(())
 }
 
-/// What a field returns to the walk.
+/// Returns the answer of a field: the part of its content that affects the walk.
 #[inline(always)]
 #[tactic(auto, using(crate::proofs::FieldLemmas::answer_count, crate::proofs::FieldLemmas::answer_reference, crate::proofs::FieldLemmas::answer_element, crate::proofs::FieldLemmas::answer_inserted))]
 pub(crate) fn taken_of(content: FieldContent<'_>, spec: &Spec) -> Taken

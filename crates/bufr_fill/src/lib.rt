@@ -1,8 +1,8 @@
-//! The items of a dump text, written as the data of FM 94 BUFR.
+//! Writing the items of a document as the data of an FM 94 BUFR message.
 //!
-//! An encoder passes the items of a document ([`Entries`]) to a writer. [`PlainOut`] writes subset
-//! after subset, and [`PackedOut`] each item once for all subsets. The walk of `bufr_walk` goes
-//! over either; after the walk the encoder takes the octets.
+//! An encoder passes the items of a document ([`Entries`]) to a writer: [`PlainOut`] writes one
+//! subset after another, and [`PackedOut`] writes each item once for all subsets. The walk of
+//! `bufr_walk` works with either writer. After the walk, the encoder takes the octets.
 #![tactic(auto)]
 
 mod draft;

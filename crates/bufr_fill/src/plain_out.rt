@@ -1,4 +1,4 @@
-//! The writer of data that are not compressed, from the items of a dump text.
+//! The writer of plain data, from the items of a document.
 ghost use Rattle.std.specs.Prelude.{◌≡◌, ◌≤◌, ◌+◌, ◌/◌, ◌^◌, ◌++◌, [], length, vec_len};
 ghost use Rattle.bufr_bits.specs.Prelude.{bits_of, padding};
 ghost use Rattle.bufr_fill.specs.Writers.{plain_out_model, line_at, EndsSubset};
@@ -13,10 +13,11 @@ use bufr_walk::{Fields, Spec, Taken};
 use std::alloc::Global;
 use std::marker::Model;
 
-/// Items of a dump text, subset after subset, each written as the field that comes next in a walk.
-/// One walk takes the items of one subset. (WMO-No. 306, Volume I.2, FM 94: section 4)
+/// A writer of plain data. It writes the items of a document, subset after subset, each as the
+/// field that comes next in a walk. One walk takes the items of one subset. (WMO-No. 306, Volume
+/// I.2, FM 94: section 4)
 ///
-/// A contract sees it as the entries that are left and the bits that were written.
+/// Contracts see the entries that are left and the bits that were written.
 ///
 /// ```
 /// let mut out = PlainOut::new(alloc, &entries);
@@ -42,8 +43,8 @@ impl<'s> Model for PlainOut<'s> {
 }
 
 impl<'s> PlainOut<'s> {
-    /// The items of all subsets and the lines that end them, at most 2^45 together. It takes no
-    /// memory.
+    /// Creates a writer for these entries: the items of all subsets and the lines that end them.
+    /// There must be at most 2^45 of them. This does not allocate.
     pub fn new(alloc: Global, entries: &'s Entries) -> PlainOut<'s>
         requires { length entries.now ≤ 2 ^ 45 }
         ensures { result ≡ plain_out_model entries.now [] }
@@ -55,7 +56,8 @@ impl<'s> PlainOut<'s> {
         }
     }
 
-    /// The line of the next item, or the line that ends the subset; 0 after the last subset.
+    /// Returns the number of the line of the next item or, if there is none, of the line that ends
+    /// the subset. After the last subset, the result is 0.
     pub fn line(&self) -> u64
         ensures { result ≡ line_at self.now.left }
     {
@@ -65,11 +67,12 @@ impl<'s> PlainOut<'s> {
         }
     }
 
-    /// Passes the end of a subset.
+    /// Moves past the end of a subset.
     ///
     /// # Errors
     ///
-    /// [`ItemFault::WrongDescriptor`] where the subset has one more item; then nothing is changed.
+    /// [`ItemFault::WrongDescriptor`] if the next entry is not the end of a subset; the writer is
+    /// left unchanged.
     // rule: fault-51
     pub fn end_subset(&mut self) -> Result<(), DraftFault>
         ensures { EndsSubset self.old result self.new }
@@ -85,8 +88,8 @@ impl<'s> PlainOut<'s> {
         Err(DraftFault::Item(line, why))
     }
 
-    /// Returns the octets of the bits that were written, with zero bits to the next octet. It takes
-    /// no memory.
+    /// Returns the bits that were written as octets. The last octet is padded with zero bits. This
+    /// does not allocate.
     // rule: writes-section-4
     pub fn into_octets(self) -> Vec<u8>
         ensures bits { bits_of result.items ≡ self.entry.bits ++ padding (length self.entry.bits) }

@@ -1,4 +1,5 @@
-//! The lines that all subsets of compressed data have alike: they are made once for a message.
+//! The shared lines of compressed data, which are the same in all subsets. They are formatted once
+//! per message.
 ghost use Rattle.std.specs.Prelude.{◌≡◌, ◌≤◌, ◌<◌, ◌*◌, List, [], Ok, true, length, IfOk};
 ghost use Rattle.bufr_tables.specs.Prelude.{Row, places};
 ghost use Rattle.bufr_text.specs.Prelude.{PushesCall, item_lines, PushesAlike, AreStretches, AreGathered};
@@ -10,17 +11,18 @@ use bufr_frame::RunFault;
 use bufr_walk::{PackedItems, Reading, ShowFault, SpecCache, Steps, Visitor};
 use std::alloc::Global;
 
-/// Room for a line. It has at most 2,061 octets: a text of 4 * 255, a name and a unit of 512 each.
+/// Room for a line, which has at most 2,061 octets: a text takes up to 4 * 255, and a name and a
+/// unit up to 512 each.
 const LINE: usize = 2_560;
 
-/// Room for the lines that the subsets of a message have alike.
+/// Room for the shared lines of a message.
 pub(crate) const TEXT: usize = 16_384;
 
-/// The most stretches of a message but for the last.
+/// The maximum number of stretches in a message before the last one.
 const MAX_STRETCHES: usize = 1_024;
 
-/// A part of each subset: lines that all have alike, up to an end in their text, and after them the
-/// items from one index to before another.
+/// A part of each subset: shared lines, which end at index `end` of the shared text, followed by
+/// the items whose indices are at least `from` and below `to`.
 #[derive(Clone, Copy)]
 pub(crate) struct Stretch {
     end: usize,
@@ -28,7 +30,8 @@ pub(crate) struct Stretch {
     to: usize,
 }
 
-/// Whether more than an eighth of the items are alike: for fewer it is not worth it.
+/// Returns whether more than an eighth of the items are the same in all subsets. If there are
+/// fewer, it is not worthwhile to gather their lines.
 fn are_enough_alike(items: &PackedItems<'_, '_>) -> bool {
     let mut alike: usize = 0;
     'items: for index in 0..items.len() {
@@ -39,8 +42,8 @@ fn are_enough_alike(items: &PackedItems<'_, '_>) -> bool {
     alike > items.len() / 8
 }
 
-/// Pushes the lines of the items from an index on that are alike, while fewer octets are held than
-/// have room. Returns the index after them.
+/// Pushes the lines of the items from index `from` on, as long as these are the same in all subsets
+/// and fewer than `room` octets are buffered. Returns the index after these items.
 fn push_alike(
     items: &PackedItems<'_, '_>,
     from: usize,
@@ -60,7 +63,7 @@ fn push_alike(
     Ok(to)
 }
 
-/// The index after an item and those after it that are not alike.
+/// Returns the index after an item and those directly after it that may differ between subsets.
 fn skip_different(items: &PackedItems<'_, '_>, from: usize) -> usize
     requires { from < length items.now.items }
     ensures more { from < result }
@@ -74,7 +77,7 @@ fn skip_different(items: &PackedItems<'_, '_>, from: usize) -> usize
     to
 }
 
-/// Pushes the lines of some items, of a subset, that were made before.
+/// Pushes lines of a subset's items that were formatted before.
 #[inline(always)]
 fn push_made<W: Sink>(
     text: &[u8],
@@ -96,8 +99,8 @@ fn push_made<W: Sink>(
     }
 }
 
-/// The lines that all subsets of a message have alike, at most 16,384 octets, and at most 1,025
-/// stretches. There are none where nothing was gathered.
+/// The shared lines of a message, at most 16,384 octets, and at most 1,025 stretches. If nothing
+/// was gathered, there are no stretches.
 #[derive(Drop)]
 pub(crate) struct AlikeLines {
     text: Vec<u8>,
@@ -105,7 +108,7 @@ pub(crate) struct AlikeLines {
 }
 
 impl AlikeLines {
-    /// No lines. It takes no memory.
+    /// Creates an empty collection. It does not allocate.
     pub(crate) fn new(alloc: Global) -> AlikeLines {
         AlikeLines {
             text: Vec::new(alloc),
@@ -113,8 +116,9 @@ impl AlikeLines {
         }
     }
 
-    /// Gathers the lines of a message in place of those before. They are made in a block. Where few
-    /// items are alike there is one stretch of all, and none where memory runs out.
+    /// Replaces the lines by those of another message, which are formatted in `block`. If few items
+    /// are the same in all subsets, there is a single stretch with all items. If memory runs out,
+    /// there are no stretches.
     #[inline(never)]
     pub(crate) fn gather(&mut self, reading: &Reading<'_>, block: &mut [u8])
         ensures gathered { AreGathered reading.now self.new.text.items self.new.stretches.items }
@@ -136,7 +140,7 @@ impl AlikeLines {
         }
     }
 
-    /// Gathers the lines of some items, unless memory runs out.
+    /// Gathers the shared lines of some items. Returns `false` if memory ran out.
     fn gather_items(&mut self, items: &PackedItems<'_, '_>, room: usize, block: &mut [u8]) -> bool
         requires some { 0 < items.now.subsets }
         requires text { self.old.text.items ≡ [] }
@@ -172,7 +176,7 @@ impl AlikeLines {
         text.len() <= TEXT && self.text.extend_from_slice(text).is_ok()
     }
 
-    /// Shows one subset, counted from 0, to a writer of lines.
+    /// Pushes the lines of one subset, counted from 0.
     #[inline(always)]
     fn show_subset<W: Sink>(
         &self,
@@ -198,7 +202,7 @@ impl AlikeLines {
         Ok(())
     }
 
-    /// Shows each subset to a writer of lines.
+    /// Pushes the lines of each subset.
     #[inline(always)]
     fn show_all<W: Sink>(
         &self,
@@ -217,8 +221,8 @@ impl AlikeLines {
         Ok(())
     }
 
-    /// Shows a reading to a writer of lines, as [`Reading::show_by`] does, with the lines that were
-    /// gathered of it.
+    /// Pushes the lines of a reading, as [`Reading::show_by`] does with `lines` as its visitor.
+    /// Uses the shared lines that were gathered for this reading.
     pub(crate) fn show<W: Sink>(
         &self,
         reading: &Reading<'_>,

@@ -1,4 +1,4 @@
-//! A message as its text gives it, and how its lines build it.
+//! Documents, and how they are built line by line.
 ghost use Rattle.std.specs.Prelude.{◌==◌, ◌≡◌, ◌+◌, ◌<◌, ◌≤◌, length, IsTrue, slice_index, option_map, true, IfOk, OnErr, ◌^◌, false};
 ghost use Rattle.bufr_fill.specs.Prelude.{subsets_of};
 ghost use Rattle.bufr_frame.specs.Prelude.{is_writable};
@@ -15,15 +15,15 @@ use memchr::memchr;
 use std::alloc::{AllocError, Global};
 use std::marker::Model;
 
-/// How many keys the header has.
+/// The number of keys in the header.
 const KEYS: usize = 20;
 
-/// The parts of a document, as far as they were read.
+/// The parts of a document that have been read so far.
 #[derive(Drop)]
 pub(crate) struct DocumentParts {
     line: u64,
     header: [u16; KEYS],
-    /// How many values of the header were read.
+    /// The number of header values that have been read.
     known: usize,
     local1: Vec<u8>,
     section2: Vec<u8>,
@@ -45,7 +45,7 @@ impl Model for DocumentParts {
 }
 
 impl DocumentParts {
-    /// A document of which its first line was read.
+    /// Creates a document of which only the line `message`, with this number, has been read.
     pub(crate) fn blank(alloc: Global, line: u64) -> DocumentParts
         ensures { result ≡ blank line }
     {
@@ -60,7 +60,7 @@ impl DocumentParts {
         }
     }
 
-    /// Forgets the document, and keeps its memory.
+    /// Clears the document, but keeps its memory allocated.
     pub(crate) fn clear(&mut self)
         ensures { self.new ≡ blank 0 }
     {
@@ -72,7 +72,7 @@ impl DocumentParts {
         self.entries.clear();
     }
 
-    /// The value of a key of the header, or 0 where it was not read yet.
+    /// Returns the value of a header key, or 0 if it has not been read yet.
     pub(crate) fn value(&self, key: usize) -> u16
         requires { key < 20 }
         ensures { result ≡ slice_index self.now.header key }
@@ -85,11 +85,12 @@ impl DocumentParts {
     }
 }
 
-/// A message as its text gives it: the header, the octets of local use, the descriptors, and the
-/// items of its subsets, one after another. No item is looked at yet: whether the descriptors can
-/// have such items, and whether a number fits, is found when the message is written.
+/// The parsed dump of one message: the header, the octets for local use, the descriptors, and the
+/// items of its subsets, one after another. The items have not been checked yet. Whether they match
+/// the descriptors, and whether their numbers fit, is checked when the message is encoded.
 ///
-/// It is made by [`crate::DumpReader`] alone. A clause sees it as what its lines say.
+/// Only a [`crate::DumpReader`] creates documents. Contracts see what the lines of the document
+/// say.
 #[derive(Drop)]
 pub struct Document {
     pub(crate) parts: DocumentParts,
@@ -107,14 +108,14 @@ impl Model for Document {
 }
 
 impl Document {
-    /// The number of the line of `message`, from 1.
+    /// Returns the number of the line `message`, from 1.
     pub fn line(&self) -> u64
         ensures { result ≡ self.now.line }
     {
         self.parts.line
     }
 
-    /// The value of a key that has one octet; none has more in edition 3.
+    /// Returns the value of a key whose values have one octet in both editions.
     #[tactic(auto, using(crate::proofs::HeaderLemmas::octet_steps))]
     fn octet(&self, key: usize) -> u8
         requires key { key < 20 }
@@ -124,7 +125,8 @@ impl Document {
         self.parts.value(key) as u8
     }
 
-    /// The edition, which is 3 or 4, and what section 1 says; it can be written.
+    /// Returns the edition, which is 3 or 4, and the values of section 1. These values can always
+    /// be written.
     #[tactic(auto, unfolding(crate::specs::Line::mosts))]
     pub fn head(&self) -> Head
         ensures value { result ≡ (header_in self.now).head }
@@ -150,35 +152,35 @@ impl Document {
         }
     }
 
-    /// Whether the data are observed (octet 7 of section 3, bit 1).
+    /// Returns whether the data are observed (octet 7 of section 3, bit 1).
     pub fn observed(&self) -> bool
         ensures { result ≡ (header_in self.now).observed }
     {
         self.parts.value(16) == 1
     }
 
-    /// Whether the data are compressed (octet 7 of section 3, bit 2).
+    /// Returns whether the data are compressed (octet 7 of section 3, bit 2).
     pub fn compressed(&self) -> bool
         ensures { result ≡ (header_in self.now).compressed }
     {
         self.parts.value(17) == 1
     }
 
-    /// How many subsets there are.
+    /// Returns the number of subsets.
     pub fn subsets(&self) -> u16
         ensures { result ≡ (header_in self.now).subsets }
     {
         self.parts.value(19)
     }
 
-    /// The octets for local use at the end of section 1.
+    /// Returns the octets for local use at the end of section 1.
     pub fn local1(&self) -> &[u8]
         ensures { result.now ≡ self.now.local1 }
     {
         &self.parts.local1
     }
 
-    /// The octets of section 2 from octet 5 on, where there is a section 2.
+    /// Returns the octets of section 2 from octet 5 on, or `None` if there is no section 2.
     pub fn section2(&self) -> Option<&[u8]>
         ensures { option_map (λ octets. octets.now) result ≡ section2_in self.now }
     {
@@ -189,14 +191,14 @@ impl Document {
         }
     }
 
-    /// The descriptors of section 3, each as its 16 bits.
+    /// Returns the descriptors of section 3, each as its 16 bits.
     pub fn descriptors(&self) -> &[u16]
         ensures { result.now ≡ self.now.descriptors }
     {
         &self.parts.descriptors
     }
 
-    /// How many entries there are: the items of all subsets, and the end of each.
+    /// Returns the number of entries: the items of all subsets, and the end of each subset.
     pub fn entries(&self) -> usize
         ensures value { result ≡ length self.now.entries }
         ensures few { result ≤ most_entries }
@@ -204,7 +206,7 @@ impl Document {
         self.parts.entries.len()
     }
 
-    /// The items of all subsets and the lines that end them.
+    /// Returns the items of all subsets and the lines that end them.
     pub(crate) fn items(&self) -> &Entries
         ensures same { result.now ≡ self.now.entries }
         ensures few { length result.now ≤ most_entries }
@@ -222,7 +224,7 @@ pub(crate) enum LineGroup {
     Descriptors,
 }
 
-/// Where the reader of a text is.
+/// The state of the reader of a text.
 #[derive(Clone, Copy)]
 pub(crate) enum ParserState {
     /// Between documents.
@@ -237,7 +239,7 @@ pub(crate) enum ParserState {
     Stopped,
 }
 
-/// What a line does.
+/// The effect of a line.
 #[derive(Clone, Copy)]
 pub(crate) enum LineEffect {
     /// Reading continues in this state.
@@ -248,7 +250,7 @@ pub(crate) enum LineEffect {
     Refuses(TextLineFault),
 }
 
-/// `subset` and its number, where so many subsets were read.
+/// Returns the effect of a line `subset` with this number, after `read` subsets.
 // rule: reading-subsets, fault-57
 fn beginning(parts: &DocumentParts, read: u32, subset: u32) -> LineEffect
     requires { read < 65536 }
@@ -261,7 +263,7 @@ fn beginning(parts: &DocumentParts, read: u32, subset: u32) -> LineEffect
     }
 }
 
-/// `end`
+/// Returns the effect of a line `end` after `read` subsets.
 // rule: reading-subsets, fault-57
 fn closing(parts: &DocumentParts, read: u32) -> LineEffect
     ensures { result ≡ closing read parts.now }
@@ -273,7 +275,7 @@ fn closing(parts: &DocumentParts, read: u32) -> LineEffect
     }
 }
 
-/// A line in a state, for the document that is being read.
+/// Adds a line to the document that is being read, and returns its effect in the given state.
 #[tactic(auto, unfolding(crate::specs::Documents::line_step))]
 // rule: fault-50, fault-61, fault-order-of-a-line, reading-header-order, reading-section2
 // rule: reading-subset-end, reading-between-documents
@@ -292,7 +294,7 @@ pub(crate) fn line_step(
         return Ok(LineEffect::Continues(state));
     }
     let effect = match state {
-        // After a refused line none is taken.
+        // The state is never `Stopped`: no line is taken after an invalid one.
         ParserState::Between | ParserState::Stopped => match said {
             ParsedLine::Opens => {
                 parts.line = at;
@@ -305,7 +307,7 @@ pub(crate) fn line_step(
                 if key != parts.known {
                     return Ok(LineEffect::Refuses(TextLineFault::NotAllowed));
                 }
-                // The edition is the first value; its own range goes by none.
+                // The edition is the first value, and its own range does not depend on an edition.
                 if !in_range(parts.value(0), key, value) {
                     return Ok(LineEffect::Refuses(TextLineFault::HeaderRange));
                 }
@@ -357,7 +359,7 @@ pub(crate) fn line_step(
     Ok(effect)
 }
 
-/// How far the reading has come: where it is, and the document that is being read.
+/// The progress of a reader: its state, and the document that is being read.
 #[derive(Drop)]
 pub(crate) struct Progress {
     pub(crate) state: ParserState,
@@ -366,7 +368,8 @@ pub(crate) struct Progress {
     pub(crate) parts: DocumentParts,
 }
 
-/// A line that is whole, mostly an item with a short decimal, or one whose value is missing.
+/// Takes a whole line. Items with a short decimal or a missing value are the most frequent lines,
+/// so these are tried first.
 #[inline(always)]
 // rule: reading-longest-line
 fn take_line(
@@ -406,8 +409,8 @@ fn take_line(
     line_step(progress.state, &mut progress.parts, progress.at, said)
 }
 
-/// Takes held lines, up to the first that ends a document or is refused: how many octets they took,
-/// and what the last one does.
+/// Takes whole lines from `held`, up to the first that completes a document or is invalid. Returns
+/// the number of octets in these lines, and the effect of the last one.
 // rule: reading-line-numbers
 pub(crate) fn take_lines(
     progress: &mut Progress,

@@ -1,4 +1,4 @@
-//! The text that dumps a message: the lines before its subsets, and a line for each item.
+//! The dump of a message: the lines before its subsets, and a line for each item.
 ghost use Rattle.std.specs.Prelude.{◌≡◌, ◌++◌, [], ◌∷◌, drop, map, take, unwrap_or, ◌≤◌, ◌*◌, vec_len, OnOk};
 ghost use Rattle.bufr_frame.specs.Prelude.{words_left};
 ghost use Rattle.bufr_text.specs.Prelude.{descriptors_line, head_lines, text_of_lines, dump_value_of, form_text, item_text, dump_text_of, dump_items, descriptors_text, hex_text, runs_of, Pushes, CountsFaults, MakesSteps, WritesPrefix, PushesCall, AreGathered};
@@ -14,13 +14,14 @@ use bufr_tables::{Entry, Fxy, TableB};
 use bufr_walk::{ItemView, Reading, ShowFault, SpecCache, Steps, Value, Visitor};
 use std::alloc::{AllocError, Global};
 
-/// How many octets a line holds at most.
+/// The maximum number of octets of local use or of section 2 in a line.
 const OCTETS: usize = 32;
 
-/// How many descriptors a line holds at most.
+/// The maximum number of descriptors in a line.
 const DESCRIPTORS: usize = 8;
 
-/// Pushes lines of a word and octets, 32 on each line but the last.
+/// Pushes lines that contain a word and octets in hexadecimal. Each line has 32 octets, except that
+/// the last may have fewer.
 #[inline(always)]
 // rule: text-local1
 fn push_octet_lines<W: Sink>(lines: &mut LineWriter<'_, '_, W>, word: &[u8], octets: &[u8])
@@ -38,7 +39,8 @@ fn push_octet_lines<W: Sink>(lines: &mut LineWriter<'_, '_, W>, word: &[u8], oct
     }
 }
 
-/// Pushes the descriptors of a line, at most eight of those that are left, a space before each.
+/// Pushes the descriptors of a line: the next eight, or as many as are left, with a space before
+/// each.
 fn push_descriptors<W: Sink>(lines: &mut LineWriter<'_, '_, W>, words: &mut Words<'_>)
     ensures pushes { Pushes lines.old (descriptors_text (take 8 (words_left words.old))) lines.new }
     ensures words { words_left words.new ≡ drop 8 (words_left words.old) }
@@ -52,7 +54,7 @@ fn push_descriptors<W: Sink>(lines: &mut LineWriter<'_, '_, W>, words: &mut Word
     }
 }
 
-/// Pushes the lines of the descriptors, eight on each line but the last.
+/// Pushes the lines of the descriptors. Each line has eight, except that the last may have fewer.
 // rule: text-descriptors
 fn push_descriptor_lines<W: Sink>(lines: &mut LineWriter<'_, '_, W>, message: &Message<'_>)
     ensures { Pushes lines.old
@@ -101,7 +103,7 @@ pub(crate) fn push_head_lines<W: Sink>(lines: &mut LineWriter<'_, '_, W>, messag
     push_descriptor_lines(lines, message);
 }
 
-/// Pushes a descriptor and a space. An entry of this descriptor has them ready.
+/// Pushes a descriptor and a space. An entry with this descriptor already contains this text.
 #[inline(always)]
 fn push_descriptor<W: Sink>(lines: &mut LineWriter<'_, '_, W>, fxy: Fxy, entry: Option<Entry<'_>>)
     ensures { Pushes lines.old (fxy_text fxy ++ 32 ∷ []) lines.new }
@@ -115,7 +117,8 @@ fn push_descriptor<W: Sink>(lines: &mut LineWriter<'_, '_, W>, fxy: Fxy, entry: 
     }
 }
 
-/// Pushes an item but for its comment: `R ` before a redefined reference, descriptor and value.
+/// Pushes an item without its comment: `R ` if it is a redefined reference, the descriptor, and the
+/// value.
 #[inline(always)]
 // rule: text-missing, text-number, text-reference
 fn push_any_form<W: Sink>(
@@ -169,8 +172,8 @@ fn push_any_item<W: Sink>(
     }
 }
 
-/// What dumps by one table keep from message to message: the specs that are cached, and memory in
-/// which lines are gathered.
+/// State that is reused between messages dumped with the same table: cached specs, and a block in
+/// which lines are collected.
 ///
 /// ```
 /// let mut memory = DumpMemory::new(alloc, &table_b);
@@ -178,18 +181,18 @@ fn push_any_item<W: Sink>(
 /// ```
 #[derive(Drop)]
 pub struct DumpMemory<'t> {
-    /// Where it takes memory.
+    /// The allocator.
     pub alloc: Global,
-    /// The specs of the cells of a template.
+    /// The cached specs of a template's cells.
     pub specs: SpecCache<'t>,
-    /// Empty until the first dump.
+    /// The block in which lines are collected. It is empty until the first dump.
     block: Vec<u8>,
-    /// The lines that the subsets of the last message had alike.
+    /// The lines shared by all subsets of the last message.
     alike: AlikeLines,
 }
 
 impl<'t> DumpMemory<'t> {
-    /// What dumps by `table` keep, empty at first. It takes no memory.
+    /// Creates the state for dumps with `table`. It is empty and does not allocate.
     pub fn new(alloc: Global, table: &'t TableB) -> DumpMemory<'t>
         ensures { result.specs ≡ table.now }
     {
@@ -201,7 +204,7 @@ impl<'t> DumpMemory<'t> {
         }
     }
 
-    /// Makes room for lines.
+    /// Makes room for lines in the block.
     fn make_room(&mut self) -> Result<(), AllocError>
         ensures same { self.new.specs ≡ self.old.specs }
         ensures block { OnOk result (vec_len self.new.block ≡ 81920) }
@@ -209,7 +212,7 @@ impl<'t> DumpMemory<'t> {
         self.block.resize(PAGE + TEXT, 0)
     }
 
-    /// Makes room for lines, and gathers those that the subsets of a reading have alike.
+    /// Makes room for lines in the block, and gathers the shared lines of a reading.
     fn prepare(&mut self, reading: &Reading<'_>) -> Result<(), AllocError>
         ensures same { self.new.specs ≡ self.old.specs }
         ensures gathered { OnOk result (AreGathered reading.now self.new.alike.text.items
@@ -239,7 +242,7 @@ impl<'b, 'w, W: Sink> Visitor for LineWriter<'b, 'w, W> {
     // rule: one-write-a-line
     fn item(&mut self, item: &ItemView<'_>) -> Result<(), RunFault> {
         let (fxy, entry, value) = (item.fxy, item.entry, item.value);
-        // Most are numbers of 64 bits, and were read by an entry.
+        // Most items are numbers that fit in 64 bits and were read by an entry.
         if let Value::Number(number, scale) = value
             && let Some(entry) = entry
             && entry.fxy() == fxy
@@ -259,11 +262,13 @@ impl<'b, 'w, W: Sink> Visitor for LineWriter<'b, 'w, W> {
     }
 }
 
-/// Writes the dump text of a message: header, local octets, section 2, descriptors, the subsets
-/// with a line for each item, and `end`. An item that was read by an entry of Table B has the
-/// entry's name and unit as a comment. Lines are gathered. A write ends at the end of a line, after
-/// at least 65,536 octets or at the end of the text. The steps are set to the turns that the
-/// reading is walked for, as [`Reading::show`] counts them.
+/// Writes the dump of a message: the header, the octets for local use, section 2, the descriptors,
+/// the subsets with a line for each item, and `end`. An item that was read by an entry of Table B
+/// has the entry's name and unit as a comment.
+///
+/// Lines are collected in a block. Each write ends at the end of a line, once at least 65,536
+/// octets have been collected or at the end of the dump. Sets `steps` to the number of turns that
+/// the walk over the reading made, as [`Reading::show`] does.
 ///
 /// ```
 /// let reading = read_message(alloc, &message, &template, &table, &mut steps)?;
@@ -272,8 +277,8 @@ impl<'b, 'w, W: Sink> Visitor for LineWriter<'b, 'w, W> {
 ///
 /// # Errors
 ///
-/// [`RunFault::Write`] where the writer fails or takes nothing, and [`RunFault::Memory`] where
-/// memory ran out; a prefix of the text was taken.
+/// [`RunFault::Write`] if the writer fails or takes nothing, and [`RunFault::Memory`] if memory
+/// runs out. In both cases, the writer has taken a prefix of the dump.
 pub fn write_dump<W: Sink>(
     alloc: Global,
     message: &Message<'_>,
@@ -282,11 +287,12 @@ pub fn write_dump<W: Sink>(
     w: &mut W,
 ) -> Result<(), RunFault>
     requires { reading.now.source ≡ data_of message.now }
-    // At `Ok` the writer took the dump text of the reading's items, at a fault a prefix of it.
+    // If the result is `Ok`, the writer took the whole dump, and otherwise a prefix of it.
     ensures writes { WritesPrefix (W.taken w.old) (W.taken w.new) (dump_text_of message.now
         (dump_items reading.now.table reading.now.source.subsets (values_read reading.now)))
         result }
-    // At `Ok` the steps are all turns of the reading, at a fault those before a call or all.
+    // If the result is `Ok`, the steps are all turns of the reading. Otherwise, they are the turns
+    // before a call of the visitor, or all turns.
     ensures steps { MakesSteps (calls_of reading.now) (turns_shown reading.now) result steps.new }
     ensures counts { CountsFaults (W.failures w.old) (W.failures w.new) (W.empty_writes w.old)
         (W.empty_writes w.new) result }
@@ -297,12 +303,12 @@ pub fn write_dump<W: Sink>(
     write_dump_by(&mut memory, message, reading, steps, w)
 }
 
-/// Writes the dump text of a message as [`write_dump`] does, by what is kept from message to
-/// message.
+/// Writes the dump of a message as [`write_dump`] does, but reuses state from earlier messages. The
+/// state must be for the table of the reading.
 ///
 /// # Errors
 ///
-/// [`RunFault::Write`] and [`RunFault::Memory`], as [`write_dump`].
+/// The same as those of [`write_dump`].
 // rule: text-lines-in-order
 pub fn write_dump_by<W: Sink>(
     memory: &mut DumpMemory<'_>,
@@ -314,11 +320,12 @@ pub fn write_dump_by<W: Sink>(
     requires reads { reading.now.source ≡ data_of message.now }
     requires cached { memory.old.specs ≡ reading.now.table }
     ensures same { memory.new.specs ≡ memory.old.specs }
-    // At `Ok` the writer took the dump text of the reading's items, at a fault a prefix of it.
+    // If the result is `Ok`, the writer took the whole dump, and otherwise a prefix of it.
     ensures writes { WritesPrefix (W.taken w.old) (W.taken w.new) (dump_text_of message.now
         (dump_items reading.now.table reading.now.source.subsets (values_read reading.now)))
         result }
-    // At `Ok` the steps are all turns of the reading, at a fault those before a call or all.
+    // If the result is `Ok`, the steps are all turns of the reading. Otherwise, they are the turns
+    // before a call of the visitor, or all turns.
     ensures steps { MakesSteps (calls_of reading.now) (turns_shown reading.now) result steps.new }
     ensures counts { CountsFaults (W.failures w.old) (W.failures w.new) (W.empty_writes w.old)
         (W.empty_writes w.new) result }

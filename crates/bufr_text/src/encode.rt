@@ -1,4 +1,4 @@
-//! The message of a document, in a form.
+//! Encoding a document as a message, in a form.
 ghost use Rattle.std.specs.Prelude.{ℕ, ◌≡◌, ◌≢◌, ◌≤◌, ◌*◌, ◌+◌, ◌^◌, List, Bool, length, IfOk, IfErr, OnOk, OnErr, Ok, false, true};
 ghost use Rattle.bufr_tables.specs.Prelude.{Tree, places, Record, AreRows, tree_of, tables_of};
 ghost use Rattle.bufr_frame.specs.Prelude.{Sections};
@@ -14,7 +14,7 @@ use bufr_tables::{Fxy, TableB, TableD, Template, TemplateFault};
 use bufr_walk::{SpecCache, Steps, TemplateCache, WalkStop, walk_by};
 use std::alloc::{AllocError, Global};
 
-/// The fault of a walk that stopped, where the next entry is on a line.
+/// Returns the fault of a walk that stopped. `line` is the line of the next entry.
 // rule: fault-62
 fn of_stop(stop: WalkStop<DraftFault>, line: u64) -> DraftFault
     ensures { result ≡ stop_fault line stop }
@@ -28,7 +28,7 @@ fn of_stop(stop: WalkStop<DraftFault>, line: u64) -> DraftFault
     DraftFault::Item(line, ItemFault::Walk(refusal))
 }
 
-/// The descriptors of a document.
+/// Returns the descriptors of a document.
 fn descriptors_of(alloc: Global, words: &[u16]) -> Result<Vec<Fxy>, AllocError>
     ensures { IfOk result (λ descriptors. descriptors.items ≡ words.now) }
 {
@@ -39,7 +39,7 @@ fn descriptors_of(alloc: Global, words: &[u16]) -> Result<Vec<Fxy>, AllocError>
     Ok(descriptors)
 }
 
-/// The octets of data that are not compressed, of so many subsets.
+/// Writes entries as plain data with this number of subsets, and returns the octets.
 fn write_plain(
     template: &Template,
     entries: &Entries,
@@ -64,7 +64,7 @@ fn write_plain(
     Ok(out.into_octets())
 }
 
-/// The octets of compressed data.
+/// Writes entries as compressed data, and returns the octets.
 fn write_packed(
     template: &Template,
     entries: &Entries,
@@ -91,7 +91,8 @@ fn write_packed(
     }
 }
 
-/// The octets of a document's data in a form, by the template that was selected for it.
+/// Writes the data of a document in a form, using the template that was selected for it, and
+/// returns the octets.
 // rule: form-option, fault-56
 fn write_data(
     document: &Document,
@@ -119,7 +120,7 @@ fn write_data(
     }
 }
 
-/// The message of a document with these data, which are in a form.
+/// Returns the message of a document, with `payload` as its data in this form.
 // rule: writes-local-use, fault-60
 fn write_whole(
     alloc: Global,
@@ -154,8 +155,9 @@ fn write_whole(
     }
 }
 
-/// The octets of a document's message in a form, by the tables of `templates`, which keeps the last
-/// templates: [`encode_form`], for documents that repeat their descriptors.
+/// Encodes a document as a message in a form, using the tables of `templates`. It does the same as
+/// [`encode_form`], for documents that repeat their descriptors: `templates` caches the most recent
+/// templates.
 ///
 /// ```
 /// let mut templates = TemplateCache::new(alloc, &table_b, &table_d);
@@ -166,7 +168,7 @@ fn write_whole(
 ///
 /// # Errors
 ///
-/// Those of [`encode_form`].
+/// The same as those of [`encode_form`].
 // rule: fault-56-first-60-last
 pub fn encode_by(
     alloc: Global,
@@ -180,10 +182,10 @@ pub fn encode_by(
     ensures octets { IfOk result (λ octets.
         encoding_in form templates.old.table_b templates.old.table_d document.now
         ≡ Ok octets.items) }
-    // Want of memory is the only freedom.
+    // The fault is the one that the definition specifies, or memory ran out.
     ensures fault { IfErr result (λ why. IsDocumentRefusal why
         (encoding_in form templates.old.table_b templates.old.table_d document.now)) }
-    // It has one name, `Memory`.
+    // If memory runs out, the fault is always `Memory`.
     ensures memory { IfErr result
         (λ why. (line : ℕ) → why ≢ DocumentFault.Template line TemplateFault.Memory) }
     ensures made { OnOk result (steps.new
@@ -206,20 +208,25 @@ pub fn encode_by(
     write_whole(alloc, document, form, &payload?)
 }
 
-/// The octets of a document's message in a form, by the tables: its template first, then its items
-/// in the order of the template, then the length (WMO-No. 306, Volume I.2, FM 94: sections 0 to 5).
-/// The form says whether the data are compressed, in the flag and in the data, whatever the
-/// document says. So the document of a message gives the same message in the other form, where this
-/// can hold it.
+/// Encodes a document as a message in a form, using these tables. (WMO-No. 306, Volume I.2, FM 94:
+/// sections 0 to 5)
 ///
-/// It sets the steps to those that are made for it, up to the greatest `u64`. There is one for each
-/// turn of the template, subset after subset, or once for all subsets where the data are
-/// compressed. A turn is a descriptor taken (a replication, a factor, an element, an operator), the
-/// end of a pass, or the end of the template. Where an item, or the walk at it, is refused, its
-/// turn is the last. An item too many is refused after the end of the template. Without a subset,
-/// and where the descriptors make no template, there is no step. At want of memory perhaps not all
-/// of these are made. The steps are at most as many as the template has places for each bit of the
-/// data. Where the document is refused, one bit more counts.
+/// The template is built first. Then the items are written in the order of the template, and
+/// finally the length is checked. The form determines whether the data are compressed and how the
+/// flag of compression is set, whatever the document says. So the document of a message can also be
+/// encoded in the other form, if that form can hold it.
+///
+/// Sets `steps` to the number of steps that were made, up to the greatest `u64`. Each turn of the
+/// template is one step: a descriptor that is taken (a replication, a factor, an element or an
+/// operator), the end of a pass, or the end of the template. The turns are made for each subset or,
+/// if the data are compressed, once for all subsets. If an item or the walk is rejected, the turn
+/// at which this happens is the last one. An item that is left over is rejected after the end of
+/// the template. If there are no subsets, or if the descriptors cannot be expanded to a template,
+/// there are no steps. If memory runs out, some of these steps may be missing.
+///
+/// If the template has `p` places and the data have `n` bits, at most `p * n` steps are made. If
+/// the document is rejected, at most `p * (n + 1)` steps are made, where `n` is the number of data
+/// bits before the fault.
 ///
 /// ```
 /// let document = reader.next_document(&mut r)?.ok_or("a document")?;
@@ -229,12 +236,16 @@ pub fn encode_by(
 ///
 /// # Errors
 ///
-/// The first that is met: [`DocumentFault::Template`]; [`DocumentFault::Item`] with
-/// [`ItemFault::Walk`], [`ItemFault::WrongDescriptor`], [`ItemFault::Number`],
-/// [`ItemFault::MissingForbidden`], [`ItemFault::TextLong`], [`ItemFault::OutOfRange`], in
-/// compressed data for each subset in turn, then [`ItemFault::UnequalFactor`] and
-/// [`ItemFault::Increment`]; [`DocumentFault::TooLong`]; and [`DocumentFault::Memory`], and no
-/// other, where memory runs out.
+/// The first of these faults:
+/// - [`DocumentFault::Template`] if the descriptors cannot be expanded to a template;
+/// - [`DocumentFault::Item`] for the first item that cannot be written. If it has several faults,
+///   the first of these is returned: [`ItemFault::Walk`]; then [`ItemFault::WrongDescriptor`],
+///   [`ItemFault::Number`], [`ItemFault::MissingForbidden`], [`ItemFault::TextLong`] and
+///   [`ItemFault::OutOfRange`], in compressed data for each subset in turn; then
+///   [`ItemFault::UnequalFactor`] and [`ItemFault::Increment`];
+/// - [`DocumentFault::TooLong`] if the message would have more than 16,777,215 octets.
+///
+/// [`DocumentFault::Memory`], and no other fault, if memory runs out.
 pub fn encode_form(
     alloc: Global,
     document: &Document,
@@ -245,10 +256,10 @@ pub fn encode_form(
 ) -> Result<Vec<u8>, DocumentFault>
     ensures octets { IfOk result
         (λ octets. encoding_in form table_b.now table_d.now document.now ≡ Ok octets.items) }
-    // Want of memory is the only freedom.
+    // The fault is the one that the definition specifies, or memory ran out.
     ensures fault { IfErr result (λ why. IsDocumentRefusal why
         (encoding_in form table_b.now table_d.now document.now)) }
-    // It has one name, `Memory`.
+    // If memory runs out, the fault is always `Memory`.
     ensures memory { IfErr result
         (λ why. (line : ℕ) → why ≢ DocumentFault.Template line TemplateFault.Memory) }
     ensures made { OnOk result
@@ -259,8 +270,8 @@ pub fn encode_form(
         * bits_by form table_b.now table_d.now document.now) }
     ensures refused { OnErr result (steps.new ≤ places_by table_b.now table_d.now document.now
         * (bits_by form table_b.now table_d.now document.now + 1)) }
-    // The document of an accepted message keeps its reading in each form, but for the flag; it is
-    // refused for the form alone.
+    // The document of an accepted message is encoded with the same reading in each form, except for
+    // the flag of compression. If memory does not run out, it is rejected only because of the form.
     ensures again { (records : List Record) (m : List ℕ) (s : Sections) (template : Tree)
         (values : Values) (used at : ℕ)
         → AreRows records table_b.now → IsAccepted table_b.now table_d.now m s template values used
@@ -271,8 +282,8 @@ pub fn encode_form(
     encode_by(alloc, document, form, &mut templates, steps)
 }
 
-/// The octets of a document's message, in the form that the document says: [`encode_form`] with
-/// [`Form::AsWritten`].
+/// Encodes a document as a message in the form that the document specifies. This is [`encode_form`]
+/// with [`Form::AsWritten`].
 ///
 /// ```
 /// let document = reader.next_document(&mut r)?.ok_or("a document")?;
@@ -282,7 +293,7 @@ pub fn encode_form(
 ///
 /// # Errors
 ///
-/// Those of [`encode_form`].
+/// The same as those of [`encode_form`].
 pub fn encode_document(
     alloc: Global,
     document: &Document,
@@ -292,10 +303,10 @@ pub fn encode_document(
 ) -> Result<Vec<u8>, DocumentFault>
     ensures octets { IfOk result
         (λ octets. encoding_of table_b.now table_d.now document.now ≡ Ok octets.items) }
-    // Want of memory is the only freedom.
+    // The fault is the one that the definition specifies, or memory ran out.
     ensures fault { IfErr result (λ why. IsDocumentRefusal why
         (encoding_of table_b.now table_d.now document.now)) }
-    // It has one name, `Memory`.
+    // If memory runs out, the fault is always `Memory`.
     ensures memory { IfErr result
         (λ why. (line : ℕ) → why ≢ DocumentFault.Template line TemplateFault.Memory) }
     ensures made { OnOk result
@@ -306,8 +317,9 @@ pub fn encode_document(
         * bits_by AsWritten table_b.now table_d.now document.now) }
     ensures refused { OnErr result (steps.new ≤ places_by table_b.now table_d.now document.now
         * (bits_by AsWritten table_b.now table_d.now document.now + 1)) }
-    // The document of an accepted message keeps its reading, and the message is no longer, but up
-    // to two octets in edition 3. It is refused for want of memory alone.
+    // The document of an accepted message is encoded with the same reading. The result is no longer
+    // than that message, except for up to two octets in edition 3. The document is rejected only if
+    // memory runs out.
     ensures again { (records : List Record) (m : List ℕ) (s : Sections) (template : Tree)
         (values : Values) (used at : ℕ)
         → AreRows records table_b.now → IsAccepted table_b.now table_d.now m s template values used
@@ -317,11 +329,11 @@ pub fn encode_document(
     encode_form(alloc, document, Form::AsWritten, table_b, table_d, steps)
 }
 
-/// How the data of a document are written (WMO-No. 306, Volume I.2, FM 94: section 4, compression;
-/// that there is an option for it is our choice).
+/// The form in which the data of a document are written (WMO-No. 306, Volume I.2, FM 94: section 4,
+/// compression; that there is an option for it is our choice).
 #[derive(Clone, Copy, Debug, PartialEq, Eq)]
 pub enum Form {
-    /// As the line `compressed` of the document says.
+    /// The form that the line `compressed` of the document specifies.
     AsWritten,
     /// Plain: one subset after another.
     Plain,
@@ -330,7 +342,7 @@ pub enum Form {
 }
 
 impl Form {
-    /// Whether data are compressed, where a document says `written`.
+    /// Returns whether the data are compressed in this form. `written` is what the document says.
     // rule: writes-form
     pub(crate) fn is_compressed(self, written: bool) -> bool
         ensures { result ≡ compressed_by self written }

@@ -1,5 +1,5 @@
-//! What can be wrong with a dump text, and why a document cannot be encoded. (The numbers and
-//! their order are our choice.)
+//! Faults of dump text, and reasons why a document cannot be encoded. (The numbers and their order
+//! are our choice.)
 ghost use Rattle.std.specs.Prelude.{◌≡◌};
 ghost use Rattle.bufr_text.specs.Prelude.{document_fault, document_report, line_of_fault, line_report, number_of_read_fault};
 ghost use Rattle.bufr_text.specs.declared.fault.DocumentFault.TheVariants.{Memory};
@@ -10,24 +10,24 @@ use bufr_tables::TemplateFault;
 use std::alloc::AllocError;
 use thiserror::Error;
 
-/// What is wrong with a line.
+/// The reason why a line is invalid.
 #[derive(Clone, Copy, Debug, PartialEq, Eq, Error)]
 pub enum TextLineFault {
-    /// It is none that can be there, or it is over 4,096 octets long, or the input ends before it
-    /// and inside a document.
+    /// The line is not allowed here, has more than 4,096 octets, or is missing because the input
+    /// ends inside a document.
     #[error("line")]
     NotAllowed,
-    /// A `subset` with another number than the next, or past those that the header says, or an
-    /// `end` before all of them.
+    /// The number of a line `subset` is not the next one or exceeds the number of subsets in the
+    /// header, or a line `end` comes before all subsets.
     #[error("subset count")]
     SubsetCount,
-    /// The value of this line of the header is past its range.
+    /// The value of a header line is out of range.
     #[error("header range")]
     HeaderRange,
 }
 
 impl TextLineFault {
-    /// Its number: 50, 57 or 61.
+    /// Returns the number of this fault: 50, 57 or 61.
     pub fn number(self) -> u8
         ensures { result ≡ (line_report self).0 }
     {
@@ -39,19 +39,20 @@ impl TextLineFault {
     }
 }
 
-/// Why a dump text cannot be read on.
+/// The reason why dump text cannot be read any further.
 #[derive(Clone, Copy, Debug, PartialEq, Eq, Error)]
 pub enum ReadFault {
-    /// What is wrong with a line, after its number, from 1 over all documents of the input.
+    /// The number of an invalid line, counted from 1 over all documents of the input, and its
+    /// fault.
     #[error("{1}")]
     Line(u64, TextLineFault),
-    /// The reading ended: a read failed, the input is too long, or memory ran out.
+    /// The run ends: a read failed, the input is too long, or memory ran out.
     #[error("{0}")]
     Run(RunFault),
 }
 
 impl ReadFault {
-    /// Its number: that of the line's fault, or of the run's.
+    /// Returns the number of this fault: that of the line's fault or of the run's fault.
     pub fn number(self) -> u8
         ensures { result ≡ number_of_read_fault self }
     {
@@ -62,14 +63,14 @@ impl ReadFault {
     }
 }
 
-/// Why a document cannot be encoded.
+/// The reason why a document cannot be encoded.
 #[derive(Clone, Copy, Debug, PartialEq, Eq, Error)]
 pub enum DocumentFault {
-    /// What is wrong with an item, after the number of its line, from 1, or of the line that ends
-    /// its subset.
+    /// The line number of an item, from 1, and the fault. If an item is missing, the line is the
+    /// one that ends its subset.
     #[error("{1}")]
     Item(u64, ItemFault),
-    /// The descriptors make no template. The line is that of `message`.
+    /// The descriptors cannot be expanded to a template. The line is that of `message`.
     #[error("template {number} {why}", number = .1.number(), why = .1)]
     Template(u64, TemplateFault),
     /// The message would have more than 16,777,215 octets. The line is that of `message`.
@@ -81,7 +82,7 @@ pub enum DocumentFault {
 }
 
 impl DocumentFault {
-    /// Its number: 51 to 56, 58 to 60, 62, or 73.
+    /// Returns the number of this fault: 51 to 56, 58 to 60, 62 or 73.
     pub fn number(self) -> u8
         ensures { result ≡ (document_report self).0 }
     {
@@ -93,7 +94,7 @@ impl DocumentFault {
         }
     }
 
-    /// The number of its line; none for want of memory.
+    /// Returns the number of the fault's line, or `None` if memory ran out.
     pub fn line(self) -> Option<u64>
         ensures { result ≡ line_of_fault self }
     {

@@ -1,4 +1,4 @@
-//! The twenty keys of the header of a dump text, and the descriptors of a line.
+//! The twenty keys in the header of a dump, and the descriptors of a line.
 ghost use Rattle.std.specs.Prelude.{get_or, ◌≡◌, ◌<◌, ◌++◌, [], ◌∷◌, length, map, position, true, IfSome, ◌+◌, ◌*◌, ◌≤◌, option_map};
 ghost use Rattle.bufr_text.specs.Prelude.{in_range, is_named, lead_of, keys, leasts, mosts, Describes, fxy_read};
 ghost use Rattle.std.specs.Str.{bytes_eq};
@@ -7,10 +7,10 @@ ghost use Rattle.std.specs.List.{position_from};
 use crate::slices::{is, prefix, suffix};
 use bufr_tables::Fxy;
 
-/// What is before a key's value, its least value, and its greatest in editions 3 and 4.
+/// A key: the octets before its value, its minimum, and its maximum in edition 3 and in edition 4.
 pub(crate) struct Key(pub(crate) &'static [u8], u16, u16, u16);
 
-/// The table of the keys, in their order.
+/// The table of the keys, in the order of the header.
 pub(crate) static KEYS: [Key; 20] = [
     Key(b"\nedition ", 3, 4, 4),
     Key(b"\nmaster ", 0, 255, 255),
@@ -34,7 +34,7 @@ pub(crate) static KEYS: [Key; 20] = [
     Key(b"\nsubsets ", 0, 65535, 65535),
 ];
 
-/// The keys, in their order.
+/// Returns the keys, in the order of the header.
 fn keys() -> &'static [Key]
     ensures count { length result.now ≡ 20 }
     ensures leads { map (λ key. key.0.now) result.now ≡ map lead_of keys }
@@ -45,7 +45,7 @@ fn keys() -> &'static [Key]
     &KEYS
 }
 
-/// Whether what is before a key's value has this name.
+/// Returns whether `lead`, the octets before a key's value, contains this name.
 fn is_named(lead: &[u8], name: &[u8]) -> bool
     ensures { result ≡ is_named lead.now name.now }
 {
@@ -55,14 +55,14 @@ fn is_named(lead: &[u8], name: &[u8]) -> bool
     }
 }
 
-/// The index of the first key of this name.
+/// Returns the index of the first key with this name.
 fn position(keys: &[Key], name: &[u8]) -> Option<usize>
     ensures { result ≡ position (λ key. is_named key.0.now name.now) keys.now }
 {
     keys.iter().position(|key| is_named(key.0, name))
 }
 
-/// The name of the key at an index, and the space after it.
+/// Returns the name of the key at an index, and the space after it.
 pub(crate) fn word_at(index: usize) -> Option<&'static [u8]>
     ensures few { IfSome result (λ _. index < 20) }
     ensures word { IfSome result (λ word. word.now ≡ get_or keys index [] ++ 32 ∷ []) }
@@ -73,7 +73,7 @@ pub(crate) fn word_at(index: usize) -> Option<&'static [u8]>
     }
 }
 
-/// The index of a key of this name.
+/// Returns the index of the key with this name.
 pub(crate) fn key_index(name: &[u8]) -> Option<usize>
     ensures value { result ≡ position_from (bytes_eq name.now) 0 keys }
     ensures few { IfSome result (λ index. index < 20) }
@@ -81,7 +81,7 @@ pub(crate) fn key_index(name: &[u8]) -> Option<usize>
     position(keys(), name)
 }
 
-/// Whether a value is in the range of its key, which goes by the edition.
+/// Returns whether a value is in the range of its key, which depends on the edition.
 #[tactic(auto, unfolding(crate::specs::Line::mosts))]
 // rule: reading-header-ranges
 pub(crate) fn in_range(edition: u16, key: usize, value: u32) -> bool
@@ -94,13 +94,14 @@ pub(crate) fn in_range(edition: u16, key: usize, value: u32) -> bool
     u32::from(key.1) <= value && value <= u32::from(most)
 }
 
-/// How many octets a descriptor takes in a line, with the space before it.
+/// The number of octets that a descriptor takes in a line, including the space before it.
 const SPACED: usize = 7;
 
-/// The most descriptors of a line.
+/// The maximum number of descriptors in a line.
 pub(crate) const MOST_WORDS: usize = 8;
 
-/// The descriptor that six digits write first, and what is after it.
+/// Parses the descriptor in the first six digits of a text. Returns its 16 bits and the text after
+/// it.
 #[tactic(auto, using(crate::proofs::ItemLemmas::by_six))]
 pub(crate) fn fxy_prefix<'a>(text: &'a [u8]) -> Option<(u16, &'a [u8])>
     ensures value { option_map (λ read. (read.0, read.1.now)) result ≡ fxy_read text.now }
@@ -113,7 +114,8 @@ pub(crate) fn fxy_prefix<'a>(text: &'a [u8]) -> Option<(u16, &'a [u8])>
     Some((fxy.word(), suffix(text, 6)))
 }
 
-/// Puts 1 to 8 descriptors, each after one space, to the start of `out`: how many they are.
+/// Parses 1 to 8 descriptors, each after one space. Writes them to the start of `out`, and returns
+/// how many there are.
 #[tactic(auto, using(crate::proofs::ItemLemmas::describing_steps))]
 // rule: reading-descriptor
 pub(crate) fn describe(text: &[u8], out: &mut [u16]) -> Option<usize>

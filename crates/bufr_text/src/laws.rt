@@ -1,4 +1,4 @@
-//! Laws on dump texts, on messages that are dumped and encoded again, and on documents that are
+//! Laws about dumps, about messages that are dumped and encoded again, and about documents that are
 //! encoded and read.
 ghost use Rattle.std.specs.Prelude.{◌≡◌, ℕ, ◌+◌, true, false, List, [], ◌∷◌, ◌++◌, length, Option, None, Result, Ok};
 ghost use Rattle.bufr_frame.specs.Prelude.{Sections};
@@ -7,8 +7,8 @@ ghost use Rattle.bufr_tables.specs.Prelude.{Record, AreRows, Row, Sequence, Tree
 ghost use Rattle.bufr_walk.specs.Prelude.{Values, View};
 ghost use Rattle.bufr_text.specs.declared.fault.DocumentFault.TheVariants.{Memory};
 
-/// The dump text of a message spells its document, and the reading goes on after it. Alone it
-/// spells one document, and nothing else.
+/// Parsing the dump of a message gives its document, and then continues with the text after it. A
+/// dump alone gives one document, and nothing else.
 pub fn dump_text_spells_its_document()
     ensures { (s : Sections) (subsets : List (List View)) → IsDumpable s subsets
         → ((at : ℕ) (t : List ℕ) → parse_lines at between (lines_of (dump_text_of s subsets ++ t))
@@ -17,11 +17,11 @@ pub fn dump_text_spells_its_document()
         × (documents_of (dump_text_of s subsets) ≡ Complete (document_of 1 s subsets) ∷ []) }
 {}
 
-/// Each document of a text is proper. Its header is whole, and it has as many subsets as that says
-/// and nothing after them. It has octets of section 2 only where there is one. The lines that are
-/// no comment and not empty are those of the documents. These come one after another, up to the end
-/// or to the first line that is refused. The documents that are reported while the end is not known
-/// stay the first ones, whatever comes after.
+/// Each document of a text is proper: its header is complete, it has as many subsets as the header
+/// says and nothing after them, and it has octets of section 2 only if there is a section 2. The
+/// lines of the text that are neither comments nor empty are those of the documents. These come one
+/// after another, up to the end of the text or the first invalid line. Documents that are reported
+/// before the end of the text is known are the first ones, whatever text follows.
 #[tactic(auto, using(crate::proofs::LawLemmas::proper_steps))]
 pub fn texts_are_their_documents()
     ensures proper { (text : List ℕ) → AreProper (documents_of text) }
@@ -31,8 +31,8 @@ pub fn texts_are_their_documents()
         → (more : List ParseResult) × (documents_of (s ++ t) ≡ open_documents_of s ++ more) }
 {}
 
-/// What calls of a reader reported, one after another, is what they would report as one call: it
-/// follows from what each did.
+/// Consecutive calls of a reader report the same as if they were one call. This follows from what
+/// each call did.
 pub fn calls_compose()
     ensures { (left mid left' : Option (List ℕ)) (old s s' : ReaderModel)
         (results results' : List ParseResult) (bs bs' : List ℕ)
@@ -40,14 +40,16 @@ pub fn calls_compose()
         → ReadsLines left left' old s' (results ++ results') (bs ++ bs') }
 {}
 
-/// What calls reported from the beginning are the first documents of the octets read, whatever
-/// comes after; after the end nothing does. While the end is not known they are the first open
-/// documents. Up to the end they are all documents. Up to a failed read, or up to the last read
-/// that is made, they are all open documents.
+/// The results that calls have reported since the start are the first documents of the octets that
+/// were read, whatever octets follow. (None follow after the end of input.) Before the end of input
+/// is known, they are the first open documents, which are the documents of a text that may still
+/// grow. At the end of input, they are all documents. After a failed read, or after the last read
+/// that is allowed, they are all open documents.
 ///
-/// The octets read are the lines that were taken, and after those exactly what is held. As many
-/// lines were taken as line numbers were passed. Where the end was reached, a last line that lacks
-/// its line feed was given one. That feed is none of the octets that are said to be held.
+/// The octets that were read are the lines that were taken, followed by exactly the octets that are
+/// buffered. The line number grew by the number of these lines. If the last line had no line feed,
+/// one was added at the end of input. This line feed is not among the octets that are said to be
+/// buffered.
 pub fn documents_reported_are_the_first()
     ensures { (left left' : Option (List ℕ)) (s : ReaderModel) (results : List ParseResult)
         (bs : List ℕ) → ReadsLines left left' new_reader s results bs
@@ -62,7 +64,7 @@ pub fn documents_reported_are_the_first()
         × ((taken : List ℕ) × (bs ≡ taken ++ unfed s))) }
 {}
 
-/// After the end was reported it is reported again, and nothing is read.
+/// Once the end of input has been reported, each later call reports it again and reads nothing.
 pub fn none_comes_again()
     ensures { (left left' : Option (List ℕ)) (old new : ReaderModel)
         (result : Result (Option Document) ReadFault)
@@ -70,11 +72,12 @@ pub fn none_comes_again()
         → (result ≡ Ok None) × (new.reads ≡ old.reads) }
 {}
 
-/// A message that is accepted can be dumped: its dump text spells its document, and no other. That
-/// is encoded, wherever it is, to a message with the same head, local octets, section 2,
-/// descriptors, number of subsets, flags and values. It is no longer, but that in edition 3 up to
-/// two octets make sections 3 and 4 even. The document is refused for want of memory alone, which
-/// is [`DocumentFault::Memory`](crate::DocumentFault::Memory).
+/// An accepted message can be dumped, and its dump contains exactly its document. Wherever this
+/// document is in an input, it is encoded to a message with the same head, local octets, section 2,
+/// descriptors, number of subsets, flags and values. This message is not longer than the accepted
+/// one, except that in edition 3 up to two octets are added to make sections 3 and 4 even. The
+/// document is rejected only if memory runs out, with
+/// [`DocumentFault::Memory`](crate::DocumentFault::Memory).
 // rule: becomes-canonical
 pub fn dumped_messages_are_encoded_again()
     ensures { (records : List Record) (table : List Row) (sequences : List Sequence) (m : List ℕ)
@@ -87,11 +90,11 @@ pub fn dumped_messages_are_encoded_again()
         (encoding_of table sequences (document_of at s items)) → why ≡ Memory) }
 {}
 
-/// A message that was encoded again is accepted, with the same reading and the same dump text. It
-/// is one message of the stream that it begins, and its sections, template and reading are those
-/// of the message that was dumped. One that was encoded in another form is accepted too, with the
-/// same items of each subset. Its dump text is the same but for the flag of compression, which is
-/// that of the form.
+/// If the dump of an accepted message is encoded, the resulting message is accepted, with the same
+/// reading and the same dump. If a stream begins with it, it is one message of this stream. Its
+/// sections, template and reading are those of the message that was dumped. A message that was
+/// encoded in another form is accepted too, with the same items in each subset. Its dump is the
+/// same except for the flag of compression, which is that of the form.
 pub fn encoded_messages_are_accepted()
     ensures same_text { (table : List Row) (m : List ℕ) (s : Sections) (template : Tree)
         (values : Values) (octets : List ℕ)
@@ -116,16 +119,18 @@ pub fn encoded_messages_are_accepted()
         (dump_items table s.subsets values) }
 {}
 
-/// The document of an accepted message's dump text is encoded in each form. The message has the
-/// same reading, but for the flag of compression. It has the same head, local octets, section 2,
-/// descriptors, number of subsets, and items of each subset. In the form that it says nothing
-/// refuses it. In plain form its length may. In compressed form its length, factors that differ
-/// between subsets, and contents that no increments distinguish may.
+/// The document in the dump of an accepted message is encoded in each form. The resulting message
+/// has the same reading except for the flag of compression. It has the same head, local octets,
+/// section 2, descriptors and number of subsets, and the same items in each subset. In the form
+/// that the document specifies, it is never rejected. In plain form, it can be rejected for its
+/// length. In compressed form, it can be rejected for its length, for factors that differ between
+/// subsets, and for contents that no increments distinguish.
 ///
-/// So beside [`DocumentFault::Memory`](crate::DocumentFault::Memory) only these faults may come:
-/// [`DocumentFault::TooLong`](crate::DocumentFault::TooLong) in plain and compressed form, and in
-/// compressed form [`DocumentFault::UnequalFactor`](crate::DocumentFault::UnequalFactor) and
-/// [`DocumentFault::Increment`](crate::DocumentFault::Increment).
+/// So besides [`DocumentFault::Memory`](crate::DocumentFault::Memory), only these faults are
+/// possible: [`DocumentFault::TooLong`](crate::DocumentFault::TooLong) in plain and compressed
+/// form, and in compressed form also
+/// [`ItemFault::UnequalFactor`](bufr_fill::ItemFault::UnequalFactor) and
+/// [`ItemFault::Increment`](bufr_fill::ItemFault::Increment).
 pub fn dumped_messages_are_encoded_in_each_form()
     ensures { (records : List Record) (table : List Row) (sequences : List Sequence) (m : List ℕ)
         (s : Sections) (template : Tree) (values : Values) (used at : ℕ) (form : Form)
@@ -136,9 +141,9 @@ pub fn dumped_messages_are_encoded_in_each_form()
         → IsDocumentRefusal why result → IsFaultIn form why) }
 {}
 
-/// A canonical message is encoded from its dump text to the same octets. One that was encoded in
-/// another form comes back octet for octet. For that, the dump text of the second message is
-/// encoded in the form of the first.
+/// Encoding the dump of a canonical message gives the same octets. If the dump is encoded in
+/// another form, then encoding the dump of the resulting message in the form of the first message
+/// gives the first message again, octet for octet.
 // rule: canonical
 pub fn canonical_messages_are_encoded_to_themselves()
     ensures { (records : List Record) (table : List Row) (sequences : List Sequence) (m : List ℕ)
@@ -153,14 +158,14 @@ pub fn canonical_messages_are_encoded_to_themselves()
         ≡ Ok m) }
 {}
 
-/// The message that a document is encoded to, in a form, is accepted, and says what the document
-/// says. It has the same head, local octets, section 2, descriptors, number of subsets and flags.
-/// The flag of compression alone is the form's. Each item's value is what the document's line says
-/// at its field. In a stream it is one message.
+/// If a document is encoded in a form, the resulting message is accepted and says what the document
+/// says. It has the same head, local octets, section 2, descriptors, number of subsets and flags,
+/// except that the flag of compression is that of the form. Each item has the value in the
+/// document's line for its field. In a stream, it is one message.
 ///
-/// The dump text of that message is the document's own text in the one spelling that a dump has. A
-/// text in that spelling stays as it is. It is one document, and as it is written that document is
-/// encoded to the same octets.
+/// The dump of that message is the document's own text in the one spelling that dumps use. A text
+/// in this spelling is left unchanged. It contains one document, and in the form that this document
+/// specifies, it is encoded to the same octets.
 pub fn encoded_documents_are_read()
     ensures { (form : Form) (records : List Record) (table : List Row) (sequences : List Sequence)
         (d : Document) (octets : List ℕ) → AreRows records table → IsProper d

@@ -1,5 +1,5 @@
-//! The texts of FM 94 BUFR messages: the line that lists one, the text that dumps one, and its
-//! reading.
+//! The text formats of FM 94 BUFR messages: the line that lists a message, the dump of a message,
+//! and the reading and encoding of dumps.
 #![tactic(auto)]
 
 mod alike;

@@ -8,10 +8,11 @@ use crate::numbers::pair;
 use bufr_bits::Sink;
 use bufr_frame::{Message, RunFault};
 
-/// The octets in which the line is put together. The longest line has 251.
+/// The size of the block in which the line is assembled. A line has at most 251 octets.
 const LINE: usize = 256;
 
-/// Pushes where a message begins, where it comes from, what kind of data it has, and its tables.
+/// Pushes where a message begins, its length and edition, where it comes from, what kind of data it
+/// contains, and its tables.
 #[inline(always)]
 fn push_source<W: Sink>(line: &mut LineWriter<'_, '_, W>, offset: u64, message: &Message<'_>)
     ensures { Pushes line.old
@@ -32,7 +33,8 @@ fn push_source<W: Sink>(line: &mut LineWriter<'_, '_, W>, offset: u64, message: 
     line.push_named(b"/", u64::from(head.local_version));
 }
 
-/// Pushes the time that section 1 says. Where no value has more digits than usual, it is one text.
+/// Pushes the time in section 1. If no value has more digits than usual, the time is pushed as one
+/// text.
 #[inline(always)]
 // rule: listing-time
 fn push_time<W: Sink>(line: &mut LineWriter<'_, '_, W>, message: &Message<'_>)
@@ -73,7 +75,8 @@ fn push_time<W: Sink>(line: &mut LineWriter<'_, '_, W>, message: &Message<'_>)
     ]);
 }
 
-/// Writes the line of a message that begins at `offset`, in octets from 0. It takes no memory.
+/// Writes the line that lists a message. The message begins at `offset`, in octets from 0. This
+/// does not allocate.
 ///
 /// ```
 /// write_ls(21, &message, &mut w)?; // offset=21 length=48 edition=4 ..
@@ -81,7 +84,8 @@ fn push_time<W: Sink>(line: &mut LineWriter<'_, '_, W>, message: &Message<'_>)
 ///
 /// # Errors
 ///
-/// [`RunFault::Write`] where the writer fails or takes nothing; a prefix of the line was taken.
+/// [`RunFault::Write`] if the writer fails or takes nothing; it has then taken a prefix of the
+/// line.
 // rule: listing-line, listing-offset-and-length, listing-flags
 pub fn write_ls<W: Sink>(offset: u64, message: &Message<'_>, w: &mut W) -> Result<(), RunFault>
     ensures writes { Writes (W.taken w.old) (W.taken w.new) (ls_line offset message.now) result }

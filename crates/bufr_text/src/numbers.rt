@@ -1,4 +1,6 @@
-//! Numbers, put into free octets where there is room.
+//! Writing numbers directly to the free octets of a block, if there is room.
+//!
+//! The functions return the index after what they wrote, or `None` if they cannot write it.
 #![tactic(auto, using(crate::proofs::NumberLemmas::number_steps))]
 
 ghost use Rattle.std.specs.Prelude.{◌≡◌, ◌≤◌, ◌<◌, ◌+◌, ◌/◌, ◌%◌, ◌++◌, [], ◌∷◌, decimal, take, ◌==◌, codes};
@@ -9,26 +11,27 @@ ghost use Rattle.bufr_text.specs.Prelude.{Puts};
 use bufr_tables::Entry;
 use itoa::Buffer;
 
-/// The digits of the greatest `u64`.
+/// The number of digits of the greatest `u64`.
 const DIGITS: usize = 20;
 
-/// Room for a number of 64 bits at a usual scale.
+/// Room for a number of 64 bits at a common scale.
 const NUMBER: usize = 24;
 
-/// The octets in which the start of a line is copied: one more than it has.
+/// The size of the block with which the start of a line is copied: one octet more than this start
+/// has.
 const START: usize = 8;
 
-/// The octets in which a comment is copied. Few comments are longer.
+/// The size of the block with which a comment is copied. Few comments are longer.
 const COMMENT: usize = 80;
 
-/// Room for a line of a number, and more.
+/// Room for the line of a number, with some to spare.
 const LINE: usize = 128;
 
 /// The two digits of each number below 100.
 static PAIRS: [u8; 200] =
     *b"00010203040506070809101112131415161718192021222324252627282930313233343536373839404142434445464748495051525354555657585960616263646566676869707172737475767778798081828384858687888990919293949596979899";
 
-/// The two digits of a number below 100.
+/// Returns the two digits of a number below 100.
 #[inline(always)]
 pub(crate) fn pair(value: u64) -> (u8, u8)
     requires { value < 100 }
@@ -39,7 +42,7 @@ pub(crate) fn pair(value: u64) -> (u8, u8)
     (PAIRS[from], PAIRS[from + 1])
 }
 
-/// Puts octets from `at` on. Returns the index after them, or `None` where there is no room.
+/// Writes octets from index `at` on. Returns `None` if there is no room.
 #[inline(always)]
 pub(crate) fn put<const N: usize>(octets: [u8; N], free: &mut [u8], at: usize) -> Option<usize>
     ensures { Puts free.old at octets.entry free.new result }
@@ -51,8 +54,8 @@ pub(crate) fn put<const N: usize>(octets: [u8; N], free: &mut [u8], at: usize) -
     Some(at + N)
 }
 
-/// Puts the first `len` octets of a text by a block of `N`. `None` where text or room has fewer
-/// than `N` octets, or `len` is over `N`.
+/// Writes the first `len` octets of a text from index `at` on, by copying a block of `N` octets.
+/// Returns `None` if the text or the room has fewer than `N` octets, or if `len` exceeds `N`.
 #[inline(always)]
 fn put_block<const N: usize>(text: &[u8], len: usize, free: &mut [u8], at: usize) -> Option<usize>
     ensures { Puts free.old at (take len text.now) free.new result }
@@ -66,7 +69,7 @@ fn put_block<const N: usize>(text: &[u8], len: usize, free: &mut [u8], at: usize
     Some(at + len)
 }
 
-/// Puts the two digits of a number below 100.
+/// Writes the two digits of a number below 100 from index `at` on.
 #[inline(always)]
 fn put_pair(value: u64, free: &mut [u8], at: usize) -> Option<usize>
     requires { value < 100 }
@@ -76,7 +79,7 @@ fn put_pair(value: u64, free: &mut [u8], at: usize) -> Option<usize>
     put([tens, ones], free, at)
 }
 
-/// Puts the digits of a number below 10,000.
+/// Writes the digits of a number below 10,000 from index `at` on.
 #[inline(always)]
 fn put_four(value: u64, free: &mut [u8], at: usize) -> Option<usize>
     requires { value < 10000 }
@@ -96,7 +99,7 @@ fn put_four(value: u64, free: &mut [u8], at: usize) -> Option<usize>
     put_pair(value % 100, free, at)
 }
 
-/// Fills a prefix with the digits of a number that has five or more.
+/// Writes the digits of a number with at least five digits to the start of `free`.
 #[inline(never)]
 fn fill_long(value: u64, free: &mut [u8]) -> Option<usize>
     requires { 10000 ≤ value }
@@ -116,7 +119,7 @@ fn fill_long(value: u64, free: &mut [u8]) -> Option<usize>
     put_pair(value % 100, free, at)
 }
 
-/// Puts the digits of a number.
+/// Writes the digits of a number from index `at` on.
 #[inline(always)]
 fn put_decimal(value: u64, free: &mut [u8], at: usize) -> Option<usize>
     ensures { Puts free.old at (decimal value) free.new result }
@@ -130,7 +133,8 @@ fn put_decimal(value: u64, free: &mut [u8], at: usize) -> Option<usize>
     Some(at + fill_long(value, &mut free[at..])?)
 }
 
-/// Fills a prefix with a name and the digits of a number after it.
+/// Writes a name, followed by the digits of a number, to the start of `free`. Returns `None` if
+/// there is no room for the name and 20 digits.
 #[inline(always)]
 pub(crate) fn fill_named(name: &[u8], value: u64, free: &mut [u8]) -> Option<usize>
     ensures { Puts free.old 0 (name.now ++ decimal value) free.new result }
@@ -139,7 +143,7 @@ pub(crate) fn fill_named(name: &[u8], value: u64, free: &mut [u8]) -> Option<usi
         return None;
     }
     free[..name.len()].copy_from_slice(name);
-    // Most numbers of a header have one digit or two.
+    // Most numbers in a header have one or two digits.
     if value < 10 {
         return put([b'0' + value as u8], free, name.len());
     }
@@ -149,7 +153,7 @@ pub(crate) fn fill_named(name: &[u8], value: u64, free: &mut [u8]) -> Option<usi
     put_decimal(value, free, name.len())
 }
 
-/// Puts tenths: a number with a point before the last of its digits.
+/// Writes a number of tenths from index `at` on: its digits, with a point before the last one.
 #[inline(always)]
 fn put_tenths(value: u64, free: &mut [u8], at: usize) -> Option<usize>
     ensures { Puts free.old at (pointed 1 (decimal value)) free.new result }
@@ -158,7 +162,7 @@ fn put_tenths(value: u64, free: &mut [u8], at: usize) -> Option<usize>
     put([b'.', b'0' + (value % 10) as u8], free, at)
 }
 
-/// Puts hundredths: a number with a point before the last two of its digits.
+/// Writes a number of hundredths from index `at` on: its digits, with a point before the last two.
 #[inline(always)]
 fn put_hundredths(value: u64, free: &mut [u8], at: usize) -> Option<usize>
     ensures { Puts free.old at (pointed 2 (decimal value)) free.new result }
@@ -168,7 +172,8 @@ fn put_hundredths(value: u64, free: &mut [u8], at: usize) -> Option<usize>
     put([b'.', tens, ones], free, at)
 }
 
-/// Fills a prefix with a number at a scale. `None` also for a scale that few elements have.
+/// Writes a number at a scale to the start of `free`. Also returns `None` for scales that few
+/// elements have, and for 0 at scale -1.
 #[inline(never)]
 fn fill_scaled(value: u64, scale: i16, free: &mut [u8]) -> Option<usize>
     ensures { Puts free.old 0 (unsigned_text value scale) free.new result }
@@ -199,8 +204,9 @@ fn fill_scaled(value: u64, scale: i16, free: &mut [u8]) -> Option<usize>
     None
 }
 
-/// Fills a prefix with the line of a number that was read by an entry. `None` also for a long
-/// comment, and for a row near the end of the table.
+/// Writes the line of a number that was read by an entry to the start of `free`. Also returns
+/// `None` if the comment has more than 80 octets, if the entry is near the end of the table, or for
+/// scales that few elements have.
 #[inline(always)]
 // rule: decimal-sign
 pub(crate) fn fill_number_line(
@@ -214,7 +220,7 @@ pub(crate) fn fill_number_line(
         free.new result }
 {
     let (row, len) = entry.line_on();
-    // After these checks the compiler drops most of those in the parts.
+    // After these checks, the compiler removes most of the checks in the calls below.
     if row.len() < 7 + COMMENT || len > COMMENT || free.len() < LINE {
         return None;
     }
@@ -237,15 +243,16 @@ pub(crate) fn fill_number_line(
     put_block::<COMMENT>(&row[7..], len, free, at)
 }
 
-/// Fills a prefix with the line of a missing value that was read by an entry. `None` also for a
-/// long comment, and for a row near the end of the table.
+/// Writes the line of a missing value that was read by an entry to the start of `free`. Also
+/// returns `None` if the comment has more than 80 octets, or if the entry is near the end of the
+/// table.
 #[inline(always)]
 pub(crate) fn fill_missing_line(entry: Entry<'_>, free: &mut [u8]) -> Option<usize>
     ensures { Puts free.old 0 (row_line_start (row_of_entry entry.entry)
         ++ (codes "MISSING" ++ row_comment (row_of_entry entry.entry))) free.new result }
 {
     let (row, len) = entry.line_on();
-    // After these checks the compiler drops most of those in the parts.
+    // After these checks, the compiler removes most of the checks in the calls below.
     if row.len() < 7 + COMMENT || len > COMMENT || free.len() < LINE {
         return None;
     }

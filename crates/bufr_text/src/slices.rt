@@ -2,14 +2,14 @@
 ghost use Rattle.std.specs.Prelude.{◌≡◌, ◌≤◌, length, take, drop};
 ghost use Rattle.std.specs.Str.{bytes_eq};
 
-/// Whether a text is this word.
+/// Returns whether a text is this word.
 pub(crate) fn is(text: &[u8], word: &[u8]) -> bool
     ensures { result ≡ bytes_eq text.now word.now }
 {
     text == word
 }
 
-/// The octets before an index.
+/// Returns the octets before an index.
 pub(crate) fn prefix<'a>(text: &'a [u8], index: usize) -> &'a [u8]
     requires { index ≤ length text.now }
     ensures { result.now ≡ take index text.now }
@@ -17,7 +17,7 @@ pub(crate) fn prefix<'a>(text: &'a [u8], index: usize) -> &'a [u8]
     &text[..index]
 }
 
-/// What is after an index.
+/// Returns the octets from an index on.
 pub(crate) fn suffix<'a>(text: &'a [u8], index: usize) -> &'a [u8]
     requires { index ≤ length text.now }
     ensures { result.now ≡ drop index text.now }

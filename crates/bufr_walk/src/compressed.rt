@@ -1,4 +1,5 @@
-//! Compressed data, where each item occurs once for all subsets: fields, reading, and showing.
+//! Compressed data, in which each item occurs once for all subsets: its fields, and how they are
+//! read and shown.
 ghost use Rattle.std.specs.Prelude.{unwrap_or, option_map, ◌≡◌, ◌≤◌, ◌<◌, ◌+◌, ◌*◌, ◌^◌, false, true, length, IfSome, ◌-◌, ◌/◌, ◌++◌, drop, MatchResult, IfOk, ◌==◌, ◌&&◌, ◌||◌, not, nat_lt, take, get_or, replicate};
 ghost use Rattle.bufr_bits.specs.Prelude.{bits_at, number_of, bits_of, octets_of};
 ghost use Rattle.bufr_tables.specs.Prelude.{is_character};
@@ -19,7 +20,8 @@ use bufr_tables::{Kind, TableB};
 use std::alloc::Global;
 use std::marker::Model;
 
-/// Whether an increment of `k` bits is valid: it is missing, or the sum stays within the width.
+/// Returns whether an increment of `k` bits is valid: it means missing, or the sum of the base and
+/// the increment fits in the field's width.
 // rule: compressed-past-width, compressed-class-31
 fn stays_within(spec: &Spec, base: u64, k: u32, increment: u64) -> bool
     requires k { k ≤ 63 }
@@ -33,7 +35,8 @@ fn stays_within(spec: &Spec, base: u64, k: u32, increment: u64) -> bool
     missing || base + increment <= (1 << spec.width()) - 1
 }
 
-/// Whether the increments of numbers are valid; a base of all ones makes all of them valid.
+/// Returns whether the increments of a number are valid. If the base means missing, all of them
+/// are.
 // rule: compressed-all-missing
 fn are_number_increments_valid(
     bits: &BitSlice<'_>,
@@ -55,7 +58,7 @@ fn are_number_increments_valid(
     if missing {
         return true;
     }
-    // Nearly always the greatest increment fits, and so each does.
+    // Almost always, even the greatest increment of `k` bits fits, and then every increment does.
     if base.number + ((1 << k) - 1) <= (1 << width) - 1 {
         return true;
     }
@@ -71,7 +74,8 @@ fn are_number_increments_valid(
     true
 }
 
-/// Whether each increment of `k` bits, from bit `at` on, is the number `first`.
+/// Returns whether each of the increments of `k` bits, the first of which begins at bit `at`, is
+/// the number `first`.
 fn are_equal(bits: &BitSlice<'_>, at: u64, subsets: u16, k: u32, first: u64) -> bool
     requires increment { k ≤ 63 }
     requires within { at + subsets * k ≤ 8 * length (octets_of bits.now) }
@@ -89,7 +93,7 @@ fn are_equal(bits: &BitSlice<'_>, at: u64, subsets: u16, k: u32, first: u64) -> 
     true
 }
 
-/// The bits that each subset has after the base and `k`.
+/// Returns the number of bits that each subset has after the base and `k`.
 fn increment_bits_of(spec: &Spec, k: u32) -> u32
     requires { k ≤ 63 }
     ensures value { result ≡ step_of (coding_of spec.now) k }
@@ -104,7 +108,8 @@ fn increment_bits_of(spec: &Spec, k: u32) -> u32
     }
 }
 
-/// An item in the bits: its answer, its `k`, its base (0 for a text), and the bit after it.
+/// An item that was found in the bits: the answer of its field, its `k`, its base (0 for a text),
+/// and the bit after it.
 #[derive(Clone, Copy)]
 struct ItemBits {
     answer: Taken,
@@ -113,7 +118,7 @@ struct ItemBits {
     end: u64,
 }
 
-/// The item that begins with bit `at`.
+/// Finds the item that begins at bit `at`, and checks that it is valid.
 // rule: compressed-item, compressed-increments-there, fault-30-before-34, fault-34-before-33
 // rule: compressed-equal, compressed-references, compressed-factors
 // rule: compressed-text-past-width, compressed-text-base
@@ -180,13 +185,13 @@ fn valid_item_at(
     })
 }
 
-/// The most values of a message with compressed data, read or written: its items times its subsets.
-/// (own)
+/// The maximum number of values in a compressed message that is read or written: the number of its
+/// items times the number of its subsets. (own)
 pub const MAX_VALUES: u64 = 134_217_728;
 
-/// Fields of compressed data: each item occurs once for all subsets. An item is a base, six bits
-/// `k`, and where `k` is above 0 an increment for each subset. It keeps each item with its
-/// location. (WMO-No. 306, Volume I.2, FM 94: section 4, compression)
+/// A reader of the fields in compressed data, in which each item occurs once for all subsets. An
+/// item is a base, six bits `k` and, if `k` is not 0, an increment for each subset. The reader
+/// stores each item with its location. (WMO-No. 306, Volume I.2, FM 94: section 4, compression)
 #[derive(Drop)]
 pub struct PackedIn<'a> {
     bits: BitSlice<'a>,
@@ -207,7 +212,7 @@ impl<'a> Model for PackedIn<'a> {
 }
 
 impl<'a> PackedIn<'a> {
-    /// A reader of compressed data from bit 0 on, for at least one subset.
+    /// Creates a reader of compressed data that starts at bit 0. There must be at least one subset.
     pub fn new(alloc: Global, bits: BitSlice<'a>, subsets: u16) -> PackedIn<'a>
         requires { 1 ≤ subsets }
         ensures { result ≡ new_packed_in (bits_of (octets_of bits.entry)) subsets }
@@ -256,7 +261,7 @@ impl<'a> Fields for PackedIn<'a> {
     }
 }
 
-/// Compressed data, how many subsets they have, and the table by which they were read.
+/// Compressed data, the number of subsets, and the table by which the data were read.
 #[derive(Clone, Copy)]
 pub(crate) struct PackedData<'a> {
     pub(crate) bits: BitSlice<'a>,
@@ -264,7 +269,8 @@ pub(crate) struct PackedData<'a> {
     pub(crate) table: &'a TableB,
 }
 
-/// The number of a kept item for one subset, counted from 0; `None` where it is missing.
+/// Returns the number in the bits of a stored item for one subset, counted from 0, or `None` if it
+/// is missing. The reference value is not added.
 #[inline(always)]
 // rule: compressed-equal, compressed-all-missing, compressed-missing-increment
 // rule: compressed-sum-of-ones, compressed-class-31
@@ -292,14 +298,15 @@ fn number_of(pack: &PackedData<'_>, item: &IndexedItem, subset: u16) -> Option<u
     if !may_be_missing {
         return Some(sum);
     }
-    // A base of all ones is missing whatever follows it, and no other sum exceeds all ones.
+    // If the base is all ones, the value is missing whatever the increment is. No other sum exceeds
+    // all ones.
     if increment == (1 << k) - 1 || sum >= (1 << width) - 1 {
         return None;
     }
     Some(sum)
 }
 
-/// Writes spaces after the first `from` of `count` octets.
+/// Writes spaces after the first `from` octets, up to `count` octets in all.
 #[tactic(auto, using(crate::proofs::PackedShowing::pad_none, crate::proofs::PackedShowing::pad_more))]
 fn pad(text: &mut [u8; 255], from: usize, count: usize)
     requires few { count ≤ 255 }
@@ -311,7 +318,8 @@ fn pad(text: &mut [u8; 255], from: usize, count: usize)
     }
 }
 
-/// The value of a kept item for one subset, counted from 0.
+/// Returns the value of a stored item for one subset, counted from 0. A text is copied to `text` if
+/// it cannot be borrowed.
 // rule: compressed-text, compressed-text-missing
 fn value_of<'a: 't, 't>(
     pack: &PackedData<'a>,
@@ -346,7 +354,8 @@ fn value_of<'a: 't, 't>(
     Value::Text(&text[..count])
 }
 
-/// Shows the kept item of an index that is not plain. It finds it itself: none is copied twice.
+/// Shows the stored item at an index if [`show_item`] cannot show it as a plain field. Looks up the
+/// item itself, so that no item is copied twice.
 #[inline(never)]
 fn show_other<V: Visitor>(
     pack: &PackedData<'_>,
@@ -369,7 +378,7 @@ fn show_other<V: Visitor>(
     show_value(pack.table, &item.spec, value, visitor)
 }
 
-/// Shows the kept item of an index for one subset, counted from 0.
+/// Shows the stored item at an index for one subset, counted from 0.
 #[inline(always)]
 fn show_item<V: Visitor>(
     pack: &PackedData<'_>,
@@ -394,7 +403,7 @@ fn show_item<V: Visitor>(
         let Some(raw) = number_of(pack, &item, subset) else {
             return show_missing(fxy, entry, visitor);
         };
-        // The descriptor of the entry, so that a visitor sees that it is the same.
+        // Pass the entry's own descriptor, so that a visitor sees that both are the same.
         return visitor.item(&ItemView {
             fxy: entry.fxy(),
             entry: Some(entry),
@@ -404,7 +413,7 @@ fn show_item<V: Visitor>(
     show_other(pack, kept, index, subset, visitor)
 }
 
-/// The items of compressed data, each once for all subsets, as [`Reading::packed`] lends them.
+/// The items of compressed data, each once for all subsets, as returned by [`Reading::packed`].
 ///
 /// [`Reading::packed`]: crate::Reading::packed
 #[derive(Drop)]
@@ -430,7 +439,7 @@ impl<'r, 'a> Model for PackedItems<'r, 'a> {
 }
 
 impl<'r, 'a> PackedItems<'r, 'a> {
-    /// How many items each subset has.
+    /// Returns the number of items in each subset.
     #[inline(always)]
     pub fn len(&self) -> usize
         ensures { result ≡ length self.now.items }
@@ -438,7 +447,7 @@ impl<'r, 'a> PackedItems<'r, 'a> {
         self.kept.len()
     }
 
-    /// How many subsets there are.
+    /// Returns the number of subsets.
     #[inline(always)]
     pub fn subsets(&self) -> u16
         ensures { result ≡ self.now.subsets }
@@ -446,7 +455,8 @@ impl<'r, 'a> PackedItems<'r, 'a> {
         self.data.subsets
     }
 
-    /// Whether the item of an index has no increments, and so is the same in all subsets.
+    /// Returns whether the item at an index has no increments, so that it is the same in all
+    /// subsets.
     #[inline(always)]
     // rule: compressed-equal
     pub fn is_alike(&self, index: usize) -> bool
@@ -456,12 +466,13 @@ impl<'r, 'a> PackedItems<'r, 'a> {
         self.kept.item(index).step == 0
     }
 
-    /// Shows the items of one subset, counted from 0, from one index to before another.
+    /// Shows the items of one subset, counted from 0, whose indices are at least `from` and below
+    /// `to`.
     ///
     /// # Errors
     ///
-    /// [`ShowFault::Visitor`] with the visitor's fault.
-    // Out of line, so that an item's line is made in its loop.
+    /// [`ShowFault::Visitor`] with the visitor's fault if the visitor returns one.
+    // Not inlined, so that the line of an item is formatted in the loop of this function.
     #[inline(never)]
     pub fn show<V: Visitor>(
         &self,
@@ -486,7 +497,7 @@ impl<'r, 'a> PackedItems<'r, 'a> {
         Ok(())
     }
 
-    /// Shows each subset, and its items.
+    /// Shows each subset and its items.
     #[tactic(auto, using(crate::proofs::PackedShowing::subsets_start, crate::proofs::PackedShowing::subsets_done))]
     #[inline(never)]
     pub(crate) fn show_all<V: Visitor>(&self, visitor: &mut V) -> Result<(), ShowFault<V::Fault>>

@@ -12,15 +12,15 @@ use thiserror::Error;
 /// The location of an item in the data.
 #[derive(Clone, Copy, Debug, PartialEq, Eq)]
 pub struct Spot {
-    /// The subset, from 1; 0 in compressed data.
+    /// The number of the subset, from 1; 0 in compressed data.
     pub subset: u16,
-    /// The descriptor: an element, a factor, or an operator.
+    /// The descriptor of an element, a factor or an operator.
     pub fxy: Fxy,
     /// The number of data bits before the item.
     pub bit: u64,
 }
 
-/// Says where the item is, as the fault lines do.
+/// Writes the location in the form that fault lines use.
 impl fmt::Display for Spot {
     fn fmt<W: fmt::Write>(&self, f: &mut fmt::Formatter<W>) -> fmt::Result {
         let Spot { subset, fxy, bit } = self;
@@ -28,26 +28,28 @@ impl fmt::Display for Spot {
     }
 }
 
-/// The number of a width that no field has. A document can have this fault too.
+/// The number of the fault for an invalid width. A document can have this fault too.
 pub const WIDTH: u8 = 31;
 
-/// The number of what may not come while 2 03 Y defines references. A document can have this fault
-/// too.
+/// The number of the fault for a descriptor that is not allowed while 2 03 Y redefines references.
+/// A document can have this fault too.
 pub const DEFINING: u8 = 32;
 
-/// The number of too many values in compressed data. A document can have this fault too.
+/// The number of the fault for too many values in compressed data. A document can have this fault
+/// too.
 pub const TOO_MANY_VALUES: u8 = 35;
 
-/// Why the data of a message cannot be read.
+/// The reason why the data of a message cannot be read.
 #[derive(Clone, Copy, Debug, PartialEq, Eq, Error)]
 pub enum WalkFault {
     /// The data end inside the item.
     #[error("data end {0}")]
     DataEnd(Spot),
-    /// A field that is not text is under 1 or over 63 bits wide.
+    /// A field that is not text is less than 1 or more than 63 bits wide, or Table B does not
+    /// contain its element.
     #[error("width {0}")]
     Width(Spot),
-    /// A step that is not allowed while 2 03 Y defines references.
+    /// The descriptor is not allowed while 2 03 Y redefines references.
     #[error("defining {0}")]
     Defining(Spot),
     /// The factor of a replication is not the same in all subsets of compressed data.
@@ -56,7 +58,7 @@ pub enum WalkFault {
     /// The increments of an item of compressed data are invalid.
     #[error("increment {0}")]
     Increment(Spot),
-    /// Compressed data have more than 134,217,728 values.
+    /// With this item, compressed data would have more than 134,217,728 values.
     #[error("too many values {0}")]
     TooManyValues(Spot),
     /// Memory ran out.
@@ -65,7 +67,7 @@ pub enum WalkFault {
 }
 
 impl WalkFault {
-    /// The number of this fault: 30 to 35, and 73 where memory ran out.
+    /// Returns the number of this fault: 30 to 35, or 73 if memory ran out.
     pub fn number(self) -> u8
         ensures { result ≡ (data_report self).0 }
     {
@@ -81,20 +83,20 @@ impl WalkFault {
     }
 }
 
-/// Why an item of the data cannot be read, with its descriptor.
+/// The reason why an item of the data cannot be read, with the descriptor of the item.
 #[derive(Clone, Copy, Debug, PartialEq, Eq, Error)]
 pub enum DataFault {
     /// The data end inside the item.
     #[error("the data end inside an item")]
     DataEnd(Fxy),
-    /// The sum of a base and an increment exceeds the width, k exceeds the length of a text, or a
+    /// The sum of a base and an increment exceeds the width, `k` exceeds the length of a text, or a
     /// redefined reference has increments.
     #[error("an increment that cannot be")]
     Increment(Fxy),
-    /// A replication factor differs between subsets.
+    /// A replication factor is not the same in all subsets.
     #[error("a factor is not the same in all subsets")]
     UnequalFactor(Fxy),
-    /// There are more than 134,217,728 values up to this item.
+    /// With this item, there would be more than 134,217,728 values.
     #[error("too many values")]
     TooManyValues(Fxy),
     /// Memory ran out.
@@ -103,8 +105,8 @@ pub enum DataFault {
 }
 
 impl DataFault {
-    /// The number of the [`WalkFault`] that it becomes: 30, 33 to 35, and 73
-    /// where memory ran out.
+    /// Returns the number of the [`WalkFault`] that this fault becomes: 30, 33 to 35, or 73 if
+    /// memory ran out.
     pub fn number(self) -> u8
         ensures { result ≡ (data_report (fault_at (stops.Field self) 0 0)).0 }
     {
@@ -112,7 +114,7 @@ impl DataFault {
     }
 }
 
-/// The fault of the stop of a walk, in a subset, after `bit` bits.
+/// Returns the fault of a walk that stopped in this subset after `bit` bits.
 pub(crate) fn fault_at(why: WalkStop<DataFault>, subset: u16, bit: u64) -> WalkFault
     ensures { result ≡ fault_at why subset bit }
 {
@@ -130,10 +132,10 @@ pub(crate) fn fault_at(why: WalkStop<DataFault>, subset: u16, bit: u64) -> WalkF
     }
 }
 
-/// Why a reading was not shown to its end.
+/// The reason why a reading was not shown to its end.
 #[derive(Debug, PartialEq, Eq, Drop, Error)]
 pub enum ShowFault<E> {
-    /// The visitor's own fault.
+    /// The visitor returned this fault.
     #[error("the visitor stopped the showing")]
     Visitor(E),
     /// Memory ran out.

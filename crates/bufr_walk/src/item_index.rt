@@ -8,8 +8,8 @@ use crate::spec::Spec;
 use std::alloc::Global;
 use std::marker::Model;
 
-/// A kept item: its specification, its base (0 for a text), the bit where it begins, and its k.
-// The bit is below 2^48, and its two parts leave an item 48 octets.
+/// A stored item: its spec, its base (0 for a text), the bit at which it begins, and its `k`.
+// The bit is below 2^48. It is stored in two parts so that an item takes only 48 octets.
 #[derive(Clone, Copy)]
 pub(crate) struct IndexedItem {
     pub(crate) spec: Spec,
@@ -20,7 +20,7 @@ pub(crate) struct IndexedItem {
 }
 
 impl IndexedItem {
-    /// The bit where it begins.
+    /// Returns the bit at which the item begins.
     #[inline(always)]
     pub(crate) fn at(self) -> u64
         ensures { result ≡ start_of self }
@@ -29,10 +29,10 @@ impl IndexedItem {
     }
 }
 
-/// How many items room is made for at once.
+/// The number of items for which memory is reserved at once.
 const ITEMS_AT_ONCE: usize = 64;
 
-/// Makes room for 64 more items. If there is less, the room about doubles.
+/// Makes room for 64 more items. If there is less room, the capacity roughly doubles.
 #[inline(always)]
 fn reserve(items: &mut Vec<IndexedItem>) -> Result<(), DataFault>
     ensures same { items.new.items ≡ items.old.items }
@@ -52,7 +52,7 @@ fn reserve(items: &mut Vec<IndexedItem>) -> Result<(), DataFault>
     }
 }
 
-/// The items that are kept, in the order in which they came.
+/// The stored items, in the order in which they were read.
 #[derive(Drop)]
 pub(crate) struct ItemIndex {
     items: Vec<IndexedItem>,
@@ -72,7 +72,7 @@ impl Model for ItemIndex {
 }
 
 impl ItemIndex {
-    /// No item.
+    /// Creates an empty index.
     pub(crate) fn new(alloc: Global) -> ItemIndex
         ensures { result ≡ [] }
     {
@@ -81,7 +81,7 @@ impl ItemIndex {
         }
     }
 
-    /// How many items there are.
+    /// Returns the number of items.
     #[inline(always)]
     pub(crate) fn len(&self) -> usize
         ensures { result ≡ length self.now }
@@ -89,7 +89,7 @@ impl ItemIndex {
         self.items.len()
     }
 
-    /// The item of an index.
+    /// Returns the item at an index.
     #[inline(always)]
     pub(crate) fn item(&self, index: usize) -> IndexedItem
         requires { index < length self.now }
@@ -98,7 +98,7 @@ impl ItemIndex {
         self.items[index]
     }
 
-    /// Appends an item. Makes room for 64 items at once.
+    /// Appends an item. Memory is reserved for 64 items at once.
     #[inline(always)]
     pub(crate) fn keep(&mut self, item: IndexedItem) -> Result<(), DataFault>
         ensures kept { OnOk result (self.new ≡ self.old ++ item ∷ []) }

@@ -1,5 +1,5 @@
-//! Laws on the reading of data: each item is what comes next, and is read where the one before it
-//! ended.
+//! Laws about the reading of data: each item is the field that comes next, and begins where the
+//! previous item ended.
 ghost use Rattle.std.specs.Prelude.{◌≡◌, ◌≤◌, ℕ, List, Bool, None, false, drop, is_some};
 ghost use Rattle.bufr_tables.specs.Prelude.{IsLegal, Record, Row, AreRows, Tree, entry_of};
 ghost use Rattle.bufr_tables.specs.Expansion.{IsKnown};
@@ -8,12 +8,12 @@ ghost use Rattle.bufr_walk.specs.Course.{turns_of, counts_of};
 ghost use Rattle.bufr_walk.specs.Rules.{begin};
 ghost use Rattle.bufr_walk.specs.Prelude.{next_item, Data, Values, IsReading, Taken, FieldSpec, AreWithin, IsField, take_next, reading_of, read_pass, ReadsTo, plain, packed, would_be_many};
 
-/// Law: for each template of legal nodes and each Table B, a pass over any bits reads item by item.
-/// Each item is what comes next, and is read where the item before it ended. Finally the template
-/// ends, or what comes next cannot be read and stops the pass. A reading does not stop exactly if
-/// its items can be read to the end of each subset, and then these are its items. So data have
-/// either one reading or one refusal, never both. (WMO-No. 306, Volume I.2, FM 94: sections 3 and
-/// 4)
+/// Law: for every legal template and every Table B that can be read, a pass over any bits reads
+/// item by item. Each item is the field that comes next, and begins where the previous item ended.
+/// The pass ends with the template, or it stops because what comes next cannot be read. A reading
+/// completes if and only if its items can be read to the end of each subset, and then it consists
+/// of these items. So data have either one reading or one fault, never both. (WMO-No. 306, Volume
+/// I.2, FM 94: sections 3 and 4)
 pub fn data_are_read_item_by_item()
     ensures plain { (records : List Record) (table : List Row) (template : Tree) (bits : List Bool)
         → AreRows records table → IsLegal template
@@ -37,18 +37,19 @@ pub fn data_are_read_item_by_item()
         × (r.left ≡ drop used d.bits) }
 {}
 
-/// Law: each field that comes next in a template of legal nodes is a specification, and its
-/// descriptor has 16 bits. Table B was read, and the references that were returned have 64 bits.
+/// Law: each field that comes next in a legal template has a valid spec, and its descriptor has 16
+/// bits. This holds for every Table B that can be read, if the references returned so far have 64
+/// bits.
 pub fn next_fields_are_fields()
     ensures { (records : List Record) (table : List Row) (template : Tree) (answers : List Taken)
         (spec : FieldSpec) → AreRows records table → IsLegal template → AreWithin answers
         → next_item table template answers ≡ take_next spec → IsField spec }
 {}
 
-/// Law: a walk over a template that [`Template::build`](bufr_tables::Template::build) returned
-/// (which ensures `IsLegal` and `IsKnown`) meets no element and no factor that the table lacks,
-/// except for the descriptor after 2 06 Y, which gets its width from there. So if a width is
-/// refused, the reason is never that its row is missing. (WMO-No. 306, Volume I.2, FM 94: section
+/// Law: if [`Template::build`](bufr_tables::Template::build) returned a template (which ensures
+/// `IsLegal` and `IsKnown`), then a walk over it finds each element and factor in the table, except
+/// for the descriptor after 2 06 Y, which gets its width from this operator. So if a width is
+/// rejected, the reason is never that its row is missing. (WMO-No. 306, Volume I.2, FM 94: section
 /// 3)
 pub fn elements_have_their_rows()
     ensures { (table : List Row) (template : Tree) (answers : List Taken) → IsLegal template

@@ -1,10 +1,11 @@
-//! The data of FM 94 BUFR: one walk over a template, and the reading of a message's data.
+//! The data of FM 94 BUFR messages: the walk over a template, and the reading of a message's data.
 //!
 //! [`read_message`] reads the data of a message, and [`Reading::show`] passes each subset and item
-//! to a [`Visitor`], which writes dumps in the crates above. [`walk`] goes over a template for any
-//! [`Fields`]: [`PlainIn`] and [`PackedIn`] read data, and the writers of `bufr_fill` use the same
-//! walk. [`TemplateCache`] keeps the last templates of a run, and the specs of their cells.
-//! [`read_by`], [`Reading::show_by`] and [`walk_by`] use these.
+//! to a [`Visitor`]. The crates above this one write dumps with such a visitor. [`walk`] traverses
+//! a template for any [`Fields`]: [`PlainIn`] and [`PackedIn`] read data, and the writers of
+//! `bufr_fill` use the same walk. [`TemplateCache`] caches the most recent templates of a run and
+//! the specs of their cells. [`read_by`], [`Reading::show_by`] and [`walk_by`] use the cached
+//! specs.
 #![tactic(auto)]
 
 mod compressed;

@@ -1,4 +1,4 @@
-//! Data that are not compressed: fields, reading, and showing.
+//! Plain data (data that are not compressed): their fields, and how they are read and shown.
 ghost use Rattle.std.specs.Prelude.{◌≡◌, ◌≤◌, ◌<◌, ◌+◌, ◌-◌, ◌*◌, ◌^◌, length, take, drop, if◌then◌else◌, ◌==◌, pos, neg_ℤ, false, IfOk, IfErr, ◌/◌, Result, Some, None, Ok, Err, MatchResult};
 ghost use Rattle.bufr_bits.specs.Prelude.{number_of, bits_at, bits_of, are_all_ones, octets_of};
 ghost use Rattle.bufr_walk.specs.Prelude.{IsFor, answer_of, content_in, signed_by, octets_in, Content, shown, next_item, counted_item, bits_before, data_in, ReadsData, plain, read_pass, passes_apart, stop_of, items_by_pass, turns_in, PaysBits, reading_of, rest_of, ItemsGo, item_call, view_of, subset_calls, seen_value, Shows, PlainTakes, past, shown_missing};
@@ -15,7 +15,8 @@ use bufr_bits::BitSlice;
 use bufr_tables::{Entry, Fxy, TableB, Template};
 use std::marker::Model;
 
-/// The number that bits inside the data write.
+/// Returns the number in the `width` bits that begin at bit `at`. They must be inside the data. The
+/// number in 0 bits is 0.
 #[inline(always)]
 pub(crate) fn number_at(bits: &BitSlice<'_>, at: u64, width: u32) -> u64
     requires few { width ≤ 63 }
@@ -29,16 +30,16 @@ pub(crate) fn number_at(bits: &BitSlice<'_>, at: u64, width: u32) -> u64
     bits.number(at, width)
 }
 
-/// The number that bits write, and whether they are all ones.
+/// The number in some bits, and whether they are all ones.
 #[derive(Clone, Copy)]
 pub(crate) struct RawNumber {
-    /// Their number.
+    /// The number in the bits.
     pub(crate) number: u64,
-    /// Whether they are all ones.
+    /// Whether the bits are all ones.
     pub(crate) all_ones: bool,
 }
 
-/// Reads 1 to 63 bits inside the data.
+/// Reads the number in 1 to 63 bits, which must be inside the data.
 #[inline(always)]
 pub(crate) fn raw_at(bits: &BitSlice<'_>, at: u64, width: u32) -> RawNumber
     requires some { 1 ≤ width }
@@ -55,7 +56,7 @@ pub(crate) fn raw_at(bits: &BitSlice<'_>, at: u64, width: u32) -> RawNumber
     }
 }
 
-/// A number with its sign.
+/// Returns `size`, negated if `sign` is 1.
 // rule: reads-minus-zero
 fn signed(sign: u64, size: u64) -> i64
     requires { size < 2 ^ 62 }
@@ -65,7 +66,7 @@ fn signed(sign: u64, size: u64) -> i64
     if sign == 1 { -size } else { size }
 }
 
-/// The number whose first bit is its sign.
+/// Returns the number in the `width` bits that begin at bit `at`. The first bit is its sign.
 #[tactic(auto, using(crate::proofs::PlainLemmas::signed_parts, crate::proofs::PlainLemmas::small_power))]
 // rule: new-reference
 pub(crate) fn signed_at(bits: &BitSlice<'_>, at: u64, width: u32) -> i64
@@ -79,7 +80,8 @@ pub(crate) fn signed_at(bits: &BitSlice<'_>, at: u64, width: u32) -> i64
     signed(sign, size)
 }
 
-/// What a field that is inside the data returns to the walk.
+/// Returns the answer of a field that is inside the data: the part of its value that affects the
+/// walk.
 #[inline(always)]
 #[tactic(auto, using(crate::proofs::ShownLemmas::plain_answer, crate::proofs::ShownLemmas::plain_for, crate::proofs::PlainLemmas::answer_element, crate::proofs::PlainLemmas::answer_inserted, crate::proofs::PlainLemmas::answer_factor, crate::proofs::PlainLemmas::answer_reference, crate::proofs::PlainLemmas::some_width, crate::proofs::PlainLemmas::factor_width, crate::proofs::PlainLemmas::reference_width))]
 pub(crate) fn answer_at(bits: &BitSlice<'_>, at: u64, spec: &Spec) -> Taken
@@ -99,7 +101,8 @@ pub(crate) fn answer_at(bits: &BitSlice<'_>, at: u64, spec: &Spec) -> Taken
     }
 }
 
-/// Whether bits that are inside the data are all ones.
+/// Returns whether the `width` bits that begin at bit `at` are all ones. They must be inside the
+/// data.
 pub(crate) fn ones_at(bits: &BitSlice<'_>, at: u64, width: u32) -> bool
     requires { at + width ≤ 8 * length (octets_of bits.now) }
     ensures { result ≡ are_all_ones (bits_at (octets_of bits.now) at width) }
@@ -110,7 +113,8 @@ pub(crate) fn ones_at(bits: &BitSlice<'_>, at: u64, width: u32) -> bool
     }
 }
 
-/// Copies `count` octets that begin at any bit.
+/// Copies the `count` octets that begin at bit `at` to `text`. The bit need not be the first of an
+/// octet.
 pub(crate) fn copy_octets(bits: &BitSlice<'_>, at: u64, count: usize, text: &mut [u8; 255])
     requires few { count ≤ 255 }
     requires within { at + 8 * count ≤ 8 * length (octets_of bits.now) }
@@ -130,7 +134,8 @@ pub(crate) fn copy_octets(bits: &BitSlice<'_>, at: u64, count: usize, text: &mut
     }
 }
 
-/// The value of a field that begins with bit `at`. A text is copied where it cannot be borrowed.
+/// Returns the value of the field that begins at bit `at`. A text is copied to `text` if it cannot
+/// be borrowed.
 #[tactic(auto, using(crate::proofs::ShownLemmas::reference_shown, crate::proofs::ShownLemmas::missing_shown, crate::proofs::ShownLemmas::number_shown))]
 // rule: value, missing, missing-inserted-text
 pub(crate) fn value_at<'a: 't, 't>(
@@ -167,8 +172,8 @@ pub(crate) fn value_at<'a: 't, 't>(
     Value::Number(i128::from(raw.number) + spec.reference(), spec.scale())
 }
 
-/// Fields of data that are not compressed, one after another. A contract sees the bits, and how
-/// many of them were read. (WMO-No. 306, Volume I.2, FM 94: section 4)
+/// A reader of the fields in plain data, one after another. Contracts see the bits and how many of
+/// them were read. (WMO-No. 306, Volume I.2, FM 94: section 4)
 #[derive(Drop)]
 pub struct PlainIn<'a> {
     bits: BitSlice<'a>,
@@ -188,15 +193,15 @@ impl<'a> Model for PlainIn<'a> {
 }
 
 impl<'a> PlainIn<'a> {
-    /// A reader of data that are not compressed, from bit 0 on.
+    /// Creates a reader of plain data that starts at bit 0.
     pub fn new(bits: BitSlice<'a>) -> PlainIn<'a>
         ensures { result ≡ record { bits = bits_of (octets_of bits.entry); at = 0 } }
     {
         PlainIn { bits, at: 0 }
     }
 
-    /// What the next field returns to the walk, or that the data end in it. The field is not
-    /// passed.
+    /// Returns the answer of the next field without moving past it, or [`DataFault::DataEnd`] if
+    /// the data end inside the field.
     #[tactic(auto, using(crate::proofs::PlainLemmas::taken_here, crate::proofs::PlainLemmas::ends_here, crate::proofs::PlainLemmas::bits_length))]
     #[inline(always)]
     // rule: field-past-end
@@ -238,7 +243,7 @@ impl<'a> Fields for PlainIn<'a> {
     }
 }
 
-/// Reads all subsets, and returns how many bits they take.
+/// Reads all subsets, and returns the number of bits that they take.
 // rule: operators-end-with-subset, subsets-without-padding, bits-left-over
 pub(crate) fn read_plain(
     bits: BitSlice<'_>,
@@ -269,7 +274,7 @@ pub(crate) fn read_plain(
     Ok(fields.at)
 }
 
-/// Shows a field that has this value.
+/// Shows a field with this value.
 // rule: text-no-comment
 pub(crate) fn show_value<V: Visitor>(
     table: &TableB,
@@ -285,8 +290,8 @@ pub(crate) fn show_value<V: Visitor>(
     visitor.item(&ItemView { fxy, entry, value })
 }
 
-/// Shows a missing value that was read by an entry. Out of line, so that the showing of a number
-/// stays small.
+/// Shows a missing value that was read by an entry. Not inlined, so that the code that shows a
+/// number stays small.
 #[inline(never)]
 pub(crate) fn show_missing<V: Visitor>(
     fxy: Fxy,
@@ -303,7 +308,7 @@ pub(crate) fn show_missing<V: Visitor>(
     })
 }
 
-/// Shows any field.
+/// Shows a field of any kind.
 #[inline(never)]
 fn show_other<V: Visitor>(
     input: &PlainIn<'_>,
@@ -320,7 +325,7 @@ fn show_other<V: Visitor>(
     show_value(table, spec, value, visitor)
 }
 
-/// Shows the next field. Out of line, so that the loop over fields stays small.
+/// Shows the next field. Not inlined, so that the loop over fields stays small.
 #[tactic(auto, using(crate::proofs::ShownLemmas::plain_shown, crate::proofs::ShownLemmas::plain_missing))]
 #[inline(never)]
 fn show_field<V: Visitor>(
@@ -351,20 +356,21 @@ fn show_field<V: Visitor>(
     show_other(input, table, spec, text, visitor)
 }
 
-/// Why a field is not taken.
+/// The reason why a field was not taken.
 #[derive(Drop)]
 pub(crate) enum ShowStop<E> {
     DataEnd,
     Visitor(E),
 }
 
-/// Fields that are read from bits, each shown to a visitor before it is passed.
+/// Fields that are read from plain data. Each one is shown to a visitor before the reader moves
+/// past it.
 #[derive(Drop)]
 pub(crate) struct ShowFields<'i, 't, 'v, 'b, V: Visitor> {
     input: &'i mut PlainIn<'b>,
     table: &'t TableB,
     visitor: &'v mut V,
-    /// Room for a text that does not begin at an octet.
+    /// A buffer for a text that does not begin at the start of an octet.
     text: [u8; 255],
 }
 
@@ -406,7 +412,7 @@ impl<'i, 't, 'v, 'b, V: Visitor> Fields for ShowFields<'i, 't, 'v, 'b, V> {
     }
 }
 
-/// Walks over one subset, and shows each item.
+/// Walks over one subset, and shows each of its items.
 fn walk_showing<V: Visitor>(
     template: &Template,
     cache: &mut SpecCache<'_>,
@@ -457,7 +463,7 @@ fn show_items<V: Visitor>(
     walk_showing(template, cache, &mut fields, steps)
 }
 
-/// Data that are not compressed, how many subsets they have, and their template.
+/// Plain data, the number of subsets, and their template.
 #[derive(Drop)]
 pub(crate) struct PlainData<'a> {
     pub bits: BitSlice<'a>,
@@ -465,7 +471,7 @@ pub(crate) struct PlainData<'a> {
     pub template: &'a Template,
 }
 
-/// Shows each subset, and its items.
+/// Shows each subset and its items.
 pub(crate) fn show_plain<V: Visitor>(
     given: &PlainData<'_>,
     cache: &mut SpecCache<'_>,

@@ -16,15 +16,16 @@ use bufr_tables::{TableB, Template};
 use std::alloc::Global;
 use std::marker::Model;
 
-/// What a reading keeps: of compressed data the location of each item, and the fields among them.
+/// The items that a reading stores: none for plain data, and each item with its location for
+/// compressed data.
 #[derive(Drop)]
 enum StoredItems {
     Apart,
     Together(ItemIndex),
 }
 
-/// The reading of a message's data. It borrows the message's octets, the template and the table.
-/// (WMO-No. 306, Volume I.2, FM 94: section 4)
+/// The result of reading a message's data. It borrows the message's octets, the template and the
+/// table. (WMO-No. 306, Volume I.2, FM 94: section 4)
 #[derive(Drop)]
 pub struct Reading<'a> {
     bits: BitSlice<'a>,
@@ -56,11 +57,13 @@ impl<'a> Model for Reading<'a> {
         (data_in r.compressed r.subsets (octets_of r.bits)) r.used (held_of r.kept)) r.kept };
 }
 
-/// Reads the data of a message by its template: one pass for each subset, or one pass for all where
-/// the data are compressed. Sets `steps` to the steps of the reading. For each bit of its items a
-/// reading makes at most as many steps as the template has places. A refusal makes at most as many
-/// for each bit before the item, plus as many again. (WMO-No. 306, Volume I.2, FM 94: sections 3
-/// and 4)
+/// Reads the data of a message by its template: in one pass for each subset or, if the data are
+/// compressed, in one pass for all subsets. (WMO-No. 306, Volume I.2, FM 94: sections 3 and 4)
+///
+/// Sets `steps` to the number of steps that were made. If the template has `p` places and the items
+/// take `n` bits, this is at most `p * n`. If the data cannot be read, it is at most `p * (n + 1)`,
+/// where `n` is the number of bits before the item with the fault or, if memory ran out, the number
+/// of all bits of the data.
 ///
 /// ```
 /// let mut steps = Steps::new();
@@ -70,14 +73,19 @@ impl<'a> Model for Reading<'a> {
 ///
 /// # Errors
 ///
-/// The first that holds, in the order of the data. It has the subset (0 where the data are
-/// compressed), the descriptor, and how many bits precede the item. At one item:
-/// [`WalkFault::Defining`] for what is not allowed while references are being defined;
-/// [`WalkFault::Width`] for a width outside 1 to 63 bits; [`WalkFault::TooManyValues`] where
-/// compressed data would have more than 134,217,728 values; [`WalkFault::DataEnd`] where the data
-/// end in the item; [`WalkFault::Increment`] for invalid increments; [`WalkFault::UnequalFactor`]
-/// for a factor that is not the same in all subsets. [`WalkFault::Memory`] where memory runs out:
-/// before a reference that the data define, and in compressed data at every 64th item.
+/// The first fault in the order of the data. It contains the subset (0 if the data are compressed),
+/// the descriptor, and the number of bits before the item. If an item has several faults, the first
+/// of these is returned:
+/// - [`WalkFault::Defining`] if the descriptor is not allowed while references are being redefined;
+/// - [`WalkFault::Width`] if a field that is not text is not 1 to 63 bits wide, or if the table
+///   does not contain its element;
+/// - [`WalkFault::TooManyValues`] if compressed data would have more than 134,217,728 values;
+/// - [`WalkFault::DataEnd`] if the data end inside the item;
+/// - [`WalkFault::Increment`] if the increments are invalid;
+/// - [`WalkFault::UnequalFactor`] if a factor is not the same in all subsets.
+///
+/// [`WalkFault::Memory`] if memory runs out. This can happen before a redefined reference is read
+/// and, in compressed data, at every 64th item.
 pub fn read_message<'a>(
     alloc: Global,
     message: &Message<'a>,
@@ -94,11 +102,11 @@ pub fn read_message<'a>(
     read_by(message, template, &mut cache, steps)
 }
 
-/// Reads the data of a message as [`read_message`] does, with the specs that are cached.
+/// Reads the data of a message as [`read_message`] does, using the cached specs.
 ///
 /// # Errors
 ///
-/// Those of [`read_message`].
+/// The same as those of [`read_message`].
 // rule: no-subsets
 pub fn read_by<'a, 't: 'a>(
     message: &Message<'a>,
@@ -156,29 +164,29 @@ pub fn read_by<'a, 't: 'a>(
 }
 
 impl<'a> Reading<'a> {
-    /// The number of subsets.
+    /// Returns the number of subsets.
     pub fn subsets(&self) -> u16
         ensures { result ≡ self.now.source.subsets }
     {
         self.subsets
     }
 
-    /// The table that the items are read by.
+    /// Returns the table by which the items are read.
     pub fn table(&self) -> &'a TableB
         ensures { result.now ≡ self.now.table }
     {
         self.table
     }
 
-    /// How many bits of the data the items take.
+    /// Returns the number of bits of the data that the items take.
     pub fn bits(&self) -> u64
         ensures { result ≡ self.now.bits }
     {
         self.used
     }
 
-    /// How many items are kept: none where the data are not compressed, else each item of all
-    /// subsets. They are at most one for seven bits.
+    /// Returns the number of stored items. For plain data, it is 0. For compressed data, each item
+    /// is stored once for all subsets, and there is at most one item for every seven bits.
     pub fn held(&self) -> u64
         ensures value { result ≡ self.now.held }
         ensures items { result ≡ items_kept (values_read self.now) }
@@ -191,8 +199,8 @@ impl<'a> Reading<'a> {
         }
     }
 
-    /// The items of compressed data, each once for all subsets; `None` where the data are not
-    /// compressed.
+    /// Returns the items of compressed data, each once for all subsets, or `None` if the data are
+    /// not compressed.
     #[inline(always)]
     pub fn packed(&self) -> Option<PackedItems<'_, 'a>>
         ensures some { is_some result ≡ self.now.source.compressed }
@@ -211,15 +219,18 @@ impl<'a> Reading<'a> {
         }
     }
 
-    /// Shows each subset and its items to a visitor, in the order of the data, and stops at its
-    /// first fault. Sets `steps` to the steps of the showing, 0 where the data are compressed. At
-    /// most 134,217,728 items are shown. There are at most as many steps as the template has places
-    /// for each bit of the items.
+    /// Shows each subset and its items to a visitor, in the order of the data, and stops at the
+    /// visitor's first fault. At most 134,217,728 items are shown.
+    ///
+    /// Sets `steps` to the number of steps that were made, which is 0 if the data are compressed.
+    /// It is at most the number of places in the template times the number of bits that the items
+    /// take.
     ///
     /// # Errors
     ///
-    /// [`ShowFault::Visitor`] with the visitor's fault. [`ShowFault::Memory`] where memory runs out
-    /// before a reference that the data define.
+    /// [`ShowFault::Visitor`] with the visitor's fault if the visitor returns one.
+    /// [`ShowFault::Memory`] if memory runs out, which can happen only before a redefined reference
+    /// is shown.
     pub fn show<V: Visitor>(
         &self,
         alloc: Global,
@@ -235,12 +246,12 @@ impl<'a> Reading<'a> {
         self.show_by(&mut cache, visitor, steps)
     }
 
-    /// Shows each subset and its items to a visitor as [`Reading::show`] does, with the specs that
-    /// are cached.
+    /// Shows each subset and its items to a visitor as [`Reading::show`] does, using the cached
+    /// specs. The cache must be one for the table of the reading.
     ///
     /// # Errors
     ///
-    /// Those of [`Reading::show`].
+    /// The same as those of [`Reading::show`].
     #[tactic(auto, using(crate::proofs::PlainLemmas::readable_of, crate::proofs::PackedShowing::packed_shown, crate::proofs::ShownLemmas::apart_shown))]
     pub fn show_by<V: Visitor>(
         &self,
@@ -255,7 +266,7 @@ impl<'a> Reading<'a> {
         ensures few { items_called (calls_of self.now) ≤ max_values }
         ensures bounded { steps.new ≤ places self.now.template * self.now.bits }
     {
-        // For the proof alone: what a template ensures of its groups bounds the steps.
+        // Only for the proof: what this call ensures about the template's groups bounds the steps.
         let _ = self.template.cells();
         *steps = Steps::new();
         if let Some(items) = self.packed() {

@@ -1,4 +1,4 @@
-//! The specification of one field of the data.
+//! The spec of a field of the data.
 ghost use Rattle.std.specs.Prelude.{◌≡◌, ◌≤◌, ◌^◌, false, true, unsigned_abs, ◌%◌};
 ghost use Rattle.bufr_tables.specs.Prelude.{is_character};
 ghost use Rattle.bufr_walk.specs.Prelude.{HasRole, HasWidth, number_field, if_valid_width, text_spec, IsSpec, is_reference, IsPlainNumber};
@@ -7,7 +7,7 @@ ghost use Rattle.bufr_tables.specs.declared.table_b.Kind.TheVariants as kinds;
 use bufr_tables::{Fxy, Kind};
 use std::marker::Model;
 
-/// What a field is for.
+/// The purpose of a field.
 #[derive(Clone, Copy, Debug, PartialEq, Eq, PartialOrd, Ord)]
 pub enum Role {
     /// The value of an element.
@@ -20,10 +20,12 @@ pub enum Role {
     Reference,
 }
 
-/// Why an element, a factor or an operator of a template is refused, with its descriptor.
+/// The reason why an element, a factor or an operator of a template is rejected, with its
+/// descriptor.
 #[derive(Clone, Copy, Debug, PartialEq, Eq)]
 pub enum TurnRefusal {
-    /// A field that is not text is under 1 or over 63 bits wide, or Table B lacks its element.
+    /// A field that is not text is less than 1 or more than 63 bits wide, or Table B does not
+    /// contain its element.
     Width(Fxy),
     /// The descriptor is not allowed while 2 03 Y redefines references.
     Defining(Fxy),
@@ -32,7 +34,7 @@ pub enum TurnRefusal {
 /// The answer of a field: the part of its value that affects what comes after it.
 #[derive(Clone, Copy, Debug, PartialEq, Eq)]
 pub enum Taken {
-    /// Nothing: only factors and redefined references affect that.
+    /// Nothing. Only factors and redefined references affect what comes after them.
     Plain,
     /// The number of passes of the group that follows.
     Count(u64),
@@ -40,9 +42,10 @@ pub enum Taken {
     Reference(i64),
 }
 
-/// How one field is read. (WMO-No. 306, Volume I.2, FM 94: section 4, Tables B and C)
-// The widest field is first: with gaps between the fields each copy would cost as much as the
-// reading of a number.
+/// The spec of a field: how its bits are read. (WMO-No. 306, Volume I.2, FM 94: section 4, Tables B
+/// and C)
+// The widest field comes first. If there were gaps between the fields, each copy would cost as much
+// as reading a number.
 #[derive(Clone, Copy, Debug, PartialEq, Eq)]
 pub struct Spec {
     pub(crate) reference: i128,
@@ -56,7 +59,7 @@ pub struct Spec {
     plain: bool,
 }
 
-/// How a field that is a number is read.
+/// The parts of a spec that describe a number.
 #[derive(Clone, Copy)]
 pub(crate) struct NumberParts {
     pub(crate) kind: Kind,
@@ -121,7 +124,7 @@ impl Model for Spec {
 }
 
 impl Spec {
-    /// A number, where its width is 1 to 63.
+    /// Returns the spec of a number, or [`TurnRefusal::Width`] if its width is not 1 to 63 bits.
     #[tactic(auto, using(crate::proofs::SpecLemmas::number_good))]
     #[inline(always)]
     // rule: widths
@@ -154,7 +157,7 @@ impl Spec {
         })
     }
 
-    /// Text of `width` bits.
+    /// Returns the spec of a text of `width` bits.
     #[tactic(auto, using(crate::proofs::SpecLemmas::text_good))]
     #[inline(always)]
     pub(crate) fn text(role: Role, fxy: Fxy, width: u32, listed: bool) -> Spec
@@ -175,28 +178,28 @@ impl Spec {
         }
     }
 
-    /// The descriptor of the field.
+    /// Returns the descriptor of the field.
     pub fn fxy(&self) -> Fxy
         ensures { result ≡ self.now.fxy }
     {
         self.fxy
     }
 
-    /// What the field is for.
+    /// Returns the purpose of the field.
     pub fn role(&self) -> Role
         ensures { result ≡ self.now.role }
     {
         self.role
     }
 
-    /// Whether the field is text, a figure of a code or flag table, or a number in a unit.
+    /// Returns whether the field is text, a figure of a code or flag table, or a number in a unit.
     pub fn kind(&self) -> Kind
         ensures { result ≡ self.now.kind }
     {
         self.kind
     }
 
-    /// The width of the field in bits, 1 to 63; for text a multiple of 8 up to 2,040.
+    /// Returns the width of the field in bits: 1 to 63 or, for a text, a multiple of 8 up to 2,040.
     #[tactic(auto, using(crate::proofs::SpecLemmas::some_width, crate::proofs::SpecLemmas::most_width, crate::proofs::SpecLemmas::narrow_width, crate::proofs::SpecLemmas::whole_width, crate::proofs::SpecLemmas::reference_width))]
     pub fn width(&self) -> u32
         ensures value { result ≡ self.now.width }
@@ -210,14 +213,14 @@ impl Spec {
         self.width
     }
 
-    /// The power of ten that divides its number.
+    /// Returns the scale: the number of the field is divided by ten to this power.
     pub fn scale(&self) -> i16
         ensures value { result ≡ self.now.scale }
     {
         self.scale
     }
 
-    /// The reference value, which is added to the number of the bits.
+    /// Returns the reference value, which is added to the number in the bits.
     pub fn reference(&self) -> i128
         ensures value { result ≡ self.now.reference }
         ensures spec { IsSpec self.now }
@@ -225,28 +228,29 @@ impl Spec {
         self.reference
     }
 
-    /// Whether the field is text.
+    /// Returns whether the field is text.
     pub fn is_text(&self) -> bool
         ensures { result ≡ is_character self.now.kind }
     {
         matches!(self.kind, Kind::Character)
     }
 
-    /// Whether the field is a reference that is being defined.
+    /// Returns whether the field is a redefined reference.
     pub fn is_reference(&self) -> bool
         ensures { result ≡ is_reference self.now.role }
     {
         matches!(self.role, Role::Reference)
     }
 
-    /// Whether the field is read by an entry of Table B.
+    /// Returns whether the field is read by its entry of Table B.
     pub fn listed(&self) -> bool
         ensures { result ≡ self.now.listed }
     {
         self.listed
     }
 
-    /// Whether the field is the number of a listed element, and stays below 2^63.
+    /// Returns whether the field is the number of a listed element, and its magnitude is always
+    /// below 2^63.
     #[inline(always)]
     pub(crate) fn is_plain(&self) -> bool
         ensures { result ≡ true → IsPlainNumber self.now }
@@ -254,7 +258,7 @@ impl Spec {
         self.plain
     }
 
-    /// Whether bits that are all ones are a missing value.
+    /// Returns whether bits that are all ones mean a missing value.
     pub fn may_be_missing(&self) -> bool
         ensures { result ≡ self.now.may_be_missing }
     {
