@@ -15,7 +15,7 @@ use Rattle.bufr_text.specs.declared.document.LineEffect.TheVariants.{Continues, 
 use Rattle.bufr_text.specs.declared.document.LineGroup.{LineGroup}
 use Rattle.bufr_text.specs.declared.document.LineGroup.TheVariants as group
 
--- ---- A message as its text gives it; no value is looked at yet. (own)
+-- ---- A document as it is read. Its values are not interpreted yet. (own)
 
 -- what the lines of a document say
 pub record Document : Type 0 where
@@ -248,17 +248,17 @@ open_documents_of text = parse_open_lines 1 between (split_of text).whole (split
 abbrev pub section2_in : Document → Option (List ℕ)
 section2_in d = if (header_in d).optional then Some d.section2 else None
 
--- each value is within the range of its key, from a key on
+-- whether each value is in the range of its key; the first value has this key
 abbrev pub are_in_range : (edition key : ℕ) → List ℕ → Bool
 are_in_range edition key [] = true
 are_in_range edition key (value ∷ more) =
     in_range edition key value && are_in_range edition (key + 1) more
 
--- The header is whole, each value within its range.
+-- The header is complete, and each value is in the range of its key.
 pub record IsHeaded (d : Document) : Type 0 where
   pub whole : length d.header ≡ 20
   pub ranges : are_in_range (header_in d).head.edition 0 d.header ≡ true
 
--- the most entries that an input of 2^32 reads of 4,096 octets can give
+-- the maximum number of entries in an input of 2^32 reads of 4,096 octets
 abbrev pub most_entries : ℕ
 most_entries = 2 ^ 44

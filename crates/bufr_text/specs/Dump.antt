@@ -97,24 +97,24 @@ text_of_lines lines = flat_map (λ line. line ++ 10 ∷ []) lines
 abbrev pub dump_text_of : Sections → List (List View) → List ℕ
 dump_text_of s subsets = text_of_lines (dump_lines s subsets)
 
--- the entries of items whose first is at a line
+-- the entries of items, the first of which is on line `at`
 unfoldable pub item_entries : (at : ℕ) → List View → List DraftEntry
 item_entries at [] = []
 item_entries at (item ∷ more) =
     Holds (draft at item.fxy (dump_value_of item.value)) ∷ item_entries (at + 1) more
 
--- the entries of subsets whose first begins at a line
+-- the entries of subsets, the first of which begins on line `at`
 unfoldable pub subset_entries : (at : ℕ) → List (List View) → List DraftEntry
 subset_entries at [] = []
 subset_entries at (items ∷ more) = item_entries (at + 1) items
     ++ (Ends (at + 1 + length items) ∷ subset_entries (at + 1 + length items) more)
 
--- how many lines a message has before its subsets
+-- the number of lines before the subsets of a message
 abbrev pub lines_before : Sections → ℕ
 lines_before s = 21 + length (runs_of 32 s.local1) + length (runs_of 32 (unwrap_or s.section2 []))
     + length (runs_of 8 s.descriptors)
 
--- the document of a message whose dump text begins at a line
+-- the document of a message whose dump text begins on line `at`
 abbrev pub document_of : (at : ℕ) → Sections → List (List View) → Document
 document_of at s subsets = record {
   line = at;
@@ -125,7 +125,7 @@ document_of at s subsets = record {
   entries = subset_entries (at + lines_before s) subsets;
 }
 
--- ---- The items that a reading gives to a dump text. (own)
+-- ---- The items of a reading, as a dump text shows them. (own)
 
 -- the items of a subset as they are shown
 abbrev pub items_shown : List Row → List (Item Content) → List View
@@ -134,23 +134,23 @@ items_shown table items = map (λ i. view_of table i.spec i.content) items
 abbrev pub dump_items : List Row → (subsets : ℕ) → Values → List (List View)
 dump_items table n values = map (items_shown table) (each_subset n values)
 
--- ---- What sections and a reading give of the parts of a dump text.
+-- ---- Sections and items that can be dumped.
 
--- an octet, and a descriptor as its 16 bits
 abbrev pub IsOctet : ℕ → Type 0
 IsOctet c = c < 256
 
+-- a descriptor has 16 bits
 abbrev pub IsDescriptorWord : ℕ → Type 0
 IsDescriptorWord w = w < 65536
 
--- a number has at most 39 digits and a scale from -300 to 300, a text at most 255 octets
+-- a number has at most 39 digits and a scale from -300 to 300, and a text has at most 255 octets
 abbrev pub IsValue : ShownValue → Type 0
 IsValue (shown_number v scale) = (unsigned_abs v < 10 ^ 39) × (unsigned_abs scale ≤ 300)
 IsValue (shown_text octets) = AllByRecursion IsOctet octets × (length octets ≤ 255)
 IsValue shown_missing = Unit {0}
 IsValue (shown_reference v) = unsigned_abs v < 10 ^ 39
 
--- the name and the unit are some that Table B can have
+-- the name and the unit can occur in Table B
 abbrev pub IsComment : Option Row → Type 0
 IsComment None = Unit {0}
 IsComment (Some row) = (is_name row.name ≡ true) × (is_name row.unit ≡ true)
@@ -160,7 +160,7 @@ pub record IsItem (item : View) : Type 0 where
   pub value : IsValue item.value
   pub comment : IsComment item.entry
 
--- sections and as many subsets as they state
+-- These sections and subsets can be dumped. There are as many subsets as the sections declare.
 pub record IsDumpable (s : Sections) (subsets : List (List View)) : Type 0 where
   pub head : IsFitting s.head
   pub local1 : AllByRecursion IsOctet s.local1

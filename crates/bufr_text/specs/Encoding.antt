@@ -33,7 +33,7 @@ compressed_by form.AsWritten written = written
 compressed_by form.Plain written = false
 compressed_by form.Compressed written = true
 
--- the form that data have
+-- the form that a compression flag specifies
 abbrev pub form_of_flag : (compressed : Bool) → Form
 form_of_flag false = form.Plain
 form_of_flag true = form.Compressed
@@ -100,67 +100,66 @@ encoding_in form table sequences d = do
       (data_bits (compressed_as form d) (next_item table template) (subsets_of d.entries))
   message_of d.line (header_in d).head (parts_as (compressed_as form d) d (octets_of_bits bits))
 
--- a document's message, or its first fault, in the form that the document says
+-- the message of a document in the form that the document specifies, or the first fault
 abbrev pub encoding_of : List Row → List Sequence → Document → Result (List ℕ) DocumentFault
 encoding_of = encoding_in AsWritten
 
--- a fault is the definition's refusal, or memory ran out
+-- The fault is the one that the definition specifies, or memory ran out.
 abbrev pub IsDocumentRefusal : {A : Type 0} → DocumentFault → Result A DocumentFault → Type 0
 IsDocumentRefusal why defined = (why ≡ document.Memory) ⊎ (defined ≡ Err why)
 
--- ---- The bits and the turns of an encoding up to its first refusal, or all. (a choice of this
--- project)
+-- ---- The bits and turns of an encoding, up to its first fault if there is one. (our choice)
 
--- the writing of a document's data in a form, by a template
+-- what is written of the data of a document, in this form and by this template
 abbrev pub writing_in : Form → List Row → Document → Tree → Writing DraftFault
 writing_in form table d template =
     writing_of (compressed_as form d) (counted_item table template) (subsets_of d.entries)
 
--- what a template counts, none where there is none
+-- a count of a template; 0 if there is no template
 abbrev pub of_template : (Tree → ℕ) → Result Tree TemplateFault → ℕ
 of_template counts (Ok template) = counts template
 of_template counts (Err why) = 0
 
--- the places of a document's template
+-- the number of places in the template of a document
 abbrev pub places_by : List Row → List Sequence → Document → ℕ
 places_by table sequences d = of_template places (tree_of (tables_of table sequences) d.descriptors)
 
--- how many bits of its data go before its first refusal, all where there is none
+-- the number of data bits of a document before the first fault; all of them if there is no fault
 abbrev pub bits_by : Form → List Row → List Sequence → Document → ℕ
 bits_by form table sequences d =
     of_template (λ template. length (writing_in form table d template).bits)
     (tree_of (tables_of table sequences) d.descriptors)
 
--- the turns that the encoding of a document makes, up to its first refusal, this one's included:
--- those of the template, as the items unroll it; with no template there is none (WMO-No. 306,
--- Volume I.2, FM 94: section 3, replications)
+-- The number of turns in the encoding of a document, up to and including the turn at the first
+-- fault. They are the turns of the template, with the counts that the items specify; without a
+-- template, there are none. (WMO-No. 306, Volume I.2, FM 94: section 3, replications)
 abbrev pub turns_by : Form → List Row → List Sequence → Document → ℕ
 turns_by form table sequences d =
     of_template (λ template. (writing_in form table d template).turns)
     (tree_of (tables_of table sequences) d.descriptors)
 
--- the steps after so many turns; where memory ran out they are perhaps not all made
+-- These turns were counted as steps. If memory ran out, some of them may be missing.
 abbrev pub CountsSteps : (ran_out : Type 0) → (before turns after : ℕ) → Type 0
 CountsSteps ran_out before turns after =
     (ran_out × (after ≤ ticked before turns)) ⊎ (after ≡ ticked before turns)
 
--- ---- What the writing of a document's data answers, subset after subset or packed.
+-- ---- The fault of a walk over a document's data, plain or compressed.
 
--- the fault of a walk that stopped where the next entry is on a line
+-- the fault of a walk that stopped when the next entry was on this line
 abbrev pub stop_fault : (line : ℕ) → WalkStop DraftFault → DraftFault
 stop_fault line (stops.Width fxy) = at_line line (walk_refused (refusal.Width fxy))
 stop_fault line (stops.Defining fxy) = at_line line (walk_refused (refusal.Defining fxy))
 stop_fault line (stops.Field why) = why
 stop_fault line stops.Memory = draft_fault.Memory
 
--- ---- what the writing of data answers
+-- ---- The result of writing data.
 
--- octets are the bits of data, with zero bits to the next octet
+-- The octets are these data bits, with zero bits after them up to a whole octet.
 pub record AreOctetsOf (octets : List ℕ) (bits : List Bool) : Type 0 where
   pub same : bits_of octets ≡ bits ++ padding (length bits)
   pub count : length octets ≡ (length bits + 7) / 8
 
--- octets, or the definition's first refusal, and the steps that were made for them
+-- The data have no fault, and these are their octets and the steps made for them.
 pub record IsData (places : ℕ) (compressed : Bool) (course : CountedCourse) (subsets : List Subset)
     (octets : List ℕ) (steps : ℕ) : Type 0 where
   pub out : List Bool
@@ -169,6 +168,7 @@ pub record IsData (places : ℕ) (compressed : Bool) (course : CountedCourse) (s
   pub made : steps ≡ ticked 0 (writing_of compressed course subsets).turns
   pub few : steps ≤ places * length (writing_of compressed course subsets).bits
 
+-- The data have this fault, or memory ran out; and these are the steps made up to it.
 pub record IsNoData (places : ℕ) (compressed : Bool) (course : CountedCourse)
     (subsets : List Subset) (why : DocumentFault) (steps : ℕ) : Type 0 where
   pub refuses : IsDocumentRefusal why
@@ -177,7 +177,7 @@ pub record IsNoData (places : ℕ) (compressed : Bool) (course : CountedCourse)
       steps
   pub few : steps ≤ places * (length (writing_of compressed course subsets).bits + 1)
 
--- what the writing of data answers, for a document
+-- The data of subsets were written with this result, in this number of steps.
 abbrev pub WritesData : (places : ℕ) (compressed : Bool) → CountedCourse → List Subset
     → Result (Vec ℕ Global) DocumentFault → (steps : ℕ) → Type 0
 WritesData places compressed course subsets (Ok octets) steps =
@@ -185,7 +185,8 @@ WritesData places compressed course subsets (Ok octets) steps =
 WritesData places compressed course subsets (Err why) steps =
     IsNoData places compressed course subsets why steps
 
--- what the writing of data answers by a template, or by why there is none
+-- The data of a document were written by its template, with this result, in this number of steps.
+-- If the template has a fault, the result is this fault, and no steps are made.
 abbrev pub WritesForm : Form → List Row → Document → Result Tree TemplateFault
     → Result (Vec ℕ Global) DocumentFault → (steps : ℕ) → Type 0
 WritesForm form table d (Ok template) result steps = WritesData (places template)

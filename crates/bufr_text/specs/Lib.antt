@@ -1,22 +1,22 @@
--- the words and values that lines are made of, what a line says, and the keys of the header
+-- the words and values in a line, what a line says, and the keys of the header
 pub mod Line
--- a message as its text gives it, what each line does to it, and the documents of a text
+-- a document, the effect of each of its lines, and the documents of a text
 pub mod Documents
 -- the dump text of a message, line by line, its items, and the line that lists it
 pub mod Dump
--- what a writer gains, what a text does to a writer of lines, and what a dump leaves on it
+-- what a writer takes, the effect of a text on a writer of lines, and what a dump writes
 pub mod Writing
--- private: the lines that all subsets of compressed data have alike
+-- private: the lines that all subsets of compressed data share
 pub mod Alike
--- what a reader of dump texts does, call by call, and its faults
+-- the effect of each call of a reader of dump texts, and its faults
 pub mod Reader
--- what the lines of a document are, in order, and the one spelling that a dump has
+-- the lines of a document, in order, and its normal text
 pub mod Spelling
--- private: how a document is kept while it is read, and what taking held lines comes to
+-- private: how a document is stored while it is read, and how buffered lines are taken
 pub mod Taking
--- the message that a document is encoded to, or its first refusal, with the turns made
+-- the message to which a document is encoded, or the first fault, and the number of turns
 pub mod Encoding
--- an accepted message and the message that its dump text is encoded to, in either form
+-- an accepted message, and the message to which its dump text is encoded, in either form
 pub mod RoundTrip
--- the names that others cite, from one place
+-- the names that proofs and other crates cite, re-exported
 pub mod Prelude

@@ -129,9 +129,9 @@ quoting_of text = if slice_index text 0 == 34 then Closed
     else if slice_index text 0 == 92 then escape_of text
     else if is_unescaped (slice_index text 0) then Octet (slice_index text 0) 1 else Nothing
 
--- One step of `quoted_read` (below): what it returns if the text begins with this token. `closed` is
--- the line after a closing quote. `more` reads on after an octet; its argument is how many of the
--- octets that represent it, without the first, are to be skipped.
+-- One step of `quoted_read` (below): what it returns if the text begins with this token. `closed`
+-- is the line after a closing quote. `more` reads on after an octet; its argument is how many of
+-- the octets that represent it, without the first, are to be skipped.
 abbrev pub quoted_on : QuotedToken → (closed : List ℕ) → (more : ℕ → Option (List ℕ × List ℕ))
     → Option (List ℕ × List ℕ)
 quoted_on Closed closed more = Some ([], closed)
@@ -162,7 +162,7 @@ abbrev pub is_passed_after : List ℕ → Bool
 is_passed_after [] = true
 is_passed_after (c ∷ more) = (c == 32) && is_hashed more
 
--- ---- What a line says, apart from where it is.
+-- ---- What a line says, whatever its position.
 
 -- What a line of a dump text says. `Passed` is an empty line or a comment; `Opens`, `Begins` and
 -- `Closes` are `message`, `subset` and `end`; `Header` has the index of its key in `keys`; and
@@ -268,32 +268,34 @@ line_of (c ∷ more) =
     else if is_ascii_digit c then item_line value_read (c ∷ more)
     else worded (take n (c ∷ more)) (drop n (c ∷ more))
 
--- ---- The keys of the header as the code has them.
+-- ---- The keys of the header, as the code stores them.
 
--- what is before the value of a key: a line feed, its name and a space
+-- the octets before the value of a key: a line feed, the name of the key and a space
 abbrev pub lead_of : (key : List ℕ) → List ℕ
 lead_of key = 10 ∷ (key ++ 32 ∷ [])
 
--- what is between the first octet and the last is this name
+-- whether the octets between the first and the last one of `lead` are this name
 abbrev pub is_named : (lead name : List ℕ) → Bool
 is_named lead name = nat_le 2 (length lead) && bytes_eq name (take (length lead - 2) (drop 1 lead))
 
--- ---- Private: what the readers of descriptors, hexadecimal digits and quoted texts return.
+-- ---- Private: the results of parsing descriptors, hexadecimal digits and quoted texts.
 
--- the descriptors are a prefix of `out`, or the text is none of a line
+-- The descriptors in the text were written to the start of `out`, and the result is their number;
+-- or this text makes a line `descriptors` invalid.
 abbrev pub Describes : (text out : List ℕ) → Option ℕ → Type 0
 Describes text out None = made (with_one_to 8 Descriptors) (descriptors_read text) ≡ Wrong
 Describes text out (Some count) = (count ≤ length out)
     × (made (with_one_to 8 Descriptors) (descriptors_read text) ≡ Descriptors (take count out))
 
--- the octets are a prefix of `out`, half as many as digits, or the text writes none
+-- The octets that the text represents, half as many as its digits, were written to the start of
+-- `out`, and the result is their number; or the text is invalid.
 abbrev pub Unhexes : (text out : List ℕ) → Option ℕ → Type 0
 Unhexes text out None = hex_read text ≡ None
 Unhexes text out (Some count) =
     (2 * count ≡ length text) × (count ≤ length out) × (hex_read text ≡ Some (take count out))
 
--- the octets of the text come first, and what is after the closing quote begins at an index; or
--- there is none
+-- The octets of a quoted text were written to the start of `out`. The result is their number, and
+-- the index after the closing quote; or the text is invalid.
 abbrev pub Unquotes : (text out : List ℕ) → Option (ℕ × ℕ) → Type 0
 Unquotes text out None = quoted_read 0 text ≡ None
 Unquotes text out (Some (count, at)) = (count ≤ length out) × (at ≤ length text)

@@ -26,44 +26,43 @@ abbrev pub number_of_read_fault : ReadFault → ℕ
 number_of_read_fault (Line line fault) = (line_report fault).0
 number_of_read_fault (Run fault) = (run_report fault).0
 
--- ---- How a reading of documents goes on, piece by piece. (own)
+-- ---- How documents are read, piece by piece. (own)
 
--- octets of one line
+-- whether there is no line feed among octets
 abbrev pub has_no_feed : List ℕ → Bool
 has_no_feed octets = list_all (λ c. not (c == 10)) octets
 
--- what a reading means: the number of the next line, where it is, the octets that it
--- holds, whether the end was reached
+-- how far a text has been read: the number of the next line, the state of the parser with the
+-- document so far, the buffered octets, and whether the end of input was reached
 pub record ReaderPosition : Type 0 where
   pub at : ℕ
   pub parsing : Parsing
   pub held : List ℕ
   pub ended : Bool
 
--- what the held octets and these spell, to the end of these
+-- the results of the buffered octets and t, if the input ends after t
 abbrev pub parse : ReaderPosition → List ℕ → List ParseResult
 parse s t = parse_lines s.at s.parsing (lines_of (s.held ++ t))
 
--- what the held octets and these spell, where more may come after them
+-- the results of the buffered octets and t, if more input may follow
 abbrev pub parse_open : ReaderPosition → List ℕ → List ParseResult
 parse_open s t =
     parse_open_lines s.at s.parsing (split_of (s.held ++ t)).whole (split_of (s.held ++ t)).rest
 
--- The held octets spell what was reported and then what is still held, whatever comes after; after
--- the end nothing does.
+-- Whatever input follows, the old position has these results, and then those of the new position.
+-- After the end of input, nothing follows.
 pub record ContinuesParse (old new : ReaderPosition) (results : List ParseResult) : Type 0 where
   pub whole : (t : List ℕ) → (new.ended ≡ true → t ≡ []) → parse old t ≡ results ++ parse new t
   pub openly : new.ended ≡ false → (t : List ℕ) → parse_open old t ≡ results ++ parse_open new t
 
--- Lines were taken: what was held is these lines, each with its line feed, and then what is still
--- held.
+-- Whole lines were taken: `held` is these lines, each with its line feed, and then `rest`.
 pub record TakesWholeLines (at : ℕ) (held : List ℕ) (at' : ℕ) (rest : List ℕ) : Type 0 where
   pub lines : List (List ℕ)
   pub single : AllByRecursion (λ line. has_no_feed line ≡ true) lines
   pub counted : at' ≡ at + length lines
   pub octets : held ≡ text_of_lines lines ++ rest
 
--- Lines were taken, the last of them an `end` line: what is still held is what is after it.
+-- Whole lines were taken, the last of which is an `end` line. `rest` is what follows it.
 pub record TakesEndLine (at : ℕ) (held : List ℕ) (at' : ℕ) (rest : List ℕ) : Type 0 where
   -- the number of the `end` line
   pub line : ℕ
@@ -73,23 +72,23 @@ pub record TakesEndLine (at : ℕ) (held : List ℕ) (at' : ℕ) (rest : List �
   pub closes : read_line last ≡ Closes
   pub counted : at' ≡ line + 1
 
--- what a reader means
+-- the model of a reader
 pub record ReaderModel : Type 0 where
   -- the number of the next line
   pub at : ℕ
-  -- where the reading is, with the document as far as it was read
+  -- the state of the parser, and the document so far
   pub parsing : Parsing
-  -- the octets that were read and not yet taken as lines
+  -- the buffered octets: they were read and not yet taken as lines
   pub held : List ℕ
-  -- whether the end was reached
+  -- whether the end of input was reached
   pub ended : Bool
-  -- the fault that stopped it
+  -- the fault that stopped the reader, if any
   pub fault : Option ReadFault
-  -- how many reads it made
+  -- the number of reads made
   pub reads : ℕ
-  -- how many octets there is room for without taking memory
+  -- the capacity of the buffer, in octets
   pub room : ℕ
-  -- how many places are free after the octets held
+  -- the free space after the buffered octets, in octets
   pub free : ℕ
 
 -- a reader that has read nothing
@@ -109,34 +108,35 @@ new_reader =
 abbrev pub position_of : ReaderModel → ReaderPosition
 position_of s = record { at = s.at; parsing = s.parsing; held = s.held; ended = s.ended }
 
--- the position of a reader with more octets after those that it holds
+-- the position of a reader with these octets appended to its buffer
 abbrev pub position_after : ReaderModel → List ℕ → ReaderPosition
 position_after s bs =
     record { at = s.at; parsing = s.parsing; held = s.held ++ bs; ended = s.ended }
 
--- what an answer reports
+-- the results that a call reports
 abbrev pub parse_results : Result (Option Document) ReadFault → List ParseResult
 parse_results (Ok (Some document)) = Complete document ∷ []
 parse_results (Err (Line line fault)) = Refused line fault ∷ []
 parse_results result = []
 
--- the line feed that the last line may lack, where the end was reached
+-- Nothing was added; or the end of input was reached, and the line feed that the last line lacked
+-- was added.
 abbrev pub IsMissingFeed : (ended ended' : Bool) → List ℕ → Type 0
 IsMissingFeed ended ended' feed =
     (feed ≡ []) ⊎ ((ended ≡ false) × (ended' ≡ true) × (feed ≡ 10 ∷ []))
 
--- The octets of the text itself that are held. Where the end was reached, what is held ends by the
--- line feed that the text lacks.
+-- The buffered octets of the text itself. If the end of input was reached, the last buffered octet
+-- is the line feed that was missing in the text, and is left out.
 abbrev pub unfed : ReaderModel → List ℕ
 unfed s = if s.ended then take (length s.held - 1) s.held else s.held
 
--- What was held of the text and what was read is what was taken of it, and after that what is held
--- of it.
+-- No octet is lost: the octets of the text that were buffered, and then those read, are those
+-- taken, and then those buffered now.
 abbrev pub KeepsUnread : (old new : ReaderModel) → List ℕ → Type 0
 KeepsUnread old new bs = (taken : List ℕ) × (unfed old ++ bs ≡ taken ++ unfed new)
 
--- Octets were read, and what was held spells with them what was reported and then what is held now.
--- What was taken are whole lines.
+-- Octets were read after those buffered before. Together they have these results, and then those of
+-- the octets buffered now. Only whole lines were taken.
 pub record ReadsLines (left left' : Option (List ℕ)) (old new : ReaderModel)
     (results : List ParseResult) (bs : List ℕ) : Type 0 where
   pub read : Consumes left left' bs
@@ -145,19 +145,18 @@ pub record ReadsLines (left left' : Option (List ℕ)) (old new : ReaderModel)
   pub goes : ContinuesParse (position_after old bs) (position_of new) results
   pub lines : (feed : List ℕ) × IsMissingFeed old.ended new.ended feed
       × TakesWholeLines old.at ((old.held ++ bs) ++ feed) new.at new.held
-  -- where the end was reached now and no line feed was lacking, nothing is held
+  -- if the end of input has just been reached and no line feed was missing, nothing is buffered
   pub fed : old.ended ≡ false → new.ended ≡ true → lines.0 ≡ [] → new.held ≡ []
   pub kept : old.ended ≡ true → (new.ended ≡ true) × (bs ≡ []) × (new.reads ≡ old.reads)
   pub end : (old.ended ≡ true → IsAtEnd left) → new.ended ≡ true → IsAtEnd left'
 
--- Where a document was reported, the last line taken is its `end` line: what is held is exactly
--- what was read after it.
+-- The last line taken is an `end` line. The buffered octets are exactly those read after it.
 abbrev pub EndsAtEndLine : (old new : ReaderModel) → List ℕ → Type 0
 EndsAtEndLine old new bs = (feed : List ℕ) × IsMissingFeed old.ended new.ended feed
     × TakesEndLine old.at ((old.held ++ bs) ++ feed) new.at new.held
 
--- The last read was made where all whole lines were taken and reported nothing. What was left of a
--- line was no longer than a line can be. It gave at most 4,096 octets.
+-- Before the last read, all whole lines had been taken and had reported nothing, and the incomplete
+-- line was no longer than a line may be. This read returned at most 4,096 octets.
 pub record ReadsOnlyIfNoLine (left : Option (List ℕ)) (old : ReaderModel) (reads : ℕ)
     (bs : List ℕ) : Type 0 where
   pub before : List ℕ
@@ -165,7 +164,7 @@ pub record ReadsOnlyIfNoLine (left : Option (List ℕ)) (old : ReaderModel) (rea
   pub octets : bs ≡ before ++ last
   pub few : length last ≤ max_line
   pub none : parse_open (position_after old before) [] ≡ []
-  -- where the reader stood before it
+  -- the remaining input and the reader before the last read
   pub between : Option (List ℕ)
   pub mid : ReaderModel
   pub taken : ReadsLines left between old mid [] before
@@ -174,17 +173,19 @@ pub record ReadsOnlyIfNoLine (left : Option (List ℕ)) (old : ReaderModel) (rea
   pub short : length mid.held ≤ max_line
   pub made : reads ≡ mid.reads + 1
 
--- while the end is not known, no whole line is held, and nothing more is reported of what is held
+-- The end of input was not reached, no whole line is buffered, and the buffered octets report
+-- nothing.
 abbrev pub HasNoWholeLine : ReaderModel → Type 0
 HasNoWholeLine s =
     (s.ended ≡ false) × (parse_open (position_of s) [] ≡ []) × (has_no_feed s.held ≡ true)
 
--- the end was reached and nothing is left
+-- The end of input was reached, nothing is buffered, and nothing more is reported.
 abbrev pub HasNoMoreLines : ReaderModel → Type 0
 HasNoMoreLines s = (s.ended ≡ true) × (s.held ≡ []) × (parse (position_of s) [] ≡ [])
 
--- how a call leaves the reader: at the end nothing is left; an input is too long only after 2^32
--- reads; memory was wanted only where a whole line is held, or before the first read
+-- How a call leaves the reader. `None` is returned only if there are no more lines. An input is too
+-- long only after 2^32 reads. Memory runs out only if a whole line is buffered, or before the first
+-- read.
 abbrev pub LeavesReader : ReaderModel → Result (Option Document) ReadFault → Type 0
 LeavesReader new (Ok None) = (new.fault ≡ None) × HasNoMoreLines new
 LeavesReader new (Ok (Some document)) = new.fault ≡ None
@@ -196,7 +197,7 @@ LeavesReader new (Err (Run Memory)) =
     (new.fault ≡ Some (Run Memory)) × ((has_no_feed new.held ≡ false) ⊎ (new.reads ≡ 0))
 LeavesReader new (Err (Line line fault)) = new.fault ≡ Some (Line line fault)
 
--- After what was taken is a whole line that adds to the document.
+-- The next line is buffered as a whole, and it adds to the document.
 pub record AddsNext (s : ReaderModel) : Type 0 where
   pub line : List ℕ
   pub rest : List ℕ
@@ -204,9 +205,10 @@ pub record AddsNext (s : ReaderModel) : Type 0 where
   pub single : has_no_feed line ≡ true
   pub adds_to : adds s.parsing.0 (read_line line) ≡ true
 
--- what a call reads and reports; where memory was wanted it reports nothing, and says no more of
--- what it holds; it is wanted only where a line was held or the end was not reached; after the
--- first read it is wanted only for a line that adds to the document
+-- What a call reads and reports. If memory runs out, it reports nothing, and the octets buffered
+-- after the call are not specified. This happens only if octets were buffered before the call or
+-- the end of input was not reached; and, after the first read, only at a line that adds to the
+-- document.
 abbrev pub ReadsDocument : (left left' : Option (List ℕ)) → (old new : ReaderModel)
     → Result (Option Document) ReadFault → List ℕ → Type 0
 ReadsDocument left left' old new (Ok (Some document)) bs =
@@ -218,18 +220,18 @@ ReadsDocument left left' old new (Err (Run Memory)) bs =
     × ((new.reads ≡ 0) ⊎ ((mid : ReaderModel) × ReadsLines left left' old mid [] bs × AddsNext mid))
 ReadsDocument left left' old new result bs = ReadsLines left left' old new (parse_results result) bs
 
--- A call reports the next document, or why there is none.
+-- A call returns the next document, or the reason why there is none.
 pub record ReturnsNextDocument (left left' : Option (List ℕ)) (old new : ReaderModel)
     (result : Result (Option Document) ReadFault) : Type 0 where
   pub octets : List ℕ
   pub reads : ReadsDocument left left' old new result octets
   pub keeps : KeepsUnread old new octets
   pub waits : (new.reads ≡ old.reads) ⊎ ReadsOnlyIfNoLine left old new.reads octets
-  -- an input is too long only if each read gave an octet
+  -- an input is too long only if each read returned at least one octet
   pub each : result ≡ Err (Run InputTooLong) → new.reads ≤ old.reads + length octets
   pub ends : LeavesReader new result
 
--- No whole line is held, and none was taken that reports something.
+-- A read is needed: no whole line is buffered, and the lines that were taken report nothing.
 pub record NeedsLine (old new : ReaderModel) : Type 0 where
   pub passes : (left : Option (List ℕ)) → ReadsLines left left old new [] []
   pub none : has_no_feed new.held ≡ true
@@ -237,8 +239,7 @@ pub record NeedsLine (old new : ReaderModel) : Type 0 where
   pub going : new.ended ≡ false
   pub sound : new.fault ≡ None
 
--- the lines that are held give the next document, whatever was read for it before, or a read is
--- needed
+-- The buffered lines determine the next document, whatever reads came before; or a read is needed.
 abbrev pub GivesHeldDocument : (old new : ReaderModel)
     → Option (Result (Option Document) ReadFault) → Type 0
 GivesHeldDocument old new (Some next) =
@@ -248,7 +249,7 @@ GivesHeldDocument old new (Some next) =
     → ReturnsNextDocument left mid first new next
 GivesHeldDocument old new None = NeedsLine old new
 
--- the reader's count of failures after a call: a refused line leaves it
+-- the count of failed reads after a call: `Run Read` adds one, and nothing else does
 abbrev pub failures_by : {X : Type 0} → ℕ → Result X ReadFault → ℕ
 failures_by count (Err (Run fault)) = read_failures_after {X = Unit {0}} count (Err fault)
 failures_by count result = count

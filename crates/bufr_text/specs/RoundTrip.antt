@@ -1,5 +1,5 @@
--- Only contracts need this file. An accepted message and the message that its dump text is encoded
--- to, in either form.
+-- Only contracts need this file. An accepted message, and the message to which its dump text is
+-- encoded, in either form.
 use Rattle.std.specs.Prelude.{◌≡◌, ℕ, ◌+◌, ◌%◌, ◌≤◌, ◌==◌, ◌&&◌, ◌||◌, Bool, List, ◌∷◌, ◌++◌, length, if◌then◌else◌, Ok, Vec, Result, Err, [], take, drop, flat_map, ◌⊎◌}
 use Rattle.std.specs.List.{AllByRecursion}
 use Rattle.bufr_tables.specs.Prelude.{tree_of, tables_of, Row, Sequence, Tree}
@@ -17,8 +17,8 @@ use Rattle.bufr_text.specs.declared.fault.DocumentFault.TheVariants as document
 use Rattle.bufr_bits.specs.Prelude.{bits_of}
 use Rattle.bufr_text.specs.declared.encode.Form.TheVariants as form
 
--- a message that is accepted by these tables: it has sections, its descriptors a template, and its
--- data a reading
+-- The message m is accepted with these tables: it has sections, its descriptors expand to a
+-- template, and its data have a reading.
 pub record IsAccepted (table : List Row) (sequences : List Sequence) (m : List ℕ) (s : Sections)
     (template : Tree) (values : Values) (used : ℕ) : Type 0 where
   pub octets : AllByRecursion IsOctet m
@@ -27,8 +27,8 @@ pub record IsAccepted (table : List Row) (sequences : List Sequence) (m : List �
   pub expands : tree_of (tables_of table sequences) s.descriptors ≡ Ok template
   pub read : HasReading (next_item table template) (data_of s) values used
 
--- the sections of two messages say the same; the lengths, the bits of the data, and the flag of
--- compression, which is that of a form, may differ
+-- The sections of two messages have the same content. The lengths and the data bits may differ. The
+-- compression flag of the second message is that of the form.
 pub record SaySame (form : Form) (a b : Sections) : Type 0 where
   pub head : b.head ≡ a.head
   pub local1 : b.local1 ≡ a.local1
@@ -38,22 +38,22 @@ pub record SaySame (form : Form) (a b : Sections) : Type 0 where
   pub observed : b.observed ≡ a.observed
   pub compressed : b.compressed ≡ compressed_by form a.compressed
 
--- how many octets more a message may have when it is written again: in edition 3 up to two make
--- sections 3 and 4 even where one of them is odd
+-- the maximum number of octets by which a message grows when it is written again: two in edition 3
+-- if section 3 or 4 is odd, since both become even
 -- rule: becomes-canonical
 abbrev pub extra_octets : (m : List ℕ) → ℕ
 extra_octets m = if edition_of m == 3
     && (u24_at m (section3_begins m) % 2 == 1 || u24_at m (section4_begins m) % 2 == 1)
     then 2 else 0
 
--- octets are a message with the same reading as the message m of sections s; they are no longer,
--- but that in edition 3 up to two octets make odd sections even
+-- `written` is a message with the same reading as the message m, whose sections are s. It is no
+-- longer than m, except that in edition 3 up to two octets make odd sections even.
 pub record HasSameReading (table : List Row) (m : List ℕ) (s : Sections) (template : Tree)
     (values : Values) (written : List ℕ) : Type 0 where
   pub no_longer : length written ≤ length m + extra_octets m
   pub few : length written ≤ max_octets
   pub octets : AllByRecursion IsOctet written
-  -- in a stream it is one message, whatever is after it
+  -- in a stream, it is one message, whatever follows it
   pub framed : (at : ℕ) (suffix : List ℕ) → scan_from 0 at (written ++ suffix)
       ≡ FrameAt at written ∷ scan_from 0 (at + length written) suffix
   pub sections : Sections
@@ -62,29 +62,30 @@ pub record HasSameReading (table : List Row) (m : List ℕ) (s : Sections) (temp
   pub used : ℕ
   pub read : HasReading (next_item table template) (data_of sections) values used
 
--- a document is encoded to a message with the same reading
+-- The document is encoded to a message with the same reading.
 pub record IsEncodedAgain (table : List Row) (sequences : List Sequence) (m : List ℕ) (s : Sections)
     (template : Tree) (values : Values) (d : Document) : Type 0 where
   pub octets : List ℕ
   pub is : encoding_of table sequences d ≡ Ok octets
   pub same : HasSameReading table m s template values octets
 
--- what is answered for the document of a message, in the form that it says
+-- The document of a message is encoded in the form that it specifies, with this result: a message
+-- with the same reading, or memory ran out.
 abbrev pub EncodesAgain : List Row → List ℕ → Sections → Tree → Values
     → Result (Vec ℕ Global) DocumentFault → Type 0
 EncodesAgain table m s template values (Ok octets) =
     HasSameReading table m s template values octets.items
 EncodesAgain table m s template values (Err why) = why ≡ document.Memory
 
--- ---- The message that the document of an accepted message is encoded to in a form.
+-- ---- The message to which the document of an accepted message is encoded in a form.
 
--- octets are a message in a form, with the same reading as the message of sections s but for the
--- flag of compression
+-- `written` is a message in this form. It has the same reading as the message whose sections are s,
+-- except for the compression flag.
 pub record HasReadingIn (form : Form) (table : List Row) (s : Sections) (template : Tree)
     (values : Values) (written : List ℕ) : Type 0 where
   pub few : length written ≤ max_octets
   pub octets : AllByRecursion IsOctet written
-  -- in a stream it is one message, whatever is after it
+  -- in a stream, it is one message, whatever follows it
   pub framed : (at : ℕ) (suffix : List ℕ) → scan_from 0 at (written ++ suffix)
       ≡ FrameAt at written ∷ scan_from 0 (at + length written) suffix
   pub sections : Sections
@@ -93,14 +94,14 @@ pub record HasReadingIn (form : Form) (table : List Row) (s : Sections) (templat
   pub found : Values
   pub used : ℕ
   pub read : HasReading (next_item table template) (data_of sections) found used
-  -- each subset has the same items: what was asked of the data, and what was found
+  -- each subset has the same items
   pub each : each_subset s.subsets found ≡ each_subset s.subsets values
-  -- so its dump text has the same items
+  -- so the dump text has the same items
   pub items : dump_items table sections.subsets found ≡ dump_items table s.subsets values
 
--- what the document of an accepted message may be refused for in a form: in the one that it has,
--- nothing; else the length, and in compressed data factors that differ and contents that no
--- increments distinguish
+-- The document of an accepted message may be refused in this form for this reason. In its own form,
+-- it is never refused. In another form, it may be refused for its length; in compressed form also
+-- for factors that differ between subsets, and for contents that no increments distinguish.
 abbrev pub IsForForm : Form → DocumentFault → Type 0
 IsForForm form.AsWritten why = ⊥
 IsForForm form.Plain (document.TooLong line) = Unit {0}
@@ -109,32 +110,34 @@ IsForForm form.Compressed (document.Item line why) = IsUnlike why
 IsForForm form.Compressed (document.TooLong line) = Unit {0}
 IsForForm form.Compressed why = ⊥
 
--- what the document of a message is encoded to in a form
+-- The document of a message is encoded in a form: the result is a message with the same items, or a
+-- fault that is possible in this form.
 abbrev pub IsFormed : Form → List Row → Sections → Tree → Values
     → Result (List ℕ) DocumentFault → Type 0
 IsFormed form table s template values (Ok octets) = HasReadingIn form table s template values octets
 IsFormed form table s template values (Err why) = IsForForm form why
 
--- a fault that is answered is such a refusal, or memory ran out
+-- This fault is possible in the form, or memory ran out.
 abbrev pub IsFaultIn : Form → DocumentFault → Type 0
 IsFaultIn form why = (why ≡ document.Memory) ⊎ IsForForm form why
 
--- what is answered for the document of a message in a form
+-- The document of a message is encoded in a form, with this result. Memory may run out.
 abbrev pub EncodesForm : Form → List Row → Sections → Tree → Values
     → Result (Vec ℕ Global) DocumentFault → Type 0
 EncodesForm form table s template values (Ok octets) =
     HasReadingIn form table s template values octets.items
 EncodesForm form table s template values (Err why) = IsFaultIn form why
 
--- ---- A message that is as an encoder writes it. (own)
+-- ---- A message as an encoder writes it. (own)
 
--- no redefined reference of the items that begin the bits is written as minus zero
+-- No redefined reference among these items, with which the bits begin, is written as minus zero.
 abbrev pub HaveNoMinusZero : List (Item Content) → List Bool → Type 0
 HaveNoMinusZero [] bits = Unit {0}
 HaveNoMinusZero (i ∷ items) bits = (IsMinusZero i.spec.role (take i.spec.width bits) → ⊥)
     × HaveNoMinusZero items (drop i.spec.width bits)
 
--- each item of compressed data is packed as its contents are packed
+-- The bits are these items of compressed data, each packed as an encoder packs its contents, and
+-- then `suffix`.
 abbrev pub ArePacked : List (Item (List Content)) → (bits suffix : List Bool) → Type 0
 ArePacked [] bits suffix = bits ≡ suffix
 ArePacked (i ∷ items) bits suffix =
@@ -146,8 +149,8 @@ abbrev pub AreWritten : Values → (bits suffix : List Bool) → Type 0
 AreWritten (apart subsets) bits suffix = HaveNoMinusZero (flat_map (λ items. items) subsets) bits
 AreWritten (together items) bits suffix = ArePacked items bits suffix
 
--- reserved octets and bits are zero, no octet is left over, and the data take the least octets,
--- with zero bits after them; in edition 3 the least that make section 4 even
+-- Reserved octets and bits are zero, and no octet is superfluous. The data have as few octets as
+-- possible (in edition 3, as few as make section 4 even), and zero bits fill the last one.
 -- rule: canonical
 pub record IsCanonical (m : List ℕ) (s : Sections) (values : Values) (used : ℕ) : Type 0 where
   pub plain : IsPlain m
@@ -155,14 +158,14 @@ pub record IsCanonical (m : List ℕ) (s : Sections) (values : Values) (used : �
       (octets_of_bits (take used (bits_of s.payload)))
   pub bits : AreWritten values (bits_of s.payload) (drop used (bits_of s.payload))
 
--- ---- What is read of a document that was encoded: what the document says.
+-- ---- A document that was encoded reads back the same.
 
--- the values are what the drafts say
+-- The values have the contents of the drafts.
 abbrev pub AreValuesOf : Values → List Subset → Type 0
 AreValuesOf values drafts = AreSaid (each_subset (length drafts) values) drafts
 
--- octets are one message, accepted, and it says what the document says, in a form; of the data it
--- says the items, not how many octets they take
+-- The octets are one message, which is accepted. It has the content of the document, in this form:
+-- its items have the contents of the drafts, in a number of octets that is not specified.
 pub record IsReadAs (form : Form) (table : List Row) (sequences : List Sequence) (d : Document)
     (octets : List ℕ) : Type 0 where
   pub sections : Sections
@@ -170,7 +173,7 @@ pub record IsReadAs (form : Form) (table : List Row) (sequences : List Sequence)
   pub values : Values
   pub used : ℕ
   pub accepted : IsAccepted table sequences octets sections template values used
-  -- in a stream it is one message, whatever is after it
+  -- in a stream, it is one message, whatever follows it
   pub framed : (at : ℕ) (suffix : List ℕ) → scan_from 0 at (octets ++ suffix)
       ≡ FrameAt at octets ∷ scan_from 0 (at + length octets) suffix
   pub head : sections.head ≡ (header_in d).head

@@ -1,5 +1,5 @@
--- Only contracts need this file. How a document is kept while it is read, and what taking held
--- lines comes to.
+-- Only contracts need this file. How a document is stored while it is read, and how buffered lines
+-- are taken.
 use Rattle.std.specs.Prelude.{◌≡◌, ◌≤◌, length, take, ◌<◌, ◌+◌, ◌==◌, ℕ, true, false, [], List, ◌∷◌, ◌++◌, drop, Bool, Option, None, Some, ◌⊎◌, ◌*◌, ◌-◌, Result, Ok, Err}
 use Rattle.bufr_text.specs.declared.document.DocumentParts.TheInside.{Inside}
 use Rattle.std.specs.List.{AllByRecursion}
@@ -32,9 +32,9 @@ document_kept d = record {
   entries = d.entries;
 }
 
--- ---- What a step of the reader does.
+-- ---- The effect of a line.
 
--- what a line that was read says
+-- what a parsed line says
 abbrev pub meaning : ParsedLine → line.Line
 meaning said.Passed = line.Passed
 meaning said.Opens = line.Opens
@@ -54,27 +54,28 @@ pub record IsBare (d : Document) : Type 0 where
   pub descriptors : d.descriptors ≡ []
   pub entries : d.entries ≡ []
 
--- The parts before the subsets are octets and descriptors, and there are no octets of a section 2
--- that is absent.
+-- The octets and descriptors before the subsets are valid, and there are no octets of an absent
+-- section 2.
 pub record HasLineGroups (d : Document) : Type 0 where
   pub local1 : AllByRecursion IsOctet d.local1
   pub section2 : AllByRecursion IsOctet d.section2
   pub no_section2 : (header_in d).optional ≡ false → d.section2 ≡ []
   pub descriptors : AllByRecursion IsDescriptorWord d.descriptors
 
--- the text of an item is of octets
+-- If an entry is an item with a text, the text consists of octets.
 abbrev pub EntryHasOctets : DraftEntry → Type 0
 EntryHasOctets (Holds item) = HasOctets item.form
 EntryHasOctets (Ends line) = Unit {0}
 
--- So many subsets were ended, and each text is of octets.
+-- `ended` subsets are complete, and each text consists of octets.
 pub record HasSubsets (ended : ℕ) (d : Document) : Type 0 where
   pub texts : AllByRecursion EntryHasOctets d.entries
   pub counted : length (subsets_of d.entries) ≡ ended
 
--- What holds where the line of this number is next. Between documents nothing is kept, and after a
--- fault no line is taken. The header is not whole in the header, and whole after it. The number of a subset is small, and one more than
--- those that were ended. Each entry has a line.
+-- What holds if the line with number `at` is next. Between documents, the document is blank. While
+-- the header is read, it is incomplete; after that, it is complete. The number of a subset is below
+-- 65,536, and one more than the number of complete subsets. There are fewer entries than `at`,
+-- since each of them has a line. After a fault, no line is next.
 abbrev pub IsParsing : (at : ℕ) → Parsing → Type 0
 IsParsing at (Between, d) = d ≡ blank 0
 IsParsing at (Heading, d) = (length d.header < 20)
@@ -87,13 +88,14 @@ IsParsing at (Filling subset, d) =
     × ((ended : ℕ) × (subset ≡ ended + 1) × HasSubsets ended d)
 IsParsing at (Stopped, d) = ⊥
 
--- what holds after a line; a document that is whole has a line for each entry
+-- What holds after a line, if the line with number `at` is next. A document that is complete has a
+-- line for each entry.
 abbrev pub IsLineStep : (at : ℕ) → LineStep → Type 0
 IsLineStep at (Continues state, d) = IsParsing at (state, d)
 IsLineStep at (Completes, d) = IsProper d × (length d.entries < at)
 IsLineStep at (Refuses fault, d) = Unit {0}
 
--- ---- What taking the lines that are held comes to.
+-- ---- How buffered lines are taken.
 
 abbrev pub parsing_of : Progress → Parsing
 parsing_of progress = (progress.state, progress.parts)
@@ -102,7 +104,7 @@ abbrev pub position_with : (at : ℕ) → Parsing → List ℕ → Bool → Read
 position_with at parsing held ended =
     record { at = at; parsing = parsing; held = held; ended = ended }
 
--- The lines before an offset were taken, and the last of them did this.
+-- The buffered lines before an offset were taken, and the last of them had this effect.
 pub record TakesLines (old new : Progress) (held : List ℕ) (offset : ℕ)
     (effect : LineEffect) : Type 0 where
   pub goes : (ended : Bool) → ContinuesParse (position_with old.at (parsing_of old) held ended)
@@ -117,7 +119,7 @@ pub record TakesLines (old new : Progress) (held : List ℕ) (offset : ℕ)
   pub passes : TakesWholeLines old.at held new.at (drop offset held)
   pub closes : effect ≡ Completes → TakesEndLine old.at held new.at (drop offset held)
 
--- The lines before an offset were taken, and nothing was reported yet.
+-- The buffered lines before an offset were taken, and none of them has reported anything.
 pub record IsTaking (old new : Progress) (held : List ℕ) (offset : ℕ) : Type 0 where
   pub goes : (ended : Bool) → ContinuesParse (position_with old.at (parsing_of old) held ended)
       (position_with new.at (parsing_of new) (drop offset held) ended) []
@@ -127,7 +129,8 @@ pub record IsTaking (old new : Progress) (held : List ℕ) (offset : ℕ) : Type
   pub near : new.at ≤ old.at + offset
   pub passes : TakesWholeLines old.at held new.at (drop offset held)
 
--- Lines were taken that reported nothing, and the next one is whole and adds to the document.
+-- Buffered lines were taken and reported nothing. The next line is buffered as a whole, and it adds
+-- to the document.
 pub record WantsAt (old : Progress) (held : List ℕ) : Type 0 where
   pub progress : Progress
   pub offset : ℕ
@@ -138,34 +141,35 @@ pub record WantsAt (old : Progress) (held : List ℕ) : Type 0 where
   pub single : has_no_feed line ≡ true
   pub adds_to : adds progress.state (read_line line) ≡ true
 
--- ---- What the steps of a reader do, one by one.
+-- ---- The steps of a reader.
 
--- nothing, or octets of which the last is a line feed
+-- whether there are no octets, or the last one is a line feed
 abbrev pub ends_by_feed : List ℕ → Bool
 ends_by_feed [] = true
 ends_by_feed (c ∷ []) = c == 10
 ends_by_feed (c ∷ d ∷ more) = ends_by_feed (d ∷ more)
 
--- The progress of a reader that goes on: each line had an octet at least.
+-- The progress of a reader without a fault. Its line number is bounded by its reads, since each
+-- line has at least one octet.
 pub record IsProgress (progress : Progress) (held reads : ℕ) : Type 0 where
   pub holds : IsParsing progress.at (parsing_of progress)
   pub some : 0 < progress.at
   pub near : progress.at + held ≤ max_line * reads + 1
 
--- how a reader keeps its input: it holds few octets, its last line is ended at the end, and its
--- buffer is made at the first read
+-- How a reader buffers its input. It buffers at most 8,192 octets. At the end of input, the last
+-- line has a line feed. The buffer is allocated at the first read.
 abbrev pub IsReader : Option ReadFault → Progress → InputModel → Type 0
 IsReader fault progress input = (length input.held ≤ 2 * max_line) × (input.reads ≤ max_reads)
     × (input.ended ≡ true → ends_by_feed input.held ≡ true)
     × (fault ≡ None → IsProgress progress (length input.held) input.reads)
     × (0 < input.reads → 2 * max_line ≤ input.room)
 
--- Lines were taken and report something.
+-- Buffered lines were taken, and these are their results.
 pub record ParsesHeldLines (old new : ReaderModel) (results : List ParseResult) : Type 0 where
   pub goes : ContinuesParse (position_of old) (position_of new) results
   pub passes : TakesWholeLines old.at old.held new.at new.held
 
--- Lines were taken and report nothing, and the next one adds to the document.
+-- Buffered lines were taken and reported nothing, and the next line adds to the document.
 pub record WantsHere (old : ReaderModel) : Type 0 where
   pub mid : ReaderModel
   pub taken : ParsesHeldLines old mid []
@@ -173,7 +177,7 @@ pub record WantsHere (old : ReaderModel) : Type 0 where
   pub reads : mid.reads ≡ old.reads
   pub next : AddsNext mid
 
--- what the lines come to that were held
+-- Taking the buffered lines had this result.
 abbrev pub TakesHeldLines : ReaderModel → ReaderModel → Result (Option Document) ReadFault → Type 0
 TakesHeldLines old new (Ok None) = ParsesHeldLines old new [] × (new.fault ≡ None)
     × (has_no_feed new.held ≡ true)
@@ -187,13 +191,14 @@ TakesHeldLines old new (Err (Run fault)) = ⊥
 TakesHeldLines old new (Err (Line line fault)) =
     ParsesHeldLines old new (Refused line fault ∷ []) × (new.fault ≡ Some (Line line fault))
 
--- the input of a reader that holds these octets; its room and the gap before them do not matter
+-- the input buffer of a reader with these octets; its capacity and the gap before the octets are
+-- set to 0, since they do not matter here
 abbrev pub text_input : ReaderModel → List ℕ → InputModel
 text_input s held =
     record { held = held; ended = s.ended; reads = s.reads; room = 0; free = s.free; gap = 0 }
 
--- One read: octets come after those that are held, or the end was reached, which ends the last
--- line. Memory is refused only before the first one.
+-- One read: octets are appended to those buffered; or the end of input is reached, and a line feed
+-- is appended if the last line lacks one. Memory runs out only before the first read.
 pub record ReadsMoreText (left left' : Option (List ℕ)) (old new : ReaderModel)
     (result : Result (Unit {0}) RunFault) (bs : List ℕ) : Type 0 where
   pub fills : FillsInput left left' (text_input old old.held) (text_input new (old.held ++ bs))
@@ -207,13 +212,13 @@ pub record ReadsMoreText (left left' : Option (List ℕ)) (old new : ReaderModel
   pub parsing : new.parsing ≡ old.parsing
   pub fault : new.fault ≡ None
 
--- a reader that a fault stopped; after a refused line nothing more is reported
+-- a reader that stopped because of a fault; after an invalid line, nothing more is reported
 abbrev pub stopped : ReaderModel → ReadFault → ReaderModel
 stopped s (Run fault) = record s { fault = Some (Run fault) }
 stopped s (Line line fault) =
     record s { fault = Some (Line line fault); parsing = (Stopped, s.parsing.1) }
 
--- one read, or why none is made
+-- One read. A fault stops the reader.
 abbrev pub FillsBuffer : (left left' : Option (List ℕ)) → ReaderModel → ReaderModel
     → Result (Unit {0}) ReadFault → List ℕ → Type 0
 FillsBuffer left left' old new (Ok u) bs = ReadsMoreText left left' old new (Ok u) bs
