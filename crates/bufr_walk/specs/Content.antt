@@ -33,26 +33,26 @@ pub record FieldSpec : Type 0 where
   -- whether the field is read by its row of Table B, so that a dump shows the row's name and unit
   pub listed : Bool
 
--- whether a kind of field may have a width: whole octets for text
+-- A field of this kind may have this width: 1 to 63 bits, or 1 to 255 whole octets for text.
 abbrev pub HasWidth : Kind → ℕ → Type 0
 HasWidth kind.Character width = (8 ≤ width) × (width ≤ 2040) × (width % 8 ≡ 0)
 HasWidth kind.Coded width = (1 ≤ width) × (width ≤ 63)
 HasWidth kind.Numeric width = (1 ≤ width) × (width ≤ 63)
 
--- factors and references are no text and never missing
+-- An inserted field is a text. Factors and redefined references are numeric and never missing.
 abbrev pub HasRole : Role → Kind → Bool → Type 0
 HasRole role.Element k m = Unit {0}
 HasRole role.Inserted k m = k ≡ kind.Character
 HasRole role.Factor k m = (k ≡ kind.Numeric) × (m ≡ Bool.false)
 HasRole role.Reference k m = (k ≡ kind.Numeric) × (m ≡ Bool.false)
 
--- texts may be missing
+-- A text may always be missing.
 abbrev pub HasMissing : Kind → Bool → Type 0
 HasMissing kind.Character m = m ≡ Bool.true
 HasMissing kind.Coded m = Unit {0}
 HasMissing kind.Numeric m = Unit {0}
 
--- what holds of every specification
+-- what holds for every specification
 pub record IsSpec (a : FieldSpec) : Type 0 where
   pub width : HasWidth a.kind a.width
   pub role : HasRole a.role a.kind a.may_be_missing
@@ -65,7 +65,7 @@ pub record IsField (a : FieldSpec) : Type 0 where
   pub spec : IsSpec a
   pub word : a.fxy < 2 ^ 16
 
--- whether a reference that was returned has 64 bits
+-- The magnitude of a returned reference is at most 2^63.
 abbrev pub IsWithin : Taken → Type 0
 IsWithin taken.Plain = Unit {0}
 IsWithin (taken.Count n) = Unit {0}
@@ -74,7 +74,8 @@ IsWithin (taken.Reference r) = unsigned_abs r ≤ 2 ^ 63
 abbrev pub AreWithin : List Taken → Type 0
 AreWithin answers = AllByRecursion (λ (t : Taken). IsWithin t) answers
 
--- the answers that fit a role: a count for a factor, a reference for a reference, else none
+-- The answer fits the role: a count for a factor, a reference for a redefined reference, and
+-- `Plain` for the others.
 abbrev pub IsForRole : Role → Taken → Type 0
 IsForRole role.Element taken.Plain = Unit {0}
 IsForRole role.Inserted taken.Plain = Unit {0}
@@ -82,7 +83,7 @@ IsForRole role.Factor (taken.Count n) = Unit {0}
 IsForRole role.Reference (taken.Reference r) = Unit {0}
 IsForRole _ _ = ⊥
 
--- the answers that fit a field
+-- The answer fits the role of the field.
 abbrev pub IsFor : FieldSpec → Taken → Type 0
 IsFor spec t = IsForRole spec.role t
 
@@ -92,7 +93,7 @@ is_reference _ = Bool.false
 
 -- ---- Fields that are numbers.
 
--- a field that is a number, from its parts
+-- a field that is a number, given its parts
 abbrev pub number_field : (fxy : ℕ) → Role → NumberParts → FieldSpec
 number_field fxy role n =
     record {
@@ -106,7 +107,8 @@ number_field fxy role n =
       listed = n.listed;
     }
 
--- whether a number is plain: of a listed element, at most 62 bits, a reference of less than 2^62
+-- whether a number is plain: it is a listed element of at most 62 bits, and the magnitude of its
+-- reference is below 2^62
 abbrev pub is_plain_number : Role → (width : ℕ) → (reference : ℤ) → (listed : Bool) → Bool
 is_plain_number role.Element width r listed =
     listed && (nat_le width 62 && nat_lt (unsigned_abs r) (2 ^ 62))
@@ -116,7 +118,7 @@ is_plain_number _ width r listed = false
 abbrev pub is_plain : FieldSpec → Bool
 is_plain a = not (is_character a.kind) && is_plain_number a.role a.width a.reference a.listed
 
--- a field is a plain number, part by part
+-- The field is a plain number: the conditions of `is_plain`, one by one.
 pub record IsPlainNumber (a : FieldSpec) : Type 0 where
   pub kind : is_character a.kind ≡ false
   pub role : a.role ≡ role.Element
@@ -222,7 +224,7 @@ shown spec (text octets) = shown_text octets
 shown spec missing = shown_missing
 shown spec (reference value) = shown_reference value
 
--- ---- One field of data that are not compressed.
+-- ---- One field of plain data.
 
 -- why a field cannot be read: the data end (30), an increment is invalid (34), factors differ (33)
 pub data FieldFault : Type 0 where
@@ -245,7 +247,7 @@ plain_field spec bits =
     if nat_lt (length bits) spec.width then Err data_end
     else Ok (found (content_in spec (take spec.width bits)) (drop spec.width bits))
 
--- ---- One item of compressed data: a base, six bits k, and an increment for each subset.
+-- ---- One item of compressed data: a base, k in six bits, and an increment for each subset.
 
 -- the number whose k bits are all ones
 abbrev pub ones : ℕ → ℕ

@@ -41,8 +41,8 @@ passes zero body rest counts = rest counts
 passes (suc n) body rest counts = body (λ left. pass_end (passes n body rest left)) counts
 
 -- The turns of nodes, and then those of `rest`, given the counts of the factors read so far. The
--- nodes use the first of these counts, and `rest` gets the others. If the counts run out, `open_end`
--- follows the factor that is read next.
+-- nodes use the first of these counts, and `rest` gets the others. If the counts run out,
+-- `open_end` follows the factor that is read next.
 abbrev pub unroll : Tree → Rest → Rest
 unroll bare rest counts = rest counts
 unroll (element fxy more) rest counts = element_turn fxy (unroll more rest counts)
@@ -112,21 +112,21 @@ Course = List Taken → Next
 unfoldable pub next_item : List Row → Tree → Course
 next_item table template answers = ahead table (turns_of template (counts_of answers)) begin answers
 
--- ---- The stop of a walk where a turn is refused.
+-- ---- A walk that stops because a turn is refused.
 
 -- a refusal, as the reason why a walk stopped
 abbrev pub stop_by : {E : Type 0} → TurnRefusal → WalkStop E
 stop_by (refusal.Width fxy) = stops.Width fxy
 stop_by (refusal.Defining fxy) = stops.Defining fxy
 
--- ---- The fields that a walk takes, each of which comes next.
+-- ---- The fields that a walk takes, in order.
 
--- a field, and what it returned to the walk
+-- a field that was taken, and its answer
 pub record TakenField : Type 0 where
   pub spec : FieldSpec
   pub taken : Taken
 
--- the fields of a walk, each of which comes next after those before it
+-- A walk took these fields from state s to s'. Each of them comes next after those before it.
 abbrev pub Takes : {S : Type 0} → (S → FieldSpec → Taken → S → Type 0) → Course → S
     → List TakenField → S → Type 0
 Takes takes course s [] s' = s' ≡ s
@@ -134,19 +134,20 @@ Takes {S} takes course s (i ∷ items) s' =
     (mid : S) × (course [] ≡ take_next i.spec) × takes s i.spec i.taken mid
     × Takes takes (λ answers. course (i.taken ∷ answers)) mid items s'
 
--- ---- A whole walk over fields: what it takes, in order, and how it ends.
+-- ---- A whole walk over fields, and how it ends.
 
--- a field that was taken
+-- A field was taken without a fault.
 abbrev pub oks : {S E : Type 0} → (S → FieldSpec → Result Taken E → S → Type 0) → S → FieldSpec
     → Taken → S → Type 0
 oks takes s spec t s' = takes s spec (Ok t) s'
 
--- what items returned to the walk
+-- the answers of the fields that were taken
 abbrev pub answers_of : List TakenField → List Taken
 answers_of [] = []
 answers_of (i ∷ items) = i.taken ∷ answers_of items
 
--- the stop of a walk where this comes next; memory may run out before a reference is taken
+-- How a walk stops if this comes next: the field has a fault, or memory runs out before a redefined
+-- reference is taken, or the turn is refused.
 abbrev pub StopsWalk : {S E : Type 0} → (S → FieldSpec → Result Taken E → S → Type 0) → Next → S
     → WalkStop E → S → Type 0
 StopsWalk takes (take_next spec) s (stops.Field e) s' = takes s spec (Err e) s'
@@ -154,7 +155,8 @@ StopsWalk takes (take_next spec) s stops.Memory s' = (spec.role ≡ role.Referen
 StopsWalk takes (refused why) s w s' = (w ≡ stop_by why) × (s' ≡ s)
 StopsWalk takes _ s _ s' = ⊥
 
--- one field: it was taken and kept, or refused, or memory for its reference ran out
+-- One field: it was taken, or it had a fault, or memory for its redefined reference ran out, or it
+-- was refused.
 abbrev pub TakesField : {S E : Type 0} → (S → FieldSpec → Result Taken E → S → Type 0)
     → Result FieldSpec TurnRefusal
     → S → Result Taken (WalkStop E) → S → Type 0

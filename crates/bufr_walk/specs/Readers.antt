@@ -1,5 +1,5 @@
--- Only contracts need this file. The readers of data, compressed or not: one pass over them, fields
--- shown at once, an item as the code reads it, and what a reading keeps.
+-- Only contracts need this file. How plain and compressed data are read: a pass over them, fields
+-- that are shown as they are read, items as the code reads them, and what a reading stores.
 use Rattle.std.specs.Prelude.{ℕ, ◌≡◌, ◌≤◌, ◌+◌, Bool, List, drop, Result, Ok, Err, ◌++◌, ◌<◌, ◌*◌, ◌^◌, ◌%◌, ◌==◌, ◌&&◌, ◌||◌, true, false, [], ◌∷◌, length, take, ◌/◌, ◌-◌, map, get_or, is_some, Option, None}
 use Rattle.bufr_walk.specs.Content.{Taken, missing, ShownValue, Coding, step_of, increments, increased, FieldSpec, Content, answer_of, plain_field, found, data_end, FieldFault, FieldRead, packed_field, answer_first}
 use Rattle.bufr_walk.specs.Reading.{wrong_of, Item, plain, answers_in, Read, course_of, max_values, items_at_once, Data, Values, apart, together, each_subset, ShowFault, Call, item_call, view_of, Timed, item_calls, Shows, View, PackedValues}
@@ -18,7 +18,7 @@ use Rattle.bufr_walk.specs.declared.compressed.ItemBits.{ItemBits}
 use Rattle.bufr_walk.specs.declared.reading.StoredItems.{StoredItems}
 use Rattle.bufr_walk.specs.declared.reading.StoredItems.TheVariants as stored
 
--- data, a reading, a view and a place from their parts
+-- data, a reading, a view and a place, each made from its parts
 abbrev pub data_in : (compressed : Bool) → (subsets : ℕ) → (octets : List ℕ) → Data
 data_in compressed subsets octets =
     record { compressed = compressed; subsets = subsets; bits = bits_of octets }
@@ -33,7 +33,7 @@ view fxy entry value = record { fxy = fxy; entry = entry; value = value }
 abbrev pub place_at : ℕ → List Bool → Place
 place_at items left = record { items = items; left = left }
 
--- the content of one subset, counted from 0
+-- the content of an item in one subset, counted from 0
 abbrev pub content_at : (subset : ℕ) → List Content → Content
 content_at j contents = get_or contents j missing
 
@@ -41,24 +41,24 @@ content_at j contents = get_or contents j missing
 abbrev pub items_by_pass : {C : Type 0} → List (DataPass C) → List (List (Item C))
 items_by_pass passes = map (λ p. p.items) passes
 
--- the items of the one pass for all; none where there is no pass
+-- the items of the first pass, which is the only one over compressed data; none if there is no pass
 abbrev pub first_items : {C : Type 0} → List (List (Item C)) → List (Item C)
 first_items passes = get_or passes 0 []
 
--- the bits, and how many of them were read
+-- a reader of plain data: the bits, and how many of them have been read
 pub record Cursor : Type 0 where
   pub bits : List Bool
   pub at : ℕ
 
--- the bits that are left
+-- the remaining bits
 abbrev pub rest_of : Cursor → List Bool
 rest_of s = drop s.at s.bits
 
--- the reader after a field
+-- the reader after a field with this specification
 abbrev pub past : Cursor → FieldSpec → Cursor
 past s spec = record { bits = s.bits; at = s.at + spec.width }
 
--- the rest begins with a field, and this is its answer
+-- The remaining bits begin with this field, and t is its answer.
 pub record IsTaken (s : Cursor) (spec : FieldSpec) (t : Taken) (s' : Cursor) : Type 0 where
   pub content : Content
   pub some : 1 ≤ spec.width
@@ -66,25 +66,26 @@ pub record IsTaken (s : Cursor) (spec : FieldSpec) (t : Taken) (s' : Cursor) : T
   pub gives : t ≡ answer_of spec content
   pub next : s' ≡ past s spec
 
--- one call: a field was read, or the bits end in it
+-- One call: the field was read, or the bits end inside it and nothing changes.
 abbrev pub PlainTakes : Cursor → FieldSpec → Result Taken DataFault → Cursor → Type 0
 PlainTakes s spec (Ok t) s' = IsTaken s spec t s'
 PlainTakes s spec (Err e) s' =
     (plain_field spec (rest_of s) ≡ Err data_end) × (e ≡ data_fault.DataEnd spec.fxy) × (s' ≡ s)
 
--- the state of a showing: the reader, the visitor, the table, and the names of the first two
+-- the state while data are shown: the reader, the visitor, Table B, and the ghost names of the
+-- first two
 pub record Stage (V : Type 0) : Type 0 where
   pub cursor : Cursor
   pub visitor : V
   pub table : List Row
   pub names : ℕ × ℕ
 
--- a state from its parts
+-- a state made from its parts
 abbrev pub stage : {V : Type 0} → Cursor → V → List Row → ℕ → ℕ → Stage V
 stage cursor visitor table a b =
     record { cursor = cursor; visitor = visitor; table = table; names = (a, b) }
 
--- a field was found, and the visitor took it
+-- A field was read, and the visitor accepted it.
 pub record IsShown {V E : Type 0} (sees : V → Call → Result (Unit {0}) E → V → Type 0) (s : Stage V)
     (spec : FieldSpec) (t : Taken) (s' : Stage V) : Type 0 where
   pub is_taken : IsTaken s.cursor spec t s'.cursor
@@ -92,7 +93,7 @@ pub record IsShown {V E : Type 0} (sees : V → Call → Result (Unit {0}) E →
   pub table : s'.table ≡ s.table
   pub names : s'.names ≡ s.names
 
--- a field was found, and the visitor refused it
+-- A field was read, but the visitor refused it. The reader is unchanged.
 pub record IsUnshown {V E : Type 0} (sees : V → Call → Result (Unit {0}) E → V → Type 0)
     (s : Stage V) (spec : FieldSpec) (e : E) (s' : Stage V) : Type 0 where
   pub answer : Taken
@@ -101,7 +102,7 @@ pub record IsUnshown {V E : Type 0} (sees : V → Call → Result (Unit {0}) E �
   pub cursor : s'.cursor ≡ s.cursor
   pub names : s'.names ≡ s.names
 
--- one call: a field was shown, the data end in it, or the visitor refused it
+-- One call: a field was shown, or the data end inside it, or the visitor refused it.
 abbrev pub ShowingTakes : {V E : Type 0} → (V → Call → Result (Unit {0}) E → V → Type 0) → Stage V
     → FieldSpec → Result Taken (ShowStop E) → Stage V → Type 0
 ShowingTakes sees s spec (Ok t) s' = IsShown sees s spec t s'
@@ -109,20 +110,20 @@ ShowingTakes sees s spec (Err show_stop.DataEnd) s' =
     (plain_field spec (rest_of s.cursor) ≡ Err data_end) × (s' ≡ s)
 ShowingTakes sees s spec (Err (show_stop.Visitor e)) s' = IsUnshown sees s spec e s'
 
--- a refusal passes no bit
+-- After a fault, the reader is at the same bit.
 pub refusal_keeps : {V E : Type 0} (sees : V → Call → Result (Unit {0}) E → V → Type 0)
     (s : Stage V) (spec : FieldSpec) (e : ShowStop E) (s' : Stage V)
     → ShowingTakes sees s spec (Err e) s' → s'.cursor.at ≡ s.cursor.at
 refusal_keeps sees s spec show_stop.DataEnd s' h = ap (λ x. x.cursor.at) h.1
 refusal_keeps sees s spec (show_stop.Visitor e) s' h = ap (λ c. c.at) h.cursor
 
--- the calls up to `rest` were made: what ends `rest` ends all
+-- The calls before `rest` were made: if `rest` is made after them, its result is that of all calls.
 pub record Sofar {S E : Type 0} (sees : S → Call → Result (Unit {0}) E → S → Type 0) (s : S)
     (calls : List Timed) (s1 : S) (rest : List Timed) : Type 0 where
   pub on : (turns : ℕ) (r : Result (Unit {0}) (ShowFault E)) (s' : S) (steps : ℕ)
       → Shows sees s1 rest turns r s' steps → Shows sees s calls turns r s' steps
 
--- the items of a pass were shown, whatever follows them
+-- The items of a pass were shown, whatever calls follow them.
 pub record IsAllShown {S E : Type 0} (sees : S → Call → Result (Unit {0}) E → S → Type 0)
     (table : List Row) (course : CountedCourse) (s : S) (steps : ℕ) (p : DataPass Content)
     (c' : Cursor) (s' : S) (steps' : ℕ) : Type 0 where
@@ -131,7 +132,7 @@ pub record IsAllShown {S E : Type 0} (sees : S → Call → Result (Unit {0}) E 
   pub left : rest_of c' ≡ p.state.left
   pub ticks : steps' ≡ ticked steps (course (answers_in answer_of p.items)).turns
 
--- the items of the next subset were shown, or one of them ended the showing
+-- The items of the next subset were shown, or showing stopped at one of them.
 abbrev pub ItemsGo : {S E : Type 0} → (S → Call → Result (Unit {0}) E → S → Type 0) → List Row
     → CountedCourse → Cursor → S → ℕ → Result (Unit {0}) (ShowFault E) → Cursor → S → ℕ → Type 0
 ItemsGo sees table course c s steps (Ok _) c' s' steps' =
@@ -142,7 +143,8 @@ ItemsGo sees table course c s steps (Err why) c' s' steps' =
     (before : ℕ) (more : List Timed) (turns : ℕ) → steps ≡ ticked 0 before
     → Shows sees s (item_calls table before course p.items ++ more) turns (Err why) s' steps'
 
--- the reader: the bits, how many of them were read, the number of subsets, and the items read
+-- a reader of compressed data: the bits, how many of them have been read, the number of subsets,
+-- and the items read so far
 pub record PackedCursor : Type 0 where
   pub bits : List Bool
   pub at : ℕ
@@ -153,21 +155,21 @@ pub record PackedCursor : Type 0 where
 abbrev pub new_packed_in : (bits : List Bool) (subsets : ℕ) → PackedCursor
 new_packed_in bits n = record { bits = bits; at = 0; subsets = n; items = [] }
 
--- the bits that are left
+-- the remaining bits
 abbrev pub remaining_bits : PackedCursor → List Bool
 remaining_bits s = drop s.at s.bits
 
--- the contents that were found, or none
+-- the contents of an item that was read; none if there is a fault
 abbrev pub contents_found : Result (FieldRead (List Content)) FieldFault → List Content
 contents_found (Ok f) = f.content
 contents_found (Err why) = []
 
--- whether an item was found
+-- whether an item was read without a fault
 abbrev pub was_found : Result (FieldRead (List Content)) FieldFault → Bool
 was_found (Ok f) = true
 was_found (Err why) = false
 
--- the bit where the item of an entry begins
+-- the bit at which the item of an index entry begins
 abbrev pub start_of : IndexedItem → ℕ
 start_of e = 2 ^ 32 * e.at_high + e.at_low
 
@@ -184,35 +186,35 @@ abbrev pub items_at : (bits : List Bool) (subsets : ℕ) → List IndexedItem
 items_at bits n [] = []
 items_at bits n (e ∷ kept) = item_at bits n e ∷ items_at bits n kept
 
--- whether an entry has the number of the base in the bits; a text has none
+-- whether the base stored in an entry is the base in the bits; always true for a text
 abbrev pub has_base : (bits : List Bool) → IndexedItem → Bool
 has_base bits e =
     is_character e.spec.kind || (e.base == number_of (take e.spec.width (drop (start_of e) bits)))
 
--- whether each increment is valid
+-- whether every increment is valid
 abbrev pub are_valid : Coding → (k subsets : ℕ) → (base suffix : List Bool) → Bool
 are_valid c k n base suffix =
     list_all (λ i. is_some (increased c k base i)) (increments n (step_of c k) suffix)
 
--- whether an item is at the location of an entry, with its k and base
+-- whether a valid item is at the location of an entry, with the k and the base of the entry
 abbrev pub fits_at : (bits : List Bool) (subsets : ℕ) → IndexedItem → Bool
 fits_at bits n e =
     was_found (packed_field n e.spec (drop (start_of e) bits))
     && ((e.step == number_of (take 6 (drop (start_of e + e.spec.width) bits))) && has_base bits e)
 
--- compressed data with these entries, as they are shown
+-- compressed data whose items are at the locations of these entries
 abbrev pub packed_values : List Row → (bits : List Bool) (subsets : ℕ) → List IndexedItem
     → PackedValues
 packed_values table bits n kept =
     record { table = table; subsets = n; items = items_at bits n kept }
 
--- the reader with these entries
+-- a reader of compressed data whose items are at the locations of these entries
 abbrev pub packed_view : (bits : List Bool) (at subsets : ℕ) → List IndexedItem → PackedCursor
 packed_view bits at n kept =
     record { bits = bits; at = at; subsets = n; items = items_at bits n kept }
 
--- what holds of a reader: each item has at least one bit and the six of its k, and at most 2,550
--- bits for each subset
+-- What holds for a reader of compressed data. Each item has at least 7 bits (one for the base and
+-- six for k), and at most 2,550 bits for each subset.
 pub record IsPackedIn (bits : List Bool) (at subsets : ℕ) (kept : List IndexedItem) : Type 0 where
   pub within : at ≤ length bits
   pub some : 1 ≤ subsets
@@ -221,7 +223,8 @@ pub record IsPackedIn (bits : List Bool) (at subsets : ℕ) (kept : List Indexed
   pub near : at ≤ 2550 * (length kept * subsets)
   pub fit : list_all (fits_at bits subsets) kept ≡ true
 
--- the rest begins with an item, and this is its answer
+-- The remaining bits begin with an item for this field, and t is its answer. The item is added to
+-- those read so far.
 pub record IsPackedTaken (s : PackedCursor) (spec : FieldSpec) (t : Taken)
     (s' : PackedCursor) : Type 0 where
   pub contents : List Content
@@ -234,15 +237,15 @@ pub record IsPackedTaken (s : PackedCursor) (spec : FieldSpec) (t : Taken)
   pub items : s'.items ≡ s.items ++ record { spec = spec; content = contents } ∷ []
   pub forth : s.at + 7 ≤ s'.at
 
--- an item at a bit is at fault
+-- The item at this bit is invalid, and e is its fault.
 pub record IsUnseen (bits : List Bool) (at n : ℕ) (spec : FieldSpec)
     (e : DataFault) : Type 0 where
   pub why : FieldFault
   pub field : packed_field n spec (drop at bits) ≡ Err why
   pub fault : e ≡ wrong_of spec.fxy why
 
--- One call: an item was read and kept, or there would be too many values, or it is at fault, or
--- memory for more items ran out. A fault changes nothing.
+-- One call: an item was read and stored, or there would be too many values, or the item is invalid,
+-- or memory for more items ran out. A fault changes nothing.
 abbrev pub PackedTakes : PackedCursor → FieldSpec → Result Taken DataFault → PackedCursor → Type 0
 PackedTakes s spec (Ok t) s' = IsPackedTaken s spec t s'
 PackedTakes s spec (Err (data_fault.TooManyValues fxy)) s' =
@@ -252,7 +255,7 @@ PackedTakes s spec (Err e) s' =
     IsUnseen s.bits s.at s.subsets spec e × (s' ≡ s)
     × ((length s.items + 1) * s.subsets ≤ max_values)
 
--- a refusal changes nothing
+-- A fault changes nothing.
 pub refuses_packed : (s : PackedCursor) (spec : FieldSpec) (e : DataFault) (s' : PackedCursor)
     → PackedTakes s spec (Err e) s' → s' ≡ s
 refuses_packed s spec (data_fault.TooManyValues fxy) s' h = h.2
@@ -261,7 +264,8 @@ refuses_packed s spec (data_fault.DataEnd fxy) s' h = h.1
 refuses_packed s spec (data_fault.Increment fxy) s' h = h.1
 refuses_packed s spec (data_fault.UnequalFactor fxy) s' h = h.1
 
--- an item at a bit: its contents, its answer, its k, the number of its base, and the bit after it
+-- The item at this bit was read: s has its answer, its k, its base (if it is a number) and the bit
+-- after it.
 pub record IsSeen (bits : List Bool) (at n : ℕ) (spec : FieldSpec) (s : ItemBits) : Type 0 where
   pub contents : List Content
   pub field : packed_field n spec (drop at bits) ≡ Ok (found contents (drop s.end bits))
@@ -271,45 +275,46 @@ pub record IsSeen (bits : List Bool) (at n : ℕ) (spec : FieldSpec) (s : ItemBi
   pub within : s.end ≤ length bits
   pub least : at + 7 ≤ s.end
 
--- one entry for each item of compressed data, which is at the entry's location
+-- There is one entry for each item of compressed data, and the item is at the entry's location.
 abbrev pub AreKept : Data → List IndexedItem → List (Item (List Content)) → Type 0
 AreKept d entries items =
     (items_at d.bits d.subsets entries ≡ items)
     × (list_all (fits_at d.bits d.subsets) entries ≡ true)
 
--- the content of a kept item for one subset, counted from 0
+-- the content of a stored item in one subset, counted from 0
 abbrev pub content_kept : (bits : List Bool) (subsets : ℕ) → IndexedItem → (subset : ℕ) → Content
 content_kept bits n e j =
     content_at j (contents_found (packed_field n e.spec (drop (start_of e) bits)))
 
--- the call that shows a kept item
+-- the call that shows a stored item
 abbrev pub call_kept : List Row → (bits : List Bool) (subsets : ℕ) → IndexedItem → (subset : ℕ)
     → Call
 call_kept table bits n e j = item_call (view_of table e.spec (content_kept bits n e j))
 
--- the number of items kept
+-- the number of stored items
 abbrev pub held_of : StoredItems → ℕ
 held_of stored.Apart = 0
 held_of (stored.Together entries) = length entries
 
--- nothing is kept where each subset has bits of its own
+-- What is stored of the values: nothing if the data are plain, and an entry for each item if they
+-- are compressed.
 abbrev pub KeepsValues : StoredItems → Data → Values → Type 0
 KeepsValues stored.Apart d (apart subsets) = Unit {0}
 KeepsValues stored.Apart d (together items) = ⊥
 KeepsValues (stored.Together entries) d (apart subsets) = ⊥
 KeepsValues (stored.Together entries) d (together items) = AreKept d entries items
 
--- the number of items of all subsets
+-- the number of items in all subsets together
 abbrev pub items_in : List (List (Item Content)) → ℕ
 items_in [] = 0
 items_in (items ∷ subsets) = length items + items_in subsets
 
--- an item of one subset takes at least one bit
+-- In plain data, each item has at least one bit.
 abbrev pub PaysBits : Values → (used : ℕ) → Type 0
 PaysBits (apart subsets) used = items_in subsets ≤ used
 PaysBits (together items) used = Unit {0}
 
--- A reading that did not stop, and what is kept of it: each item that is kept took at least 7 bits.
+-- A reading that completed, and what is stored of it. Each stored item has at least 7 bits.
 pub record IsStoredReading (r : Read) (k : StoredItems) : Type 0 where
   pub none : (reading_of (course_of r) r.source).stop ≡ None
   pub keeps : KeepsValues k r.source (values_read r)
@@ -319,8 +324,8 @@ pub record IsStoredReading (r : Read) (k : StoredItems) : Type 0 where
 
 -- ---- The index of the items of compressed data.
 
--- entries have room up to the next multiple of 64, where it is made again, and no more than twice
--- as many and 64 need
+-- The capacity of the index is at least the number of entries, rounded up to a multiple of 64,
+-- since room is made for 64 at a time. It is at most twice the number of entries plus 64.
 pub record HasRoom (entries room : ℕ) : Type 0 where
   pub enough : (entries + (items_at_once - 1)) / items_at_once * items_at_once ≤ room
   pub most : room ≤ 2 * entries + items_at_once

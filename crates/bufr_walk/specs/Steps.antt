@@ -1,4 +1,4 @@
--- Only contracts need this file. The steps of a walk: a step for each turn up to what comes next.
+-- Only contracts need this file. The steps of a walk: one step for each turn up to what comes next.
 -- (own)
 use Rattle.std.specs.Prelude.{ℕ, List, [], ◌∷◌, ◌+◌, Result, Ok, Err, if◌then◌else◌, ◌-◌, ◌^◌, min, max, ◌≡◌}
 use Rattle.bufr_tables.specs.Prelude.{Tree, is_inserted_text, Row}
@@ -8,18 +8,18 @@ use Rattle.bufr_walk.specs.Course.{WalkStop, Turns, finish, open_end, group, pas
 
 -- ---- The turns up to what comes next.
 
--- the turns up to a field, or up to what comes after it
+-- the number of turns up to a field, or up to what comes after it
 abbrev pub turns_asked : Result FieldSpec TurnRefusal → (Taken → List Taken → ℕ) → List Taken → ℕ
 turns_asked (Err why) go answers = 1
 turns_asked (Ok spec) go [] = 1
 turns_asked (Ok spec) go (t ∷ answers) = 1 + go t answers
 
--- the turns up to what comes after an operator
+-- the number of turns up to what comes after an operator
 abbrev pub turns_operated : Result OperatorModel TurnRefusal → (OperatorModel → ℕ) → ℕ
 turns_operated (Err why) go = 1
 turns_operated (Ok settings) go = 1 + go settings
 
--- the number of turns up to what comes next by `ahead`, itself included
+-- the number of turns up to and including what comes next by `ahead`
 abbrev pub turns_ahead : List Row → Turns → OperatorModel → List Taken → ℕ
 turns_ahead table finish s answers = 1
 turns_ahead table open_end s answers = 1
@@ -42,15 +42,15 @@ pub record NextTurn : Type 0 where
   pub turns : ℕ
   pub next : Next
 
--- what comes next and its turns, as a function of what the fields so far returned
+-- what comes next and the number of turns, as a function of the answers of the fields so far
 abbrev pub CountedCourse : Type 0
 CountedCourse = List Taken → NextTurn
 
--- the same without the turns
+-- the same course without the numbers of turns
 abbrev pub uncounted : CountedCourse → Course
 uncounted course answers = (course answers).next
 
--- what comes next in a whole template, with its turns
+-- what comes next in a whole template, and the number of turns up to it
 abbrev pub counted_item : List Row → Tree → CountedCourse
 counted_item table template answers = record {
   turns = turns_ahead table (turns_of template (counts_of answers)) begin answers;
@@ -59,12 +59,12 @@ counted_item table template answers = record {
 
 -- ---- The steps of a walk.
 
--- a counter after n ticks: it stays at the greatest u64
+-- a counter after n more steps; it stops at 2^64 - 1 (`u64::MAX`)
 abbrev pub ticked : ℕ → ℕ → ℕ
 ticked count n = max count (min (count + n) (2 ^ 64 - 1))
 
--- A whole walk: each item is what comes next after those before it. At Ok the end comes next; else
--- what comes next stopped it. The steps are the turns up to there.
+-- A whole walk: each field comes next after those before it. If the result is `Ok`, the end comes
+-- next; otherwise the walk stopped at what comes next. The steps are the turns up to this point.
 abbrev pub Walked : {S E : Type 0} → (S → FieldSpec → Result Taken E → S → Type 0) → CountedCourse
     → S → ℕ → Result (Unit {0}) (WalkStop E) → S → ℕ → Type 0
 Walked takes n s steps (Ok _) s' steps' =
