@@ -41,7 +41,7 @@ pub record Filler (D C E : Type 0) : Type 0 where
   pub lost : E
 
 module _ {D C E : Type 0} (filler : Filler D C E) where
-  -- bits, followed by the bits of the rest
+  -- bits, followed by the bits in a result
   abbrev pub with_bits_before : List Bool → Result (List Bool) E → Result (List Bool) E
   with_bits_before bits (Err why) = Err why
   with_bits_before bits (Ok suffix) = Ok (bits ++ suffix)
@@ -80,7 +80,7 @@ module _ {D C E : Type 0} (filler : Filler D C E) where
 abbrev pub bits_written : {C : Type 0} → List (Item (WrittenItem C)) → List Bool
 bits_written {C} items = flat_map (λ (i : Item (WrittenItem C)). i.content.bits) items
 
--- items, and then those of a pass
+-- a pass with these items before its own
 abbrev pub with_items : {S C E : Type 0} → List (Item C) → Pass S C E → Pass S C E
 with_items items p = record p { items = items ++ p.items }
 
@@ -100,9 +100,9 @@ lowest (number n ∷ cs) = Some (option_map_or (min n) (lowest cs) n)
 lowest (_ ∷ cs) = lowest cs
 
 -- Whether a content can be read back from an increment of this k. (`base` is at most each number,
--- and k at most the length of a text.) The increment of a number must fit into k bits, without being
--- all ones if these mean missing. A text must be its first k octets and then spaces, and those k
--- octets must not all be 255. Missing always has an increment, of all ones.
+-- and k at most the length of a text.) The increment of a number must fit into k bits, without
+-- being all ones if these mean missing. A text must be its first k octets and then spaces, and
+-- those k octets must not all be 255. Missing always has an increment, of all ones.
 -- rule: packs-numbers, packs-texts-not-missing
 abbrev pub has_increment : Coding → (base k : ℕ) → Content → Bool
 has_increment (numbers width m) base k (number n) = nat_lt (n - base) (raw_limit m k)
@@ -150,7 +150,7 @@ packed_unlike role.Factor spec cs = Err unequal_factor
 packed_unlike role.Reference spec cs = Err increment
 packed_unlike _ spec cs = packed_over spec cs
 
--- the contents of one item in all subsets: if they are the same, that content is the base and k is 0
+-- the contents of one item in all subsets: if they are equal, that content is the base and k is 0
 -- rule: packs-equal, packs-all-missing
 abbrev pub packing : FieldSpec → List Content → Result (List Bool) FieldFault
 packing spec [] = Ok []
@@ -158,11 +158,12 @@ packing spec (c ∷ cs) =
     if list_all (same c) cs then Ok (packed_bits (bits_for spec.width c) 0 [])
     else packed_unlike spec.role spec (c ∷ cs)
 
--- the k of an item: the number of the six bits after its base
+-- the k of an item: the number in the six bits after its base
 abbrev pub k_of : FieldSpec → List Bool → ℕ
 k_of spec bits = number_of (take 6 (drop spec.width bits))
 
--- contents are packed in bits that read as them; no other such bits have a lesser k or are fewer
+-- The contents are packed into bits that read as these contents. No other bits that read as them
+-- have a smaller k, or are fewer.
 pub record HasLeastK (n : ℕ) (spec : FieldSpec) (contents : List Content) : Type 0 where
   pub out : List Bool
   pub is : packing spec contents ≡ Ok out
@@ -172,8 +173,8 @@ pub record HasLeastK (n : ℕ) (spec : FieldSpec) (contents : List Content) : Ty
   pub short : (bits suffix : List Bool) → packed_field n spec bits ≡ Ok (found contents suffix)
       → length out + length suffix ≤ length bits
 
--- the content of an item of a subset that ends at line `end_line`; a fault if the subset has no more
--- items
+-- the content of an item of a subset that ends at line `end_line`; a fault if the subset has no
+-- more items
 -- rule: fault-51
 abbrev pub content_here : FieldSpec → Option Draft → (end_line : ℕ) → Result Content DraftFault
 content_here spec None end_line = Err (at_line end_line (wrong_for spec))
@@ -203,7 +204,7 @@ plain_data course (s ∷ subsets) = do
   rest ← plain_data course subsets
   Ok (first ++ rest)
 
--- ---- compressed data
+-- ---- Compressed data.
 
 -- the item of one subset in a row (`None` if the subset has no more), and the line that ends the
 -- subset
@@ -276,8 +277,8 @@ packing_fault cs cells unequal_factor = at_line (unlike_line cs cells) item_faul
 packing_fault cs cells _ = at_line (first_line cells) item_fault.Increment
 
 -- An item of all subsets: first there must not be too many values, then each subset must have its
--- item, and then the contents must be packed. (`result_map_both` applies its first function to `Ok`,
--- and its second one to `Err`.)
+-- item, and then the contents must be packed. (`result_map_both` applies its first function to
+-- `Ok`, and its second one to `Err`.)
 -- rule: fault-order-of-subsets
 abbrev pub pack_across : FieldSpec → ItemRow → Result (WrittenItem (List Content)) DraftFault
 pack_across spec a =
@@ -287,10 +288,10 @@ pack_across spec a =
       cs ← contents_here spec a.cells
       result_map_both (written_item cs) (packing_fault cs a.cells) (packing spec cs)
 
--- How the rows of compressed data are written. If a field comes next but all rows have been written,
--- `many` says whether one more row would make too many values; this is then reported instead of a
--- missing item. Faults after the last row are reported on the line that ends the first subset
--- (`end_line`).
+-- How the rows of compressed data are written. If a field comes next but all rows have been
+-- written, `many` says whether one more row would make too many values; this is then reported
+-- instead of a missing item. Faults after the last row are reported on the line that ends the first
+-- subset (`end_line`).
 -- rule: fault-62
 abbrev pub packed_filler : (end_line : ℕ) (many : Bool) → Filler ItemRow (List Content) DraftFault
 packed_filler end_line many = record {
