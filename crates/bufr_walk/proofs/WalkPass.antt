@@ -59,7 +59,8 @@ module _ {T C E : Type 0} (how : Passing T C E) where
   passes_none course p most left e = let same : most ≡ left = omega (arith, e) in ap (λ n. pass how n course p) same
 
   pub passes_one : (answers : List Taken) (course : Course) (p : T) (spec : FieldSpec) (c : C) (t : Taken) (mid : T) (items : List (Item C)) (state : T) → course [] ≡ take_next spec
-      → how.step spec p ≡ Ok (record { content = c; returned = t; state = mid }) → Passes answers (λ more. course (t ∷ more)) mid items state → Passes (t ∷ answers) course p (item spec c ∷ items) state
+      → how.step spec p ≡ Ok (record { content = c; returned = t; state = mid }) → Passes answers (λ more. course (t ∷ more)) mid items state
+      → Passes (t ∷ answers) course p (item spec c ∷ items) state
   passes_one answers course p spec c t mid items state n step h zero left e = absurd (omega (arith, e))
   passes_one answers course p spec c t mid items state n step h (suc most) left e =
       let go : Step T C → Pass T C E = λ f. pass how most (λ more. course (f.returned ∷ more)) f.state in
