@@ -25,7 +25,7 @@ number_after_bits n (bit ∷ bits) = number_after_bits (2 * n + (if bit then 1 e
 abbrev pub number_of : List Bool → ℕ
 number_of bits = number_after_bits 0 bits
 
--- so many of the bits of octets, from a place on
+-- the `width` bits that begin at bit `at` of the octets; fewer if the octets end first
 -- rule: field-number
 abbrev pub bits_at : (octets : List ℕ) (at width : ℕ) → List Bool
 bits_at octets at width = take width (drop at (bits_of octets))
@@ -44,24 +44,26 @@ padding length = replicate ((8 - length % 8) % 8) false
 
 -- ---- Eight octets read as one number. (own)
 
--- the number that eight octets write, from a place on
+-- `window` is the number in the eight octets that begin at index `first`.
 pub record IsWindow (window first : ℕ) (octets : List ℕ) : Type 0 where
   pub within : first + 8 ≤ length octets
   pub small : window < 2 ^ 64
   pub bits : bits_of (take 8 (drop first octets)) ≡ bits_in window 64
 
--- ---- The state of a writer of bits: whole octets, and the bits after them in a number.
+-- ---- The state of a bit writer: whole octets, and the bits after them in a number.
 
--- the writer: the bits that were written, and for how many more there is room
+-- a bit writer: the bits written so far, and the number of further bits for which there is room
 pub record BitWriterModel : Type 0 where
   pub bits : List Bool
   pub room : ℕ
 
--- the room after octets and the bits that follow them; there are at most 2^63 bits
+-- the number of further bits for which there is room after `len` octets and `count` bits, in a
+-- buffer of `capacity` octets; there are at most 2^63 bits in all
 abbrev pub room_after : (len capacity count : ℕ) → ℕ
 room_after len capacity count = min (8 * capacity) (2 ^ 63) - (8 * len + count)
 
--- fewer than 64 bits follow the octets, and there is room for them and for as many more as are free
+-- After `len` octets, `last` contains `count` bits and has `free` free ones: fewer than 64 in all,
+-- and the buffer has room for these. At most 2^63 bits were written.
 pub record IsWriting (len capacity last count free : ℕ) : Type 0 where
   pub few : count + free < 64
   pub low : last < 2 ^ count

@@ -112,36 +112,38 @@ decimal_value_of text scale =
     then scaled digits (length (fraction_part body)) scale >>= signed (starts_with_minus text)
     else Err Syntax
 
--- the parts of an unsigned decimal text
+-- These are the parts of an unsigned decimal text, before and after the point.
 pub record IsParts (text whole fraction : List ℕ) : Type 0 where
   pub form : is_unsigned text ≡ true
   pub before : whole ≡ whole_part text
   pub after : fraction ≡ fraction_part text
 
--- ---- Short decimal texts as numbers of digits. (own)
+-- ---- Short decimal texts, each as a number and how many of its digits come after the point. (own)
 
 -- a number with its sign
 abbrev pub signed_number : (negative : Bool) → ℕ → ℤ
 signed_number false n = pos n
 signed_number true n = neg_ℤ (pos n)
 
--- the text of a number
+-- the text of a short decimal number
 abbrev pub short_text : ShortDecimal → List ℕ
 short_text d = decimal_text_of (signed_number d.negative d.digits) (pos d.places)
 
--- an octet of a decimal text
+-- whether an octet may be part of a decimal text: a digit, a minus sign or a point
 abbrev pub is_decimal_octet : ℕ → Bool
 is_decimal_octet c = is_ascii_digit c || (c == 45) || (c == 46)
 
--- whether an octet continues a number with the given number of places: a digit, or the first point
+-- whether an octet continues a number that has `places` digits after the point so far: a digit, or
+-- a point if there are none
 abbrev pub continues_number : (places octet : ℕ) → Bool
 continues_number places octet = is_ascii_digit octet || ((places == 0) && (octet == 46))
 
--- how many octets at the start of a text are searched for a short number: 19 after the minus sign
+-- the number of octets searched for a short number at the start of a text: a minus sign, if there
+-- is one, and 19 more
 abbrev pub searched_octets : List ℕ → ℕ
 searched_octets text = if starts_with_minus text then 20 else 19
 
--- the text of a number without its sign
+-- This is the text of a number without a sign; `places` of its digits come after the point.
 pub record IsPlainDecimal (text : List ℕ) (number places : ℕ) : Type 0 where
   pub is : text ≡ unsigned_text number (pos places)
   pub octets : list_all is_decimal_octet text ≡ true

@@ -4,7 +4,7 @@
 use Rattle.std.specs.Prelude.{true, ℕ, zero, suc, ◌+◌, ◌-◌, ◌^◌, min, max, Bool, false, List, [], ◌∷◌, Result, Ok, Err, if◌then◌else◌, length, nat_eq}
 use Rattle.bufr_bits.specs.declared.device.Device.{Device}
 
--- the device that has made no call yet
+-- a device that has made no calls yet
 abbrev pub fresh_device : {T : Type 0} → T → Device T
 fresh_device inner =
     record {
@@ -19,7 +19,7 @@ fresh_device inner =
       all_flushed = true;
     }
 
--- ---- The counts that a device keeps of its calls. (own)
+-- ---- How a device counts its calls. (own)
 
 -- a count increased by `by`, but not beyond 2^64 - 1 (`max` matters only for a count above that)
 abbrev pub counted : (count by : ℕ) → ℕ
@@ -66,13 +66,13 @@ abbrev pub all_flushed_after_flush : {A E : Type 0} → Bool → Result A E → 
 all_flushed_after_flush before (Ok x) = true
 all_flushed_after_flush before (Err e) = before
 
--- ---- Numbers that stop at the greatest u128, while digits are read. (own)
+-- ---- Numbers capped at `u128::MAX` while digits are read. (own)
 
--- a number, or the greatest u128 where it is over that
+-- a number, or `u128::MAX` if the number is greater
 abbrev pub capped : ℕ → ℕ
 capped n = min n (2 ^ 128 - 1)
 
--- an answer with its number capped
+-- a result with its number capped
 abbrev pub capped_ok : {E : Type 0} → Result ℕ E → Result ℕ E
 capped_ok (Ok n) = Ok (capped n)
 capped_ok (Err fault) = Err fault

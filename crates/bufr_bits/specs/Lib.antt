@@ -1,8 +1,8 @@
--- The definitions of this crate: the first lines of each file say what it has.
+-- The definitions of this crate. The first lines of each file say what it contains.
 pub mod BitSlice
 pub mod Bits
 pub mod Device
 pub mod Decimal
 pub mod Script
--- the names that others cite, from one place
+-- the names that proofs and other crates cite, re-exported
 pub mod Prelude

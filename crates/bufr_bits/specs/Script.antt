@@ -6,18 +6,19 @@ use Rattle.bufr_bits.specs.declared.script.ScriptOut.{ScriptOut}
 use Rattle.bufr_bits.specs.declared.script.End.{End}
 use Rattle.bufr_bits.specs.declared.script.End.TheVariants.{Zero, Fail, Flush}
 
--- what a read into this much room answers, where this many octets are held
+-- the result of a read into `room` octets if `held` octets remain; the option is the number of
+-- octets to return before a failure, if any
 abbrev pub read_answer : (step room held : ℕ) → Option ℕ → Result ℕ Failed
 read_answer step room held None = Ok (min (min step room) held)
 read_answer step room held (Some zero) = Err (record {})
 read_answer step room held (Some (suc before)) = Ok (min (min (min step room) held) (suc before))
 
--- how many octets a call moved, by its answer
+-- the number of octets that a call read or took, according to its result
 abbrev pub octets_moved : Result ℕ Failed → ℕ
 octets_moved (Ok n) = n
 octets_moved (Err e) = 0
 
--- the place of failure after that many octets more
+-- the number of octets to return before a failure, if any, after `n` more octets
 abbrev pub failure_after : Option ℕ → ℕ → Option ℕ
 failure_after place n = option_map (λ before. before - n) place
 
@@ -25,22 +26,22 @@ failure_after place n = option_map (λ before. before - n) place
 abbrev pub taken_of : ScriptOut → List ℕ
 taken_of s = s.taken.items
 
--- how many flushes of a writer were made, and how many of them failed
+-- the number of flushes of a writer, and how many of these failed
 abbrev pub flushes_of : ScriptOut → Flushes
 flushes_of s = record { made = s.flushes; failed = s.failed_flushes }
 
--- how many octets a writer still takes
+-- the number of octets that a writer can still take
 abbrev pub left_of : ScriptOut → ℕ
 left_of s = s.room - vec_len s.taken
 
--- what a write of this many octets answers, where this much room is left
+-- the result of a write of `asked` octets if `left` more octets can be taken
 abbrev pub write_answer : End → (step left asked : ℕ) → Result ℕ Failed
 write_answer end step (suc left) asked = Ok (min (min step asked) (suc left))
 write_answer Zero step zero asked = Ok 0
 write_answer Fail step zero asked = Err (record {})
 write_answer Flush step zero asked = Err (record {})
 
--- what a flush answers, whatever was taken
+-- the result of a flush, whatever was taken
 abbrev pub flush_answer : End → Result Unit Failed
 flush_answer Zero = Ok tt
 flush_answer Fail = Ok tt

@@ -10,24 +10,24 @@ use Rattle.bufr_c.specs.declared.command.Command.{Command}
 use Rattle.bufr_c.specs.declared.command.Command.TheVariants as command
 use Rattle.bufr_c.specs.declared.command.EventText.{EventText}
 
--- what a command writes for an event
+-- the piece that a command writes for an event
 abbrev pub piece_by : Command → StreamEvent → Piece
 piece_by command.List = ls_piece
 piece_by (command.Dump b d) = dump_piece b.now d.now
 
--- the text of an event was made
+-- This is the text of an event with this piece.
 pub record IsTextOf (text : EventText) (piece : Piece) : Type 0 where
   pub output : text.output.octets.items ≡ output_of piece
   pub errors : text.errors.octets.items ≡ errors_of piece
   pub accepted : text.accepted ≡ is_accepted piece
 
--- The text of all these pieces was made, and counted.
+-- This is the text of all these pieces, and the tally has their counts.
 pub record IsTextOfAll (pieces : List Piece) (text : EventText) (tally : Tally) : Type 0 where
   pub output : text.output.octets.items ≡ flat_map output_of pieces
   pub errors : text.errors.octets.items ≡ flat_map errors_of pieces
   pub tallies : Tallies tally pieces
 
--- the form of a number
+-- the form with this number, if there is one
 abbrev pub form_by : ℕ → Option Form
 form_by number =
     if number == 0 then Some AsWritten

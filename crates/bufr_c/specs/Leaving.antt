@@ -11,7 +11,7 @@ use Rattle.bufr_c.specs.declared.command.EventText.{EventText}
 use Rattle.bufr_c.specs.declared.texts.Texts.{Texts}
 use Rattle.bufr_c.specs.Commands.{IsTextOf}
 
--- the events of a stream from a place on; offsets count from the start of the stream
+-- the events of a stream that is searched from offset `at` on; offsets count from its start
 abbrev pub events_from : (at : ℕ) → List ℕ → List StreamEvent
 events_from at octets = scan_from 0 at (drop at octets)
 
@@ -25,7 +25,7 @@ abbrev pub end_after : (from : ℕ) → List StreamEvent → ℕ
 end_after from [] = from
 end_after from (event ∷ events) = end_after (end_of event) events
 
--- A message of n octets begins there.
+-- A message of n octets begins at the start of m.
 pub record IsMessage (m : List ℕ) (n : ℕ) : Type 0 where
   pub begins : StartsWithBufr m
   pub states : n ≡ stated_length m
@@ -33,18 +33,19 @@ pub record IsMessage (m : List ℕ) (n : ℕ) : Type 0 where
   pub within : n ≤ length m
   pub ends : has_word_at (codes "7777") (n - 4) m ≡ true
 
--- A stray `BUFR` begins there, for this cause.
+-- A stray `BUFR` with this cause begins at the start of m.
 pub record IsStray (m : List ℕ) (cause : Cause) : Type 0 where
   pub event : (offset : ℕ) → stream_event offset m (classify m) ≡ StrayAt offset cause ∷ []
   pub moves : candidate_len m (classify m) ≡ 4
   pub within : 4 ≤ length m
 
--- what begins there
+-- This is what begins at the start of m.
 abbrev pub IsCandidate : List ℕ → Candidate → Type 0
 IsCandidate m (Stray cause) = IsStray m cause
 IsCandidate m (Frame n) = IsMessage m n
 
--- This holds of the event that begins there, and the search continues after it.
+-- The event that begins at the start of m, which is at `offset`, meets a condition. The search
+-- continues n octets later, directly after the event.
 pub record FindsEvent (Is : StreamEvent → Type 0) (offset : ℕ) (m : List ℕ) (n : ℕ) : Type 0 where
   pub event : StreamEvent
   pub here : stream_event offset m (classify m) ≡ event ∷ []
@@ -54,11 +55,11 @@ pub record FindsEvent (Is : StreamEvent → Type 0) (offset : ℕ) (m : List ℕ
   pub within : n ≤ length m
   pub is : Is event
 
--- The text of the event that begins there was made.
+-- This is the text of the event that begins at the start of m.
 abbrev pub WritesEvent : (StreamEvent → Piece) → (offset : ℕ) → List ℕ → ℕ → EventText → Type 0
 WritesEvent piece offset m n text = FindsEvent (λ event. IsTextOf text (piece event)) offset m n
 
--- The octets of the caller's buffers after the texts are unchanged.
+-- In the caller's buffers, the octets after the texts are unchanged.
 pub record LeavesRest (output errors : List ℕ) (texts : Texts) (output' errors' : List ℕ)
     : Type 0 where
   pub output_rest : drop texts.output_length output' ≡ drop texts.output_length output
@@ -95,7 +96,7 @@ pub record HasNoRoom (text : EventText) (old : Texts) (output errors : List ℕ)
   pub lacks : (length output < new.output_length + new.output_needed)
       ⊎ (length errors < new.errors_length + new.errors_needed)
 
--- whether there was room for the text of an event
+-- The text of an event was appended if there was room for it (`true`); if not, nothing was written.
 abbrev pub PutsText : EventText → Texts → (output errors : List ℕ) → Texts
     → (output' errors' : List ℕ) → Bool → Type 0
 PutsText text old output errors new output' errors' true =
@@ -120,20 +121,20 @@ pub record LacksRoom (output errors : List ℕ) (texts : Texts) (written blamed 
   pub lacks : (length output < texts.output_length + texts.output_needed)
       ⊎ (length errors < texts.errors_length + texts.errors_needed)
 
--- there is no room for the first of these events
+-- There is no room for the text of the first of these events.
 abbrev pub StopsBefore : (StreamEvent → Piece) → (output errors : List ℕ) → Texts
     → List StreamEvent → Type 0
 StopsBefore piece output errors texts [] = ⊥
 StopsBefore piece output errors texts (next ∷ more) =
     LacksRoom output errors texts (output_of (piece next)) (errors_of (piece next))
 
--- the status of a call that read its tables
+-- This is the status of a call that read its tables.
 abbrev pub IsRunStatus : ℤ → Type 0
 IsRunStatus status = (status ≡ pos 0) ⊎ ((status ≡ pos 73) ⊎ (status ≡ pos 74))
 
--- A call passed over these events from `from` on, and the next one continues at `at`: at the end of
--- the input (or at `from`, if that is past the end) if the status is 0, and right after the last of
--- these events if it is 73 or 74.
+-- A call that began at offset `from` processed these events, and the next call continues at `at`.
+-- If the status is 0, that is the end of the input (or `from`, if this is past the end). If it is
+-- 73 or 74, that is directly after the last of these events.
 pub record PassesOver (octets : List ℕ) (from : ℕ) (passed : List StreamEvent) (at : ℕ)
     (status : ℤ) : Type 0 where
   pub ran : IsRunStatus status
@@ -143,8 +144,8 @@ pub record PassesOver (octets : List ℕ) (from : ℕ) (passed : List StreamEven
   pub done : status ≡ pos 0 → (events_from at octets ≡ []) × (length octets ≤ at)
   pub stopped : (¬ (status ≡ pos 0)) → at ≡ end_after from passed
 
--- A call wrote the texts of the events that it passed over. Status 74 says that there is no room
--- for the next one.
+-- A call wrote the texts of the events that it processed. Status 74 means that there is no room for
+-- that of the next one.
 pub record Passes (piece : StreamEvent → Piece) (octets : List ℕ) (from : ℕ)
     (output errors : List ℕ) (texts : Texts) (status : ℤ) : Type 0 where
   pub passed : List StreamEvent
@@ -153,7 +154,7 @@ pub record Passes (piece : StreamEvent → Piece) (octets : List ℕ) (from : �
   pub stops : status ≡ pos 74
       → StopsBefore piece output errors texts (events_from texts.at octets)
 
--- A call wrote nothing, and the next one begins where it began.
+-- A call wrote nothing, and the next call begins at the same offset.
 pub record WritesNone (from : ℕ) (output errors : List ℕ) (texts : Texts)
     (output' errors' : List ℕ) : Type 0 where
   pub at : texts.at ≡ from
@@ -164,20 +165,20 @@ pub record WritesNone (from : ℕ) (output errors : List ℕ) (texts : Texts)
   pub same_output : output' ≡ output
   pub same_errors : errors' ≡ errors
 
--- the status of a call whose Table D has a sequence that contains itself
+-- This is the status of a call whose Table D has a sequence that contains itself.
 abbrev pub IsCycleStatus : List Sequence → ℤ → Type 0
 IsCycleStatus table status = (status ≡ pos 143) × ((fxy : ℕ) × IsFirstCycle table fxy)
 
--- the status of a call whose table is invalid: the number of the fault plus `more`, or 73
+-- This is the status of a call with an invalid table: the number of the fault plus `more`, or 73.
 abbrev pub IsTableStatus : (more : ℕ) → TableFault → ℤ → Type 0
 IsTableStatus more fault status =
     (status ≡ pos (more + (table_report fault).0)) ⊎ (status ≡ pos 73)
 
--- a call passed its input, or as much of it as there is room for
+-- The call processed its input (0), or as much of it as there is room for (74).
 abbrev pub HasRun : ℤ → Type 0
 HasRun status = (status ≡ pos 0) ⊎ (status ≡ pos 74)
 
--- Both tables can be read, and this holds by them.
+-- Both tables can be read, and the condition holds for them.
 pub record HoldsBy (table_b table_d : List ℕ) (Holds : List Row → List Sequence → Type 0)
     : Type 0 where
   pub b : List Row
@@ -186,15 +187,15 @@ pub record HoldsBy (table_b table_d : List ℕ) (Holds : List Row → List Seque
   pub is_d : table_d_of (records_of table_d) ≡ Ok d
   pub holds : Holds b d
 
--- Both tables can be read, and the first holds by them. Otherwise the status is neither 0 nor 74,
--- and the second holds.
+-- Both tables can be read, and the first condition holds for them; or the status is neither 0 nor
+-- 74, and the second condition holds.
 abbrev pub ByTables : (table_b table_d : List ℕ) → (status : ℤ)
     → (List Row → List Sequence → Type 0) → Type 0 → Type 0
 ByTables table_b table_d status Holds Otherwise =
     HoldsBy table_b table_d Holds ⊎ ((¬ HasRun status) × Otherwise)
 
--- The status of a call that reads tables. A table that cannot be read is reported by its fault,
--- unless memory runs out.
+-- This is the status of a call that reads tables. If a table is invalid, the status reports its
+-- fault, unless memory runs out.
 pub record CallStatus (table_b table_d : List ℕ) (status : ℤ) : Type 0 where
   pub read : IfOk (table_b_of (records_of table_b)) (λ _.
       IfOk (table_d_of (records_of table_d)) (λ d. IsRunStatus status ⊎ IsCycleStatus d status))
@@ -202,8 +203,8 @@ pub record CallStatus (table_b table_d : List ℕ) (status : ℤ) : Type 0 where
   pub no_table_d : IfOk (table_b_of (records_of table_b)) (λ _.
       IfErr (table_d_of (records_of table_d)) (λ fault. IsTableStatus 100 fault status))
 
--- The messages of the text from `from` on were written. Or there is no room for them, and nothing
--- was written.
+-- The messages of the text from offset `from` on were written; or there is no room for them, and
+-- nothing was written.
 pub record Encodes (pieces : List Piece) (octets : List ℕ) (from : ℕ) (output errors : List ℕ)
     (texts : Texts) (output' errors' : List ℕ) (status : ℤ) : Type 0 where
   pub ran : HasRun status

@@ -1,4 +1,4 @@
--- a line that reports another offset
+-- a line with another offset in place of the one that it reports
 pub mod Moving
 -- what a command writes for an event, and the text of an event
 pub mod Commands

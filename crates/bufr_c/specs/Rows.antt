@@ -16,8 +16,8 @@ use Rattle.bufr_c.specs.Leaving.{PassesOver, events_from}
 
 -- ---- The rows of the items of one message.
 
--- Rows of items and the octets of their texts, with what the next row needs: the wanted
--- descriptors, the index of the message, that of the first octet of its texts, and the subset.
+-- the rows of items and the octets of their texts, and what the next row needs: the wanted
+-- descriptors, the index of the message, the index of the first octet of its texts, and the subset
 pub record Put : Type 0 where
   pub wanted : List ℕ
   pub message : ℕ
@@ -52,12 +52,12 @@ item_by p fxy kind scale value length =
       reserved = 0;
     }
 
--- one more row
+-- the rows after one more, which has no octets
 abbrev pub with_item : Put → (fxy kind : ℕ) → (scale value : ℤ) → (length : ℕ) → Put
 with_item p fxy kind scale value length =
     record p { items = p.items ++ item_by p fxy kind scale value length ∷ [] }
 
--- one more row, and its octets; its value is the index of the first one
+-- the rows after one more, which has octets; its value is the index of the first of them
 abbrev pub with_text : Put → (fxy kind : ℕ) → (scale : ℤ) → List ℕ → Put
 with_text p fxy kind scale octets =
     record p {
@@ -66,18 +66,18 @@ with_text p fxy kind scale octets =
       octets = p.octets ++ octets;
     }
 
--- a number that 64 bits do not hold
+-- the rows after a number that does not fit in 64 bits
 abbrev pub with_wide : Put → (fxy : ℕ) → (scale value : ℤ) → Put
 with_wide p fxy scale n = with_text p fxy 4 scale (to_le_bytes w128 (cast_unsigned w128 n))
 
--- a number
+-- the rows after a number, which is wide if it does not fit in 64 bits
 abbrev pub with_number : Put → (fxy : ℕ) → (scale value : ℤ) → Put
 with_number p fxy scale n =
     if int_lt n (neg_ℤ (pos (2 ^ 63))) then with_wide p fxy scale n
     else (if int_lt (pos (2 ^ 63 - 1)) n then with_wide p fxy scale n
     else with_item p fxy 1 scale n 0)
 
--- an item by its value
+-- the rows after an item with this value
 abbrev pub with_value : Put → (fxy : ℕ) → ShownValue → Put
 with_value p fxy (shown_number n scale) = with_number p fxy scale n
 with_value p fxy (shown_text octets) = with_text p fxy 2 (pos 0) octets
@@ -89,39 +89,40 @@ abbrev pub is_wanted : List ℕ → (fxy : ℕ) → Bool
 is_wanted [] fxy = true
 is_wanted (first ∷ more) fxy = list_any (λ wanted. nat_eq wanted fxy) (first ∷ more)
 
--- a call of the showing
+-- the rows after a call of a visitor
 abbrev pub with_call : Put → Call → Put
 with_call p (subset_call number) = record p { subset = number }
 with_call p (item_call v) =
     if is_wanted p.wanted v.fxy then with_value p v.fxy v.value else p
 
--- a call was added, unless memory ran out
+-- The rows are those after the call, unless memory ran out.
 abbrev pub PutsCall : {E : Type 0} → Put → Call → Result (Unit {0}) E → Put → Type 0
 PutsCall p call (Ok _) q = q ≡ with_call p call
 PutsCall p call (Err _) q = Unit {0}
 
--- all calls of a showing
+-- the rows after all calls of a visitor
 abbrev pub with_calls : Put → List Timed → Put
 with_calls p [] = p
 with_calls p (t ∷ calls) = with_calls (with_call p t.call) calls
 
--- the items of data that are read without a fault, or none
+-- the rows after the items of data that are read without a fault; no more rows if there is a fault
 abbrev pub data_put : Put → List Timed → Option WalkFault → Put
 data_put p calls None = with_calls p calls
 data_put p calls (Some why) = p
 
--- the items of a message by the template of its descriptors, or none
+-- the rows after the items of a message with this template; no more rows if its descriptors have
+-- none
 abbrev pub template_put : List Row → Sections → Put → Result Tree TemplateFault → Put
 template_put table s p (Ok template) =
     data_put p (calls_of (read_by table template (data_of s) 0 0))
     (fault_of (data_of s) (reading_of (next_item table template) (data_of s)))
 template_put table s p (Err fault) = p
 
--- the items of a message, or none if it is refused
+-- the rows after the items of a message; no more rows if it is refused
 abbrev pub message_put : List Row → List Sequence → Sections → Put → Put
 message_put b d s p = template_put b s p (tree_of (tables_of b d) s.descriptors)
 
--- ---- The number of the fault of a message, or 0.
+-- ---- The number of the fault of a message, or 0 if it has none.
 
 abbrev pub data_fault : Option WalkFault → ℕ
 data_fault None = 0
@@ -201,13 +202,12 @@ head_row s offset first items fault =
 
 -- ---- The rows of events.
 
--- Rows of items, the octets of their texts, and rows of messages.
+-- the rows of items, the octets of their texts, and the rows of messages
 pub record Rows : Type 0 where
   pub items : List ValueRow
   pub octets : List ℕ
   pub messages : List MessageRow
 
--- no rows
 abbrev pub no_rows : Rows
 no_rows = record { items = []; octets = []; messages = [] }
 
@@ -216,7 +216,7 @@ abbrev pub fault_rows : (offset length first fault : ℕ) → Rows
 fault_rows offset length first fault =
     record { items = []; octets = []; messages = plain_row offset length first fault ∷ [] }
 
--- the rows of the items that were added, with the row of their message
+-- the rows of the items of a message, and the row of the message itself
 abbrev pub put_rows : Put → Sections → (offset first fault : ℕ) → Rows
 put_rows p s offset first fault =
     record {
@@ -225,14 +225,14 @@ put_rows p s offset first fault =
       messages = head_row s offset first (length p.items) fault ∷ [];
     }
 
--- where the rows of an event go: the index of its row, of the first octet of its texts, and of its
--- first item
+-- where the rows of an event are placed: the index of its row, that of the first octet of its
+-- texts, and that of its first item
 pub record RowPlace : Type 0 where
   pub message : ℕ
   pub base : ℕ
   pub first : ℕ
 
--- after these rows
+-- the place after these rows
 abbrev pub place_after : Rows → RowPlace
 place_after before =
     record {
@@ -241,7 +241,7 @@ place_after before =
       first = length before.items;
     }
 
--- the rows of a message, by its sections
+-- the rows of a message with these sections, or with a fault in them
 abbrev pub sections_rows : List Row → List Sequence → (wanted : List ℕ) → RowPlace
     → (offset length : ℕ) → Result Sections SectionFault → Rows
 sections_rows b d wanted place offset size (Ok s) =
@@ -257,7 +257,7 @@ rows_of b d wanted place (FrameAt offset octets) =
 rows_of b d wanted place (StrayAt offset cause) =
     fault_rows offset 4 place.first (cause_report cause).0
 
--- rows after other rows
+-- two groups of rows, one after the other
 abbrev pub join_rows : Rows → Rows → Rows
 join_rows before more =
     record {
@@ -266,7 +266,7 @@ join_rows before more =
       messages = before.messages ++ more.messages;
     }
 
--- the rows of events after other rows
+-- rows, followed by those of these events
 abbrev pub rows_after : List Row → List Sequence → (wanted : List ℕ) → Rows → List StreamEvent
     → Rows
 rows_after b d wanted before [] = before
@@ -279,22 +279,22 @@ rows_after b d wanted before (event ∷ events) =
 abbrev pub three : List ValueRow → List ℕ → List MessageRow → Rows
 three items octets messages = record { items = items; octets = octets; messages = messages }
 
--- what is in the caller's buffers
+-- the contents of the caller's buffers
 abbrev pub rows_at : RowBuffers → Rows
 rows_at buffers = three buffers.items.now buffers.texts.now buffers.messages.now
 
--- The buffers are where they were, and the reserved members are unchanged.
+-- The buffers are the same ones, and the reserved members are unchanged.
 pub record SameBuffers (old new : RowBuffers) : Type 0 where
   pub items : new.items.ghost_name ≡ old.items.ghost_name
   pub texts : new.texts.ghost_name ≡ old.texts.ghost_name
   pub messages : new.messages.ghost_name ≡ old.messages.ghost_name
   pub reserved : new.reserved ≡ old.reserved
 
--- the rows of one event as they were made
+-- the rows of one event: those of its items, and its own
 abbrev pub rows_in : Put → MessageRow → Rows
 rows_in p row = three p.items p.octets (row ∷ [])
 
--- where the next rows go
+-- the place of the next rows
 abbrev pub row_place : Counts → RowPlace
 row_place counts =
     record { message = counts.messages; base = counts.octets; first = counts.items }
@@ -317,7 +317,7 @@ pub record LacksRowRoom (room : Rows) (counts : Counts) (rows : Rows) : Type 0 w
       ⊎ ((length room.octets < counts.octets + counts.octets_needed)
       ⊎ (length room.messages < counts.messages + counts.messages_needed))
 
--- The caller's buffers after the rows are unchanged.
+-- In the caller's buffers, everything after the rows is unchanged.
 pub record LeavesRowsRest (before : Rows) (counts : Counts) (after : Rows) : Type 0 where
   pub items_rest : drop counts.items after.items ≡ drop counts.items before.items
   pub octets_rest : drop counts.octets after.octets ≡ drop counts.octets before.octets
@@ -343,20 +343,20 @@ pub record HasNoRowRoom (rows : Rows) (old : Counts) (before : Rows) (new : Coun
   pub reserved : new.reserved ≡ old.reserved
   pub lacks : LacksRowRoom after new rows
 
--- whether there was room for rows
+-- The rows were appended if there was room for them (`true`); if not, nothing was written.
 abbrev pub PutsRows : Rows → Counts → Rows → Counts → Rows → Bool → Type 0
 PutsRows rows old before new after true = HasPutRows rows old before new after
 PutsRows rows old before new after false = HasNoRowRoom rows old before new after
 
--- there is no room for the first of these events
+-- There is no room for the rows of the first of these events.
 abbrev pub StopsBeforeRows : List Row → List Sequence → (wanted : List ℕ) → (room : Rows)
     → Counts → List StreamEvent → Type 0
 StopsBeforeRows b d wanted room counts [] = ⊥
 StopsBeforeRows b d wanted room counts (next ∷ more) =
     LacksRowRoom room counts (rows_of b d wanted (row_place counts) next)
 
--- A call wrote the rows of the events that it passed over. Status 74 says that there is no room for
--- the next one.
+-- A call wrote the rows of the events that it processed. Status 74 means that there is no room for
+-- those of the next one.
 pub record PassesRows (b : List Row) (d : List Sequence) (wanted octets : List ℕ) (from : ℕ)
     (room : Rows) (counts : Counts) (status : ℤ) : Type 0 where
   pub passed : List StreamEvent
@@ -365,7 +365,7 @@ pub record PassesRows (b : List Row) (d : List Sequence) (wanted octets : List �
   pub stops : status ≡ pos 74
       → StopsBeforeRows b d wanted room counts (events_from counts.at octets)
 
--- A call wrote nothing, and the next one begins where it began.
+-- A call wrote nothing, and the next call begins at the same offset.
 pub record WritesNoRows (from : ℕ) (before : Rows) (counts : Counts) (after : Rows) : Type 0 where
   pub at : counts.at ≡ from
   pub items : counts.items ≡ 0

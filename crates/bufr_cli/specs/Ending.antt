@@ -37,8 +37,8 @@ FlushesRest before after (Err fault) =
     × (after.all_flushed ≡ before.all_flushed)))
 
 -- A writer takes a prefix of a line, and the whole line if no call fails and no write takes
--- nothing. (The counts show that only if they are not at their greatest value, 2^64 - 1.) The writer
--- is not flushed.
+-- nothing. (The counts show that only if they are not at their greatest value, 2^64 - 1.) The
+-- writer is not flushed.
 abbrev pub WritesLine : (before after : Writer) → (line : List ℕ) → Type 0
 WritesLine before after line =
     GrowsByPrefix before.taken after.taken line

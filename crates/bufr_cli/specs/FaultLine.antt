@@ -13,7 +13,7 @@ use Rattle.bufr_text.specs.declared.fault.ReadFault.{ReadFault}
 use Rattle.std.specs.List.{concat}
 use Rattle.bufr_text.specs.declared.fault.ReadFault.TheVariants as read
 
--- the number of a fault of a stream, and its text in parts; want of memory has no text
+-- the number of a fault in a message of a stream, and its text in parts; `Memory` has no text
 abbrev pub stream_report : StreamFault → ℕ × List (List ℕ)
 stream_report (stream.Section fault) = section_report fault
 stream_report (stream.Template fault) = template_report fault.now
@@ -34,7 +34,7 @@ fault_line offset = report_line (codes "offset " ∷ decimal offset ∷ codes ":
 abbrev pub document_line : (line : ℕ) → (report : ℕ × List (List ℕ)) → List ℕ
 document_line line = report_line (codes "line " ∷ decimal line ∷ codes ": " ∷ [])
 
--- the line of a fault of the reading; that of a device or of memory has none
+-- the line that reports a fault in reading documents; empty for a fault that stops the run
 abbrev pub line_of_read_fault : ReadFault → List ℕ
 line_of_read_fault (read.Line line fault) = document_line line (line_report fault)
 line_of_read_fault (read.Run fault) = []

@@ -1,20 +1,22 @@
--- a stream dumped, its text encoded, and that dumped again
+-- dumping a stream, encoding its text, and dumping the result again
 pub mod RoundTrip
--- what a run leaves: its reads, its writes, its counts, and the devices that a fault is of
+-- what a run does to its devices: its reads, writes and counts, and the device that a fault comes
+-- from
 pub mod Running
 -- what one step of a run does
 pub mod Steps
--- the fault lines of a stream, with its offset, and of a document, with the line of the text
+-- the lines that report faults: in a stream with the offset, in a document with the line of the
+-- text
 pub mod FaultLine
--- a text for one of the two writers, and what each command writes for an input
+-- the pieces that each command writes for an input, each of them for one of the two writers
 pub mod Pieces
--- how a run of the program ended, what is flushed after it, its last line, and the exit status
+-- how a run of the program ends: the last flush, the last line, and the exit status
 pub mod Ending
--- the command line, as clap reads it: commands, options, which job is meant, which fault
+-- the command line, as clap parses it: commands and options, and the job or fault that results
 pub mod Line
--- what comes of a job by its input, and of a call of the program: a job, help, a mistaken line
+-- the outcome of a job for its input, and of a call of the program: a job, help, or an invalid line
 pub mod Program
--- what a buffered writer took and flushed, by what its sink did
+-- what a buffered writer took and flushed, in terms of its sink
 pub mod Buffering
--- the names that others cite, from one place
+-- the names that proofs and other crates cite, re-exported
 pub mod Prelude

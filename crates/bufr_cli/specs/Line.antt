@@ -1,6 +1,6 @@
--- The command line of `bufr`, in terms of the kit's crate clap: an `App` is a command (`top`) and its
--- subcommands, a `Rule` describes an option or argument, a `Row` has the values that a command line
--- gives for it (`first_of` finds the first one), and `Kinds` are the errors that clap reports. (own)
+-- The command line of `bufr`, in terms of the kit's crate clap: an `App` is a command (`top`) and
+-- its subcommands, a `Rule` describes an option or argument, a `Row` has the values that a command
+-- line gives for it (`first_of` finds the first one), and `Kinds` are the errors of clap. (own)
 -- Cited by public contracts.
 use Rattle.std.specs.Prelude.{◌≡◌, ◌≢◌, ◌⊎◌, ℕ, List, ◌++◌, Option, Some, None, true, codes, option_map, string_bytes}
 use Rattle.clap.specs.Words.{App, IsAmong, Kinds, Row, Rule, Text, first_of, new_app, new_rule, with_rule, with_subcommand}
@@ -17,7 +17,7 @@ use Rattle.bufr_cli.specs.declared.job.Subcommand.{Subcommand}
 use Rattle.bufr_cli.specs.declared.job.Subcommand.TheVariants.{Ls, Dump, Encode}
 use Rattle.bufr_cli.specs.declared.job.TableNames.{TableNames}
 
--- the required option `-B FILE` or `-D FILE`, which takes one value; `letter` is the octet of B or D
+-- the required option `-B FILE` or `-D FILE`, with one value; `letter` is the octet of B or D
 abbrev pub table_rule : (id : Text) → (letter : ℕ) → Rule
 table_rule id letter =
     record (new_rule id) { short = Some letter; value_names = 1; required = true }

@@ -59,7 +59,7 @@ abbrev pub writers_of : {W E : Type 0} → sink.Ghosts W → W → sink.Ghosts E
 writers_of output w errors e =
     record { output = writer_of output w; errors = writer_of errors e }
 
--- two writers that took this, where it is known, and counted nothing
+-- two writers that took these octets, if they are known, and whose counts are 0
 abbrev pub holding : (output errors : Option (List ℕ)) → Writers
 holding output errors =
     record {
@@ -79,12 +79,13 @@ holding output errors =
       };
     }
 
--- a write fault comes only from a call that the writer counts as failed, or as an empty write
+-- If the call failed, the writer counted one failed call or one empty write; if not, its counts are
+-- unchanged.
 abbrev pub CountsCalls : {X : Type 0} → (before after : Writer) → Result X RunFault → Type 0
 CountsCalls before after result =
     CountsWrites before.failures after.failures before.empty_writes after.empty_writes result
 
--- a write fault comes only from a call that the writer counts, and it was not flushed
+-- If the call failed, the writer counted that. The writer was not flushed.
 abbrev pub OnlyWrites : {X : Type 0} → (before after : Writer) → Result X RunFault → Type 0
 OnlyWrites before after result =
     CountsCalls before after result × (after.flushes ≡ before.flushes)
@@ -209,7 +210,7 @@ NoFlushFails before after =
     (after.output.flushes.failed ≡ before.output.flushes.failed)
     × (after.errors.flushes.failed ≡ before.errors.flushes.failed)
 
--- Both writers keep what they took, and all of it was flushed, the output first; or a flush failed.
+-- Both writers were flushed, the output first, or a flush failed. What they took is unchanged.
 pub record FlushesBoth {X : Type 0} (before after : Writers) (result : Result X RunFault) : Type 0
   where
     pub output : Keeps before.output.taken after.output.taken
@@ -222,13 +223,13 @@ pub record FlushesBoth {X : Type 0} (before after : Writers) (result : Result X 
     pub fault : IfErr result (λ fault. fault ≡ Write)
     pub counts : BlamesWriter before after result
 
--- a writer was flushed if something was written to it, and is unchanged otherwise
+-- The writer is flushed if something was written to it, and unchanged otherwise.
 abbrev pub IsFlushedIf : (written : Bool) → (before after : Writer) → Type 0
 IsFlushedIf true before after = after.all_flushed ≡ true
 IsFlushedIf false before after = after ≡ before
 
--- A writer was flushed if something was written to it: it keeps what it took, and all of it is
--- flushed, or the flush failed. Otherwise, it is unchanged.
+-- If something was written to the writer, it is flushed, or the flush failed; otherwise, it is
+-- unchanged. What it took is unchanged in any case.
 pub record FlushesIf (written : Bool) (before after : Writer)
     (result : Result (Unit {0}) RunFault) : Type 0 where
   pub keeps : Keeps before.taken after.taken
@@ -254,7 +255,7 @@ pub record FlushesWritten (waits : Bool) (unflushed unflushed' : Unflushed)
   pub fault : IfErr result (λ fault. fault ≡ Write)
   pub counts : BlamesWriter before after result
 
--- what is not flushed after one more piece was written
+-- the writers that are not flushed after one more piece was written
 abbrev pub unflushed_after : Unflushed → Verdict → Unflushed
 unflushed_after unflushed Accepted = record unflushed { output = true }
 unflushed_after unflushed Refused = record unflushed { errors = true }
@@ -342,7 +343,7 @@ pub record LeavesDevices (pieces : RunPieces) (from to : Input) (before after : 
   -- a writer counts a `Write` fault
   pub writers : BlamesWriter before after result
 
--- the octets that were read, to the end; or a fault, never one of a write
+-- These octets were read, to the end of the input; or there is a fault, which is never `Write`.
 abbrev pub ReadsAll : (left left' : Option (List ℕ))
     → Result (Vec ℕ Global) RunFault → List ℕ → Type 0
 ReadsAll left left' (Ok octets) bs = Consumes left left' bs × IsAtEnd left' × (octets.items ≡ bs)

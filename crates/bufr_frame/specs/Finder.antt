@@ -1,4 +1,4 @@
--- Only contracts need this file. The model of a finder, its search, and what a call of it does.
+-- Only contracts need this file. The model of a finder, its search, and the effects of its calls.
 use Rattle.std.specs.Prelude.{◌≡◌, ◌≢◌, ℕ, ◌+◌, ◌*◌, ◌<◌, ◌≤◌, max, Bool, true, false, List, [], ◌∷◌, ◌++◌, Option, Some, None, length, drop, ◌-◌, Result, Ok, Err, take, ◌⊎◌, ◌^◌, codes, IfSome}
 use Rattle.std.specs.List.{concat}
 use Rattle.std.specs.Io.KnownBytes.{Consumes, IsAtEnd}
@@ -16,32 +16,31 @@ use Rattle.bufr_frame.specs.Events.{events_of}
 use Rattle.bufr_frame.specs.declared.finder.Event.{Event}
 use Rattle.bufr_frame.specs.declared.finder.Event.TheVariants.{Frame, Stray, Done}
 
--- how many octets may be held while no greater length was stated
+-- the number of octets that may be buffered if no greater length was declared
 abbrev pub min_held : ℕ
 min_held = 4096
 
--- the model of a finder
 pub record FinderModel : Type 0 where
-  -- the octets that were passed and are still held
+  -- the buffered octets that the search has passed
   pub before : List ℕ
-  -- the octets that were read and are left
+  -- the remaining octets: they were read, and the search has not passed them
   pub rest : List ℕ
-  -- the offset of the first of them
+  -- the offset of the first of the remaining octets
   pub at : ℕ
-  -- whether the end was reached
+  -- whether a read found the end of the stream
   pub ended : Bool
-  -- the fault that stopped it
+  -- the fault that stopped the finder, if any
   pub fault : Option RunFault
-  -- how many reads it made
+  -- the number of reads made
   pub reads : ℕ
-  -- the greatest length that was stated
+  -- the greatest length declared so far
   pub longest : ℕ
-  -- how many octets there is room for without taking memory
+  -- the capacity of the buffer, in octets
   pub room : ℕ
-  -- how many places are free after the octets held
+  -- the free space after the buffered octets, in octets
   pub free : ℕ
 
--- the number of octets held
+-- the number of buffered octets
 abbrev pub held : FinderModel → ℕ
 held s = length s.before + length s.rest
 
@@ -67,7 +66,7 @@ pub record Follows (at : ℕ) (s : List ℕ) (at' : ℕ) (rest : List ℕ) : Typ
   pub offset : at' ≡ at + passed
   pub left : rest ≡ drop passed s
 
--- A call read octets, passed events, and holds what is left.
+-- A call read octets and passed events. After the end of the stream, it reads nothing.
 pub record ReadsAndPasses (left left' : Option (List ℕ)) (old new : FinderModel) (bs : List ℕ)
     (events : List StreamEvent) : Type 0 where
   pub read : Consumes left left' bs
@@ -76,23 +75,24 @@ pub record ReadsAndPasses (left left' : Option (List ℕ)) (old new : FinderMode
   pub kept : old.ended ≡ true → (new.ended ≡ true) × (bs ≡ []) × (new.reads ≡ old.reads)
   pub end : (old.ended ≡ true → IsAtEnd left) → new.ended ≡ true → IsAtEnd left'
 
--- The greatest length stated so far counts those that were seen.
+-- The greatest length declared so far covers the events that were seen.
 abbrev pub RaisesLongest : FinderModel → FinderModel → List ℕ → List StreamEvent → Type 0
 RaisesLongest old new bs seen = new.longest
     ≡ max old.longest (longest_of old.at (old.rest ++ bs) seen)
 
--- what is held has no further event
+-- The end of the stream was found, and no event begins in the remaining octets.
 abbrev pub HasNoMoreEvents : FinderModel → Type 0
 HasNoMoreEvents s = (s.ended ≡ true) × ((at : ℕ) → scan_from 0 at s.rest ≡ [])
 
--- a fault is kept, and nothing that is left is certain while the end is not known
+-- The fault stopped the finder before the end of the stream was found, and no event in the
+-- remaining octets is certain.
 abbrev pub IsUndecided : FinderModel → RunFault → Type 0
 IsUndecided s fault = (s.fault ≡ Some fault) × (s.ended ≡ false)
     × ((at : ℕ) → NoEventCertain at s.rest)
 
--- how a fault leaves a finder: it is never one of a write; an input is too long only after 2^32
--- reads, each of which gave an octet; memory is needed only before, with room for less than twice
--- the octets that may be held
+-- The finder stopped with this fault, which is never `Write`: with `InputTooLong` only after 2^32
+-- reads, each of which returned an octet, and with `Memory` only before that many reads, and only
+-- if the buffer had room for less than twice the octets that may be buffered.
 abbrev pub StopsFinder : (old new : FinderModel) → RunFault → Type 0
 StopsFinder old new Read = IsUndecided new Read
 StopsFinder old new Write = ⊥
@@ -101,34 +101,36 @@ StopsFinder old new InputTooLong =
 StopsFinder old new Memory =
     IsUndecided new Memory × (new.reads < max_reads) × (old.room < 2 * max min_held new.longest)
 
--- Reads one after another, of which none gave more than `most` octets. None was made while an event
--- was certain in what was left and the octets read so far.
+-- These are the octets of consecutive reads, each of which returned at most `most` octets. Before
+-- each read, no event was certain in the remaining octets and those read so far.
 abbrev pub EachReadIsNeeded : (most at : ℕ) (left : List ℕ) (given : List (List ℕ)) → Type 0
 EachReadIsNeeded most at left [] = Unit {0}
 EachReadIsNeeded most at left (octets ∷ more) =
     NoEventCertain at left × (length octets ≤ most) × EachReadIsNeeded most at (left ++ octets) more
 
--- The octets of a call are what its reads gave, each needed, and no more than may be held.
+-- The octets of a call are those of its reads. Each read was needed, and returned no more octets
+-- than may be buffered.
 pub record CallReadsAreNeeded (old new : FinderModel) (bs : List ℕ) : Type 0 where
   pub given : List (List ℕ)
   pub octets : bs ≡ concat given
   pub made : new.reads ≡ old.reads + length given
   pub waited : EachReadIsNeeded (max min_held new.longest) old.at old.rest given
 
--- A call read some octets, returned events, and raised the greatest length by those seen.
+-- A call read octets and passed these events. Each read was needed, and the greatest length covers
+-- the events that were seen.
 abbrev pub ReadsOn : (left left' : Option (List ℕ)) → (old new : FinderModel)
     → (events seen : List StreamEvent) → Type 0
 ReadsOn left left' old new events seen =
     (bs : List ℕ) × ReadsAndPasses left left' old new bs events
     × (old.fault ≡ None → RaisesLongest old new bs seen) × CallReadsAreNeeded old new bs
 
--- What octets show to the search of a finder, when more may come after them.
+-- ---- What a search in the remaining octets finds, if more octets may follow.
 
--- after a fault the first event that is left counts
+-- the first event in the remaining octets, if any; after a fault, the greatest length covers it
 abbrev pub first_left : FinderModel → List StreamEvent
 first_left s = first_event (scan_from 0 s.at s.rest)
 
--- the finder after it passes the first n octets that are left, where a length is stated
+-- the finder after it passes the first n remaining octets, and takes a declared length into account
 abbrev pub gone_to : FinderModel → (n stated_length : ℕ) → FinderModel
 gone_to s n stated_length =
     record s {
@@ -138,19 +140,19 @@ gone_to s n stated_length =
       longest = max s.longest stated_length;
     }
 
--- how many octets begin there: a message as it states, else the word
+-- the length of what begins at a `BUFR`: a message, as it declares, or the four octets of a stray
 abbrev pub len_at : Candidate → (stated_length : ℕ) → ℕ
 len_at (Stray cause) stated_length = 4
 len_at Frame stated_length = stated_length
 
--- the finder after it passes what octets show
+-- the finder after it passes what a search found
 abbrev pub passed_by : FinderModel → SearchResult → FinderModel
 passed_by s (Found place here stated_length) =
     gone_to s (place + len_at here stated_length) stated_length
 passed_by s (NeedsMore place stated_length) = gone_to s place stated_length
 passed_by s End = s
 
--- the event that a finder passed last
+-- This is the event that the finder passed last.
 abbrev pub IsEventAt : FinderModel → Candidate → (stated_length : ℕ) → Event → Type 0
 IsEventAt s (Stray cause) n (Frame offset octets) = ⊥
 IsEventAt s (Stray cause) n (Stray offset why) = (offset + 4 ≡ s.at) × (why ≡ cause)
@@ -160,11 +162,11 @@ IsEventAt s Frame n (Frame offset octets) =
 IsEventAt s Frame n (Stray offset why) = ⊥
 IsEventAt s Frame n Done = ⊥
 
--- the octets begin with `BUFR`
+-- The octets begin with `BUFR`.
 abbrev pub StartsWithBufr : List ℕ → Type 0
 StartsWithBufr m = has_word_at (codes "BUFR") 0 m ≡ true
 
--- The next event is certain.
+-- The next event begins at index `place` of the remaining octets, and it is certain.
 pub record IsNextEvent (ended : Bool) (rest : List ℕ) (place : ℕ)
     (here : Option Candidate) : Type 0 where
   pub is : here ≡ classify (drop place rest)
@@ -177,7 +179,8 @@ pub record IsNextEvent (ended : Bool) (rest : List ℕ) (place : ℕ)
       (at + place + candidate_len (drop place rest) here)
       (drop (place + candidate_len (drop place rest) here) rest)
 
--- No event is certain or begins before `place`; there is a `BUFR`, or too few octets to decide.
+-- No event begins before index `place`, and none is certain yet. A `BUFR` is at this index, or
+-- fewer than four octets remain there.
 pub record IsIncomplete (rest : List ℕ) (place stated_length : ℕ) : Type 0 where
   pub within : place ≤ length rest
   pub first : StartsWithBufr rest → place ≡ 0
@@ -186,16 +189,16 @@ pub record IsIncomplete (rest : List ℕ) (place stated_length : ℕ) : Type 0 w
   pub advances : (at : ℕ) → Advances false at rest [] (at + place) (drop place rest)
   pub none : (at : ℕ) → NoEventCertain at (drop place rest)
 
--- no event comes any more
+-- There are no more events.
 pub record HasNoFurtherEvent (rest : List ℕ) : Type 0 where
   pub scan : (at : ℕ) → scan_from 0 at rest ≡ []
   pub word : StartsWithBufr rest → ⊥
 
--- the length that octets 5 to 7 state, 0 where there are not eight octets
+-- This is the length that octets 5 to 7 declare, or 0 if there are fewer than eight octets.
 abbrev pub IsStatedLength : List ℕ → ℕ → Type 0
 IsStatedLength m stated_length = (stated_length ≡ length_here m) × (stated_length < 2 ^ 24)
 
--- what octets show; more may come after them unless the end was reached
+-- This is what a search in these octets finds. More octets may follow them unless `ended`.
 abbrev pub IsSearchResult : Bool → List ℕ → SearchResult → Type 0
 IsSearchResult ended rest (Found place here stated_length) =
     IsNextEvent ended rest place (Some here) × IsStatedLength (drop place rest) stated_length
@@ -204,10 +207,10 @@ IsSearchResult ended rest (NeedsMore place stated_length) =
     × IsStatedLength (drop place rest) stated_length
 IsSearchResult ended rest End = (ended ≡ true) × HasNoFurtherEvent rest
 
--- ---- How a finder keeps its octets: those that were passed, and after them those that are left.
+-- ---- The buffer of a finder: the octets that were passed, and after them the remaining ones.
 
--- a finder's counts are small, it holds no more than it needs, no fault is after the end, and each
--- read before a fault or the end gave an octet
+-- The counts of a finder are small, it buffers no more than it needs, no fault comes after the end
+-- of the stream, and each read before a fault or the end returned an octet.
 abbrev pub IsFinder : Inside → Type 0
 IsFinder f =
     (f.passed ≤ length f.input.held)
@@ -219,14 +222,15 @@ IsFinder f =
     × (f.fault ≡ None → f.input.ended ≡ false
     → f.input.reads ≤ f.offset + (length f.input.held - f.passed))
 
--- ---- What a call of Finder::next returns.
+-- ---- What a call of `Finder::next` returns.
 
--- the events of an answer, or these after a fault
+-- the events of a result, or `failed` if it is a fault
 abbrev pub events_returned : List StreamEvent → Result Event RunFault → List StreamEvent
 events_returned failed (Ok event) = events_of event
 events_returned failed (Err fault) = failed
 
--- how a call leaves the finder; a frame is held whole, before what is left
+-- This is how a call with this result leaves the finder. A returned frame is still buffered, before
+-- the remaining octets.
 abbrev pub LeavesFinder : FinderModel → FinderModel → Result Event RunFault → Type 0
 LeavesFinder old new (Ok (Frame offset octets)) =
     (new.fault ≡ None) × (old.at < new.at) × (12 ≤ length octets.now)
@@ -237,25 +241,25 @@ LeavesFinder old new (Ok Done) = (new.fault ≡ None) × HasNoMoreEvents new
 LeavesFinder old new (Err fault) =
     (old.ended ≡ false) × (old.fault ≡ None → StopsFinder old new fault)
 
--- A call reads octets only while nothing is certain, and returns the first event of these.
+-- A call reads octets only while no event is certain, and returns the next event.
 pub record ReturnsNextEvent (left left' : Option (List ℕ)) (reads reads' : ℕ)
     (old new : FinderModel)
     (result : Result Event RunFault) : Type 0 where
   pub steps : ReadsOn left left' old new (events_returned [] result)
       (events_returned (first_left new) result)
   pub ends : LeavesFinder old new result
-  -- the reads are counted, by the reader and by the finder
+  -- the reader and the finder count the reads
   pub counts : AddsReads reads reads' old.reads new.reads
-  -- one is made only where no event is certain in what is left
+  -- a read is made only if no event in the remaining octets is certain
   pub waits : old.reads ≢ new.reads → NoEventCertain old.at old.rest
   pub near : new.at < 2 ^ 63
-  -- no more octets are held than the greatest stated length needs
+  -- at most 4,096 octets are buffered or, if that is more, the greatest length declared so far
   pub bound : held new ≤ max min_held new.longest
-  -- after a fault nothing changes
+  -- after an earlier fault, nothing changes
   pub again : IfSome old.fault (λ _. new ≡ old)
 
--- No event is certain in what is held, and nothing was passed that is one. The greatest stated length
--- counts that of the message that begins there.
+-- No event in the remaining octets is certain, and none was passed. The greatest length covers the
+-- length that is declared at the start of the remaining octets.
 pub record NeedsRead (old new : FinderModel) : Type 0 where
   pub sound : old.fault ≡ None
   pub passes : (left : Option (List ℕ)) → ReadsAndPasses left left old new [] []
@@ -267,7 +271,8 @@ pub record NeedsRead (old new : FinderModel) : Type 0 where
   pub few : length new.rest < max min_held new.longest
   pub longest : new.longest ≡ max old.longest (length_here new.rest)
 
--- what is held shows the next event, without a read, or that one is needed; a fault comes again
+-- The buffered octets make the next event certain, or a read is needed first (`None`). An earlier
+-- fault is returned again.
 abbrev pub GivesHeldEvent : FinderModel → FinderModel → Option (Result Event RunFault) → Type 0
 GivesHeldEvent old new (Some (Ok event)) =
     (old.fault ≡ None) × ((left : Option (List ℕ)) (reads : ℕ)
@@ -275,7 +280,7 @@ GivesHeldEvent old new (Some (Ok event)) =
 GivesHeldEvent old new (Some (Err fault)) = (old.fault ≡ Some fault) × (new ≡ old)
 GivesHeldEvent old new None = NeedsRead old new
 
--- the input of a finder as far as it is left; the gap before it is not in the model
+-- the remaining part of the input buffer of a finder; the gap before it is not in the model
 abbrev pub input_left : FinderModel → InputModel
 input_left s =
     record {
@@ -287,7 +292,8 @@ input_left s =
       gap = 0;
     }
 
--- One read: octets come after those that are left, or the end was reached, or a fault stops it.
+-- One read appends octets to the remaining ones, or finds the end of the stream, or a fault stops
+-- the finder.
 pub record ReadsMore (left left' : Option (List ℕ)) (old new : FinderModel)
     (result : Result (Unit {0}) RunFault) (bs : List ℕ) : Type 0 where
   pub fills : FillsInput left left' (input_left old) (input_left new)
@@ -297,7 +303,8 @@ pub record ReadsMore (left left' : Option (List ℕ)) (old new : FinderModel)
   pub long : result ≡ Err InputTooLong → max_reads ≤ new.at + length new.rest
   pub longest : new.longest ≡ old.longest
 
--- all octets that were read, up to `end`, are held: from a frame on, or after a stray word
+-- All octets that were read, up to offset `end`, are buffered: those from the start of a returned
+-- frame on, or those after the four octets of a stray.
 abbrev pub HoldsUnread : (end : ℕ) → FinderModel → Result Event RunFault → Type 0
 HoldsUnread end new (Ok (Frame offset octets)) = end ≤ offset + held new
 HoldsUnread end new (Ok (Stray offset cause)) = end ≤ offset + 4 + held new

@@ -16,45 +16,46 @@ read_failures_after count _ = count
 abbrev pub max_reads : ℕ
 max_reads = 2 ^ 32
 
--- The reads of a reader, and a count of them that goes from `before` to `after`, at most 2^32.
+-- The reads of a reader raised a count of them from `before` to `after`, which is at most 2^32.
 pub record AddsReads (reads reads' before after : ℕ) : Type 0 where
   pub made : reads' ≡ counted reads (after - before)
   pub order : before ≤ after
   pub most : after ≤ max_reads
 
--- at most 2^32 reads were made: all where the input is too long, fewer where memory is needed
+-- At most 2^32 reads were made: exactly 2^32 if the input is too long, and fewer if memory ran out.
 abbrev pub MakesReads : {X : Type 0} → (reads reads' : ℕ) → Result X RunFault → Type 0
 MakesReads reads reads' result =
     (n : ℕ) × (n ≤ max_reads) × (reads' ≡ counted reads n)
     × (result ≡ Err InputTooLong → n ≡ max_reads) × (result ≡ Err Memory → n < max_reads)
 
--- the model of a buffer of an input
+-- the model of an input buffer
 pub record InputModel : Type 0 where
-  -- the octets that were read and not skipped
+  -- the buffered octets: they were read and not yet skipped
   pub held : List ℕ
-  -- whether the end was reached
+  -- whether a read found the end of the input
   pub ended : Bool
-  -- how many reads were made
+  -- the number of reads made
   pub reads : ℕ
-  -- how many octets there is room for without taking memory
+  -- the capacity of the buffer, in octets
   pub room : ℕ
-  -- how many places are free after the octets held
+  -- the free space after the buffered octets, in octets
   pub free : ℕ
-  -- how many places are before them, whose octets were skipped
+  -- the number of octets before the buffered ones, which were skipped
   pub gap : ℕ
 
--- a buffer of an input that was not read
+-- the buffer of an input that has not been read
 abbrev pub new_input : InputModel
 new_input = record { held = []; ended = false; reads = 0; room = 0; free = 0; gap = 0 }
 
--- why no octets come: the read failed, or none was made after 2^32, or memory was refused
+-- No octets were read: the read failed, or 2^32 reads were already made, or memory ran out, which
+-- happens only if `refused` holds.
 abbrev pub FillFails : (refused : Type 0) → InputModel → InputModel → RunFault → Type 0
 FillFails refused old new Read = new.reads ≡ old.reads + 1
 FillFails refused old new Write = ⊥
 FillFails refused old new InputTooLong = (new.reads ≡ old.reads) × (new.reads ≡ max_reads)
 FillFails refused old new Memory = (new.reads ≡ old.reads) × (new.reads < max_reads) × refused
 
--- how a read ends: octets came, or else the end was reached; or there is a fault
+-- A read returned octets, or it found the end of the input, or there is a fault.
 abbrev pub FillEnds : (refused : Type 0) → InputModel → InputModel → List ℕ
     → Result (Unit {0}) RunFault → Type 0
 FillEnds refused old new bs (Ok u) =
@@ -62,23 +63,25 @@ FillEnds refused old new bs (Ok u) =
 FillEnds refused old new bs (Err fault) =
     (bs ≡ []) × (new.ended ≡ false) × FillFails refused old new fault
 
--- Before a read, the octets held move to the start of the buffer if at least as many were skipped.
+-- Before a read, the buffered octets move to the start of the buffer if at least as many were
+-- skipped.
 abbrev pub SlidesOver : (old new : InputModel) → Type 0
 SlidesOver old new =
     new.gap ≡ (if nat_lt old.reads new.reads && nat_le (length old.held) old.gap then 0
     else old.gap)
 
--- how many octets the reads asked for that were made, of which there is one at most: for all that
--- fit after those held, but at most `most`
+-- the number of octets that the read, if one was made, requested: as many as fit after the buffered
+-- octets, but at most `most`
 abbrev pub asked_by : (most : ℕ) → InputModel → InputModel → ℕ
 asked_by most old new =
     (new.reads - old.reads) * min most (new.free + length new.held - length old.held)
 
--- at most so many octets more were asked for
+-- At most `most` more octets were requested.
 abbrev pub AsksAtMost : (asked asked' most : ℕ) → Type 0
 AsksAtMost asked asked' most = asked' ≤ counted asked most
 
--- One read: octets come after those held, or the end, or a fault; memory only where `refused`.
+-- One read appends octets to those buffered, or finds the end of the input, or there is a fault.
+-- Memory runs out only if `refused` holds.
 pub record FillsInput (left left' : Option (List ℕ)) (old new : InputModel) (refused : Type 0)
     (result : Result (Unit {0}) RunFault) (bs : List ℕ) : Type 0 where
   pub read : Consumes left left' bs
@@ -87,7 +90,8 @@ pub record FillsInput (left left' : Option (List ℕ)) (old new : InputModel) (r
   pub room : old.room ≤ new.room
   pub ends : FillEnds refused old new bs result
 
--- One read: its octets follow those that were held, and none come only at the end.
+-- One read appends octets to the earlier ones. Unless it fails, it returns none only at the end of
+-- the input.
 pub record ReadsOnce (left left' : Option (List ℕ)) (old new : List ℕ) (result : Result ℕ RunFault)
     (bs : List ℕ) : Type 0 where
   pub read : Consumes left left' bs
@@ -95,7 +99,8 @@ pub record ReadsOnce (left left' : Option (List ℕ)) (old new : List ℕ) (resu
   pub outcome : MatchResult result (λ n. (n ≡ length bs) × (n ≡ 0 → IsAtEnd left'))
       (λ fault. (fault ≡ Read) × (bs ≡ []))
 
--- how reading ends: at the end or by a fault; too long is after 2^32 reads, memory before them
+-- Reading stopped at the end of the input or because of a fault: an input is too long after 2^32
+-- reads, and memory runs out only before that many.
 abbrev pub InputEnds : {X : Type 0} → (left : Option (List ℕ)) → (reads : ℕ)
     → Result X RunFault → Type 0
 InputEnds left reads (Ok x) = IsAtEnd left
@@ -104,7 +109,8 @@ InputEnds left reads (Err Write) = ⊥
 InputEnds left reads (Err InputTooLong) = reads ≡ max_reads
 InputEnds left reads (Err Memory) = reads < max_reads
 
--- Reads to the end: the octets follow those held, and the end was reached unless there is a fault.
+-- Reads append their octets to the earlier ones. Unless there is a fault, the end of the input was
+-- found.
 pub record ReadsInput {X : Type 0} (left left' : Option (List ℕ)) (old new : List ℕ) (reads : ℕ)
     (result : Result X RunFault) (bs : List ℕ) : Type 0 where
   pub read : Consumes left left' bs

@@ -32,8 +32,8 @@ parts_of local1 section2 descriptors subsets observed compressed payload =
       payload = payload;
     }
 
--- what is written in a section 3 or 4 after its first `prefix` octets: the content, and in edition 3
--- a zero octet if the length of the section would be odd
+-- what is written in a section 3 or 4 after its first `prefix` octets: the content, and in edition
+-- 3 a zero octet if the length of the section would be odd
 -- rule: least-lengths, writes-no-pad-octet, writes-even-sections
 abbrev pub with_even_length : (edition prefix : ℕ) → List ℕ → List ℕ
 with_even_length edition prefix octets =
@@ -44,7 +44,8 @@ with_even_length edition prefix octets =
 abbrev pub max_octets : ℕ
 max_octets = 16777215
 
--- how many octets more a message may have when it is written again: in edition 3 for two paddings
+-- the number of octets by which a message may grow when it is written again: two padding octets in
+-- edition 3
 -- rule: becomes-canonical, encode-may-grow
 abbrev pub max_extra_octets : (edition : ℕ) → ℕ
 max_extra_octets edition = if edition == 3 then 2 else 0
@@ -54,14 +55,14 @@ max_extra_octets edition = if edition == 3 then 2 else 0
 abbrev pub section0_octets : (size edition : ℕ) → List ℕ
 section0_octets size edition = codes "BUFR" ++ three_octets size ++ edition ∷ []
 
--- a head that can be written: in edition 3 centre, sub-centre and year have one octet, and local
--- sub-category and second none
+-- whether a head can be written: in edition 3, centre, sub-centre and year have one octet each, and
+-- local sub-category and second have none
 abbrev pub is_writable : Head → Bool
 is_writable h =
     (h.edition == 4) || ((h.edition == 3) && (nat_le h.centre 255 && (nat_le h.subcentre 255
     && (nat_le h.year 255 && (nat_le h.local_subcategory 0 && nat_le h.second 0)))))
 
--- The edition of a head is one that is read, and each of its values fits its octets.
+-- The edition of the head is supported, and each of its values fits into its octets.
 pub record IsFitting (h : Head) : Type 0 where
   pub edition : is_edition h.edition ≡ true
   pub fits : (i : ℕ) → slice_index (values_of h) i ≤ slice_index (greatest_values h.edition) i
@@ -119,7 +120,7 @@ message_octets h p =
     (octets_of_words p.descriptors)) p.subsets (data_flags p.observed p.compressed)
     ++ (section4_octets (with_even_length h.edition 4 p.payload) ++ codes "7777"))))
 
--- the sections of a message of these parts; in edition 3 a padding may follow the payload
+-- the sections of a message of these parts; in edition 3, a padding octet may follow the payload
 abbrev pub sections_from : Head → MessageParts → Sections
 sections_from h p = record {
   head = h;
@@ -148,7 +149,7 @@ even_size edition size = if is_padded edition size then size + 1 else size
 abbrev pub with_pad_octet : (pads : Bool) → List ℕ → List ℕ
 with_pad_octet pads octets = if pads then octets ++ 0 ∷ [] else octets
 
--- the length of a message by the lengths of its parts
+-- the length of a message, from the lengths of its parts
 abbrev pub size_from : (edition local1 : ℕ) → Option (List ℕ) → (descriptors payload : ℕ) → ℕ
 size_from edition local1 section2 descriptors payload =
     8 + (min_section_1 edition + local1) + length (section2_octets section2)

@@ -1,4 +1,4 @@
--- The definitions of this crate: the first lines of each file say what it has.
+-- The definitions of this crate. The first lines of each file say what it contains.
 pub mod Events
 pub mod Finder
 pub mod Input
@@ -8,5 +8,5 @@ pub mod Numbers
 pub mod Octets
 pub mod Sections
 pub mod Section1
--- the names that others cite, from one place
+-- the names that proofs and other crates cite, re-exported
 pub mod Prelude

@@ -42,7 +42,7 @@ run_report run_fault.Write = (71, codes "write failed" ∷ [])
 run_report run_fault.InputTooLong = (72, codes "input too long" ∷ [])
 run_report run_fault.Memory = (73, codes "out of memory" ∷ [])
 
--- the number of a fault of writing a message
+-- the number of a fault that occurs when a message is written
 abbrev pub number_of_write_fault : WriteFault → ℕ
 number_of_write_fault write.TooLong = 60
 number_of_write_fault write.Memory = 73

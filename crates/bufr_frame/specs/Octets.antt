@@ -31,8 +31,7 @@ abbrev pub octets_of_words : List ℕ → List ℕ
 octets_of_words [] = []
 octets_of_words (word ∷ more) = two_octets word ++ octets_of_words more
 
--- ---- The words that an iterator has left.
+-- ---- The words that an iterator has not returned yet.
 
--- the words that are left
 abbrev pub words_left : Words → List ℕ
 words_left w = words w.octets.now

@@ -25,8 +25,8 @@ abbrev pub stated_length : List ℕ → ℕ
 stated_length m = u24_at m 4
 
 -- What begins at the first of the remaining octets of a stream, if anything. 8 is the length of
--- section 0, and 12 that of sections 0 and 5 together. A message that the end of the stream cuts off
--- is `Cut`, even if its declared length is below 12.
+-- section 0, and 12 that of sections 0 and 5 together. A message that the end of the stream cuts
+-- off is `Cut`, even if its declared length is below 12.
 -- rule: stray-cut, stray-short-length, stray-no-end, input-ends-early, order-of-causes
 abbrev pub classify : List ℕ → Option Candidate
 classify m =
@@ -75,9 +75,9 @@ is_decided _ = true
 abbrev pub open_scan : List ℕ → List StreamEvent
 open_scan s = take_while is_decided (scan s)
 
--- ---- The greatest length that was stated. (own)
+-- ---- The greatest length that was declared. (own)
 
--- the length that octets 5 to 7 state, 0 where there are not eight octets
+-- the length that octets 5 to 7 declare, or 0 if there are fewer than eight octets
 abbrev pub length_here : List ℕ → ℕ
 length_here m = if nat_lt (length m) 8 then 0 else stated_length m
 
@@ -86,28 +86,29 @@ abbrev pub offset_of : StreamEvent → ℕ
 offset_of (FrameAt offset octets) = offset
 offset_of (StrayAt offset cause) = offset
 
--- the greatest length that is stated at these events of s, whose first octet is at offset `at`
+-- the greatest length that is declared at these events of s, whose first octet is at offset `at`
 abbrev pub longest_of : (at : ℕ) → List ℕ → List StreamEvent → ℕ
 longest_of at s [] = 0
 longest_of at s (event ∷ more) =
     max (length_here (drop (offset_of event - at) s)) (longest_of at s more)
 
--- the first event, where there is one
+-- the first event, if there is one
 abbrev pub first_event : List StreamEvent → List StreamEvent
 first_event [] = []
 first_event (event ∷ more) = event ∷ []
 
--- ---- How a scan goes on after its first events. (own)
+-- ---- How a scan continues after its first events. (own)
 
--- The scan of `rest` is `events` and then that of `rest'`, whatever comes after these octets.
+-- The scan of `rest` gives `events` and then those of `rest'`, whatever octets follow (none if
+-- `ended`).
 pub record Advances (ended : Bool) (at : ℕ) (rest : List ℕ) (events : List StreamEvent) (at' : ℕ)
     (rest' : List ℕ) : Type 0 where
   pub whole : (t : List ℕ) → (ended ≡ true → t ≡ [])
       → scan_from 0 at (rest ++ t) ≡ events ++ scan_from 0 at' (rest' ++ t)
-  -- while the end is not known, these are only events that do not depend on it
+  -- unless `ended`, no octets that follow can change these events
   pub decided : ended ≡ false → list_all is_decided events ≡ true
 
--- no event is certain yet
+-- No event in these octets is certain yet.
 -- rule: output-waits
 abbrev pub NoEventCertain : ℕ → List ℕ → Type 0
 NoEventCertain at rest = take_while is_decided (scan_from 0 at rest) ≡ []

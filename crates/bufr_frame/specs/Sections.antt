@@ -95,9 +95,9 @@ sections_of m = if not (is_edition (edition_of m)) then Err (Edition (edition_of
   p4 ← section_end m 4 4 p3
   parts_if_end_matches m p1 p2 p3 p4
 
--- ---- Messages that are as `write_message` writes them.
+-- ---- Messages in the form in which `write_message` writes them.
 
--- the index where section 2 begins, or section 3 where there is no section 2
+-- the index where section 2 begins or, without section 2, section 3
 abbrev pub section2_begins : List ℕ → ℕ
 section2_begins m = 8 + u24_at m 8
 
@@ -110,8 +110,9 @@ section3_begins m =
 abbrev pub section4_begins : List ℕ → ℕ
 section4_begins m = section3_begins m + u24_at m (section3_begins m)
 
--- A message as a finder returns it. Its reserved bits are zero, and section 3 has no octet left
--- over. In edition 3 sections 3 and 4 are even, and the octet left over is zero.
+-- A message as a finder returns it, with reserved bits that are zero. In edition 4, section 3 has
+-- no padding octet. In edition 3, the lengths of sections 3 and 4 are even, and the padding octet
+-- of section 3 is zero.
 -- rule: canonical
 pub record IsPlain (m : List ℕ) : Type 0 where
   pub octets : All (λ octet. octet < 256) m

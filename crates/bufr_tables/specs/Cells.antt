@@ -1,4 +1,5 @@
--- Only contracts need this file. A template as cells, read back as its tree. (own)
+-- Only contracts need this file. The cells that store a template, and how they are read back as its
+-- tree. (own)
 use Rattle.std.specs.Prelude.{◌≡◌, ℕ, zero, suc, List, [], ◌∷◌, refl, ◌+◌, ◌≤◌}
 use Rattle.std.proofs.Common.{◌∙◌, ap}
 use Rattle.std.specs.Coded.{Coded, code_by, coded×, coded_ℕ, coded_list}
@@ -7,9 +8,10 @@ use Rattle.bufr_tables.specs.declared.template.Cell.{Cell}
 use Rattle.bufr_tables.specs.Expansion.{IsLegal, IsSound}
 use Rattle.bufr_tables.specs.declared.template.Cell.TheVariants as cell
 
--- ---- A tree as a list of numbers: the checker asks for it before a contract speaks of a tree.
+-- ---- A tree as a list of numbers. The checker requires one before contracts can refer to a tree.
 
--- a tree before what is written: each node as its kind and its number, a body before the rest
+-- the pairs of a tree, followed by `more`: the kind and the number of each node. The body of a
+-- group comes before the nodes after the group.
 abbrev pub tree_code_onto : Tree → List (ℕ × ℕ) → List (ℕ × ℕ)
 tree_code_onto bare more = (0, 0) ∷ more
 tree_code_onto (element fxy rest) more = (1, fxy) ∷ tree_code_onto rest more
@@ -19,7 +21,8 @@ tree_code_onto (fixed count body rest) more = (3, count)
 tree_code_onto (delayed factor body rest) more = (4, factor)
     ∷ tree_code_onto body (tree_code_onto rest more)
 
--- one kind and number, put on the trees that were read after it
+-- the stack of trees after one more kind and number, whose node takes its body and rest from the
+-- stack
 abbrev pub put : ℕ → ℕ → List Tree → List Tree
 put zero n trees = bare ∷ trees
 put (suc zero) n (rest ∷ trees) = element n rest ∷ trees
@@ -28,7 +31,7 @@ put (suc (suc (suc zero))) n (body ∷ rest ∷ trees) = fixed n body rest ∷ t
 put (suc (suc (suc (suc k)))) n (body ∷ rest ∷ trees) = delayed n body rest ∷ trees
 put _ n trees = trees
 
--- the trees that a list writes
+-- the stack of trees that pairs represent; they are read from the last to the first
 abbrev pub read : List (ℕ × ℕ) → List Tree
 read [] = []
 read (node ∷ nodes) = put node.0 node.1 (read nodes)
@@ -56,7 +59,7 @@ tree_code =
     code_by (List (ℕ × ℕ)) (coded_list (coded× coded_ℕ coded_ℕ)) (λ tree. tree_code_onto tree [])
     (λ nodes. first_tree (read nodes)) (λ tree. ap first_tree (read-written tree []))
 
--- the cells of a tree from a place on, and then the tail
+-- the cells of a tree, the first of which is at place `at`, followed by `tail`
 abbrev pub cells_of : Tree → ℕ → List Cell → List Cell
 cells_of bare at tail = tail
 cells_of (element fxy more) at tail = cell.Element fxy ∷ cells_of more (at + 1) tail
@@ -68,12 +71,12 @@ cells_of (delayed fxy body more) at tail =
     cell.Delayed (at + 3 + size body) ∷ cell.Factor fxy
     ∷ cells_of body (at + 2) (cell.PassEnd ∷ cells_of more (at + 3 + size body) tail)
 
--- the factor that comes first
+-- the factor in the first cell; 0 if it has none
 abbrev pub factor_first : List Cell → ℕ
 factor_first (cell.Factor fxy ∷ cells) = fxy
 factor_first _ = 0
 
--- a cell, and the factor after it, put before the trees that were read after it
+-- the stack of trees after one more cell; `factor` is the factor in the cell after it, if any
 abbrev pub prepend_cell : Cell → ℕ → List Tree → List Tree
 prepend_cell cell.Finish factor trees = bare ∷ []
 prepend_cell cell.PassEnd factor trees = bare ∷ trees
@@ -83,16 +86,17 @@ prepend_cell (cell.Fixed count after) factor (body ∷ rest ∷ trees) = fixed c
 prepend_cell (cell.Delayed after) factor (body ∷ rest ∷ trees) = delayed factor body rest ∷ trees
 prepend_cell _ factor trees = trees
 
--- the trees that cells hold, the innermost list first
+-- the stack of trees that cells represent, the innermost list first; cells are read from the last
+-- to the first
 abbrev pub read_cells : List Cell → List Tree
 read_cells [] = []
 read_cells (c ∷ cells) = prepend_cell c (factor_first cells) (read_cells cells)
 
--- the tree that cells hold
+-- the tree that cells represent
 abbrev pub trees_of_cells : List Cell → Tree
 trees_of_cells cells = first_tree (read_cells cells)
 
--- cells are the layout of a tree as a walk relies on it
+-- These are the cells of a tree, which has the properties on which a walk relies.
 pub record AreCellsOf (cells : List Cell) (tree : Tree) : Type 0 where
   pub flattened : cells ≡ cells_of tree 0 (cell.Finish ∷ [])
   pub within : places tree ≤ 65535
@@ -100,7 +104,7 @@ pub record AreCellsOf (cells : List Cell) (tree : Tree) : Type 0 where
   pub sound : IsSound tree
   pub legal : IsLegal tree
 
--- cells are the layout of a tree, and the depth that is kept beside them is the tree's
+-- These are the cells of a tree, and the depth stored with them is that of the tree.
 pub record IsTemplate (cells : List Cell) (depth_reported : ℕ) (tree : Tree) : Type 0 where
   pub is_flattened : AreCellsOf cells tree
   pub depth_is : depth_reported ≡ depth tree

@@ -1,4 +1,4 @@
--- Only contracts need this file. The row that an entry is, and when two rows are the same.
+-- Only contracts need this file. The row of an entry, and when two rows are equal.
 use Rattle.std.specs.Prelude.{◌==◌, ◌&&◌, Bool}
 use Rattle.std.specs.Cmp.{IsEquivalence, and_equiv, int_eq_equiv, nat_eq_equiv, on_equiv}
 use Rattle.std.specs.Cmp.Lexicographic.{nat_list_eq_equiv}
@@ -9,11 +9,9 @@ use Rattle.bufr_tables.specs.contracts.table_b.KindEq.TheImpl.Laws as kind_law
 use Rattle.bufr_tables.specs.contracts.table_b.KindPartialEq.TheImpl as kind
 use Rattle.bufr_tables.specs.declared.table_b.Entry.{Entry}
 
--- the row of an entry
 abbrev pub row_of_entry : Entry → Row
 row_of_entry e = row_kept e.octets.now e.stored.now
 
--- whether two rows are the same
 abbrev pub is_same_row : Row → Row → Bool
 is_same_row a b =
     bytes_eq a.name b.name && bytes_eq a.unit b.unit && (kind.ghosts).eq a.kind b.kind

@@ -159,13 +159,14 @@ tree_of tables list = do
   _ ← unless (consumes tree) (template.EmptyGroup (slice_index list 0))
   Ok tree
 
--- ---- What Tables B and D say to the expansion.
+-- ---- The tables that expansion uses.
 
 -- what expansion needs of Tables B and D
 abbrev pub tables_of : List Row → List Sequence → Tables
 tables_of b d = record { known = λ fxy. is_some (entry_of b fxy); members = members_of d }
 
--- ---- Each node is what its place asks for (WMO-No. 306, Volume I.2, FM 94: section 3, Table C).
+-- ---- The kinds of the descriptors in a template. (WMO-No. 306, Volume I.2, FM 94: section 3,
+-- Table C)
 
 -- whether the first node is an element
 abbrev pub is_element_first : Tree → Bool
@@ -183,7 +184,8 @@ IsLegal (operator fxy rest) =
 IsLegal (fixed count body rest) = IsLegal body × IsLegal rest
 IsLegal (delayed factor body rest) = (is_factor factor ≡ true) × (IsLegal body × IsLegal rest)
 
--- ---- What a list says, its sequences replaced (WMO-No. 306, Volume I.2, FM 94: Table D).
+-- ---- The elements and operators of a list whose sequences are replaced by their members. (WMO-No.
+-- 306, Volume I.2, FM 94: Table D)
 
 -- the elements, operators and factors of a tree, in order
 abbrev pub leaves : Tree → List ℕ
@@ -193,7 +195,8 @@ leaves (operator fxy rest) = fxy ∷ leaves rest
 leaves (fixed count body rest) = leaves body ++ leaves rest
 leaves (delayed factor body rest) = factor ∷ (leaves body ++ leaves rest)
 
--- a list says its elements and operators; a sequence what its members say; a replication nothing
+-- These are the leaves of a list, in order: each element and operator, and for each sequence the
+-- leaves of its members. A replication adds none.
 pub data ListsLeaves (members : ℕ → Option (List ℕ)) : List ℕ → List ℕ → Type 0 where
   says_nothing : ListsLeaves members [] []
   says_itself : (d : ℕ) (after said : List ℕ) → (f_of d ≡ 0) ⊎ (f_of d ≡ 2)
@@ -204,9 +207,9 @@ pub data ListsLeaves (members : ℕ → Option (List ℕ)) : List ℕ → List �
       → ListsLeaves members inner inside → ListsLeaves members after said
       → ListsLeaves members (d ∷ after) (inside ++ said)
 
--- That every group of a template, and the whole, takes bits of the data (own).
+-- ---- Each group of a template, and the template as a whole, takes bits of the data. (own)
 
--- some node of each group's body takes bits, and each fixed count is above 0
+-- In the body of each group, some node takes bits of the data. Each fixed count is above 0.
 abbrev pub EveryGroupConsumes : Tree → Type 0
 EveryGroupConsumes bare = Unit {0}
 EveryGroupConsumes (element fxy rest) = EveryGroupConsumes rest
@@ -216,11 +219,12 @@ EveryGroupConsumes (fixed count body rest) =
 EveryGroupConsumes (delayed factor body rest) =
     (consumes body ≡ true) × (EveryGroupConsumes body × EveryGroupConsumes rest)
 
--- each group of a template takes bits of the data, and so does the whole
+-- Each group of a template takes bits of the data, and so does the template as a whole.
 abbrev pub IsSound : Tree → Type 0
 IsSound tree = EveryGroupConsumes tree × (consumes tree ≡ true)
 
--- That a table knows what a template asks of it (WMO-No. 306, Volume I.2, FM 94: Tables B and C).
+-- ---- Table B has the elements that a template needs. (WMO-No. 306, Volume I.2, FM 94: Tables B
+-- and C)
 
 -- Table B has each factor, and each element except for one whose width 2 06 Y gives; `width_given`
 -- means that 2 06 Y comes directly before the nodes.

@@ -18,7 +18,7 @@ x_of word = word / 256 % 64
 abbrev pub y_of : ℕ → ℕ
 y_of word = word % 256
 
--- X and Y as one number: the place of a descriptor among those of its F
+-- X and Y as one number, which identifies a descriptor among those with the same F
 abbrev pub key_of : ℕ → ℕ
 key_of word = word % 16384
 
@@ -60,7 +60,7 @@ is_fxy text =
 abbrev pub fxy_of : List ℕ → Option ℕ
 fxy_of text = if is_fxy text then Some (16384 * f_in text + 256 * x_in text + y_in text) else None
 
--- ---- Steps that may give nothing, one after another.
+-- ---- Sequencing of steps that may return `None`.
 
 -- sequencing that stops at the first `None`
 infixl 10 ◌>>=◌
@@ -71,19 +71,20 @@ o >>= f = option_and_then f o
 abbrev pub only_if : {A : Type 0} → Bool → A → Option A
 only_if test x = if test then Some x else None
 
--- ---- The place of a number in a list. Cited by private steps only.
+-- ---- The position of a number in a list. Only contracts of private functions cite it.
 
--- the first place where a number is in a list, counted from 0
+-- the position of the first occurrence of a number in a list, counted from 0, if there is one
 abbrev pub place_of : List ℕ → ℕ → Option ℕ
 place_of [] n = None
 place_of (first ∷ rest) n = if first == n then Some 0 else option_map suc (place_of rest n)
 
--- a mark for no place is 0, and for a place one more than it
+-- the mark of a position: the position plus 1, or 0 if there is none
 abbrev pub mark_of : Option ℕ → ℕ
 mark_of None = 0
 mark_of (Some place) = place + 1
 
--- the marks are those of the places in the list of keys, and no key is there twice
+-- The index has a mark for each key, which is that of the key's position in the list. The list
+-- contains no key twice, and has room for all keys.
 pub record IsDirectory (a : Inside) : Type 0 where
   pub room : 16384 ≤ vec_capacity a.keys
   pub size : length a.marks.items ≡ 16384

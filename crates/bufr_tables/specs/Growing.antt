@@ -1,4 +1,4 @@
--- Only contracts need this file. What cells in the making mean.
+-- Only contracts need this file. The model of a template that is being built.
 use Rattle.bufr_tables.specs.declared.expand.TemplateBuilder.{TemplateBuilder}
 use Rattle.bufr_tables.specs.Growth.{BuilderModel, growth}
 

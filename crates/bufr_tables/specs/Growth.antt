@@ -1,4 +1,5 @@
--- Only contracts need this file. Cells in the making, and what an expander puts after them.
+-- Only contracts need this file. A template that is being built, and what an expander appends to
+-- it.
 use Rattle.std.specs.Prelude.{ℕ, ◌+◌, ◌-◌, ◌≡◌, ◌≢◌, max, Bool, false, ◌||◌, List, [], ◌∷◌, ◌++◌, length, slice_set, Result, Ok, Err, Option}
 use Rattle.bufr_tables.specs.declared.template.Cell.{Cell}
 use Rattle.bufr_tables.specs.declared.template.Cell.TheVariants as cell
@@ -12,27 +13,28 @@ use Rattle.bufr_tables.specs.Expansion.{ExpandedPart, part, with_places, Tables,
 use Rattle.bufr_tables.specs.declared.expand.Passes.TheVariants as passes
 use Rattle.bufr_tables.specs.declared.expand.Expander.{Expander}
 
--- the places of a group beside those of its body
+-- the number of places of a group in addition to those of its body
 abbrev pub own_places : Passes → ℕ
 own_places (passes.Fixed count) = 2
 own_places (passes.Delayed factor) = 3
 
--- the group with this body
+-- a group with this body
 abbrev pub group_of : Passes → Tree → Tree
 group_of (passes.Fixed count) body = fixed count body bare
 group_of (passes.Delayed factor) body = delayed factor body bare
 
--- the first cell of a group, where this place is after the group's end
+-- the first cell of a group; `after` is the place after the end of the group
 abbrev pub first_cell : Passes → ℕ → Cell
 first_cell (passes.Fixed count) after = cell.Fixed count after
 first_cell (passes.Delayed factor) after = cell.Delayed after
 
--- the cells between the first one and the body
+-- the cells between the first cell of a group and its body: the factor, if there is one
 abbrev pub factor_cells : Passes → List Cell
 factor_cells (passes.Fixed count) = []
 factor_cells (passes.Delayed factor) = cell.Factor factor ∷ []
 
--- the cells, the groups open after them, the most together, and whether the innermost takes bits
+-- a template that is being built: its cells, the number of groups open after them, the greatest
+-- number that were open at the same time, and whether the innermost one takes bits of the data
 pub record BuilderModel : Type 0 where
   pub cells : List Cell
   pub groups : ℕ
@@ -42,38 +44,40 @@ pub record BuilderModel : Type 0 where
 abbrev pub growth : List Cell → (groups deep : ℕ) → Bool → BuilderModel
 growth cells groups deep full = record { cells = cells; groups = groups; deep = deep; full = full }
 
--- the places up to here, with those of the ends to come: each open group's, and the template's
+-- the number of places so far, including those of the ends that are still to be added: one for each
+-- open group, and one for the template
 abbrev pub places_so_far : BuilderModel → ℕ
 places_so_far g = length g.cells + g.groups + 1
 
--- with a tree flattened after the cells
+-- the builder after the cells of a tree were appended
 abbrev pub push_tree : BuilderModel → Tree → BuilderModel
 push_tree g tree =
     growth (g.cells ++ cells_of tree (length g.cells) []) g.groups
     (max g.deep (g.groups + depth tree))
     (g.full || consumes tree)
 
--- with an element or operator after the cells, where a place is left
+-- the builder after an element or operator was appended, or the fault of descriptor d if no place
+-- is left for it
 abbrev pub with_cell : BuilderModel → ℕ → Tree → Result BuilderModel TemplateFault
 with_cell g d node = with_places (places_so_far g) 1 d >>= λ _. Ok (push_tree g node)
 
--- with a group begun after the cells, the place after it not known yet
+-- the builder after a group was begun; the place after the group is not known yet
 abbrev pub with_open_group : BuilderModel → Passes → BuilderModel
 with_open_group g passes =
     growth (g.cells ++ first_cell passes 0 ∷ factor_cells passes) (g.groups + 1)
     (max g.deep (g.groups + 1)) false
 
--- with the innermost group ended, whose first cell is at a place
+-- the builder after the innermost group, whose first cell is at `place`, was ended
 abbrev pub with_closed_group : BuilderModel → ℕ → Passes → BuilderModel
 with_closed_group g place passes =
     growth (slice_set (g.cells ++ cell.PassEnd ∷ []) place (first_cell passes (length g.cells + 1)))
     (g.groups - 1) g.deep g.full
 
--- a fault is the one that is defined, or want of memory
+-- The fault is that of the defined result, or memory ran out.
 abbrev pub IsFaultOrMemory : {A : Type 0} → Result A TemplateFault → TemplateFault → Type 0
 IsFaultOrMemory defined why = why ≢ template.Memory → defined ≡ Err why
 
--- the tree that is defined has been put after what had grown
+-- The cells of the tree in the defined result were appended.
 pub record PushesTree (old : BuilderModel) (defined : Result Tree TemplateFault)
     (new : BuilderModel) : Type 0 where
   pub tree : Tree
@@ -85,7 +89,8 @@ abbrev pub PushesTreeUnlessMemory : BuilderModel → Result Tree TemplateFault
 PushesTreeUnlessMemory old defined (Ok done) new = PushesTree old defined new
 PushesTreeUnlessMemory old defined (Err why) new = IsFaultOrMemory defined why
 
--- the part that is defined has been put after what had grown, and has taken so many descriptors
+-- The cells of the part in the defined result were appended; `taken` of the descriptors after its
+-- own belong to it.
 pub record PushesPart (old : BuilderModel) (defined : Result ExpandedPart TemplateFault) (taken : ℕ)
     (new : BuilderModel) : Type 0 where
   pub tree : Tree
@@ -97,13 +102,14 @@ abbrev pub GivesPart : BuilderModel → Result ExpandedPart TemplateFault → Re
 GivesPart old defined (Ok taken) new = PushesPart old defined taken new
 GivesPart old defined (Err why) new = IsFaultOrMemory defined why
 
--- what has grown is what is defined
+-- The builder is the defined result. If the call fails, the definition has the same fault, or
+-- memory ran out.
 abbrev pub GivesGrowth : Result BuilderModel TemplateFault
     → Result (Unit {0}) TemplateFault → BuilderModel → Type 0
 GivesGrowth defined (Ok done) new = defined ≡ Ok new
 GivesGrowth defined (Err why) new = IsFaultOrMemory defined why
 
--- a group has been begun after what had grown, its places were left, and it begins at a place
+-- A group was begun, for which enough places were left. Its first cell is at `place`.
 pub record OpensGroup (old : BuilderModel) (passes : Passes) (d place : ℕ)
     (new : BuilderModel) : Type 0 where
   pub is_left : with_places (places_so_far old) (own_places passes) d ≡ Ok tt
@@ -118,15 +124,15 @@ GivesPlace old passes d (Err why) new =
 abbrev pub tables_in : Expander → Tables
 tables_in expander = tables_of expander.table_b.now expander.table_d.now
 
--- a group or sequence within
+-- how an expander expands the list inside a group or sequence
 abbrev pub inner_in : Expander → Option Expansion
 inner_in expander = inner_of (tables_in expander) expander.room
 
--- a list
+-- how an expander expands a list
 abbrev pub list_in : Expander → Expansion
 list_in expander = level (tables_in expander) (inner_in expander) false 0
 
--- a group of these passes
+-- group d with these passes, or its first fault; `after` is the list after d and its factor
 abbrev pub group_in : Expander → Passes → (places d : ℕ) → List ℕ → Result Tree TemplateFault
 group_in expander passes places d after =
     body_of (inner_in expander) places (own_places passes) d after >>= λ body.

@@ -1,4 +1,4 @@
--- The definitions of this crate: the first lines of each file say what it has.
+-- The definitions of this crate. The first lines of each file say what it contains.
 pub mod Fxy
 pub mod TableB
 pub mod Records
@@ -10,5 +10,5 @@ pub mod Expansion
 pub mod Growth
 pub mod Tree
 pub mod FaultNumber
--- the names that others cite, from one place
+-- the names that proofs and other crates cite, re-exported
 pub mod Prelude

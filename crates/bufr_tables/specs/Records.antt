@@ -55,7 +55,7 @@ records_of text = records default_config (strip_bom text)
 abbrev pub field_of : Record → ℕ → List ℕ
 field_of record' place = unwrap_or (field_at record' place) []
 
--- ---- Steps that may fail, one after another, and the answer of a call whose memory may run out.
+-- ---- Sequencing of steps that may fail, and results of calls that may run out of memory.
 
 -- sequencing that stops at the first fault
 infixl 10 ◌>>=◌
@@ -68,7 +68,7 @@ abbrev pub ReturnsUnlessMemory : {A : Type 0} → Result A TableFault → Result
 ReturnsUnlessMemory expected (Ok x) = expected ≡ Ok x
 ReturnsUnlessMemory expected (Err fault) = fault ≢ Memory → expected ≡ Err fault
 
--- A table as the records of its text: a header, and under it a row each. (own)
+-- ---- A table: its first record is the header, and each of the others is a row. (own)
 
 -- whether the first record is this header
 -- rule: fault-40
@@ -92,13 +92,13 @@ unfoldable pub table_of : {A : Type 0} → (header : List (List ℕ)) → (with_
 table_of header with_record none records =
     if has_header header records then table_from with_record 2 none (drop 1 records) else Err Header
 
--- ---- What a reader of records has still to give.
+-- ---- The records that a reader has not returned yet.
 
--- the octets after the records that were given
+-- the octets after the records that were read
 abbrev pub text_left : Reader (Bor (List ℕ)) → Option (List ℕ)
 text_left reader = source_of (λ s. Some s.now) reader
 
--- the records of these octets, from a state of the reader
+-- the records in these octets, if they are known, for a reader in this state
 abbrev pub records_after : State → Option (List ℕ) → List Record
 records_after state None = []
 records_after state (Some text) = records_from default_config (length text + 1) state text
@@ -106,7 +106,7 @@ records_after state (Some text) = records_from default_config (length text + 1) 
 abbrev pub records_left : RecordReader → List Record
 records_left r = records_after (reader_state r.reader) (text_left r.reader)
 
--- how many octets there are, where they are known
+-- the number of octets; 0 if they are not known
 abbrev pub count_of : Option (List ℕ) → ℕ
 count_of None = 0
 count_of (Some text) = length text
@@ -114,7 +114,7 @@ count_of (Some text) = length text
 abbrev pub octets_left : RecordReader → ℕ
 octets_left r = count_of (text_left r.reader)
 
--- the reader is between two records
+-- The reader is between two records.
 pub record IsBetween (r : RecordReader) : Type 0 where
   pub config : reader_config r.reader ≡ default_config
   pub trim : reader_trim r.reader ≡ trim.None
@@ -124,18 +124,18 @@ pub record IsBetween (r : RecordReader) : Type 0 where
   pub between : ends_at_end (reader_state r.reader) ≡ false
   pub counted : r.number + octets_left r < 2 ^ 64
 
--- the fields of the record that was given last
+-- the fields of the record that was read last
 abbrev pub record_given : RecordReader → Record
 record_given r = fields_of r.row
 
--- a step of the reader: it gives the next record and counts it, or there is none
+-- The reader read the next record and counted it, or there are no more records.
 pub record GivesNext (old new : RecordReader) (found : Bool) : Type 0 where
   pub next : records_left old ≡ (if found then record_given new ∷ records_left new else [])
   pub number : found ≡ true → new.number ≡ old.number + 1
   pub between : found ≡ true → IsBetween new
   pub fewer : found ≡ true → octets_left new < octets_left old
 
--- a reader is after the header, which is record 1
+-- The reader has read the header, which is record 1, and nothing else.
 pub record IsOpened (names : List (List ℕ)) (records : List Record)
     (r : RecordReader) : Type 0 where
   pub between : IsBetween r
@@ -143,6 +143,6 @@ pub record IsOpened (names : List (List ℕ)) (records : List Record)
   pub header : has_header names records ≡ true
   pub rest : records_left r ≡ drop 1 records
 
--- texts after references
+-- the texts behind references
 abbrev pub field_texts : List (Bor (List ℕ)) → List (List ℕ)
 field_texts texts = map (λ text. text.now) texts

@@ -15,7 +15,7 @@ use Rattle.bufr_tables.specs.declared.table_b.Stored.{Stored}
 use Rattle.bufr_tables.specs.declared.table_b.ParsedRow.{ParsedRow}
 use Rattle.bufr_tables.specs.declared.table_b.TableB.TheInside.{Inside}
 
--- ---- What a unit says of the values; ASCII case makes no difference. (own)
+-- ---- The kind of values that a unit indicates; ASCII case is ignored. (own)
 
 -- whether a text begins with these words, in upper or lower case
 unfoldable pub begins_with : List ℕ → List ℕ → Bool
@@ -93,8 +93,8 @@ abbrev pub is_character : Kind → Bool
 is_character Character = true
 is_character _ = false
 
--- whether a row is valid, given its `factor_width`: the row of a factor must have this width, scale 0
--- and reference 0, and must not be text
+-- whether a row is valid, given its `factor_width`: the row of a factor must have this width, scale
+-- 0 and reference 0, and must not be text
 abbrev pub is_valid_factor : Option ℕ → Row → Bool
 is_valid_factor None row = true
 is_valid_factor (Some width) row =
@@ -123,8 +123,8 @@ row_of r = do
       }
   only_if (is_valid_factor (factor_width fxy) row) row
 
--- the limits of each row: a plain name and unit, and a scale and width of the kind that the unit
--- says; a factor of delayed replications has its own width
+-- A row is within the limits: its name, unit and scale are valid, and so is its width for the kind
+-- that its unit determines. A factor of delayed replications meets further conditions.
 pub record IsRow (row : Row) : Type 0 where
   pub name : is_name row.name ≡ true
   pub unit : is_name row.unit ≡ true
@@ -162,9 +162,10 @@ pub record AreRows (records : List Record) (table : List Row) : Type 0 where
   pub rows : map row_of rest ≡ map Some table
   pub distinct : IsDistinct nat_eq (map (λ row. row.fxy) table)
 
--- ---- How Table B is kept: the texts of its rows one after another in one block of octets.
+-- ---- How Table B is stored: the texts of its rows, one after another, in one block of octets.
 
--- the row that is kept: `FXXYYY   # ` is before its name, and ` [` and `]` about its unit
+-- the row of a stored element: `FXXYYY   # ` comes before its name, and its unit is between ` [`
+-- and `]`
 abbrev pub row_kept : List ℕ → Stored → Row
 row_kept octets s =
     record {
@@ -177,7 +178,8 @@ row_kept octets s =
       width = s.width;
     }
 
--- the places of an element are in order and inside the block, and its two texts are there
+-- The indices of a stored element are in order and inside the block, which has the start of a line
+-- and the comment of its row there.
 pub record IsRowKept (octets : List ℕ) (s : Stored) : Type 0 where
   pub name : s.start + 11 ≤ s.middle
   pub unit : s.middle + 4 ≤ s.end
@@ -185,7 +187,7 @@ pub record IsRowKept (octets : List ℕ) (s : Stored) : Type 0 where
   pub line_start : slice_range octets s.start (s.start + 7) ≡ row_line_start (row_kept octets s)
   pub comment : slice_range octets (s.start + 7) s.end ≡ row_comment (row_kept octets s)
 
--- the row that was read of a record
+-- the row that was parsed from a record
 abbrev pub row_parsed : ParsedRow → Row
 row_parsed r =
     record {
@@ -201,16 +203,16 @@ row_parsed r =
 abbrev pub rows_kept : List ℕ → List Stored → List Row
 rows_kept octets stored = map (row_kept octets) stored
 
--- a block of octets has more of them after those that it had
+-- The new block is the old one, possibly with more octets after it.
 abbrev pub ExtendsBlock : List ℕ → List ℕ → Type 0
 ExtendsBlock old new = (more : List ℕ) × (new ≡ old ++ more)
 
--- an element is kept in the block as its row says
+-- This element stores the parsed row in the block.
 pub record IsStored (octets : List ℕ) (row : ParsedRow) (s : Stored) : Type 0 where
   pub same : row_kept octets s ≡ row_parsed row
   pub kept : IsRowKept octets s
 
--- every element is kept in the block and within the limits; the directory has the descriptors
+-- Every element is stored in the block and within the limits, and the index has their descriptors.
 pub record IsTableB (a : Inside) : Type 0 where
   pub kept : AllByRecursion (IsRowKept a.octets.items) a.stored.items
   pub elements : AllByRecursion (λ s. s.fxy < 16384) a.stored.items

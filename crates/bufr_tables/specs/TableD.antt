@@ -45,7 +45,7 @@ fxys_of table = map (λ s. s.fxy) table
 abbrev pub members_of : List Sequence → ℕ → Option (List ℕ)
 members_of table fxy = option_map (λ s. s.members) (find (λ s. s.fxy == fxy) table)
 
--- the members of a sequence, or none where the table lacks it
+-- the members of a sequence; none if the table does not have it
 abbrev pub members_or_none : List Sequence → ℕ → List ℕ
 members_or_none table fxy = unwrap_or (members_of table fxy) []
 
@@ -91,13 +91,14 @@ with_record_d n sequences r =
 abbrev pub table_d_of : List Record → Result (List Sequence) TableFault
 table_d_of records = table_of columns_d with_record_d [] records
 
--- the members that rows give a sequence, in order
+-- the members that rows give to a sequence, in order
 abbrev pub members_in : List Member → ℕ → List ℕ
 members_in [] fxy = []
 members_in (row ∷ rows) fxy =
     if row.sequence == fxy then row.fxy ∷ members_in rows fxy else members_in rows fxy
 
--- a sequence of a table has the members that the records under the header give it, in order
+-- Each sequence of the table has the members that the records after the header give to it, in
+-- order.
 pub record AreSequences (records : List Record) (table : List Sequence) : Type 0 where
   pub rest : List Record
   pub split : records ≡ columns_d ∷ rest
@@ -105,8 +106,8 @@ pub record AreSequences (records : List Record) (table : List Sequence) : Type 0
   pub written : map member_of rest ≡ map Some rows
   pub members : (fxy : ℕ) → members_or_none table fxy ≡ members_in rows fxy
 
--- ---- Chains of members: a sequence that holds itself by one cannot be expanded.
--- (WMO-No. 306, Volume I.2, FM 94: Table D; the fault is our choice)
+-- ---- Chains of members: a sequence that contains itself cannot be expanded. (WMO-No. 306, Volume
+-- I.2, FM 94: Table D; the fault is our choice)
 
 -- Sequence `from` has the member `to`, which is also a sequence of the table.
 pub record Leads (table : List Sequence) (from to : ℕ) : Type 0 where
@@ -145,9 +146,10 @@ ReadsTableD records (Err (Cycle fxy)) =
     (table : List Sequence) × (table_d_of records ≡ Ok table) × IsFirstCycle table fxy
 ReadsTableD records (Err fault) = fault ≢ Memory → table_d_of records ≡ Err fault
 
--- ---- How Table D is kept: all members one after another, and for each sequence its places.
+-- ---- How Table D is stored: the members of all sequences, one after another, and the range of
+-- each sequence in them.
 
--- the sequence of a run of members
+-- the sequence whose members are in this range
 abbrev pub sequence_kept : List ℕ → MemberRange → Sequence
 sequence_kept members run =
     record { fxy = run.fxy; members = slice_range members run.start run.end }
@@ -155,21 +157,22 @@ sequence_kept members run =
 abbrev pub sequences_kept : List ℕ → List MemberRange → List Sequence
 sequences_kept members runs = map (sequence_kept members) runs
 
--- a run lies inside the members, and has one at least
+-- The range is inside the list of all members, and it is not empty.
 abbrev pub IsMemberRange : ℕ → MemberRange → Type 0
 IsMemberRange size run = (run.start < run.end) × (run.end ≤ size)
 
--- X and Y of a sequence
+-- X and Y of a sequence, as one number
 abbrev pub run_key : MemberRange → ℕ
 run_key run = key_of run.fxy
 
--- the last run goes on to the end of the members
+-- The last range extends to the end of the members.
 abbrev pub LastEnds : ℕ → List MemberRange → Type 0
 LastEnds size [] = ⊤
 LastEnds size (run ∷ []) = run.end ≡ size
 LastEnds size (run ∷ next ∷ rest) = LastEnds size (next ∷ rest)
 
--- every run lies inside the members, and the directory has the sequences' X and Y
+-- Every range is inside the members and belongs to a sequence, the last one extends to their end,
+-- and the index has X and Y of the sequences.
 pub record IsTableD (a : Inside) : Type 0 where
   pub inside : AllByRecursion (IsMemberRange (length a.members.items)) a.runs.items
   pub sequences : AllByRecursion (λ run. (49152 ≤ run.fxy) × (run.fxy < 65536)) a.runs.items
@@ -179,30 +182,32 @@ pub record IsTableD (a : Inside) : Type 0 where
 abbrev pub table_d_rows : Inside → List Sequence
 table_d_rows a = sequences_kept a.members.items a.runs.items
 
--- ---- What the search for a cycle knows as it goes on. Flags are by descriptor: one for each word.
+-- ---- The state of a search for a cycle. Each descriptor has a flag, at the index that is its
+-- number.
 
--- the rank of a sequence, which is at its X and Y
+-- the rank of a sequence, which is at the index given by X and Y
 abbrev pub rank_of : List ℕ → ℕ → ℕ
 rank_of ranks fxy = slice_index ranks (key_of fxy)
 
--- this is above the rank of each member of a sequence that is a sequence
+-- `limit` is above the rank of each member of a sequence that is itself a sequence.
 abbrev pub IsAbove : List Sequence → List ℕ → ℕ → ℕ → Type 0
 IsAbove table ranks fxy limit = (to : ℕ) → Leads table fxy to → rank_of ranks to < limit
 
--- no sequence has a rank below that of a member
+-- No sequence has a lower rank than one of its members.
 abbrev pub Falls : List Sequence → List ℕ → Type 0
 Falls table ranks = (fxy : ℕ) → IsAbove table ranks fxy (rank_of ranks fxy + 1)
 
--- the flag of a descriptor is set
+-- The flag of a descriptor is set.
 abbrev pub IsSet : List Bool → ℕ → Type 0
 IsSet flags fxy = slice_index_or flags fxy false ≡ true
 
--- how many flags are not set
+-- the number of flags that are not set
 abbrev pub unset : List Bool → ℕ
 unset [] = 0
 unset (flag ∷ flags) = (if flag then 0 else 1) + unset flags
 
--- the first members that are sequences, so many, were seen; the new ones come after the queue
+-- The first `count` members of a sequence were visited: those that are sequences are flagged as
+-- seen, and those that were not seen before were appended to the queue.
 pub record IsVisited (table : List Sequence) (fxy count : ℕ) (old : List Bool) (queue : List ℕ)
     (new : List Bool) (longer : List ℕ) : Type 0 where
   pub more : List ℕ

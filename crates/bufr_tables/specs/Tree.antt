@@ -35,7 +35,7 @@ size (delayed factor body rest) = 3 + size body + size rest
 abbrev pub places : Tree → ℕ
 places tree = 1 + size tree
 
--- the greatest number of groups round one node
+-- the greatest number of nested groups around one node
 abbrev pub depth : Tree → ℕ
 depth bare = 0
 depth (element fxy rest) = depth rest
@@ -57,11 +57,11 @@ consumes (operator fxy rest) = is_inserted_text fxy || consumes rest
 consumes (fixed count body rest) = consumes body || consumes rest
 consumes (delayed factor body rest) = true
 
--- ---- Which operators a template may hold, and with which operands (WMO-No. 306, Volume I.2,
--- FM 94: Table C; these seven and the bounds are our choice)
+-- ---- The operators that a template may contain, and their operands. (WMO-No. 306, Volume I.2, FM
+-- 94: Table C; these seven and the bounds are our choice)
 
--- Whether the operator 2 X Y is supported. The other operators of Table C, such as 2 04, are refused
--- (own), and so is 2 07 Y above 18 (own): 2 07 019 would add 64 bits, and a quantity has at most 63.
+-- Whether the operator 2 X Y is supported. Other operators of Table C, such as 2 04, are refused
+-- (own), and so is 2 07 Y above 18 (own): 2 07 019 would add 64 bits; a quantity has at most 63.
 --   X = 1, 2, 8  any Y
 --   X = 3        Y is 1 to 63 (the width of redefined references), 255 (end) or 0 (cancel)
 --   X = 5, 6     Y is at least 1
