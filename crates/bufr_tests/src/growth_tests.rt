@@ -1,7 +1,7 @@
 //! Tests of calls that allocate memory. Each call returns its whole result, or reports that memory
 //! ran out.
 //!
-//! `tests/memory_refused.py` makes each allocation of each test fail in turn. Therefore, a test
+//! `tests/failed_allocations.py` makes each allocation of each test fail in turn. Therefore, a test
 //! also passes if it cannot allocate memory for its own values.
 
 use crate::frame_tests::HEAD_4;
